@@ -15,6 +15,7 @@ from __future__ import annotations
 
 import argparse
 import contextlib
+import csv
 import os
 import pathlib
 import re
@@ -130,13 +131,24 @@ def filings(desk: Desk, dam: str) -> Iterator[Callable[[], object]]:
         yield lambda: desk.post("/file/birth", page, **fields)
 
 
+def corrections(desk: Desk, id: str) -> Iterator[Callable[[], object]]:
+    """Corrections of one animal's parents by a form: none, and those that it had, in turn."""
+    page = desk.get(f"/file/parents?id={urllib.parse.quote(id)}")
+    had = {role: "".join(re.findall(rf'name="{role}" value="([^"]*)"', page)) for role in ("sire", "dam")}
+    while True:
+        for parents in {"sire": "", "dam": ""}, had:
+            page = desk.get(f"/file/parents?id={urllib.parse.quote(id)}")
+            yield lambda: desk.post("/file/parents", page, id=id, **parents)
+
+
 def wait(desk: Desk, path: str) -> None:
     while "http-equiv" in desk.get(path):
         time.sleep(1)
 
 
-def book_in(work: str, society: str, program: str, animals: int) -> tuple[pathlib.Path, str]:
-    """A folder with a copy of the book, which is taken where it wasn't, and the youngest dam."""
+def book_in(work: str, society: str, program: str, animals: int) -> tuple[pathlib.Path, str, str]:
+    """A folder with a copy of the book, which is taken where it wasn't; the youngest dam, and an animal from which many
+    descend."""
     path = sheet(work, animals)
     taken = pathlib.Path(work) / f"desk-pages-{animals}"
     if not (taken / "book/book.sqlite").exists():
@@ -148,10 +160,18 @@ def book_in(work: str, society: str, program: str, animals: int) -> tuple[pathli
     room = pathlib.Path(work) / "desk-pages"
     shutil.rmtree(room, ignore_errors=True)
     shutil.copytree(taken, room)
-    return room, words_of(work, path)["show"][1]
+    return room, words_of(work, path)["show"][1], with_many_descendants(path)
 
 
-def measure(desk: Desk, dam: str, runs: int) -> None:
+def with_many_descendants(path: pathlib.Path) -> str:
+    """The first sire in a sheet that has known parents: many descend from it."""
+    with open(path, encoding="utf-8") as file:
+        rows = sorted(csv.DictReader(file), key=lambda row: row["birth"])
+    sires = {row["sire"] for row in rows}
+    return next(row["id"] for row in rows if row["id"] in sires and row["sire"] and row["dam"])
+
+
+def measure(desk: Desk, dam: str, ancestor: str, runs: int) -> None:
     pages = pages_of(desk, dam)
     print(f"{'':28}{'median':>9}{'most':>9}{'processor':>11}")
 
@@ -166,12 +186,14 @@ def measure(desk: Desk, dam: str, runs: int) -> None:
         desk.get(path)
     for name, path in pages.items():
         show(name, lambda: desk.get(path), runs)
-    births = filings(desk, dam)
-    next(births)()
-    results = [timed(desk, next(births), 1) for _ in range(runs)]
-    clock = [one for one, _, _ in results]
-    filed = statistics.median(clock), max(clock), statistics.mean(one for *_, one in results)
-    print(f"{'a birth filed and answered':28}{{:8.3f}} {{:8.3f}} {{:10.3f}}".format(*filed))
+    filed = {"a birth filed and answered": filings(desk, dam), "a young dam's parents": corrections(desk, dam),
+             "an old sire's parents": corrections(desk, ancestor)}  # fmt: skip
+    for name, filing in filed.items():
+        next(filing)()
+        results = [timed(desk, next(filing), 1) for _ in range(runs)]
+        clock = [one for one, _, _ in results]
+        taken = statistics.median(clock), max(clock), statistics.mean(one for *_, one in results)
+        print(f"{name:28}{{:8.3f}} {{:8.3f}} {{:10.3f}}".format(*taken), flush=True)
     print("most memory in MB:", ", ".join(str(most_megabytes(pid)) for pid in desk.processes()))
 
 
@@ -186,10 +208,10 @@ def main() -> None:
     parser.add_argument("--work", default=work_folder())
     given = parser.parse_args()
     os.makedirs(given.work, exist_ok=True)
-    room, dam = book_in(given.work, given.society, given.program, given.animals)
+    room, dam, ancestor = book_in(given.work, given.society, given.program, given.animals)
     desk = Desk(given.society, given.program, room)
     try:
-        measure(desk, dam, given.runs)
+        measure(desk, dam, ancestor, given.runs)
     finally:
         desk.end()
 

@@ -2,18 +2,20 @@
 from __future__ import annotations
 
 import collections
-import difflib
 from collections.abc import Iterable, Sequence
 
 # so many names are compared with a text; of more those that begin as it does
 MOST_COMPARED = 20_000
 # shorter texts are often alike
 SHORT = 5
+# letters that are written for digits
+DIGITS = str.maketrans("oil", "011")
 
 
 def folded(text: str) -> str:
-    """The letters and digits of a text, whatever their size."""
-    return "".join(one for one in text.casefold() if one.isalnum())
+    """The letters and digits of a text, whatever their size; beside digits, letters that look like some are these."""
+    found = "".join(one for one in text.casefold() if one.isalnum())
+    return found.translate(DIGITS) if any(map(str.isdigit, found)) else found
 
 
 def closest(text: str, names: Sequence[str], most: int = 3, least: float = 0.75) -> list[str]:
@@ -22,6 +24,9 @@ def closest(text: str, names: Sequence[str], most: int = 3, least: float = 0.75)
     while len(names) > MOST_COMPARED and length < len(text):
         length += 1
         names = [name for name in names if name.startswith(text[:length])]
+    # whoever asks the book would wait for it
+    import difflib
+
     return difflib.get_close_matches(text, names[:MOST_COMPARED], most, least)
 
 
@@ -36,8 +41,9 @@ class SameLetters:
             self.by_letters["".join(sorted(key))][key] = id
 
     def meant(self, text: str) -> str:
-        """The id of the name that has the letters and digits of a text, but for signs and blanks in the same order or,
-        where it isn't short, with two of them swapped; empty where there is none."""
+        """The id of the name that has the letters and digits of a text, but for signs and blanks in the same order, also
+        with the letter O for 0, or I or l for 1; or, where it isn't short, with two of them swapped; empty where there is
+        none."""
         key = folded(text)
         names = self.by_letters.get("".join(sorted(key)), {}) if key else {}
         if key in names:
@@ -49,3 +55,10 @@ class SameLetters:
         likely = [name for name in names if name[:half] == key[:half] or name[half + 1 :] == key[half + 1 :]]
         near = closest(key, likely, 1, 1 - 1.5 / len(key))
         return names[near[0]] if near else ""
+
+    def swapped(self, text: str) -> list[str]:
+        """The ids of the names that a short text becomes where two that stand side by side are swapped."""
+        key = folded(text)
+        names = self.by_letters.get("".join(sorted(key)), {})
+        swapped = (key[:at] + key[at + 1] + key[at] + key[at + 2 :] for at in range(len(key) - 1))
+        return [names[one] for one in dict.fromkeys(swapped) if one in names and one != key]

@@ -3,10 +3,14 @@ program does it."""
 from __future__ import annotations
 
 import functools
-from fractions import Fraction
+from typing import TYPE_CHECKING
+
+if TYPE_CHECKING:
+    from fractions import Fraction
 
 # so many places a decimal has at most
 PLACES = 10
+UNIT = 10**PLACES
 
 
 def decimal(value: Fraction | float) -> str:

@@ -9,8 +9,10 @@ import shlex
 import signal
 import subprocess
 import sys
+from collections.abc import Sequence
 from typing import TYPE_CHECKING
 
+from society.book.beside import Beside
 from society.book.commands import Command, lines_of, text_of
 from society.book.sentences import ProgramFault
 from society.mistake import Mistake
@@ -127,9 +129,19 @@ class Herdbook:
         """The lines that it writes of a book's journal."""
         return self.lines(words, book.command_file())
 
-    def coefficient(self, number: str, book: Book) -> str:
-        """The line of one animal among those of all coefficients; empty where it would be as much work as all of them."""
-        return ""
+    def beside(self, words: list[str], book: Book) -> Beside[list[str]]:
+        """The same, while something else is done. The journal is read before."""
+        text = book.command_file()
+        return Beside(lambda: self.lines(words, text))
+
+    def coefficients(self, numbers: Sequence[str], book: Book) -> list[str]:
+        """The lines of a few animals among those of all coefficients; none where it would be as much work as all of
+        them."""
+        return []
+
+    def refusals(self, book: Book) -> dict[int, Refusal]:
+        """The refusals of a book's journal: for each refused command its place, from 0 on, and the refusal."""
+        return self.file_text(book.command_file(), book.journal.length)
 
     def reply(self, command: Command, book: Book) -> Refusal | None:
         """Why it refuses a command behind a book's journal; none where it accepts it."""

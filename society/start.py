@@ -18,5 +18,6 @@ if sys.version_info < NEEDED:
     )
 
 from society.command_line.main import main  # noqa: E402
+from society.one_call import end  # noqa: E402
 
-sys.exit(main(sys.argv[1:]))
+end(main(sys.argv[1:]))

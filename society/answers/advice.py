@@ -4,13 +4,15 @@ from __future__ import annotations
 from collections.abc import Sequence
 from typing import NamedTuple
 
-from society.answers.candidates import Candidate, Candidates, all_candidates, named_candidates
+from society.answers.candidates import Candidate, Candidates, all_candidates, all_numbers, named_candidates
 from society.answers.list_columns import LIST_COLUMNS, USUAL
 from society.answers.table import Table
 from society.book.asking_sentences import Mating
+from society.book.beside import Beside
 from society.book.book import Book
-from society.book.coefficients import Coefficient
+from society.book.coefficients import Coefficient, decimals_of_units, units_of
 from society.book.known import Known
+from society.book.named import made
 from society.book.role import Role
 from society.breed.relationships import pairs_of
 from society.herdbook import MOST_NUMBERS, Herdbook
@@ -32,35 +34,52 @@ class Advice(NamedTuple):
 
 
 def advise(book: Book, program: Herdbook, dam: Known, named: Sequence[Known], also_left: bool) -> Advice:
-    """Advice on sires that are named, or else on all living males, or on those that left too."""
+    """Advice on sires that are named, or else on all living males, or on those that left too. What is told of them is
+    read while the program computes."""
+    numbers = [known.number for known in named] or all_numbers(book, Role.SIRE, also_left)
+    # each is asked for once
+    begun = begin_matings(book, program, dam, list(dict.fromkeys(numbers)))
     sires = named_candidates(book, Role.SIRE, named) if named else all_candidates(book, Role.SIRE, also_left)
     sires.needed((Mating.NAME_ONE if also_left else Mating.NAME_ONE_OR_LEFT).said())
-    return advice_of(dam, sires, by_mating(book, program, dam, sires))
+    return advice_of(dam, sires, answers_of(begun))
 
 
 def advice_of(dam: Known, sires: Candidates, answers: Sequence[Answer]) -> Advice:
     """What is told of the program's answers on sires, in their order."""
+    found = [answer for answer in answers if isinstance(answer, Coefficient)]
+    if len(found) == len(answers):
+        return Advice(advice_table(sires.animals, found), [], sires)
     of_dam = [answer for answer in answers if isinstance(answer, MatingFault) and answer.is_of_dam()]
     if of_dam:
         raise Mistake(Mating.NOT_A_DAM.said(dam=dam.id, **why(of_dam[0])))
     both = list(zip(sires.animals, answers))
-    found = [(answer.units, sire.id, sire, answer) for sire, answer in both if isinstance(answer, Coefficient)]
-    # no two have the same id
-    found.sort()
     told = [
         Mating.REFUSED.said(sire=sire.id, **why(answer)) for sire, answer in both if isinstance(answer, MatingFault)
     ]
-    return Advice(advice_table([(sire, answer) for *_, sire, answer in found]), told, sires)
+    mated = [sire for sire, answer in both if isinstance(answer, Coefficient)]
+    return Advice(advice_table(mated, found), told, sires)
 
 
 def by_mating(book: Book, program: Herdbook, dam: Known, sires: Candidates) -> list[Answer]:
     """What the program says of a mating with each of the sires, in their order."""
-    numbers = sires.numbers
+    return answers_of(begin_matings(book, program, dam, sires.numbers))
+
+
+def begin_matings(book: Book, program: Herdbook, dam: Known, numbers: Sequence[str]) -> list[Beside[list[str]]]:
+    """The program begins to compute a mating with each of the numbers."""
+    return [
+        program.beside(["mating", "--dam", dam.number, *numbers[first : first + MOST_NUMBERS]], book)
+        for first in range(0, len(numbers), MOST_NUMBERS)
+    ]
+
+
+def answers_of(begun: Sequence[Beside[list[str]]]) -> list[Answer]:
+    """What the program says of them, in their order."""
     found: list[Answer] = []
-    for first in range(0, len(numbers), MOST_NUMBERS):
-        for line in program.ask(["mating", "--dam", dam.number, *numbers[first : first + MOST_NUMBERS]], book):
+    for lines in begun:
+        for line in lines.value():
             _, answer, more = line.split(",")
-            found.append(MatingFault(int(more)) if answer == "refused" else Coefficient(answer, more))
+            found.append(MatingFault(int(more)) if answer == "refused" else made(Coefficient, (answer, more)))
     return found
 
 
@@ -71,9 +90,20 @@ def by_relationship(book: Book, program: Herdbook, dam: Known, sires: Candidates
     return [pairs.coefficients.get((dam.number, number), MatingFault.PATH_TOO_LONG) for number in sires.numbers]
 
 
-def advice_table(found: Sequence[tuple[Candidate, Coefficient]]) -> Table:
-    """The sires, each with the coefficient that its offspring would have."""
-    rows = [
-        (sire.id, sire.name, sire.number, sire.birth, one.fraction, one.decimal(), one.percent) for sire, one in found
+def advice_table(sires: Sequence[Candidate], coefficients: Sequence[Coefficient]) -> Table:
+    """The sires, each with the coefficient that its offspring would have, the least first."""
+    ids, fractions = [sire.id for sire in sires], [one.fraction for one in coefficients]
+    units = units_of(fractions)
+    # no two have the same id
+    order = [place for *_, place in sorted(zip(units, ids, range(len(units))))]
+    cells = [
+        ids,
+        [sire.name for sire in sires],
+        [sire.number for sire in sires],
+        [sire.birth for sire in sires],
+        fractions,
+        decimals_of_units(units),
+        [one.percent for one in coefficients],
     ]
-    return Table.of_rows([(LIST_COLUMNS[column].title, LIST_COLUMNS[column].kind) for column in USUAL], rows)
+    titles = [(LIST_COLUMNS[column].title, LIST_COLUMNS[column].kind) for column in USUAL]
+    return Table(titles, cells, order)

@@ -10,25 +10,34 @@ from society.answers.choice import HAS_LEFT, LISTED
 from society.answers.list_columns import BIRTH_OF, birth_of
 from society.book.asking_sentences import Mating
 from society.book.book import Book
+from society.book.inferred import BirthSource
 from society.book.known import Known
+from society.book.named import made
 from society.book.role import Role
 from society.book.selecting import selected
 from society.mistake import Mistake, number_and_some
 from society.sentence import Count, Said, Some
 
 SEXES = {Role.SIRE: "male", Role.DAM: "female"}
+# those that have a row and aren't castrated, and the living ones of them
+ALSO_LEFT = f"{LISTED} AND castrated = 0"
+MAY_BE_MATED = f"{ALSO_LEFT} AND NOT {HAS_LEFT}"
+OF_SEX = "substr(number, 7, 1) = ?"
 OF_CANDIDATE = ("number", "id", "name", *BIRTH_OF)
+WITH_YEAR = (BirthSource.GIVEN.value, BirthSource.PERIOD.value)
 OTHERS = {Role.SIRE: "female", Role.DAM: "male"}
 
 
 class Candidate(NamedTuple):
-    """An animal that may be mated; `birth` is its birth day as lists show it."""
+    """An animal that may be mated; `birth` is its birth day as lists show it, and `has_year` says whether at least its
+    birth year is known."""
 
     number: str
     id: str
     name: str
     born: str
     birth: str
+    has_year: bool
 
 
 @dataclass(frozen=True)
@@ -87,22 +96,27 @@ def named_candidates(book: Book, role: Role, named: Sequence[Known]) -> Candidat
 
 def all_candidates(book: Book, role: Role, also_left: bool = False) -> Candidates:
     """The living ones that have a row and aren't castrated, in age order; or those that left too."""
-    of_sex = "substr(number, 7, 1) = ?"
-    may = " AND ".join([LISTED, "castrated = 0", *[f"NOT {HAS_LEFT}"] * (not also_left)])
+    may = ALSO_LEFT if also_left else MAY_BE_MATED
     castrated, without_row, left = [], [], 0
-    for id, is_listed, has_left in selected(book, ("id", LISTED, HAS_LEFT), [of_sex, f"NOT ({may})"], [role.sex]):
+    for id, is_listed, has_left in selected(book, ("id", LISTED, HAS_LEFT), [OF_SEX, f"NOT ({may})"], [role.sex]):
         if not is_listed:
             without_row.append(id)
         elif has_left and not also_left:
             left += 1
         else:
             castrated.append(id)
-    return Candidates(role, candidates_where(book, [of_sex, may], [role.sex]), castrated, sorted(without_row), left)
+    return Candidates(role, candidates_where(book, [OF_SEX, may], [role.sex]), castrated, sorted(without_row), left)
+
+
+def all_numbers(book: Book, role: Role, also_left: bool = False) -> list[str]:
+    """The numbers of the same, in the same order, which are had sooner."""
+    conditions = [OF_SEX, ALSO_LEFT if also_left else MAY_BE_MATED]
+    return [number for (number,) in selected(book, ("number",), conditions, [role.sex])]
 
 
 def candidates_where(book: Book, conditions: Sequence[str], values: Sequence[object]) -> list[Candidate]:
     """The animals for which all conditions hold, in age order."""
     return [
-        Candidate(number, id, name, born, birth_of(born, source, period, no_such_day))
+        made(Candidate, (number, id, name, born, birth_of(born, source, period, no_such_day), source in WITH_YEAR))
         for number, id, name, born, source, period, no_such_day in selected(book, OF_CANDIDATE, conditions, values)
     ]

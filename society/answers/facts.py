@@ -3,12 +3,13 @@ it."""
 from __future__ import annotations
 
 from functools import cached_property
-from fractions import Fraction
 from typing import TYPE_CHECKING
 
 from society.book.book import Book
 
 if TYPE_CHECKING:
+    from fractions import Fraction
+
     from society.breed.completeness import Generations
     from society.breed.from_book import Breed
 
@@ -60,6 +61,8 @@ class Facts:
         return self.mean_kinships[place - 1]
 
     def sampling_variance(self, place: int) -> Fraction:
+        from fractions import Fraction
+
         from society.breed.kinship import VARIANCE_BITS
 
         return Fraction(self.variances[place - 1], 1 << VARIANCE_BITS)

@@ -3,7 +3,7 @@ from __future__ import annotations
 
 import enum
 from collections.abc import Callable, Sequence
-from fractions import Fraction
+from typing import TYPE_CHECKING
 
 from society.answers.facts import Facts
 from society.answers.made_columns import Made, as_it_is, each, made_table
@@ -13,6 +13,10 @@ from society.book.inferred import BirthSource
 from society.book.rows import SEX_SOURCES, birth_basis, exit_basis
 from society.book.selecting import FRACTION, PERCENT, PLACE
 from society.decimals import decimal, decimal_of_text
+
+
+if TYPE_CHECKING:
+    from fractions import Fraction
 
 
 class Column(enum.StrEnum):

@@ -55,5 +55,12 @@ def told_of_animal(connection: sqlite3.Connection, id: str) -> dict[int, list[To
 def names_of_parents(connection: sqlite3.Connection, rows: list[Row]) -> dict[str, str]:
     """The ids of the parents that some rows name."""
     numbers = sorted({number for row in rows for number in (row.sire, row.dam) if number})
+    found = ids_of(connection, numbers, "AND until IS NULL")
+    # the others aren't in the book any more, and no index has them
+    gone = [number for number in numbers if number not in found]
+    return found | ids_of(connection, gone, "ORDER BY since") if gone else found
+
+
+def ids_of(connection: sqlite3.Connection, numbers: list[str], which: str) -> dict[str, str]:
     marks = ", ".join("?" * len(numbers))
-    return dict(connection.execute(f"SELECT number, id FROM animal WHERE number IN ({marks}) ORDER BY since", numbers))
+    return dict(connection.execute(f"SELECT number, id FROM animal WHERE number IN ({marks}) {which}", numbers))

@@ -1,13 +1,12 @@
 """A table that is written as CSV: for spreadsheets, and for programs that read decimals."""
 from __future__ import annotations
 
-import csv
 import enum
-import io
 from collections.abc import Iterable, Sequence
 from dataclasses import dataclass
 
-from society.book.cells import FORMULA, for_spreadsheets
+from society.book.cells import column_for_spreadsheets, for_spreadsheets
+from society.book.csv_text import csv_text, ordered, texts_of
 
 # what stands in a cell
 Cell = str | int
@@ -26,10 +25,12 @@ class Kind(enum.Enum):
 
 @dataclass(frozen=True)
 class Table:
-    """Columns, each with a title and what stands in it, and the cells of each."""
+    """Columns, each with a title and what stands in it, and the cells of each. The rows are in the order of the cells,
+    or in another one of their places."""
 
     columns: Sequence[tuple[str, Kind]]
     cells: Sequence[Sequence[Cell]]
+    order: Sequence[int] | None = None
 
     @classmethod
     def of_rows(cls, columns: Sequence[tuple[str, Kind]], rows: Iterable[Sequence[Cell]]) -> Table:
@@ -41,7 +42,7 @@ class Table:
 
     @property
     def rows(self) -> list[tuple[Cell, ...]]:
-        return list(zip(*self.cells))
+        return list(ordered(zip(*self.cells), self.order))
 
     def __len__(self) -> int:
         """How many rows there are."""
@@ -49,18 +50,14 @@ class Table:
 
     def text(self, semicolons: bool) -> str:
         """With semicolons decimals have a comma, as such spreadsheets want them."""
-        text = io.StringIO()
-        writer = csv.writer(text, delimiter=";" if semicolons else ",", lineterminator="\n")
-        writer.writerow(map(for_spreadsheets, self.titles))
         written = (written_as(kind, cells, semicolons) for (_, kind), cells in zip(self.columns, self.cells))
-        writer.writerows(zip(*written))
-        return text.getvalue()
+        return csv_text(map(for_spreadsheets, self.titles), written, ";" if semicolons else ",", self.order)
 
 
-def written_as(kind: Kind, cells: Sequence[Cell], semicolons: bool) -> Iterable[Cell]:
+def written_as(kind: Kind, cells: Sequence[Cell], semicolons: bool) -> Sequence[object]:
     """The cells of a column as they are written."""
-    if kind is Kind.TEXT and not FORMULA.isdisjoint({str(cell)[:1] for cell in cells}):
-        return map(for_spreadsheets, map(str, cells))
+    if kind is Kind.TEXT:
+        return column_for_spreadsheets(texts_of(cells))
     if kind is Kind.DECIMAL and semicolons:
-        return (str(cell).replace(".", ",") for cell in cells)
+        return [str(cell).replace(".", ",") for cell in cells]
     return cells

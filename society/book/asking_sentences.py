@@ -59,6 +59,17 @@ class Mating(Sentence):
     NAME_ONE = "name one"
     NAME_ONE_OR_LEFT = "name one, or ask for those that left too by --left"
     NAME_IN_FILE = "name some in a file, as --{role}s FILE"
-    NONE_SO_OLD = "none is so old: leave out --minimum-age, or ask for fewer days"
+    NONE_SO_OLD = "none is so old: ask for fewer days by --minimum-age, or for all by --minimum-age 0"
+    # what a plan assumes
+    ASSUMED_AGE = (
+        "assumed: parents are {days:,} days old at least, as nineteen of twenty of the book's {parents:,} were at their first "
+        "offspring (left out: {count}); --minimum-age says otherwise"
+    )
+    ASSUMED_YEAR = (
+        "assumed: parents are {days:,} days old at least (left out: {count}); --minimum-age says otherwise"
+    )
+    ASSUMED_MOST = (
+        "assumed: no sire has more than {most:,} dams, twice as many as if all had the same; --most-for-a-sire says otherwise"
+    )
     ASK_FOR_LEFT = "ask for those that left too"
     NAME_OTHERS = "name others"

@@ -7,15 +7,18 @@ import secrets
 import sqlite3
 import tempfile
 import time
+from typing import Callable
 
 from society.book.backup_sentences import BackupFault
 from society.book.book import Book
+from society.book.book_changed import Overtaken, set_write_ahead
+from society.book.book_read import opened_to_read, reading
 from society.book.changes import Change, Made
-from society.book.book_read import opened_to_read
 from society.book.database import (
     DAMAGED,
     companions,
     connect,
+    is_empty,
     migrate,
     path_of,
     primary,
@@ -26,7 +29,7 @@ from society.book.files import cant_be_written, put, source_of, sync_folder
 from society.book.history import last_change, next_number, now, write_change
 from society.book.kinds import ChangeKind
 from society.book.last_backup import remember
-from society.book.old_folder import OLD
+from society.book.old_names import OLD
 from society.book.out import check
 from society.book.schema import VERSION
 from society.book.verify import verify
@@ -58,20 +61,43 @@ def bytes_of(connection: sqlite3.Connection) -> bytes:
         return path.read_bytes()
 
 
-def restore(folder: pathlib.Path, path: pathlib.Path, program: Herdbook, anyway: bool) -> Change:
-    """Makes the book of a copy that of a folder. A book that is there goes to the folder `old` before."""
+def restore(
+    folder: pathlib.Path, path: pathlib.Path, program: Herdbook, anyway: bool, looked: int | None = None
+) -> Change:
+    """Makes the book of a copy that of a folder. A book that is there goes to the folder `old` before, with all that
+    anybody changed until then. Where its last change isn't the one that somebody looked at, this raises `Overtaken`."""
     if path_of(folder).exists() and path.exists() and path.samefile(path_of(folder)):
         raise Mistake(f"{path} is the book itself: name a backup")
     with tempfile.TemporaryDirectory(prefix="society-") as room:
         copy = pathlib.Path(room) / "book.sqlite"
         change = prepare(path, copy, program)
-        if has_file(folder) and not anyway:
-            raise Mistake(
-                f"there is a book in the folder {folder}: to restore {path} in its place say --anyway; the one that is "
-                f"there goes to {folder / OLD} then"
-            )
-        put_in_place(folder, copy)
+
+        def look() -> None:
+            if looked is not None and change_now(folder) not in (None, looked):
+                raise Overtaken
+            if has_file(folder) and not anyway:
+                raise Mistake(
+                    f"there is a book in the folder {folder}: to restore {path} in its place say --anyway; the one that "
+                    f"is there goes to {folder / OLD} then"
+                )
+
+        def keep() -> None:
+            look()
+            keep_old(folder)
+
+        look()
+        put_in_place(folder, copy, keep)
     return change
+
+
+def change_now(folder: pathlib.Path) -> int | None:
+    """The number of the last change of the book that is there, 0 where there is none; none where it is damaged."""
+    try:
+        with reading(folder) as connection:
+            change = last_change(connection) if connection else None
+            return change.number if change else 0
+    except (sqlite3.Error, Mistake):
+        return None
 
 
 def has_file(folder: pathlib.Path) -> bool:
@@ -117,18 +143,22 @@ def prepare(path: pathlib.Path, copy: pathlib.Path, program: Herdbook) -> Change
         raise Mistake(BackupFault.NOT_RESTORED.said(path=path, error=str(error))) from None
 
 
-def put_in_place(folder: pathlib.Path, copy: pathlib.Path) -> None:
-    """Makes a copy the book of a folder. Whoever asks it meanwhile is answered from the one or the other."""
+def put_in_place(folder: pathlib.Path, copy: pathlib.Path, keep: Callable[[], None]) -> None:
+    """Makes a copy the book of a folder. Whoever asks it meanwhile is answered from the one or the other. Nobody changes
+    it from before `keep` on, which keeps what is there, or raises why nothing is to be done."""
     path = path_of(folder)
     with contextlib.closing(connect(copy, "rw")) as source:
         if not path.exists():
             with contextlib.suppress(FileExistsError):
                 folder.mkdir()
         try:
-            keep_old(folder)
             with contextlib.closing(connect(path, "rwc")) as target:
                 version_of(target, path)
-                source.backup(target)
+                # readers don't wait then, of whom `keep` is one
+                if is_empty(target):
+                    target.execute(f"PRAGMA page_size = {source.execute('PRAGMA page_size').fetchone()[0]}")
+                set_write_ahead(target)
+                copy_into(source, target, keep)
                 return
         except sqlite3.Error as error:
             if primary(error) not in DAMAGED:
@@ -141,7 +171,20 @@ def put_in_place(folder: pathlib.Path, copy: pathlib.Path) -> None:
             raise Mistake(
                 f"the folder {folder} can't be written ({error.strerror or error}): nothing is changed"
             ) from None
-    replace_damaged(path, copy)
+    replace_damaged(path, copy, keep)
+
+
+def copy_into(source: sqlite3.Connection, target: sqlite3.Connection, begin: Callable[[], None]) -> None:
+    """Makes a database what another one is, in one change of it; what is done to begin is done within that."""
+    begun: list[int] = []
+
+    def begin_once(status: int, _left: int, _pages: int) -> None:
+        # from its first page on nobody else changes it
+        if status == sqlite3.SQLITE_OK and not begun:
+            begun.append(status)
+            begin()
+
+    source.backup(target, pages=1, progress=begin_once)
 
 
 def keep_old(folder: pathlib.Path) -> None:
@@ -163,10 +206,11 @@ def keep_old(folder: pathlib.Path) -> None:
                 put(old / one.name.replace(path.name, name), one.read_bytes())
 
 
-def replace_damaged(path: pathlib.Path, copy: pathlib.Path) -> None:
+def replace_damaged(path: pathlib.Path, copy: pathlib.Path, keep: Callable[[], None]) -> None:
     """Puts a copy in the place of a file that isn't a database any more. What stands beside that would be taken for a
     part of the copy, and goes first."""
     try:
+        keep()
         for one in companions(path)[1:]:
             one.unlink(missing_ok=True)
         sync_folder(path.parent)

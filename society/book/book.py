@@ -1,11 +1,13 @@
 """A society's book, as it is in its folder after its last change."""
 from __future__ import annotations
 
+import contextlib
 import functools
 import pathlib
 import sqlite3
 from typing import Iterable, Iterator, Mapping
 
+from society.book.beside import Beside, command_file_beside
 from society.book.changes import Change
 from society.book.commands import Record
 from society.book.database import path_of
@@ -32,6 +34,8 @@ class Book:
         self.names_of_herds: dict[int, str] = {}
         # what is told behind an answer
         self.notes: list[str] = []
+        # the journal, where it is read beside other work
+        self.beside: Beside[bytes] | None = None
         # by an animal's id
         self.known: Mapping[str, Known] = Lazy(self.read_known, self.read_all_known)
         # by its number
@@ -52,10 +56,19 @@ class Book:
     def journal(self) -> Journal:
         return Journal(self.change.edition, self.change.length) if self.change else NO_JOURNAL
 
+    def read_journal_beside(self) -> None:
+        """Begins to read the journal, for whoever needs it later and does something else before. Nothing that isn't
+        committed may be in it."""
+        if self.connection is not None:
+            self.beside = command_file_beside(self.connection, self.journal)
+
     @functools.cached_property
     def journal_text(self) -> bytes:
         if self.connection is None:
             raise ValueError("an empty book has no journal")
+        if self.beside is not None:
+            with contextlib.suppress(sqlite3.Error):
+                return self.beside.value()
         return command_file(self.connection, self.journal)
 
     def command_file(self) -> bytes:

@@ -7,7 +7,7 @@ import sqlite3
 import time
 from typing import Callable, Iterator, TypeVar
 
-from society.book.database import TRIES, connect, is_empty, migrate, path_of, primary, told, version_of
+from society.book.database import SECONDS_TO_WAIT, TRIES, connect, is_empty, migrate, path_of, primary, told, version_of
 from society.book.book_read import reading
 from society.book.schema import VERSION
 from society.book.sentences import BookFault
@@ -19,7 +19,11 @@ Value = TypeVar("Value")
 MOST_KILOBYTES = 64_000
 
 
-class BookCame(Exception):
+class Overtaken(Exception):
+    """Somebody else changed the book since a change of it was prepared: the change has to be prepared anew."""
+
+
+class BookCame(Overtaken):
     """Where there was no book when a change began there is one now: the change has to begin again, with that book."""
 
 
@@ -138,9 +142,13 @@ def commit(connection: sqlite3.Connection, folder: pathlib.Path, change: int, ti
 
 
 def checkpoint(connection: sqlite3.Connection) -> None:
-    """Puts what was changed into the file itself, unless somebody reads for long: then a later change does it."""
-    connection.execute("PRAGMA busy_timeout = 1000")
-    connection.execute("PRAGMA wal_checkpoint(TRUNCATE)")
+    """Puts what was changed into the file itself, as far as nobody reads what was before: a later change does the rest.
+    To wait for readers would keep others from changing the book."""
+    connection.execute("PRAGMA busy_timeout = 0")
+    try:
+        connection.execute("PRAGMA wal_checkpoint(TRUNCATE)")
+    finally:
+        connection.execute(f"PRAGMA busy_timeout = {SECONDS_TO_WAIT * 1000}")
 
 
 def is_made(path: pathlib.Path, change: int, time_of_change: int) -> bool:

@@ -21,6 +21,7 @@ from society.refusals import Refusal
 from society.taking.animal_findings import CommandRefused, NewAnimal, ValueChanged
 from society.taking.report import Entry, Finding
 from society.taking.stored_findings import told_of
+from society.taking.young_parents import young_parents
 
 
 @dataclass(frozen=True)
@@ -68,7 +69,8 @@ def born(book: Book, calf: Calf) -> ByHand:
     by_hand = frozenset(one for one, value in said.items() if value)
     known = Known(number, calf.id, calf.name, Standing.FILED, by_hand=by_hand)
     command = birth(number, calf.day, sire, dam, herd, calf.embryo)
-    return ByHand(ChangeKind.BIRTH, command, known, (NewAnimal(number),), new_owners)
+    findings = NewAnimal(number), *young_parents(book, calf.day, calf.sire, calf.dam)
+    return ByHand(ChangeKind.BIRTH, command, known, findings, new_owners)
 
 
 def number_for(book: Book, calf: Calf) -> str:
@@ -96,7 +98,8 @@ def herd_of(book: Book, owner: str) -> tuple[int, dict[str, int]]:
 def with_parents(book: Book, known: Known, sire: Known | str | None, dam: Known | str | None) -> ByHand:
     """Other parents: an animal, an empty text for an unknown one, or none for the one that the book has."""
     record = book.records[known.number]
-    numbers, findings, by_hand = [], [], set(known.by_hand)
+    findings: list[Finding] = []
+    numbers, by_hand = [], set(known.by_hand)
     for one, given, before in ((Field.SIRE, sire, record.sire), (Field.DAM, dam, record.dam)):
         number = before if given is None else given.number if isinstance(given, Known) else ""
         numbers.append(number)
@@ -104,6 +107,9 @@ def with_parents(book: Book, known: Known, sire: Known | str | None, dam: Known 
             by_hand.add(one)
         if number != before:
             findings.append(ValueChanged(one.value, id_of(book, number), id_of(book, before)))
+    if not known.birth.is_inferred:
+        named = (one if isinstance(one, Known) else None for one in (sire, dam))
+        findings += young_parents(book, record.born, *named)
     after = known._replace(
         by_hand=frozenset(by_hand), written_sire=known.written_sire if sire is None else "",
         written_dam=known.written_dam if dam is None else "",
@@ -142,8 +148,9 @@ def file(book: Book, program: Herdbook, one: ByHand) -> tuple[Change, Refusal | 
     rows = Rows({}, {}) if refusal else rows_of(book, one)
     findings = (CommandRefused(one.kind, one.command.day, refusal),) if refusal else one.findings
     keeps = bool(refusal) or one.kind in (ChangeKind.TRANSFER, ChangeKind.EXIT)
-    born = one.known.number if one.kind is ChangeKind.BIRTH else ""
-    state = State(rows, new_owners={} if refusal else one.new_owners, keeps_coefficients=keeps, born=born)
+    born, corrected = (one.known.number * (one.kind is kind) for kind in (ChangeKind.BIRTH, ChangeKind.PARENTS))
+    new_owners = {} if refusal else one.new_owners
+    state = State(rows, new_owners=new_owners, keeps_coefficients=keeps, born=born, corrected=corrected)
     made = Made(one.kind, options=one.options, told=told_by(one, findings), form=one.form)
     made = replace(made, counts=(("refused", 1),) if refusal else (("filed", 1),))
     return write(book, program, Filed([Step(one.command, refusal or 0)]), state, made), refusal

@@ -2,10 +2,12 @@
 from __future__ import annotations
 
 import re
-from typing import Sequence
+from typing import Sequence, TypeGuard
 
 # how spreadsheets know a formula, also in the wide letters of East Asia
 FORMULA = frozenset("=+-@\t\r＝＋－＠")
+# how a cell begins that may be one, in a text that has the end of a line before each cell
+MAY_BEGIN = re.compile(f"\n[{re.escape(''.join(FORMULA))}]")
 # an apostrophe before a cell says that it is text
 TEXT = "'"
 # characters of control but tabs and ends of lines, halves of characters, and marks that turn the direction of what
@@ -19,14 +21,22 @@ def for_spreadsheets(cell: str) -> str:
 
 
 def column_for_spreadsheets(cells: Sequence[object]) -> Sequence[object]:
-    """The same of a column, whose cells may be numbers too. Few columns have a cell that would be one."""
-    if FORMULA.isdisjoint({cell[:1] for cell in cells if isinstance(cell, str)}):
+    """The same of a column, whose cells may be numbers too. Few columns have a cell that would be one: they are looked
+    at as one text."""
+    if are_texts(cells) and not MAY_BEGIN.search("\n".join(("", *cells))):
         return cells
     return [for_spreadsheets(cell) if isinstance(cell, str) else cell for cell in cells]
 
 
+def are_texts(cells: Sequence[object]) -> TypeGuard[Sequence[str]]:
+    return {*map(type, cells)} <= {str}
+
+
 def for_terminals(text: str) -> str:
     """The text with what would do something to a terminal as a name for it; lines may end, and tabs stay."""
+    # what is printable does nothing, and most texts are
+    if text.replace("\n", "").isprintable():
+        return text
     return ACTING.sub(lambda found: escape(found[0]), text)
 
 

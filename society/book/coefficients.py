@@ -4,15 +4,19 @@ from __future__ import annotations
 import functools
 import json
 import sqlite3
-from fractions import Fraction
-from typing import Iterable, Mapping, NamedTuple
+from typing import TYPE_CHECKING, Iterable, Mapping, NamedTuple
 
 from society.book.book import Book
 from society.book.lazy import Lazy
 from society.book.many_rows import insert_many
-from society.decimals import decimal_of_text, number_of, rounded
+from society.decimals import UNIT, decimal_of_text, number_of, rounded
+
+if TYPE_CHECKING:
+    from fractions import Fraction
 
 UNIT_BITS = 120
+# so many coefficients are asked for one by one: of more it is quicker to ask for all
+MOST_ONE_BY_ONE = 20
 
 
 class Coefficient(NamedTuple):
@@ -23,6 +27,9 @@ class Coefficient(NamedTuple):
 
     @property
     def value(self) -> Fraction:
+        # whoever asks the book would wait for it
+        from fractions import Fraction
+
         return Fraction(self.fraction)
 
     @property
@@ -44,6 +51,18 @@ class Coefficient(NamedTuple):
 def units_in(denominator: str) -> int:
     """How many units one part has of so many; the program writes no denominator for 1. There are few of them."""
     return (1 << UNIT_BITS) // number_of(denominator)
+
+
+def units_of(fractions: Iterable[str]) -> list[int]:
+    """Those of many fractions."""
+    return [int(above) * units_in(below) for above, _, below in [one.partition("/") for one in fractions]]
+
+
+def decimals_of_units(units: Iterable[int]) -> list[str]:
+    """So many units each, at least none, rounded as the others are, in a fraction of the time."""
+    scaled = [(2 * UNIT * one + (1 << UNIT_BITS)) >> (UNIT_BITS + 1) for one in units]
+    # with a 1 in front each part below 1 has all its digits
+    return [f"{one // UNIT}.{str(UNIT + one % UNIT)[1:]}".rstrip("0").rstrip(".") if one else "0" for one in scaled]
 
 
 def of_calf(relationship: str) -> Coefficient:
@@ -111,11 +130,35 @@ def add_coefficient(connection: sqlite3.Connection, line: str) -> None:
     connection.execute("INSERT INTO coefficient VALUES (?, ?, ?, ?)", (place, number, fraction, percent))
 
 
+def few_descendants(connection: sqlite3.Connection, number: str) -> list[str]:
+    """The numbers of an animal and of all that descend from it; none where these are too many to be asked for one by
+    one."""
+    by_parent = " ".join(
+        f"UNION SELECT animal.number FROM found JOIN animal ON animal.{parent} = found.number WHERE until IS NULL"
+        for parent in ("sire", "dam")
+    )
+    asked = f"WITH RECURSIVE found (number) AS (VALUES (?) {by_parent}) SELECT number FROM found LIMIT ?"
+    found = [number for (number,) in connection.execute(asked, (number, MOST_ONE_BY_ONE + 1))]
+    return found if len(found) <= MOST_ONE_BY_ONE else []
+
+
+def change_coefficients(connection: sqlite3.Connection, lines: Iterable[str]) -> None:
+    """Keeps those of some animals, as the program writes them, in place of those before."""
+    rows = (line.split(",") for line in lines)
+    changed = ((fraction, percent, number) for number, fraction, percent in rows)
+    connection.executemany("UPDATE coefficient SET fraction = ?, percent = ? WHERE number = ?", changed)
+
+
 def write_coefficients(connection: sqlite3.Connection, lines: list[str]) -> None:
     """Keeps the coefficients that the program writes in place of those before."""
     kept = kept_lines(connection)
     if kept == lines:
         return
+    if len(kept) == len(lines):
+        differing = [(before, now) for before, now in zip(kept, lines) if before != now]
+        if all(before.partition(",")[0] == now.partition(",")[0] for before, now in differing):
+            change_coefficients(connection, (now for _, now in differing))
+            return
     # those of animals that are born last stand behind the others
     behind = len(kept) if kept == lines[: len(kept)] else 0
     if not behind:

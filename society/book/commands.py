@@ -3,13 +3,20 @@ from __future__ import annotations
 
 import csv
 import datetime
+import functools
 import pathlib
 from typing import Iterable, NamedTuple
 
+from society.book.named import made
 from society.book.role import Role
 from society.mistake import Mistake, counted
 
+# the same days stand in many commands and rows
+day_text = functools.lru_cache(maxsize=50_000)(datetime.date.isoformat)
 COLUMNS = ["kind", "animal", "day", "sire", "dam", "from", "to", "embryo"]
+
+
+HEADER = f"{','.join(COLUMNS)}\n".encode()
 
 
 class Command(NamedTuple):
@@ -26,7 +33,8 @@ class Command(NamedTuple):
 
 
 def birth(number: str, day: datetime.date, sire: str, dam: str, herd: int, embryo: bool) -> Command:
-    return Command("birth", number, day.isoformat(), sire or "0", dam or "0", "", str(herd), "1" if embryo else "")
+    embryo_text = "1" if embryo else ""
+    return made(Command, ("birth", number, day_text(day), sire or "0", dam or "0", "", str(herd), embryo_text))
 
 
 def parents(number: str, sire: str, dam: str) -> Command:
@@ -68,7 +76,8 @@ def record_after(record: Record | None, command: Command) -> Record:
     if record is None:
         day = datetime.date.fromisoformat(command.day)
         sire, dam = known(command.sire), known(command.dam)
-        return Record(command.animal, day, sire, dam, command.embryo == "1", int(command.taker), day)
+        herd, is_embryo = int(command.taker), command.embryo == "1"
+        return made(Record, (command.animal, day, sire, dam, is_embryo, herd, day, None, 0))
     if command.kind == "parents":
         return record._replace(sire=known(command.sire), dam=known(command.dam))
     day = datetime.date.fromisoformat(command.day)
@@ -106,7 +115,7 @@ def lines_of(commands: Iterable[Command]) -> bytes:
 
 def text_of(commands: Iterable[Command]) -> bytes:
     """The command file."""
-    return ",".join(COLUMNS).encode() + b"\n" + lines_of(commands)
+    return HEADER + lines_of(commands)
 
 
 def read_commands(path: pathlib.Path) -> list[Command]:

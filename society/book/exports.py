@@ -3,11 +3,16 @@ is missing or stale, and never read."""
 from __future__ import annotations
 
 import contextlib
+import fcntl
 import functools
+import os
 import pathlib
 import sqlite3
+import time
+from typing import Iterator
 
 from society.book.book import Book
+from society.book.book_read import begin_to_read
 from society.book.changes import Change
 from society.book.database import connect, path_of
 from society.book.files import put, table
@@ -16,13 +21,15 @@ from society.book.inferred import SexSource
 from society.book.old_words import STANDINGS
 from society.book.rows import birth_basis, exit_basis
 from society.book.state import ALL_ROWS, NOW
-from society.taking.stored_findings import entry_of
+from society.one_call import keep
 
 COMMANDS, IDS, REPORT = "commands.csv", "ids.csv", "report.csv"
 NAMES = (COMMANDS, IDS, REPORT)
 ID_TITLES = ["number", "id", "name", "row", "birth", "exit", "sex", "change"]
 REPORT_TITLES = ["line", "id", "what", "why", "change"]
 SEMICOLONS = "--semicolons"
+# so long it waits till it looks again whether somebody else still writes them, in seconds
+A_MOMENT = 0.05
 STANDING_WORDS = {standing.value: word for standing, word in STANDINGS.items()}
 # the columns that say what a birth day, a sex and an exit come from
 BASES = (
@@ -39,13 +46,13 @@ def are_fresh(folder: pathlib.Path, change: Change) -> bool:
 
 
 def refresh(folder: pathlib.Path, seconds: float) -> str:
-    """Writes them anew where they aren't fresh, while nobody changes the book: it waits so long for that. Answers why
-    it couldn't, in words."""
+    """Writes them anew where they aren't fresh, of the book as it is now, whoever changes it meanwhile. Others who write
+    them are waited for so long. Answers why it couldn't, in words."""
     path = path_of(folder)
     try:
-        with contextlib.closing(connect(path, "rw")) as connection:
-            connection.execute(f"PRAGMA busy_timeout = {round(seconds * 1000)}")
-            connection.execute("BEGIN IMMEDIATE")
+        # behind those that somebody else writes, so that they are never of an earlier change than what is there
+        with turn(folder, seconds), contextlib.closing(connect(path, "rw")) as connection:
+            begin_to_read(connection)
             write_exports(Book(folder, connection))
     except sqlite3.Error as error:
         return f"{', '.join(NAMES)} in {folder} couldn't be written ({error})"
@@ -54,10 +61,30 @@ def refresh(folder: pathlib.Path, seconds: float) -> str:
     return ""
 
 
+@contextlib.contextmanager
+def turn(folder: pathlib.Path, seconds: float) -> Iterator[None]:
+    """While this lasts nobody else writes them."""
+    until = time.monotonic() + seconds
+    descriptor = os.open(folder, os.O_RDONLY | os.O_DIRECTORY | os.O_CLOEXEC)
+    try:
+        while True:
+            try:
+                fcntl.flock(descriptor, fcntl.LOCK_EX | fcntl.LOCK_NB)
+                break
+            except BlockingIOError:
+                if time.monotonic() > until:
+                    raise
+                time.sleep(A_MOMENT)
+        yield
+    finally:
+        os.close(descriptor)
+
+
 def write_exports(book: Book) -> None:
     change = book.change
     if change is None or are_fresh(book.folder, change):
         return
+    book.read_journal_beside()
     put(book.folder / IDS, ids_text(book, change), change.moment)
     put(book.folder / REPORT, report_text(book, change), change.moment)
     put(book.folder / COMMANDS, book.command_file(), change.moment)
@@ -67,15 +94,18 @@ def ids_text(book: Book, change: Change) -> bytes:
     """Which number stands for which id, and what was inferred."""
     assert book.connection is not None
     found = book.connection.execute(f"SELECT number, id, name, standing, {BASES} FROM {ALL_ROWS} WHERE {NOW}")
-    # by their digits; SQLite would put the whole rows in order
-    rows = sorted(found, key=lambda row: (row[0][7:], row[0]))
-    if not rows:
+    columns: list[tuple[str, ...]] = [*zip(*found)]
+    if not columns:
         return table(ID_TITLES, [])
-    numbers, ids, names, standings, *bases = zip(*rows)
+    keep(columns)
+    numbers, ids, names, standings, *bases = columns
     words = zip(*map(words_of, *bases))
+    # by their digits; SQLite would put the whole rows in order
+    digits = [number[7:] + number for number in numbers]
     return table(
         ID_TITLES,
-        [numbers, ids, names, [STANDING_WORDS[one] for one in standings], *words, [change.number] * len(rows)],
+        [numbers, ids, names, [STANDING_WORDS[one] for one in standings], *words, [str(change.number)] * len(numbers)],
+        order=sorted(range(len(digits)), key=digits.__getitem__),
     )
 
 
@@ -89,6 +119,9 @@ def words_of(
 
 def report_text(book: Book, change: Change) -> bytes:
     """What the change told."""
+    # whoever asks the book would wait for it
+    from society.taking.stored_findings import entry_of
+
     assert book.connection is not None
     semicolons = any(option.option == SEMICOLONS for option in change.options)
     entries = map(entry_of, told_by(book.connection, change.number))

@@ -2,32 +2,32 @@
 from __future__ import annotations
 
 import contextlib
-import csv
-import hashlib
-import io
 import os
 import pathlib
-import secrets
 from typing import Iterable, Sequence
 
 from society.book.cells import column_for_spreadsheets
 from society.book.changes import Source
+from society.book.csv_text import csv_text
 from society.book.sentences import BookFault
 from society.mistake import Mistake
 
 
-def table(titles: list[str], columns: Iterable[Sequence[object]], semicolons: bool = False) -> bytes:
-    """A file of columns below their titles; spreadsheets that want semicolons tell UTF-8 by a byte-order mark."""
-    text = io.StringIO()
-    writer = csv.writer(text, delimiter=";" if semicolons else ",", lineterminator="\n")
-    writer.writerow(titles)
-    writer.writerows(zip(*map(column_for_spreadsheets, columns)))
-    return text.getvalue().encode("utf-8-sig" if semicolons else "utf-8")
+def table(
+    titles: list[str], columns: Iterable[Sequence[object]], semicolons: bool = False, order: Sequence[int] | None = None
+) -> bytes:
+    """A file of columns below their titles, in an order of their rows' places if one is given; spreadsheets that want
+    semicolons tell UTF-8 by a byte-order mark."""
+    text = csv_text(titles, map(column_for_spreadsheets, columns), ";" if semicolons else ",", order)
+    return text.encode("utf-8-sig" if semicolons else "utf-8")
 
 
 def put(path: pathlib.Path, text: bytes, changed: int | None = None, replaces: bool = True) -> None:
     """Writes a file beside its place, under a name that nobody knows before, and then puts it there. `changed` is the
     time at which it was changed. Where it doesn't replace another, one that is there is a `FileExistsError`."""
+    # whoever asks the book would wait for it
+    import secrets
+
     beside = path.with_name(f".{path.name[:100]}.{secrets.token_hex(8)}")
     try:
         descriptor = os.open(beside, os.O_WRONLY | os.O_CREAT | os.O_EXCL | os.O_NOFOLLOW | os.O_CLOEXEC, 0o666)
@@ -59,6 +59,8 @@ def sync_folder(folder: pathlib.Path) -> None:
 
 
 def digest_of(text: bytes) -> str:
+    import hashlib
+
     return hashlib.sha256(text).hexdigest()
 
 

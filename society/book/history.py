@@ -15,6 +15,10 @@ from society.book.kinds import ChangeKind
 from society.book.many_rows import insert_many
 
 COLUMNS = "change, kind, time, login, edition, length, file, path, digest, undone_to"
+# the kinds of changes that are one command, which may be refused
+FILED_BY_HAND = (ChangeKind.BIRTH, ChangeKind.PARENTS, ChangeKind.TRANSFER, ChangeKind.EXIT)
+# those of them by which nothing of another animal changes
+ONE_BY_ONE = (ChangeKind.BIRTH.value, ChangeKind.TRANSFER.value, ChangeKind.EXIT.value)
 EPOCH = datetime.datetime(1970, 1, 1, tzinfo=datetime.timezone.utc)
 # who works here by a name of the society's own, as those at a desk with accounts; empty for whom the system names
 WORKER: contextvars.ContextVar[str] = contextvars.ContextVar("worker", default="")
@@ -101,6 +105,27 @@ def change_by_form(connection: sqlite3.Connection, form: str) -> Change | None:
     """The change that a form made; none where it made none yet."""
     row = connection.execute(f"SELECT {COLUMNS} FROM change WHERE form = ?", (form,)).fetchone()
     return change_of(connection, row) if row else None
+
+
+def last_changes(connection: sqlite3.Connection, most: int, behind: int = 0) -> list[Change]:
+    """So many of the last changes, the newest first, but for so many that are newer."""
+    asked = f"SELECT {COLUMNS} FROM change ORDER BY change DESC LIMIT ? OFFSET ?"
+    return [change_of(connection, row) for row in connection.execute(asked, (most, behind)).fetchall()]
+
+
+def changed_one_by_one(connection: sqlite3.Connection, then: Change) -> bool:
+    """Is this a change of the book, since which only animals one by one were born, given away or left? No parents of
+    another and no coefficient changed then."""
+    is_there = connection.execute("SELECT 1 FROM change WHERE (change, time) = (?, ?)", (then.number, then.moment // 1000))
+    others = f"SELECT 1 FROM change WHERE change > ? AND kind NOT IN ({', '.join(map(repr, ONE_BY_ONE))}) LIMIT 1"
+    return is_there.fetchone() is not None and connection.execute(others, (then.number,)).fetchone() is None
+
+
+def last_that_changed(connection: sqlite3.Connection) -> int:
+    """The last change that changed the book, 0 for none: a command that was refused stands in the journal alone."""
+    kinds = ", ".join(f"'{kind.value}'" for kind in FILED_BY_HAND)
+    refused = f"kind IN ({kinds}) AND change IN (SELECT change FROM counted WHERE what = 'refused')"
+    return int(connection.execute(f"SELECT ifnull(max(change), 0) FROM change WHERE NOT ({refused})").fetchone()[0])
 
 
 def all_changes(connection: sqlite3.Connection) -> list[Change]:

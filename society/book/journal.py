@@ -1,7 +1,6 @@
 """The journal of commands, which is what the book is: each command with the reply that the program gave to it."""
 from __future__ import annotations
 
-import operator
 import sqlite3
 from typing import Collection, Iterable, Iterator, NamedTuple
 
@@ -72,15 +71,12 @@ def parts_of(connection: sqlite3.Connection, journal: Journal) -> list[Part]:
     return parts[::-1]
 
 
-def lines_of(connection: sqlite3.Connection, journal: Journal) -> Iterator[str]:
-    """The journal's commands as lines of a command file."""
-    for part in parts_of(connection, journal):
-        yield from map(operator.itemgetter(0), connection.execute(f"SELECT {TEXT} {WITHIN}", part))
-
-
 def command_file(connection: sqlite3.Connection, journal: Journal) -> bytes:
-    """The journal as a command file."""
-    return ("\n".join([",".join(COLUMNS), *lines_of(connection, journal)]) + "\n").encode()
+    """The journal as a command file. The database puts the lines of a part together, in the order that it has within."""
+    together = f"SELECT group_concat(line, char(10)) FROM (SELECT {TEXT} AS line {WITHIN})"
+    found = [connection.execute(together, part).fetchone()[0] for part in parts_of(connection, journal)]
+    # a part of a damaged book may have none
+    return "\n".join([",".join(COLUMNS), *filter(None, found), ""]).encode()
 
 
 def refusals_of(connection: sqlite3.Connection, journal: Journal) -> dict[int, Refusal]:

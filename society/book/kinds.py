@@ -81,5 +81,5 @@ class Remembered(enum.Enum):
     OWNER = "owner"
     # a field, and the title of its column, empty where there is none
     COLUMN = "column"
-    # what was told and needn't be told again, and the answer to it
+    # a word of rows that seem to be no animals, and that they are none: these are left out
     TOLD = "told"

@@ -19,19 +19,13 @@ from society.book.journal import Step
 from society.book.inferred import OwnerDay
 from society.book.kinds import ChangeKind, Remembered, Standing
 from society.book.known import Known
+from society.book.old_names import ALL_NAMES, COMMANDS, IDS, OLD, OLD_NAMES, OPTIONS, OWNERS, PARENTS, REPORT, is_old
 from society.book.old_words import STANDING_OF, read_birth, read_exit, read_sex
 from society.book.state import Meaning
 from society.book.writing import Filed, Rows, State, animal_rows, write
 from society.herdbook import Herdbook
 from society.mistake import Mistake
 
-OLD = "old"
-COMMANDS, IDS, REPORT, OWNERS, PARENTS, OPTIONS = (
-    "commands.csv", "ids.csv", "report.csv", "owners.csv", "parents.csv", "options.csv"
-)  # fmt: skip
-# those that a later version doesn't write
-OLD_NAMES = (OWNERS, PARENTS, OPTIONS)
-ALL_NAMES = (COMMANDS, IDS, REPORT, *OLD_NAMES)
 ID_TITLES = ["number", "id", "name", "row", "birth", "exit", "sex"]
 
 
@@ -68,14 +62,6 @@ def alone(folder: pathlib.Path) -> Iterator[None]:
         yield
     finally:
         os.close(descriptor)
-
-
-def is_old(folder: pathlib.Path) -> bool:
-    """Has the folder a file that only version 0.11 writes, or a command file and no database, or an empty one?"""
-    if any((folder / name).exists() for name in OLD_NAMES):
-        return True
-    path = path_of(folder)
-    return (folder / COMMANDS).exists() and not (path.exists() and path.stat().st_size)
 
 
 def keep_files(folder: pathlib.Path) -> None:

@@ -6,10 +6,11 @@ import pathlib
 from typing import Iterator
 
 from society.book.book import Book
-from society.book.book_changed import changing, up_to_date
+from society.book.book_changed import Overtaken, changing, up_to_date
 from society.book.book_read import reading
+from society.book.changes import Change
 from society.book.exports import are_fresh, refresh
-from society.book.old_folder import take_over
+from society.book.old_names import is_old
 from society.book.sentences import BookFault
 from society.book.verify import verify
 from society.herdbook import Herdbook
@@ -18,8 +19,17 @@ from society.taking.suggestions import Call, Suggestion
 
 # how the names of sheets end
 SHEETS = (".csv", ".xlsx")
-# so long exports wait for somebody who changes the book, after a change of one's own
+# so long exports wait for somebody who writes them, after a change of one's own
 SECONDS_FOR_EXPORTS = 600
+
+
+def take_over(folder: pathlib.Path, program: Herdbook) -> None:
+    """Makes of a folder of version 0.11 one of this version, where it is one and there is no book yet."""
+    if is_old(folder):
+        # every call would wait for it, and hardly one needs it
+        from society.book import old_folder
+
+        old_folder.take_over(folder, program)
 
 
 @contextlib.contextmanager
@@ -66,6 +76,28 @@ def to_change(folder: pathlib.Path, program: Herdbook) -> Iterator[Book]:
     with changing(folder) as connection:
         book = Book(folder, connection)
         verify(book, program, quickly=True)
+        yield book
+
+
+@contextlib.contextmanager
+def to_prepare(folder: pathlib.Path, program: Herdbook) -> Iterator[Book]:
+    """The book as it is now, an empty one where there is none, for a change of it that is prepared while others change
+    it. It is seen that it is whole."""
+    take_over(folder, program)
+    up_to_date(folder)
+    with reading(folder) as connection:
+        book = Book(folder, connection)
+        verify(book, program, quickly=True)
+        yield book
+
+
+@contextlib.contextmanager
+def still_to_change(folder: pathlib.Path, before: Change | None) -> Iterator[Book]:
+    """The book to be changed as it was prepared, after the change `before`; raises `Overtaken`."""
+    with changing(folder) as connection:
+        book = Book(folder, connection)
+        if book.change != before:
+            raise Overtaken
         yield book
 
 

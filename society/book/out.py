@@ -9,7 +9,7 @@ from society.book.book import Book
 from society.book.database import companions
 from society.book.exports import NAMES
 from society.book.files import cant_be_written, digest_of, put
-from society.book.old_folder import OLD, OLD_NAMES
+from society.book.old_names import OLD, OLD_NAMES
 from society.mistake import Mistake
 
 

@@ -1,6 +1,7 @@
 """Finds an animal by what somebody writes for it."""
 from __future__ import annotations
 
+import contextlib
 import pathlib
 
 from society.alike import closest
@@ -17,8 +18,9 @@ MOST_MEANT = 3
 NAMED = "folded_name = ? AND folded_name <> ''"
 
 
-def find(book: Book, word: str) -> Known:
-    """The animal of an id, a number or a name; a mistake where there is none, or several of a name."""
+def find(book: Book, word: str, may_be_file: bool = True) -> Known:
+    """The animal of an id, a number or a name; a mistake where there is none, or several of a name. Who writes a word in
+    a terminal may mean a file by it; who writes it elsewhere isn't told what files there are."""
     word = " ".join(word.split())
     folded = word.casefold()
     known = book.known.get(word)
@@ -35,20 +37,26 @@ def find(book: Book, word: str) -> Known:
     if named:
         ids = Some(sorted(row.id for row in named), MOST_IN_PASSING)
         raise Mistake(Naming.SEVERAL.said(count=len(named), word=word, ids=ids))
-    raise not_found(book, word)
+    raise not_found(book, word, may_be_file)
 
 
-def not_found(book: Book, word: str) -> Mistake:
+def not_found(book: Book, word: str, may_be_file: bool) -> Mistake:
     names = [name for row in book.all_rows for name in (row.id, row.name) if name]
     if any(name.startswith(f"{word} ") for name in names):
         return no_animal(word, Naming.WITH_BLANKS.said())
-    if pathlib.Path(word).is_file():
+    if may_be_file and is_file(word):
         return Mistake(Naming.IS_FILE.said(word=word))
     parts = list(dict.fromkeys(name for name in names if word.casefold() in name.casefold()))
     if len(parts) > MOST_MEANT:
         return no_animal(word, Naming.MANY_PARTS.said())
     close = parts or closest(word, names)
     return no_animal(word, Naming.MEANT.said(names=AnyOf(close)) if close else Naming.FIND.said())
+
+
+def is_file(word: str) -> bool:
+    with contextlib.suppress(OSError):
+        return pathlib.Path(word).is_file()
+    return False
 
 
 def no_animal(word: str, hint: Said) -> Mistake:

@@ -37,7 +37,7 @@ def settings_of(book: Book) -> dict[Setting, str]:
 
 def change_settings(folder: pathlib.Path, given: Mapping[Setting, str]) -> None:
     """Keeps these with the book, each in place of the one before; an empty one is none. Others stay."""
-    kept = {setting: checked(setting, lines_of(text)) for setting, text in given.items()}
+    kept = {setting: checked(setting, text) for setting, text in given.items()}
     with changing(folder) as connection:
         if connection is None:
             raise no_book(folder)
@@ -58,6 +58,7 @@ def lines_of(text: str) -> str:
 
 def checked(setting: Setting, text: str) -> str:
     """The value as it is kept; a mistake where it can't be such a one."""
+    text = lines_of(text)
     if setting in (Setting.BREED, Setting.COUNTRY) and text:
         if not (len(text) == 3 and text.isascii() and text.isalpha()):
             raise Mistake(NotSuch.LETTERS_OF.said(text=text, setting=setting))

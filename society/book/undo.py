@@ -3,7 +3,7 @@ from __future__ import annotations
 
 from society.book.book import Book
 from society.book.changes import Change, Made
-from society.book.history import change_numbered, next_number, now, write_change
+from society.book.history import change_numbered, last_that_changed, next_number, now, write_change
 from society.book.journal import NO_JOURNAL, Journal, begin_edition
 from society.book.kinds import ChangeKind
 from society.book.state import bring_back
@@ -13,11 +13,12 @@ from society.mistake import CALLED, Mistake, counted
 
 
 def undo(book: Book, program: Herdbook, to: int | None, form: str = "") -> Change:
-    """The state after a change, or where none is named that before the last one; 0 is the empty book. The journal is a
-    new edition that keeps as much of the one of then as there was. `form` is the token of a form that asks for it."""
+    """The state after a change, or where none is named that before the last one that changed something; 0 is the empty
+    book. The journal is a new edition that keeps as much of the one of then as there was. `form` is the token of a form
+    that asks for it."""
     assert book.connection is not None and book.change is not None
     last = book.change.number
-    target = last - 1 if to is None else to
+    target = last_that_changed(book.connection) - 1 if to is None else to
     if target >= last:
         least = f"0 to {last - 1}" if last > 1 else "0"
         raise Mistake(

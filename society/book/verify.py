@@ -46,7 +46,7 @@ def faults_of_replies(book: Book, connection: sqlite3.Connection, program: Herdb
     there = text.count(b"\n") - 1
     if there != length:
         return [NotWhole.LENGTH.said(there=Count(there, "command"), length=length)]
-    stored, told = refusals_of(connection, book.journal), program.file_text(text, length)
+    stored, told = refusals_of(connection, book.journal), program.refusals(book)
     differing = sorted(place for place in stored.keys() | told.keys() if stored.get(place) != told.get(place))
     return [
         NotWhole.REPLY.said(place=place + 1, reply=reply(told.get(place)), stored=reply(stored.get(place)))

@@ -8,7 +8,7 @@ from dataclasses import dataclass, field
 
 from society.book.book import Book
 from society.book.changes import Change, Made
-from society.book.coefficients import add_coefficient, write_coefficients
+from society.book.coefficients import add_coefficient, change_coefficients, few_descendants, write_coefficients
 from society.book.commands import Record
 from society.book.book_changed import commit, creating
 from society.book.history import last_change, next_number, now, write_change
@@ -45,8 +45,12 @@ class State:
     new_owners: dict[str, int] = field(default_factory=dict)
     # no animal is born and no parent changed
     keeps_coefficients: bool = False
-    # the number of the only animal that is born, where nothing else changes: the other coefficients stay
+    # the number of the only animal that is born, or whose parents change, where nothing else does: the coefficients of
+    # animals that don't descend from it stay
     born: str = ""
+    corrected: str = ""
+    # all coefficients after it as the program writes them, where somebody asked before
+    coefficients: list[str] | None = None
 
 
 def animal_rows(known: dict[str, Known], records: dict[str, Record]) -> dict[Values, Values]:
@@ -68,6 +72,8 @@ def write_within(
     number, moment = next_number(connection), now()
     journal = written_journal(connection, book.journal, filed)
     write_change(connection, number, moment, journal, made)
+    computes = not (state.keeps_coefficients or state.born or state.corrected)
+    coefficients = program.beside(["inbreeding"], Book(book.folder, connection)) if computes else None
     connection.executemany("INSERT INTO owner (name, herd) VALUES (?, ?)", state.new_owners.items())
     write_rows(connection, ANIMALS, number, state.animals.before, state.animals.after)
     if state.cells is not None:
@@ -75,13 +81,30 @@ def write_within(
     if state.remembered is not None:
         before = rows_now(connection, REMEMBERED)
         write_rows(connection, REMEMBERED, number, before, remembered_rows(state.remembered))
+    if coefficients:
+        write_coefficients(connection, coefficients.value())
+        return end(book, connection, number, moment)
     if state.keeps_coefficients:
         return end(book, connection, number, moment)
-    line = program.coefficient(state.born, Book(book.folder, connection)) if state.born else ""
-    if line:
-        add_coefficient(connection, line)
+    if state.coefficients is not None:
+        write_coefficients(connection, state.coefficients)
+        return end(book, connection, number, moment)
+    if keeps_most(book, connection, program, state):
         return end(book, connection, number, moment)
     return compute_and_end(book, connection, program, number, moment)
+
+
+def keeps_most(book: Book, connection: sqlite3.Connection, program: Herdbook, state: State) -> bool:
+    """Keeps the coefficients that one animal changes, if the program can be asked for these alone."""
+    if not state.born and not state.corrected:
+        return False
+    changed = [state.born] if state.born else few_descendants(connection, state.corrected)
+    lines = program.coefficients(changed, Book(book.folder, connection))
+    if state.born and lines:
+        add_coefficient(connection, lines[0])
+    else:
+        change_coefficients(connection, lines)
+    return bool(lines)
 
 
 def written_journal(connection: sqlite3.Connection, journal: Journal, filed: Filed) -> Journal:

@@ -1,15 +1,13 @@
 """The plan of a book's matings: by which coefficients it is made, its table, and what is told of it."""
 from __future__ import annotations
 
-import datetime
 from collections.abc import Sequence
-from dataclasses import dataclass, replace
+from dataclasses import dataclass
 from fractions import Fraction
 
 from society.answers.candidates import Candidates
 from society.answers.mates import COLUMNS
 from society.answers.table import Cell, Kind, Table
-from society.book.asking_sentences import Mating
 from society.book.book import Book
 from society.breed.plan import Plan, Rules, Unmated, plan_of
 from society.breed.relationships import Pairs, pairs_of
@@ -24,12 +22,6 @@ class Planned:
 
     plan: Plan
     pairs: Pairs
-
-
-def old_enough(candidates: Candidates, youngest: datetime.date) -> Candidates:
-    """Those that weren't born after a day."""
-    old = [one for one in candidates.animals if one.born <= youngest.isoformat()]
-    return replace(candidates, animals=old).needed(Mating.NONE_SO_OLD.said())
 
 
 def best_plan(book: Book, program: Herdbook, dams: Candidates, sires: Candidates, rules: Rules) -> Planned:
@@ -70,7 +62,7 @@ def told_of(book: Book, found: Planned) -> list[str]:
             told.append(f"not mated, since {why.value}: {counted(len(dams), 'dam')}: {some_of(dams)}")
     if plan.mean is not None and plan.mean_of_allowed is not None:
         told.append(
-            f"{counted(len(plan.matings), 'mating')}: the mean coefficient of the calves is {percent(plan.mean)}%; the "
+            f"{counted(len(plan.matings), 'mating')}: the mean coefficient of the offspring is {percent(plan.mean)}%; the "
             f"mean of all {plan.allowed:,} pairs that are allowed would be {percent(plan.mean_of_allowed)}%"
         )
     return told

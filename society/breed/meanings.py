@@ -21,12 +21,12 @@ MEANINGS: dict[Name, Three] = {
         "La chance que les deux gènes d'un animal viennent d'un seul gène d'un ancêtre (Wright 1922).",
     ),
     Name.MEAN_KINSHIP: (
-        "The same for two genes of any two animals, each animal with itself too: the inbreeding of calves if all were "
+        "The same for two genes of any two animals, each animal with itself too: the inbreeding of offspring if all were "
         "mated at random (Ballou and Lacy 1995).",
-        "Dasselbe für zwei Gene zweier beliebiger Tiere, jedes Tier auch mit sich selbst: die Inzucht der Kälber, "
+        "Dasselbe für zwei Gene zweier beliebiger Tiere, jedes Tier auch mit sich selbst: die Inzucht der Nachkommen, "
         "wenn alle zufällig gepaart würden (Ballou und Lacy 1995).",
         "De même pour deux gènes de deux animaux quelconques, chacun avec lui-même aussi : la consanguinité des "
-        "veaux si tous s'accouplaient au hasard (Ballou et Lacy 1995).",
+        "descendants si tous s'accouplaient au hasard (Ballou et Lacy 1995).",
     ),
     Name.FOUNDERS: (
         "Animals without known parents whose genes are there. One unknown parent counts as a founder of its own.",

@@ -31,7 +31,7 @@ class Unmated(enum.Enum):
     """Why a dam has no sire."""
 
     REFUSED = "the program refuses a mating with each of the sires"
-    ABOVE = "each calf that isn't refused would be above the coefficient allowed"
+    ABOVE = "each offspring that isn't refused would be above the coefficient allowed"
     NO_ROOM = "the sires that it may be mated to have as many dams as they may"
 
 

@@ -5,9 +5,12 @@ import argparse
 import datetime
 import pathlib
 import re
-from fractions import Fraction
+from typing import TYPE_CHECKING
 
 from society.book.asking_sentences import NotSuch
+
+if TYPE_CHECKING:
+    from fractions import Fraction
 
 
 def three_letters(text: str) -> str:
@@ -55,6 +58,9 @@ def birth_days(text: str) -> tuple[datetime.date, datetime.date]:
 
 
 def coefficient(text: str) -> Fraction:
+    # every call would wait for it, and hardly one needs it
+    from fractions import Fraction
+
     number, percent, behind = text.replace(",", ".").partition("%")
     try:
         found = Fraction(number + behind) / (100 if percent else 1)
@@ -69,6 +75,11 @@ def positive(text: str) -> int:
     if not text.isdecimal() or not 1 <= int(text) <= 1_000_000:
         raise argparse.ArgumentTypeError(NotSuch.POSITIVE.said(text=text))
     return int(text)
+
+
+def most(text: str) -> int | None:
+    """A greatest number; none for `any`."""
+    return None if text == "any" else positive(text)
 
 
 def file(text: str) -> pathlib.Path:

@@ -5,17 +5,18 @@ import gc
 import io
 import os
 import sys
-from typing import TextIO, cast
+from typing import NoReturn, TextIO, cast
 
 from society.command_line.families import words_for
 from society.command_line.parser import joined
 from society.command_line.output import Harmless
 from society.mistake import Mistake
+from society.one_call import end
 
 
 def main(words: list[str]) -> int:
     # most of what a call makes is needed to its end, so looking for what isn't comes rarely
-    gc.set_threshold(200_000)
+    gc.set_threshold(500_000)
     for stream in sys.stdout, sys.stderr:
         if isinstance(stream, io.TextIOWrapper):
             stream.reconfigure(encoding="utf-8", errors="backslashreplace")
@@ -47,6 +48,6 @@ def main(words: list[str]) -> int:
     return 1
 
 
-def run() -> int:
+def run() -> NoReturn:
     """The command `society` of an installed package."""
-    return main(sys.argv[1:])
+    end(main(sys.argv[1:]))

@@ -95,7 +95,7 @@ def born_between(first: str, last: str) -> tuple[datetime.date, datetime.date] |
 def year(text: str, otherwise: int) -> int:
     if not text:
         return otherwise
-    if not (text.isascii() and text.isdecimal() and FIRST_DAY.year <= int(text[:9]) <= LAST_DAY.year):
+    if not (text.isascii() and text.isdecimal() and len(text) < 9 and FIRST_DAY.year <= int(text) <= LAST_DAY.year):
         raise Mistake(NotSuch.YEAR.said(text=text, first=FIRST_DAY.year, last=LAST_DAY.year))
     return int(text)
 
@@ -104,9 +104,19 @@ def found_by(book: Book, asked: Asked) -> Found:
     """A page of the animals; the last one where there are fewer pages."""
     assert book.connection is not None
     where, values = where_of(book, asked)
+    rows = rows_of(book, asked, where, values, asked.page)
+    if asked.page == 1 and len(rows) < ON_A_PAGE:
+        # they needn't be counted
+        return Found(rows, len(rows), 1, 1)
     total = book.connection.execute(f"SELECT count(*) FROM animal WHERE {where}", values).fetchone()[0]
     pages = max(1, -(-total // ON_A_PAGE))
     page = min(asked.page, pages)
+    return Found(rows if page == asked.page else rows_of(book, asked, where, values, page), total, page, pages)
+
+
+def rows_of(book: Book, asked: Asked, where: str, values: list[object], page: int) -> list[Row]:
+    """The rows of a page."""
+    assert book.connection is not None
     joined = " JOIN coefficient USING (number)" * (asked.order is Order.COEFFICIENT)
     by = SORTED_BY[asked.order].format(way="DESC" if asked.is_downwards else "ASC")
     # in order they are first alone, since whole rows take long to be sorted
@@ -115,8 +125,12 @@ def found_by(book: Book, asked: Asked) -> Found:
         [*values, ON_A_PAGE, (page - 1) * ON_A_PAGE],
     )
     one = f"SELECT {COLUMNS} FROM animal WHERE animal = ?"
-    rows = [Row(*book.connection.execute(one, place).fetchone()) for place in in_order.fetchall()]
-    return Found(rows, total, page, pages)
+    return [Row(*book.connection.execute(one, place).fetchone()) for place in in_order.fetchall()]
+
+
+def first_rows(book: Book, asked: Asked) -> list[Row]:
+    """The rows of the first page, without how many there are."""
+    return rows_of(book, asked, *where_of(book, asked), 1)
 
 
 def where_of(book: Book, asked: Asked) -> tuple[str, list[object]]:

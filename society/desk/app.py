@@ -31,6 +31,8 @@ MENU = {
     "matings.page": "matings", "breed.page": "breed", "history.page": "history", "settings.page": "settings",
     "accounts.page": "accounts",
 }  # fmt: skip
+# those that have something to show where there is no book yet
+WITHOUT_BOOK = ("start.page", "sheet.page", "accounts.page")
 # a form has something beside the sheet
 ROOM_BESIDE = 100_000
 # so many places of a fault are told
@@ -57,7 +59,8 @@ def desk_app(desk: Desk, gate: Gate) -> Flask:
 def said() -> dict[str, object]:
     """What each template can say."""
     desk = the_desk()
-    menu = [(to, name) for to, name in MENU.items() if may(to)]
+    shown = MENU if desk.has_book() else WITHOUT_BOOK
+    menu = [(to, MENU[to]) for to in shown if may(to)]
     here = (request.endpoint or "").partition(".")[0]
     return {
         "say": the_words(),
@@ -92,7 +95,8 @@ def show_refused(error: HTTPException) -> ResponseReturnValue:
     g.refused = what
     words = the_words()
     sentence = words(what if what in TEXTS else "refused other")
-    return render_template("mistake.html", title="not done", sentences=[Sentence(sentence)]), error.code or 500
+    title = "not there" if error.code == 404 else "not done"
+    return render_template("mistake.html", title=title, sentences=[Sentence(sentence)]), error.code or 500
 
 
 def show_fault(error: Exception) -> ResponseReturnValue:

@@ -4,6 +4,7 @@ from __future__ import annotations
 import contextlib
 import functools
 import pathlib
+import threading
 from collections.abc import Callable, Iterator
 from dataclasses import dataclass, field
 from typing import Concatenate, ParamSpec, cast
@@ -13,9 +14,11 @@ from werkzeug.wrappers import Response
 
 from society.book.book import Book
 from society.book.book_read import reading
+from society.book.database import NAME as DATABASE
 from society.desk.exporting import Exports
+from society.desk.glance import Glances
 from society.desk.jobs import Jobs
-from society.desk.kept import Kept
+from society.desk.kept import NO_MARK, Kept, Mark
 from society.desk.office import Office
 from society.desk.uploads import Uploads
 
@@ -23,6 +26,12 @@ EXTENSION = "desk"
 # what a page answers
 Answer = str | Response | tuple[str, int]
 Given = ParamSpec("Given")
+
+
+def is_set() -> threading.Event:
+    event = threading.Event()
+    event.set()
+    return event
 
 
 @dataclass
@@ -37,10 +46,16 @@ class Desk:
     exports: Exports
     # what was computed of the book as it is after a change
     kept: Kept = field(default_factory=Kept)
+    glances: Glances = field(default_factory=Glances)
     # the book as it was when it was last seen to be whole
-    whole: tuple[int, int] = (0, 0)
+    whole: Mark = NO_MARK
+    # nobody sees now whether it is whole
+    is_seen: threading.Event = field(default_factory=is_set)
     # nobody changes the book any more
     is_closing: bool = False
+
+    def has_book(self) -> bool:
+        return (self.folder / DATABASE).exists()
 
     @contextlib.contextmanager
     def opened(self) -> Iterator[Book | None]:

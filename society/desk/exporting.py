@@ -26,7 +26,7 @@ class Exports:
     def write(self) -> None:
         while True:
             self.wished.wait()
-            # nobody changes the book while they are written, so that is begun when nobody filed for a while
+            # it takes long, and is begun when nobody filed for a while: so it is done once for many changes
             while not self.is_over and self.wished.is_set():
                 self.wished.clear()
                 self.wished.wait(self.pause)

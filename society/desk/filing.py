@@ -5,7 +5,6 @@ import datetime
 from collections.abc import Callable, Mapping
 from dataclasses import dataclass, replace
 
-from society.book.asking_sentences import NotSuch
 from society.book.book import Book
 from society.book.by_hand import ByHand, Calf, born, departed, file, transferred, with_parents
 from society.book.changes import Change, Option
@@ -13,14 +12,14 @@ from society.book.kinds import ChangeKind
 from society.book.known import Known
 from society.book.search import find
 from society.desk.desk import Desk
-from society.desk.forms import change_once
+from society.desk.forms import change_once, made_by, token_with
 from society.desk.sentences import DeskFault
 from society.mistake import Mistake
 from society.reading.unknown import unknown_words
 
 # the kinds of commands with the fields of their forms, which the history has as options but for the animal
 FIELDS: dict[ChangeKind, tuple[str, ...]] = {
-    ChangeKind.BIRTH: ("id", "name", "sex", "day", "sire", "dam", "owner", "embryo", "breed", "country"),
+    ChangeKind.BIRTH: ("id", "name", "sex", "day", "sire", "dam", "owner", "embryo"),
     ChangeKind.PARENTS: ("id", "sire", "dam"),
     ChangeKind.TRANSFER: ("id", "day", "to"),
     ChangeKind.EXIT: ("id", "day"),
@@ -30,11 +29,16 @@ KINDS = {kind.value: kind for kind in FIELDS}
 
 @dataclass(frozen=True)
 class Form:
-    """A form with what somebody wrote, and its token."""
+    """A form with what somebody wrote, and the token that it was sent with."""
 
     kind: ChangeKind
     given: Mapping[str, str]
-    token: str
+    sent: str
+
+    @property
+    def token(self) -> str:
+        """Sent again as it was it is the same form; with another animal or day in it, it is filed too."""
+        return token_with(self.sent, [self.text(name) for name in FIELDS[self.kind]])
 
     def text(self, name: str) -> str:
         return " ".join(self.given.get(name, "").split())
@@ -48,12 +52,19 @@ class Form:
     def animal(self, book: Book) -> Known:
         if not self.text("id"):
             raise Mistake(DeskFault.NO_ANIMAL.said())
-        return find(book, self.text("id"))
+        return find(book, self.text("id"), may_be_file=False)
 
     def parent(self, book: Book, role: str) -> Known | None:
         """The animal that is named; none where none is, or a word for an unknown one."""
         word = self.text(role)
-        return None if word.casefold() in unknown_words([]) or not word else find(book, word)
+        return None if word.casefold() in unknown_words([]) or not word else find(book, word, may_be_file=False)
+
+    def named(self, book: Book) -> None:
+        """A mistake where no animal of the book is named as it has to be."""
+        if self.kind is not ChangeKind.BIRTH:
+            self.animal(book)
+        for role in {"sire", "dam"}.intersection(FIELDS[self.kind]):
+            self.parent(book, role)
 
     def options(self) -> tuple[Option, ...]:
         """What was written, as the history has the options of a word."""
@@ -73,16 +84,9 @@ class Form:
             raise Mistake(DeskFault.NO_SEX.said())
         calf = Calf(
             self.text("id"), sex, self.day(), self.text("name"), self.parent(book, "sire"), self.parent(book, "dam"),
-            self.text("owner"), self.text("embryo") == "1", self.letters("breed"), self.letters("country"),
+            self.text("owner"), self.text("embryo") == "1",
         )  # fmt: skip
         return born(book, calf)
-
-    def letters(self, name: str) -> str:
-        """Three letters of a number, or none."""
-        text = self.text(name).upper()
-        if text and not (len(text) == 3 and text.isascii() and text.isalpha()):
-            raise Mistake(NotSuch.LETTERS.said(text=text))
-        return text
 
     def parents(self, book: Book) -> ByHand:
         """Both parents, as the form has them: an empty one is unknown."""
@@ -94,8 +98,23 @@ class Form:
         return transferred(book, self.animal(book), self.day(), self.text("to"), None)
 
 
+def written_in(change: Change, id: str) -> dict[str, str]:
+    """What was written into the form of a change, as the form has it."""
+    given = {one.option.removeprefix("--"): one.word or "1" for one in change.options}
+    if "sex" in given:
+        given["sex"] = given["sex"].upper()
+    return {"id": id} | given
+
+
 def file_form(desk: Desk, form: Form) -> Change:
     """The change with which the command and its reply are stored."""
+    with desk.opened() as before:
+        # which animals may be meant by a wrong word takes long to find, and so does a coefficient: nobody waits for that
+        if before is not None and not made_by(before, form.token):
+            form.named(before)
+            sire, dam = (form.parent(before, role) for role in ("sire", "dam"))
+            if form.kind is ChangeKind.BIRTH and sire and dam:
+                desk.program.expect(before, sire.number, dam.number, form.day())
     change = change_once(desk, form.token, lambda book: file(book, desk.program, form.command(book))[0])
     assert change is not None
     return change

@@ -8,6 +8,7 @@ from typing import NamedTuple
 
 from society.desk.texts import SENTENCES, findings, sheet_findings
 from society.desk.texts.members import MEMBERS
+from society.desk.texts.of_one import OF_ONE
 from society.desk.texts.sheet_findings import ENGLISH, WITHIN
 from society.desk.value_words import most_of, some_of, text_of
 from society.desk.words import Words
@@ -33,10 +34,11 @@ class Sentence(NamedTuple):
 
 def sentence_of(finding: Finding, words: Words) -> Sentence:
     """What is found, without what is suggested for the command line; in English where the language has no words."""
-    text = text_for(finding.kind(), words)
+    values = dict(values_of("", finding, words))
+    text = text_of_one(finding.kind(), values, words) or text_for(finding.kind(), words)
     if text is None:
         return Sentence(finding.words(), "" if words.at == 0 else "en")
-    return Sentence(filled(text, dict(values_of("", finding, words))))
+    return Sentence(filled(words.spaced(text), values))
 
 
 def sentence_in(said: str, words: Words) -> Sentence:
@@ -45,7 +47,7 @@ def sentence_in(said: str, words: Words) -> Sentence:
         return Sentence(said, "" if words.at == 0 else "en")
     text = SENTENCES[said.sentence][words.at] or re.sub(r"\{(\w+):,\}", r"{\1}", said.sentence.value)
     values = said.values
-    return Sentence(VALUE.sub(lambda name: shown(name[1], values[name[1]], words), text))
+    return Sentence(VALUE.sub(lambda name: shown(name[1], values[name[1]], words), words.spaced(text)))
 
 
 def sentence_of_entry(entry: Entry, words: Words) -> Sentence:
@@ -63,6 +65,12 @@ def text_for(kind: str, words: Words) -> str | None:
         return ENGLISH.get(kind)
     texts = FINDINGS.get(kind)
     return texts[words.at - 1] if texts else None
+
+
+def text_of_one(kind: str, values: dict[str, str], words: Words) -> str:
+    """The text of a kind of finding whose number is one; empty where it is another, or none is written otherwise."""
+    counted, *texts = OF_ONE.get(kind, ("",))
+    return texts[words.at] if texts and values[counted] == "1" else ""
 
 
 def filled(text: str, values: dict[str, str]) -> str:
@@ -94,6 +102,8 @@ def shown(name: str, value: object, words: Words) -> str:
         return some_of([part_of(one, words) for one in several], most_of(value), words)
     if isinstance(value, bool):
         return YES * value
+    if kind_of(type(value)) in WITHIN:
+        return part_of(value, words)
     return text_of(name, value, words)
 
 

@@ -2,9 +2,10 @@
 twice is filed once, and whoever sends it again sees what the first sending made."""
 from __future__ import annotations
 
+import hashlib
 import re
 import secrets
-from collections.abc import Callable
+from collections.abc import Callable, Sequence
 
 from flask import abort, request
 
@@ -31,10 +32,17 @@ def sent_form() -> str:
     return token
 
 
+def token_with(token: str, written: Sequence[str]) -> str:
+    """That of a form with what was written into it: gone back to and written otherwise, it is another form."""
+    return hashlib.sha256("\n".join([token, *written]).encode()).hexdigest()[:40]
+
+
 def change_once(desk: Desk, form: str, make: Callable[[Book], Change | None]) -> Change | None:
     """The change that is made where the form made none yet, else that one; none where nothing is to be changed."""
     with to_change(desk) as book:
         change = made_by(book, form) or make(book)
+    if change is not None:
+        desk.program.stands_at(change)
     desk.exports.wish()
     return change
 

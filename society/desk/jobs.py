@@ -2,7 +2,6 @@
 book that it is of."""
 from __future__ import annotations
 
-import contextlib
 import contextvars
 import enum
 import subprocess
@@ -21,6 +20,8 @@ SOON = 0.15
 # so many processes work at once
 AT_ONCE = 2
 Key = tuple[object, ...]
+# what is done with what came of it, before anybody sees that
+Then = Callable[[object], None]
 # the kind of what changes the book, and of advice on a dam, of which few are kept since each may be long
 TAKING, ADVICE = "taking", "advice"
 MOST_ADVICE = 3
@@ -35,9 +36,11 @@ class Stage(enum.Enum):
 class Job:
     """Some work: its stage, what it told last, and what came of it."""
 
-    def __init__(self, key: Key) -> None:
-        self.key, self.began = key, time.monotonic()
+    def __init__(self, key: Key, then: Then | None = None) -> None:
+        self.key, self.then, self.began = key, then, time.monotonic()
         self.stage, self.told = Stage.UNDER_WAY, ""
+        # the page that waits for it, where another leads there
+        self.address = ""
         self.value: object = None
         self.failed = Failed(())
         self.is_over = threading.Event()
@@ -69,10 +72,17 @@ class Job:
         finally:
             self.is_over.set()
 
+    def fail(self, sentence: str) -> None:
+        """Ends work that wasn't begun."""
+        self.take(Failed((sentence,)))
+        self.is_over.set()
+
     def take(self, message: object) -> None:
         if isinstance(message, Told):
             self.told = message.what
         elif isinstance(message, Made):
+            if self.then:
+                self.then(message.value)
             self.value, self.stage = message.value, Stage.DONE
         elif isinstance(message, Failed):
             self.failed, self.stage = message, Stage.FAILED
@@ -83,23 +93,27 @@ class Jobs:
 
     def __init__(self) -> None:
         self.lock, self.room = threading.Lock(), threading.Semaphore(AT_ONCE)
-        # whoever changes the book waits for this, so that one after the other does
+        # whoever changes the book in this process waits for this, so that one after the other does; the database has
+        # a process beside do so
         self.turn = threading.Lock()
         self.jobs: OrderedDict[Key, Job] = OrderedDict()
+        self.is_ending = False
 
-    def of(self, key: Key, work: Callable[..., object], values: tuple[object, ...]) -> Job:
+    def of(
+        self, key: Key, work: Callable[..., object], values: tuple[object, ...], then: Then | None = None
+    ) -> Job:
         """The work of a key, which is begun where it wasn't; the page waits a moment for its end."""
-        return self.begun(key, lambda job: self.do(job, work, values))
+        return self.begun(key, lambda job: self.do(job, work, values), then)
 
     def here(self, key: Key, compute: Callable[[], object]) -> Job:
         """The same for work that is done in this process, as that of the session's answers."""
         return self.begun(key, lambda job: job.do_here(compute))
 
-    def begun(self, key: Key, do: Callable[[Job], None]) -> Job:
+    def begun(self, key: Key, do: Callable[[Job], None], then: Then | None = None) -> Job:
         with self.lock:
             job = self.jobs.get(key)
             if job is None:
-                job = self.jobs[key] = Job(key)
+                job = self.jobs[key] = Job(key, then)
                 # it is done for whoever asks
                 given = (do, job)
                 threading.Thread(target=contextvars.copy_context().run, args=given, daemon=True).start()
@@ -108,10 +122,10 @@ class Jobs:
         return job
 
     def do(self, job: Job, work: Callable[..., object], values: tuple[object, ...]) -> None:
-        with contextlib.ExitStack() as stack:
-            stack.enter_context(self.room)
-            if job.key[0] == TAKING:
-                stack.enter_context(self.turn)
+        with self.room:
+            if self.is_ending and job.key[0] != TAKING:
+                job.fail(DeskFault.WORK_ENDED.said())
+                return
             job.do(work, values)
 
     def found(self, key: Key) -> Job | None:
@@ -123,6 +137,11 @@ class Jobs:
         with self.lock:
             done = [job for job in self.jobs.values() if job.key[0] == kind and job.stage is Stage.DONE]
         return done[-1] if done else None
+
+    def under_way(self, kind: str) -> Job | None:
+        """One of a kind that isn't over."""
+        with self.lock:
+            return next((job for job in self.jobs.values() if job.key[0] == kind and not job.is_over.is_set()), None)
 
     def forget(self, key: Key) -> None:
         with self.lock:
@@ -138,8 +157,11 @@ class Jobs:
     def end(self) -> None:
         """Ends what is under way, but for work that changes the book: that is waited for."""
         with self.lock:
+            self.is_ending = True
             under_way = [job for job in self.jobs.values() if not job.is_over.is_set()]
+        # one may wait for another
         for job in under_way:
             if job.key[0] != TAKING and job.process:
                 job.process.kill()
+        for job in under_way:
             job.is_over.wait()

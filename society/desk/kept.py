@@ -9,6 +9,9 @@ from typing import TypeVar, cast
 from society.book.book import Book
 
 Value = TypeVar("Value")
+# by which a book is known: its last change, and when that was made
+Mark = tuple[int, int]
+NO_MARK: Mark = (0, 0)
 # so many values are kept
 MOST = 64
 
@@ -42,6 +45,6 @@ class Kept:
         return value
 
 
-def mark_of(book: Book) -> tuple[int, int]:
-    """By which it is seen whether a book is another than before: its last change, and when that was made."""
-    return (book.change.number, book.change.moment) if book.change else (0, 0)
+def mark_of(book: Book) -> Mark:
+    """By which it is seen whether a book is another than before."""
+    return (book.change.number, book.change.moment) if book.change else NO_MARK

@@ -2,13 +2,18 @@
 from __future__ import annotations
 
 import contextlib
+import datetime
 import threading
+from collections.abc import Sequence
 
+from society.book.beside import Beside
 from society.book.book import Book
+from society.book.changes import Change
 from society.book.commands import Command
 from society.book.history import login
-from society.book.journal import NO_JOURNAL, Journal, Part, lines_with_refusals, parts_of
+from society.book.journal import NO_JOURNAL, Journal, Part, lines_with_refusals, parts_of, refusals_of
 from society.book.sentences import ProgramFault
+from society.desk.ancestors_alone import LARGE, Expected, lines_alone
 from society.desk.session import Answer, Places, Session, SessionEnded, SessionFault
 from society.herdbook import Herdbook
 from society.mistake import Mistake
@@ -33,10 +38,12 @@ class Office(Herdbook):
     def __init__(self, places: Places = Places()) -> None:
         super().__init__()
         self.places = places
+        self.expected = Expected()
         # who files at which desk
         self.desks: dict[str, int] = {}
         self.lock = threading.RLock()
         self.session: Session | None = None
+        self.is_closed = False
         # the journal that the session has filed, and the moment of the change after which it is that
         self.journal, self.moment = NO_JOURNAL, 0
 
@@ -45,8 +52,32 @@ class Office(Herdbook):
             return self.asked([word for word in words if word != "--dam"], book)
         return super().ask(words, book)
 
-    def coefficient(self, number: str, book: Book) -> str:
-        return "".join(self.asked(["coefficient", number], book))
+    def beside(self, words: list[str], book: Book) -> Beside[list[str]]:
+        """At once, as the session knows the book."""
+        lines = self.ask(words, book)
+        return Beside(lambda: lines)
+
+    def coefficients(self, numbers: Sequence[str], book: Book) -> list[str]:
+        if numbers and book.journal.length > LARGE:
+            expected = [self.expected.line_of(book, number) for number in numbers]
+            alone = expected if all(expected) else lines_alone(self, book, numbers)
+            if alone:
+                return alone
+        return [line for number in numbers for line in self.asked(["coefficient", number], book)]
+
+    def expect(self, book: Book, sire: str, dam: str, day: datetime.date) -> None:
+        """A calf of these parents is filed soon."""
+        if book.journal.length > LARGE:
+            self.expected.ask(self, book, sire, dam, day)
+
+    def refusals(self, book: Book) -> dict[int, Refusal]:
+        """The stored ones: each was compared with the session's reply as that came to the journal."""
+        assert book.connection is not None
+        for _ in range(TRIES):
+            with contextlib.suppress(SessionEnded):
+                self.at(book)
+                return refusals_of(book.connection, book.journal)
+        raise Mistake(ProgramFault.SESSION_ENDS.said())
 
     def asked(self, question: list[str], book: Book) -> list[str]:
         """What an inspector of the session answers."""
@@ -89,6 +120,12 @@ class Office(Herdbook):
         self.journal = Journal(self.journal.edition, self.journal.length + 1)
         return refusal
 
+    def stands_at(self, change: Change) -> None:
+        """A change is stored, which may be that of the session's last reply: without it a book is another one."""
+        with self.lock:
+            if (change.edition, change.length) == (self.journal.edition, self.journal.length):
+                self.moment = max(self.moment, change.moment)
+
     def desk_of(self, name: str) -> int:
         """Everybody has a desk; where there are more people than desks some share one."""
         return self.desks.setdefault(name, len(self.desks) % self.places.desks + 1)
@@ -102,6 +139,8 @@ class Office(Herdbook):
             is_there = self.session is not None and not self.session.has_ended
             if is_there and not goes_on and moment <= self.moment and not to_file:
                 raise BookMoved
+            if self.is_closed:
+                raise SessionEnded
             if not is_there or not goes_on:
                 self.forget(self.session)
                 self.session = Session(self, self.places)
@@ -157,4 +196,7 @@ class Office(Herdbook):
                 self.forget(self.session)
 
     def close(self) -> None:
-        self.forget(self.session)
+        """Ends the session; no other begins."""
+        with self.lock:
+            self.is_closed = True
+            self.forget(self.session)

@@ -1,7 +1,7 @@
 """Long tables, of which a page shows a part."""
 from __future__ import annotations
 
-from collections.abc import Sequence
+from collections.abc import Callable, Sequence
 from typing import Generic, NamedTuple, TypeVar
 from urllib.parse import urlencode
 
@@ -24,10 +24,14 @@ class Part(NamedTuple, Generic[Value]):
 
 def part_of(rows: Sequence[Value]) -> Part[Value]:
     """The part that the request asks for; the last one where there are fewer pages."""
-    pages = max(1, -(-len(rows) // ON_A_PAGE))
+    return part_read(len(rows), lambda first, most: rows[first : first + most])
+
+
+def part_read(count: int, read: Callable[[int, int], Sequence[Value]]) -> Part[Value]:
+    """The same of so many rows that are read from a first one on, so many at most."""
+    pages = max(1, -(-count // ON_A_PAGE))
     page = min(page_of(request.args.get("page", "")), pages)
-    first = (page - 1) * ON_A_PAGE
-    return Part(rows[first : first + ON_A_PAGE], page, pages, address_of(page - 1), address_of(page + 1))
+    return Part(read((page - 1) * ON_A_PAGE, ON_A_PAGE), page, pages, address_of(page - 1), address_of(page + 1))
 
 
 def page_of(text: str) -> int:

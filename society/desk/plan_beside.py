@@ -1,35 +1,32 @@
-"""The plan of matings for all living dams, which is made in a process beside the server."""
+"""The plan of matings for all living dams, which is made in a process beside the server; what the program's session says
+of its matings is compared with it before it is shown."""
 from __future__ import annotations
 
-import datetime
+import contextlib
+import functools
 import pathlib
 from dataclasses import dataclass
 from fractions import Fraction
 
-from society.answers.candidates import Candidates, candidates_of
 from society.book.book import Book
 from society.book.opening import opened
-from society.book.role import Role
-from society.breed.mated import Planned, best_plan, old_enough, plan_table
-from society.breed.plan import Rules as PlanRules
+from society.book.sentences import BookFault
+from society.breed.assumed import Asked, Prepared, prepared, usual_bounds
+from society.breed.mated import Planned, best_plan, plan_table
 from society.breed.plan import Unmated
 from society.desk.beside import Doing, Tell
 from society.desk.desk import Desk
-from society.desk.jobs import Job
+from society.desk.jobs import Job, Stage
 from society.desk.kept import mark_of
+from society.desk.office import BookMoved
+from society.desk.sentences import DeskFault
 from society.herdbook import Herdbook
+from society.mistake import Mistake
+from society.sentence import Said
 
-PLAN = "plan"
-
-
-@dataclass(frozen=True)
-class Rules:
-    """What a plan keeps to: so many dams for a sire at most, no calf above a coefficient, no animal younger than so
-    many days."""
-
-    most_for_a_sire: int | None = None
-    at_most: Fraction | None = None
-    minimum_age: int | None = None
+PLAN, BESIDE = "plan", "plan beside"
+# so often it is made of a book that somebody changes
+TRIES = 5
 
 
 @dataclass(frozen=True, slots=True)
@@ -48,11 +45,21 @@ class Pair:
 
 
 @dataclass(frozen=True)
+class Bounds:
+    """How many dams a sire has at most, and how old parents are at least, and what of it was assumed."""
+
+    most_for_a_sire: int | None
+    minimum_age: int | None
+    assumed: tuple[Said, ...]
+
+
+@dataclass(frozen=True)
 class PlanMade:
     """The matings, which dams have none and why, and the means; `text` is the file that the word `plan` writes, with
     commas and with semicolons."""
 
     change: int
+    bounds: Bounds
     pairs: list[Pair]
     unmated: dict[Unmated, list[Mate]]
     mean: Fraction | None
@@ -61,25 +68,70 @@ class PlanMade:
     text: dict[bool, str]
 
 
-def plan_for(desk: Desk, book: Book, rules: Rules) -> Job:
+def usual_of(desk: Desk, book: Book) -> Bounds:
+    """The bounds that are assumed where nothing is said."""
+
+    def usual() -> Bounds:
+        age, most = usual_bounds(book)
+        return Bounds(most, age.days, ())
+
+    return desk.kept.of(book, ("usual bounds",), usual)
+
+
+def bounds_of(among: Prepared) -> Bounds:
+    return Bounds(among.rules.most_for_a_sire, among.minimum_age, among.assumed)
+
+
+def plan_for(desk: Desk, book: Book, asked: Asked) -> Job:
     """The work on the plan for the book as it is now, which is begun where it wasn't."""
-    return desk.jobs.of((PLAN, mark_of(book), rules), planned, (desk.folder, rules))
+    key = (PLAN, mark_of(book), asked)
+    return desk.jobs.here(key, functools.partial(plan_of_now, desk, asked))
 
 
-def planned(folder: pathlib.Path, rules: Rules, tell: Tell) -> PlanMade:
+def plan_of_now(desk: Desk, asked: Asked) -> PlanMade:
+    """That of the book as it is, also where somebody changes it meanwhile."""
+    for _ in range(TRIES):
+        with contextlib.suppress(BookMoved), desk.opened() as book:
+            if book is None:
+                raise Mistake(BookFault.NO_BOOK.said(folder=desk.folder, there="", hint=""))
+            job = desk.jobs.of((BESIDE, mark_of(book), asked), planned, (desk.folder, asked))
+            job.is_over.wait()
+            desk.jobs.forget(job.key)
+            if job.stage is not Stage.DONE:
+                raise Mistake(*job.failed.sentences)
+            assert isinstance(job.value, PlanMade)
+            compare(desk, job.value)
+            return job.value
+    raise Mistake(BookFault.ALWAYS_CHANGED.said(path=desk.folder))
+
+
+def told_of(desk: Desk, book: Book, asked: Asked) -> str:
+    """How far the process is, empty where it is over."""
+    job = desk.jobs.found((BESIDE, mark_of(book), asked))
+    return job.told if job else ""
+
+
+def compare(desk: Desk, plan: PlanMade) -> None:
+    """Asks the session for each mating of a plan; a mistake where it says something else."""
+    with desk.opened() as book:
+        if book is None or book.change is None or book.change.number != plan.change:
+            raise BookMoved
+        for pair in plan.pairs:
+            said = desk.program.ask(["mating", "--dam", pair.dam.number, pair.sire.number], book)
+            if [line.split(",")[:2] for line in said] != [[pair.sire.number, pair.fraction]]:
+                raise Mistake(DeskFault.PLAN_DIFFERS.said(dam=pair.dam.id, sire=pair.sire.id))
+
+
+def planned(folder: pathlib.Path, asked: Asked, tell: Tell) -> PlanMade:
     program = Herdbook()
     with opened(folder, program) as book:
         tell(Doing.COEFFICIENTS)
-        dams, sires = (candidates_of(book, role, None) for role in (Role.DAM, Role.SIRE))
-        if rules.minimum_age is not None:
-            youngest = datetime.date.today() - datetime.timedelta(days=rules.minimum_age)
-            dams, sires = old_enough(dams, youngest), old_enough(sires, youngest)
-        found = best_plan(book, program, dams, sires, PlanRules(rules.most_for_a_sire, rules.at_most))
-        return made(book, found, dams, sires)
+        among = prepared(book, asked)
+        return made(book, best_plan(book, program, among.dams, among.sires, among.rules), among)
 
 
-def made(book: Book, found: Planned, dams: Candidates, sires: Candidates) -> PlanMade:
-    mates = {one.number: Mate(one.number, one.id, one.name) for one in (*dams.animals, *sires.animals)}
+def made(book: Book, found: Planned, among: Prepared) -> PlanMade:
+    mates = {one.number: Mate(one.number, one.id, one.name) for one in (*among.dams.animals, *among.sires.animals)}
     plan = found.plan
     unmated: dict[Unmated, list[Mate]] = {}
     for dam, why in plan.unmated.items():
@@ -87,4 +139,5 @@ def made(book: Book, found: Planned, dams: Candidates, sires: Candidates) -> Pla
     pairs = [Pair(mates[one.dam], mates[one.sire], str(one.coefficient), one.coefficient) for one in plan.matings]
     text = {semicolons: plan_table(book, found, False).text(semicolons) for semicolons in (False, True)}
     assert book.change is not None
-    return PlanMade(book.change.number, pairs, unmated, plan.mean, plan.allowed, plan.mean_of_allowed, text)
+    means = plan.mean, plan.allowed, plan.mean_of_allowed
+    return PlanMade(book.change.number, bounds_of(among), pairs, unmated, *means, text)

@@ -1,21 +1,19 @@
 """A backup that somebody dropped: what it has, and its restoring; both in a process beside the server."""
 from __future__ import annotations
 
-import contextlib
 import datetime
 import pathlib
-import sqlite3
 import tempfile
 from dataclasses import dataclass
 
 from society.book.backup import prepare, restore
 from society.book.book import Book
-from society.book.book_read import opened_to_read, reading
+from society.book.book_changed import Overtaken
+from society.book.book_read import opened_to_read
 from society.book.history import change_numbered
 from society.desk.beside import Doing, Tell
 from society.desk.taking_beside import Taken
 from society.herdbook import Herdbook
-from society.mistake import Mistake
 
 
 @dataclass(frozen=True)
@@ -43,14 +41,8 @@ def looked_into(path: pathlib.Path, tell: Tell) -> Backup:
 def restored(folder: pathlib.Path, path: pathlib.Path, looked: int, tell: Tell) -> Taken:
     """Restores it, if the book is still the one after the change that was looked at; that goes to the folder `old`."""
     tell(Doing.RESTORING)
-    with contextlib.suppress(sqlite3.Error, Mistake):
-        if change_now(folder) != looked:
-            return Taken(0, True)
-    return Taken(restore(folder, path, Herdbook(), anyway=True).number)
-
-
-def change_now(folder: pathlib.Path) -> int:
-    """The number of the last change of the book that is there, 0 where there is none."""
-    with reading(folder) as connection:
-        change = Book(folder, connection).change if connection else None
-        return change.number if change else 0
+    try:
+        change = restore(folder, path, Herdbook(), anyway=True, looked=looked)
+    except Overtaken:
+        return Taken(0, True)
+    return Taken(change.number, mark=(change.number, change.moment))

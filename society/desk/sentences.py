@@ -15,6 +15,7 @@ class DeskFault(Sentence):
     NO_OWNER = "the new owner is missing: write a name"
     NONE_OF_THESE = "the book has none of these animals: ask for others"
     CLOSING = "the desk is being closed: nothing is filed. Try again when it is open"
+    PLAN_DIFFERS = "the plan and the register say something else of {dam} and {sire}: the plan isn't shown"
     # files and processes
     NOT_KEPT = "the file can't be kept here ({error}): make room on the disk"
     WORK_ENDED = "the work was ended before it was done: try it again"

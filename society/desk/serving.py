@@ -19,9 +19,9 @@ from flask import Flask
 from waitress import create_server
 
 from society.book.book_changed import up_to_date
-from society.book.old_folder import take_over
+from society.book.opening import take_over
 from society.desk.app import desk_app
-from society.desk.changing import end_changes, see_whole
+from society.desk.changing import begin_to_see, end_changes
 from society.desk.desk import Desk
 from society.desk.exporting import PAUSE, Exports
 from society.desk.jobs import Jobs
@@ -73,7 +73,7 @@ def answer(desk: Desk, app: Flask, listening: socket.socket, threads: int, begin
         expose_tracebacks=False,
     )  # fmt: skip
     sys.setswitchinterval(SECONDS_IN_TURN)
-    threading.Thread(target=see_whole, args=(desk,), daemon=True).start()
+    begin_to_see(desk)
     signal.signal(signal.SIGTERM, signal.default_int_handler)
     with contextlib.suppress(KeyboardInterrupt):
         begin()
@@ -83,6 +83,8 @@ def answer(desk: Desk, app: Flask, listening: socket.socket, threads: int, begin
     end_changes(desk)
     desk.jobs.end()
     server.task_dispatcher.shutdown(cancel_pending=False, timeout=SECONDS_FOR_ANSWERS)
+    # nothing of this process goes on while the interpreter ends
+    desk.is_seen.wait(SECONDS_FOR_ANSWERS)
     desk.exports.end()
     desk.program.close()
     print("The desk is closed.", flush=True)

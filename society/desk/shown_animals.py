@@ -7,7 +7,7 @@ from typing import NamedTuple
 from society.answers.relatives import Relatives
 from society.book.book import Book
 from society.book.coefficients import Coefficient
-from society.book.inferred import BirthBasis, ExitBasis
+from society.book.inferred import BirthBasis, ExitBasis, ExitSource
 from society.book.kinds import Standing
 from society.book.known import Known
 from society.book.role import Role
@@ -59,6 +59,21 @@ class Litter(NamedTuple):
     animals: list[AnimalLine]
 
 
+class Offered(NamedTuple):
+    """What the page of an animal offers: not what the register would refuse, nor a mating of an animal that has left."""
+
+    mates: bool
+    exit: bool
+    transfer: bool
+
+    @classmethod
+    def of(cls, row: Row, known: Known) -> Offered:
+        may_be_there = not row.departed and row.exit_source != ExitSource.UNKNOWN_DAY.value
+        is_dam = row.number[6] == Role.DAM.sex and not known.castrated
+        # the day of an exit that isn't known can still be filed
+        return cls(is_dam and may_be_there, not row.departed, may_be_there)
+
+
 class AnimalShown(NamedTuple):
     """What the page of an animal has beside its pedigree and history."""
 
@@ -70,6 +85,7 @@ class AnimalShown(NamedTuple):
     offspring: list[Litter]
     full_sibs: list[AnimalLine]
     half_sibs: list[tuple[str, list[AnimalLine]]]
+    offered: Offered
 
 
 class Shower:
@@ -95,6 +111,7 @@ class Shower:
             [self.litter(number, rows) for number, rows in relatives.offspring.items()],
             self.lines(relatives.full_sibs),
             [(self.words(f"half sibs by {role}"), self.lines(relatives.half_sibs[role])) for role in Role],
+            Offered.of(row, known),
         )
 
     def facts(self, row: Row, known: Known) -> list[tuple[str, str]]:

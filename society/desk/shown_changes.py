@@ -3,44 +3,21 @@ from __future__ import annotations
 
 import collections
 import json
-from dataclasses import dataclass
 from typing import NamedTuple
 
 from society.answers.own_history import SAID_BY_ROWS, names_of_parents, rows_by_change, told_of_animal
 from society.book.book import NO_OWNER, Book
-from society.book.changes import Change, Told
+from society.book.changes import Told
 from society.book.history import change_numbered
 from society.book.history_words import facts
-from society.book.kinds import ChangeKind
 from society.book.rows import COLUMNS, Row
+from society.desk.change_lines import ChangeLine, line_of
 from society.desk.finding_words import Sentence, sentence_of
+from society.desk.shown_facts import facts_said
 from society.desk.shown_findings import MOST_SHOWN, Group, groups_of
 from society.desk.words import Words
 from society.taking.report import What
 from society.taking.stored_findings import entry_of, kind_named
-
-
-@dataclass(frozen=True, slots=True)
-class ChangeLine:
-    """A change in a line. `what` is what it did, `counts` how much of each."""
-
-    number: int
-    time: str
-    login: str
-    what: str
-    counts: str
-
-
-def line_of(change: Change, words: Words) -> ChangeLine:
-    counts = [f"{words.count(count)} {words(f'counted {what}')}" for what, count in change.counts.items() if count]
-    return ChangeLine(change.number, words.time(change.time), change.login, what_of(change, words), ", ".join(counts))
-
-
-def what_of(change: Change, words: Words) -> str:
-    if change.kind is ChangeKind.UNDO and not change.undone_to:
-        return words("change to empty")
-    named = change.source.name if change.source else change.undone_to or ""
-    return words(f"change {change.kind.value}", named)
 
 
 class Value(NamedTuple):
@@ -88,8 +65,9 @@ def difference(
 ) -> Difference:
     former = facts(before, names, owners) if before else {}
     now = facts(after, names, owners) if after else {}
+    said = [facts_said(row, names, owners, words) if row else {} for row in (before, after)]
     changed = (what for what in now or former if now.get(what, "") != former.get(what, ""))
-    values = [Value(words(f"fact {what}"), former.get(what, ""), now.get(what, "")) for what in changed]
+    values = [Value(words(f"fact {what}"), *(one.get(what, "") for one in said)) for what in changed]
     return Difference(id, before is None, after is None, values)
 
 
@@ -132,5 +110,5 @@ def own_changes(book: Book, id: str, words: Words) -> list[OwnChange]:
         sentences = [sentence_of(entry.finding, words) for entry in entries if entry.what not in SAID_BY_ROWS]
         is_changed = number in began or number in ended
         changed = difference(id, ended.get(number), began.get(number), names, owners, words) if is_changed else None
-        found.append(OwnChange(line_of(change, words), changed, sentences))
+        found.append(OwnChange(line_of(book.connection, change, words), changed, sentences))
     return found

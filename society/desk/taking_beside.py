@@ -10,20 +10,25 @@ from dataclasses import dataclass, field, replace
 from typing import TypeVar
 
 from society.book.book import Book
-from society.book.book_changed import BookCame
-from society.book.opening import to_change, to_look_at
+from society.book.book_changed import Overtaken
+from society.book.changes import Option
+from society.book.opening import still_to_change, to_look_at, to_prepare
 from society.command_line.arguments import day, days, three_letters
 from society.desk.beside import Doing, Tell
 from society.desk.forms import made_by
+from society.desk.kept import NO_MARK, Mark
 from society.desk.sheet_columns import ColumnsShown, columns_shown
-from society.desk.shown_findings import first_of_each
-from society.desk.suggested import suggestions_of
+from society.desk.shown_findings import first_of_each, totals_of
+from society.desk.suggested import Days, days_of
+from society.desk.wrong_fields import owners_of, wrong_fields
 from society.herdbook import Herdbook
 from society.mistake import Mistake
+from society.reading.cell_findings import OddRow
 from society.taking.from_sheet import take_into
 from society.taking.outcome import BookAfter
-from society.taking.report import CantBeTaken, Entry, Finding, What
-from society.taking.suggestions import Suggestion
+from society.taking.harm import Harm
+from society.taking.report import ROW, CantBeTaken, Entry, Finding, What
+from society.taking.saving import save
 from society.taking.wishes import Wishes
 
 Value = TypeVar("Value")
@@ -40,14 +45,18 @@ class Chosen:
 
     @classmethod
     def of(cls, columns: Mapping[str, str], options: Mapping[str, str]) -> Chosen:
-        return cls(tuple(sorted(columns.items())), tuple(sorted(options.items())))
+        """Without the fields that can't be read."""
+        wrong = wrong_fields(options)
+        read = {name: text for name, text in options.items() if name not in wrong}
+        return cls(tuple(sorted(columns.items())), tuple(sorted(read.items())))
 
 
 @dataclass(frozen=True)
 class Look:
     """What a sheet would change of the book after a change, 0 for none. `told` are sentences and entries on why it can't
-    be read; obstacles keep it from being taken; `entries` are the first of each kind, of which there are `totals`, and
-    `suggestions` what all of them suggest; `after` is the book then, none where it can't be read."""
+    be read; obstacles keep it from being taken; `entries` are the first of each kind, of which there are `totals`;
+    `days` are those of all entries that are told for a bound; `rows` are the sheet's, of which `left_out` are;
+    `remembered` are the options that hold since an earlier sheet; `after` is the book then, none where it can't be read."""
 
     change: int
     columns: ColumnsShown | None
@@ -55,16 +64,21 @@ class Look:
     obstacles: tuple[Finding, ...] = ()
     entries: tuple[Entry, ...] = ()
     totals: Mapping[What, int] = field(default_factory=dict)
-    suggestions: tuple[Suggestion, ...] = ()
+    days: Days = field(default_factory=dict)
+    rows: int = 0
+    left_out: int = 0
+    remembered: tuple[Option, ...] = ()
     after: BookAfter | None = None
 
 
 @dataclass(frozen=True)
 class Taken:
-    """The change that a taking made, or that the book isn't any more the one that was looked at."""
+    """The change that a taking made, or that the book isn't any more the one that was looked at. `mark` is that of the
+    book behind it, if the taking was the last change and the book is whole."""
 
     change: int
     book_changed: bool = False
+    mark: Mark = NO_MARK
 
 
 def looked_at(folder: pathlib.Path, path: pathlib.Path, chosen: Chosen, tell: Tell) -> Look:
@@ -79,14 +93,20 @@ def looked_at(folder: pathlib.Path, path: pathlib.Path, chosen: Chosen, tell: Te
     with to_look_at(folder, program) as book:
         number = book.change.number if book.change else 0
         try:
-            outcome = take_into(book, path, replace(wishes_of(folder, chosen), preview=True), program)
+            outcome, _ = take_into(book, path, replace(wishes_of(folder, chosen), preview=True), program)
         except Mistake as mistake:
             return look_of(number, columns, mistake)
-    entries = sorted(outcome.report.in_order(), key=lambda one: one.finding.does())
+    entries, understood = sorted(outcome.report.in_order(), key=harm_of), outcome.understood
     return Look(
-        number, columns, (), outcome.obstacles, tuple(first_of_each(entries)), outcome.counts(),
-        suggestions_of(entry.finding for entry in entries), outcome.after,
+        number, columns, (), outcome.obstacles, tuple(first_of_each(entries)), totals_of(entries),
+        days_of(entry.finding for entry in entries), understood.rows if understood else 0,
+        sum(entry.part is ROW for entry in entries), understood.remembered if understood else (), outcome.after,
     )  # fmt: skip
+
+
+def harm_of(entry: Entry) -> tuple[Harm, bool]:
+    """The greatest harm comes first; and before all else rows that may be no animals."""
+    return entry.finding.does(), not isinstance(entry.finding, OddRow)
 
 
 def look_of(number: int, columns: ColumnsShown | None, mistake: Mistake) -> Look:
@@ -107,21 +127,25 @@ def columns_of(
 
 
 def taken(folder: pathlib.Path, path: pathlib.Path, chosen: Chosen, looked: int, form: str, tell: Tell) -> Taken:
-    """Takes a sheet, if the book is still the one after the change that was looked at, and its form didn't take it."""
+    """Takes a sheet, if the book is still the one after the change that was looked at, and its form didn't take it.
+    Others file while that is prepared; who waits for it waits for the writing alone."""
     program = Herdbook()
     tell(Doing.TAKING)
     try:
-        with to_change(folder, program) as book:
+        with to_prepare(folder, program) as book:
             before = made_by(book, form)
             if before:
                 return Taken(before.number)
             number = book.change.number if book.change else 0
             if number != looked:
                 return Taken(number, True)
-            take_into(book, path, replace(wishes_of(folder, chosen), form=form), program)
-    except BookCame:
+            _, prepared = take_into(book, path, replace(wishes_of(folder, chosen), form=form), program)
+        assert prepared is not None
+        with still_to_change(folder, book.change) as now:
+            change = save(now, program, prepared)
+    except Overtaken:
         return Taken(0, True)
-    return Taken(looked + 1)
+    return Taken(change.number, mark=(change.number, change.moment))
 
 
 def wishes_of(folder: pathlib.Path, chosen: Chosen) -> Wishes:
@@ -137,7 +161,9 @@ def wishes_of(folder: pathlib.Path, chosen: Chosen) -> Wishes:
         unknown=word("unknown"),
         known=word("known"),
         sexes=word("sexes"),
-        owners=word("owner"),
+        owners=owners_of(given.get("owner", "")),
+        no_animal=word("no_animal"),
+        animal=word("animal"),
         breed=read(three_letters, given.get("breed", "")) or "",
         country=read(three_letters, given.get("country", "")) or "",
         day=read(day, given.get("day", "")),

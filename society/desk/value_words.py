@@ -13,7 +13,7 @@ from society.desk.words import Words
 from society.sentence import AnyOf, Count, Some
 
 # numbers of something that there may be none of, and those that count nothing
-NONE_IF_ZERO, NO_COUNTS = ("line", "more"), (
+NONE_IF_ZERO, NO_COUNTS = ("line", "more", "of"), (
     "line",
     "change",
     "place",

@@ -2,6 +2,7 @@
 from __future__ import annotations
 
 import datetime
+import re
 from fractions import Fraction
 
 from flask import g, request, session
@@ -13,6 +14,8 @@ from society.decimals import percent
 from society.pages.languages import LANGUAGES, Language
 
 CHOSEN = "language"
+# the blanks before and behind these don't end a line in French
+SIGNS = re.compile(" (?=[:;?!»])|(?<=«) ")
 NAMES = {"en": "English", "de": "Deutsch", "fr": "Français"}
 
 
@@ -23,8 +26,12 @@ class Words:
         self.at, self.language = LANGUAGES.index(language), Language(language)
 
     def __call__(self, what: str, *values: object) -> str:
-        text = TEXTS[what][self.at]
+        text = self.spaced(TEXTS[what][self.at])
         return text.format(*values) if values else text
+
+    def spaced(self, text: str) -> str:
+        """A text of the catalogue: in French no line begins with a sign, nor ends with a quotation mark that opens."""
+        return SIGNS.sub("\u00a0", text) if self.language.name == "fr" else text
 
     def counted(self, what: str, count: int) -> str:
         """A text that counts. French counts none as one."""

@@ -10,11 +10,11 @@ from society.pages.languages import Language
 from society.pages.marks import mark_of
 
 FONT = "'Helvetica Neue', Arial, 'Liberation Sans', 'DejaVu Sans', sans-serif"
-INK, GREY, LINE, PAPER = "#1d2733", "#66717e", "#98a2ad", "#ffffff"
+INK, GREY, LINE, PAPER = "#1d2733", "#5b6672", "#98a2ad", "#ffffff"
 SIRE, DAM = "#e8f0f8", "#fbeef0"
 # so long a file's name may be, but for what stands before and behind the id
 MOST_BYTES = 200
-INBRED, INBRED_INK = "#fff3cf", "#b4560c"
+INBRED, INBRED_INK = "#fff3cf", "#a34e0b"
 
 
 def printable(text: str) -> str:

@@ -10,6 +10,7 @@ from society.book.kinds import Field
 from society.reading.days import DayFault
 from society.taking.harm import Harm
 from society.taking.report import Finding, LeftOut, Part, What
+from society.taking.suggestions import Suggestion, is_animal, is_no_animal
 
 # what the columns of days have, in words
 DAYS = {Field.BIRTH: "birth day", Field.SINCE: "first day with its owner", Field.EXIT: "exit"}
@@ -81,8 +82,23 @@ class LineAgain(IdAgain):
         return "the line"
 
 
+@dataclass(frozen=True, slots=True)
+class NoAnimal(RowLeftOut):
+    """The row is no animal, as somebody says by a word of it."""
+
+    word: str
+
+    harm = Harm.NONE
+
+    def why(self) -> str:
+        return f"a row with '{self.word}' is no animal, as --no-animal says"
+
+    def suggestions(self) -> tuple[Suggestion, ...]:
+        return (Suggestion("if it is one", (is_animal(self.word),)),)
+
+
 class OddRow(Finding):
-    """A row that may be no animal is taken as one."""
+    """A row that may be no animal is taken as one. `word` is what it is known by."""
 
     what = What.LOOK
     harm = Harm.ANIMALS
@@ -92,21 +108,26 @@ class OddRow(Finding):
 class LikeASum(OddRow):
     """A row that seems to count or to sum up."""
 
+    word: str = ""
+
     def words(self) -> str:
-        return (
-            "is this row an animal? It is taken as one: leave out rows that count or sum up, and take the sheet again"
-        )
+        return "is this row an animal? It is taken as one"
+
+    def suggestions(self) -> tuple[Suggestion, ...]:
+        return (Suggestion("if it is none", (is_no_animal(self.word),)),) if self.word else ()
 
 
 @dataclass(frozen=True, slots=True)
 class IdAlone(OddRow):
     """A row that says nothing of an animal but its id, and of which no animal has that as a parent."""
 
+    word: str = ""
+
     def words(self) -> str:
-        return (
-            "is this row an animal? It has an id alone, and no animal has it as a parent. It is taken as one: leave out rows "
-            "that count or sum up, and take the sheet again"
-        )
+        return "is this row an animal? It has an id alone, and no animal has it as a parent. It is taken as one"
+
+    def suggestions(self) -> tuple[Suggestion, ...]:
+        return (Suggestion("if it is none", (is_no_animal(self.word),)),) if self.word else ()
 
 
 class CellLeftOut(LeftOut):

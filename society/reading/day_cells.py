@@ -7,8 +7,9 @@ from typing import Container, NamedTuple
 
 from society.book.inferred import GIVEN_EXIT, ExitBasis, ExitSource
 from society.book.kinds import Field
+from society.book.named import made
 from society.reading.cell_findings import DayLeftOut
-from society.reading.days import DayFault, Span, Unreadable, is_span, read_span, span_within, usual_day
+from society.reading.days import DayFault, Precision, Span, Unreadable, is_span, read_span, span_within, usual_day
 from society.reading.exits import exit_word, lives, word_fault
 
 
@@ -60,7 +61,7 @@ class DayCells:
 
     def read_day(self, field: Field, text: str) -> DayCell:
         if (day := usual_day(text)) and text not in self.unknown:
-            return self.possible(field, text, Span(day, day))
+            return self.possible(field, text, made(Span, (day, day, "", "", Precision.DAY)))
         is_exit = field is Field.EXIT
         has_left = is_exit and exit_word(text)
         if text in self.unknown and not has_left:
@@ -83,7 +84,7 @@ class DayCells:
             return DayCell(span)
         if span.first > self.today:
             return DayCell(fault=DayLeftOut(field, DayFault.AFTER_TODAY, text))
-        return DayCell(span.until(self.today))
+        return made(DayCell, (span.until(self.today), True, None, False))
 
     def is_later(self, text: str) -> bool:
         """Is it a day after today?"""

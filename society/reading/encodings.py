@@ -90,6 +90,7 @@ def stray_bytes(path: pathlib.Path, data: bytes, error: UnicodeDecodeError) -> S
     return StrayBytes(str(path), len(lines), len(lines[-1]) + 1, behind, bare[error.start], len(stray(data)) - 1)
 
 
+@functools.lru_cache(maxsize=50_000)
 def decoded_twice(text: str) -> str:
     """The text as it was before its letters were decoded twice, as `Müller` of `MÃ¼ller`; empty where they weren't."""
     if text.isascii():

@@ -3,9 +3,13 @@ from __future__ import annotations
 
 import csv
 import io
+import itertools
+import operator
 import pathlib
+import unicodedata
 from typing import Callable, NamedTuple
 
+from society.book.named import made
 from society.mistake import Mistake
 from society.reading.column_findings import SheetFinding
 from society.reading.encodings import decoding
@@ -16,6 +20,8 @@ from society.reading.workbook import read_workbook
 SEPARATORS = ";\t,"
 # so large a sheet may be: bytes of the file, rows, and letters of a cell
 MOST_BYTES, MOST_ROWS, MOST_LETTERS = 50_000_000, 200_000, 10_000
+# blanks that cells are read without
+BLANKS = ("  ", " \n", "\n ", " \r", "\r ")
 # the titles stand in one of so many rows
 BEGINNING = 5
 Score = Callable[[list[str]], int]
@@ -37,6 +43,14 @@ class Sheet(NamedTuple):
     rows: list[Row]
     how: str
     faults: list[SheetFinding]
+
+
+def column_of(rows: list[Row], at: int) -> list[str]:
+    """The cells of a column; a row that ends before it has an empty one."""
+    try:
+        return [*map(operator.itemgetter(at), map(operator.itemgetter(1), rows))]
+    except IndexError:
+        return [cells[at] if at < len(cells) else "" for _, cells in rows]
 
 
 def read_sheet(path: pathlib.Path, score: Score, worksheet: str = "") -> Sheet:
@@ -68,9 +82,9 @@ def check_bounds(path: pathlib.Path, rows: list[Row]) -> None:
     """A mistake where there is more than a sheet of a society has."""
     if len(rows) > MOST_ROWS:
         raise Mistake(SheetFault.TOO_MANY_ROWS.said(path=path, rows=len(rows), most=MOST_ROWS))
-    for line, cells in rows:
-        if max(map(len, cells)) > MOST_LETTERS:
-            raise Mistake(SheetFault.LONG_CELL.said(line=line, most=MOST_LETTERS))
+    if max(map(len, itertools.chain.from_iterable(cells for _, cells in rows))) > MOST_LETTERS:
+        line = next(line for line, cells in rows if max(map(len, cells)) > MOST_LETTERS)
+        raise Mistake(SheetFault.LONG_CELL.said(line=line, most=MOST_LETTERS))
 
 
 def read_bytes(path: pathlib.Path) -> bytes:
@@ -117,14 +131,26 @@ class Cleaned(dict[str, str]):
         return found
 
 
+def is_clean(text: str, separator: str) -> bool:
+    """Is each cell of a text as it is read, so that none has to be cleaned? Those of most sheets are. A text in quotes,
+    or with a sign that isn't printed, isn't looked at any closer."""
+    if '"' in text or any(around in text for around in BLANKS) or text[:1] == " " or text[-1:] == " ":
+        return False
+    if f" {separator}" in text or f"{separator} " in text:
+        return False
+    in_lines = text.replace("\n", "").replace("\r", "").replace(separator, "")
+    return in_lines.isprintable() and unicodedata.is_normalized("NFC", text)
+
+
 def read_records(text: str, separator: str) -> list[Row]:
     reader = csv.reader(io.StringIO(text, newline=""), delimiter=separator, strict=True)
     rows, begins, cleaned = [], 1, Cleaned()
+    has_clean_cells = is_clean(text, separator)
     try:
         for cells in reader:
-            texts = list(map(cleaned.__getitem__, cells))
+            texts = cells if has_clean_cells else list(map(cleaned.__getitem__, cells))
             if any(texts):
-                rows.append(Row(begins, texts))
+                rows.append(made(Row, (begins, texts)))
             begins = reader.line_num + 1
     except csv.Error:
         raise Mistake(SheetFault.OPEN_QUOTE.said(line=begins)) from None

@@ -3,20 +3,21 @@ from __future__ import annotations
 
 import collections
 import datetime
+import operator
 import re
-from typing import Iterator, Mapping
+from typing import Callable, Iterator, Mapping, Sequence
 
 from society.book.kinds import Field
 from society.reading.animal import ROLES, Animal
 from society.reading.animal_cells import AnimalCells
-from society.reading.cell_findings import DAYS, NoId, TitlesAgain, TooManyCells
+from society.reading.cell_findings import DAYS, NoAnimal, NoId, TitlesAgain, TooManyCells
 from society.reading.column_findings import SheetFinding
 from society.reading.errors import ErrorValues
-from society.reading.odd_rows import tell_odd_rows
+from society.reading.odd_rows import NoAnimals, tell_odd_rows
 from society.reading.order import Order
 from society.reading.same_ids import SameIds
 from society.reading.sexes import Sexes
-from society.reading.sheet import Sheet
+from society.reading.sheet import Sheet, column_of
 from society.reading.sheet_findings import CutNumber, FormulaCell, Place
 from society.reading.unknown import UnknownParents
 from society.reading.unread import Unread
@@ -29,8 +30,16 @@ CUT, PLUS = re.compile(r"\d[.,]?\d*E\+\d+", re.IGNORECASE), "+"
 FORMULA, EQUALS = re.compile(r"=.+", re.DOTALL), "="
 
 
+def chooser(places: list[int]) -> Callable[[list[str]], Sequence[str]]:
+    """What chooses the cells at some places of a row."""
+    if len(places) > 1:
+        return operator.itemgetter(*places)
+    return lambda cells: [cells[at] for at in places]
+
+
 class Rows:
-    """Reads the rows of a sheet. `born` are the birth days that animals of the book have by their ids."""
+    """Reads the rows of a sheet. `born` are the birth days that animals of the book have by their ids, `no_animals` the
+    words of rows that are none."""
 
     def __init__(
         self,
@@ -41,11 +50,14 @@ class Rows:
         report: Report,
         month_first: bool = False,
         born: Mapping[str, datetime.date] | None = None,
+        no_animals: Sequence[str] = (),
     ) -> None:
         self.sheet, self.columns, self.unknown, self.report = sheet, columns, unknown, report
+        self.no_animals = NoAnimals(no_animals)
         self.month_first = month_first
         # rows that end before it get empty cells
         self.width = 1 + max(columns.values(), default=0)
+        self.chosen = chooser([*columns.values()])
         self.errors = ErrorValues(sheet, columns)
         self.sexes = Sexes(self.texts(Field.SEX), sexes)
         self.unread = Unread({name: sheet.titles[at] for name, at in columns.items()})
@@ -60,7 +72,7 @@ class Rows:
         at = self.columns.get(name)
         if at is None:
             return [""] * len(self.sheet.rows)
-        texts = [cells[at] if at < len(cells) else "" for _, cells in self.sheet.rows]
+        texts = column_of(self.sheet.rows, at)
         return [self.value(text) for text in texts] if self.errors.found else texts
 
     def value(self, text: str) -> str:
@@ -70,7 +82,7 @@ class Rows:
         """The cells of a row by their fields; error values are empty."""
         if len(cells) < self.width:
             cells = cells + [""] * (self.width - len(cells))
-        texts = map(cells.__getitem__, self.columns.values())
+        texts = self.chosen(cells)
         return dict(zip(self.columns, map(self.value, texts) if self.errors.found else texts))
 
     def animals(self) -> dict[str, Animal]:
@@ -89,6 +101,8 @@ class Rows:
                 self.report.add(line, id, NoId(id))
             elif id == id_title and cells[:titles] == self.sheet.titles:
                 self.report.add(line, "", TitlesAgain())
+            elif self.no_animals and (word := self.no_animal(id, cells, said)):
+                self.report.add(line, id, NoAnimal(word))
             elif id not in found:
                 found[id] = self.cells.animal(line, id, said)
             elif self.same_ids.are_years_apart(found[id], said):
@@ -98,6 +112,14 @@ class Rows:
         tell_used_again(found, others, self.report)
         self.look_at_all(found)
         return found
+
+    def no_animal(self, id: str, cells: list[str], said: dict[str, str]) -> str:
+        """The word by which a row is no animal, as somebody says; empty where it is one."""
+        word = self.no_animals.of_id(id)
+        if word or not (in_cell := self.no_animals.of_cells(cells)):
+            return word
+        says_day = said.get(Field.BIRTH) and self.same_ids.birth(said)
+        return "" if says_day or self.sexes.meaning(said.get(Field.SEX, "")).sex else in_cell
 
     def usual_length(self) -> int:
         """How many cells a row may have. Many sheets have empty ones at the end of all rows."""

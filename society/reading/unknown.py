@@ -25,6 +25,8 @@ def compared(text: str) -> str:
 
 
 KNOWN_UNKNOWN = {compared(word) for word in listed(UNKNOWN)}
+# how texts begin, in small letters, that may stand for an unknown parent: these words, signs and error values
+BEGINNINGS = BEGIN_OF_SIGNS | {word[0] for word in KNOWN_UNKNOWN} | {"#", "e"}
 
 
 def unknown_words(more: list[str]) -> set[str]:
@@ -49,6 +51,8 @@ class UnknownParents:
         folded = text.casefold()
         if not folded or folded in self.known:
             return not folded
-        if folded in self.more or compared(text) in KNOWN_UNKNOWN or is_error_value(text):
+        if folded in self.more or folded[0] not in BEGINNINGS:
+            return folded in self.more
+        if compared(text) in KNOWN_UNKNOWN or is_error_value(text):
             return True
         return text[0] in BEGIN_OF_SIGNS and SIGNS.fullmatch(text) is not None

@@ -1,7 +1,7 @@
 """Parents that the program refuses: each is left out, alone, and told."""
 from __future__ import annotations
 
-from society.book.commands import birth, leave
+from society.book.commands import HEADER, birth, leave, lines_of
 from society.book.role import Role
 from society.herdbook import Herdbook
 from society.mistake import Mistake
@@ -26,9 +26,10 @@ ROLES = {
 def leave_out_faulty_parents(next_book: NextBook, program: Herdbook) -> None:
     """Files all animals with their parents, the oldest first. Where anything is refused it files them without, and then
     asks for the parents of each until none is refused."""
-    by_age = next_book.by_birth()
+    by_age = next_book.by_birth
     exits = [leave(animal.number, animal.left) for animal in by_age if animal.left]
-    if not program.file([next_book.birth_of(animal, 1) for animal in by_age] + exits):
+    births = HEADER + next_book.births_text(by_age) + lines_of(exits)
+    if not program.file_text(births, len(by_age) + len(exits)):
         return
     first = [birth(animal.number, animal.born, "", "", 1, animal.embryo) for animal in by_age] + exits
     while True:

@@ -1,4 +1,4 @@
-"""The end of a taking: the book is filed, saved where nothing is refused, and told."""
+"""The end of a taking: the book is filed, prepared to be saved where nothing is refused, and told."""
 from __future__ import annotations
 
 import itertools
@@ -6,10 +6,10 @@ from dataclasses import dataclass
 
 from society.book.changes import Source
 from society.book.known import BREED, COUNTRY
-from society.book.opening import export
 from society.book.writing import Filed
 from society.herdbook import Herdbook
 from society.mistake import MOST_NAMED
+from society.one_call import keep
 from society.taking.sheet_commands import Filing
 from society.taking.early_exits import leave_out_early_exits
 from society.taking.faulty_parents import leave_out_faulty_parents
@@ -23,8 +23,8 @@ from society.taking.outcome import BookAfter, Outcome
 from society.taking.owner_days import OwnerDays
 from society.taking.parent_names import may_be_unknown
 from society.taking.report import CantBeTaken, What
-from society.taking.respelt_owners import tell_owners_alike, tell_respelt_owners
-from society.taking.saving import save
+from society.taking.respelt_owners import tell_mistyped_owners, tell_owners_alike, tell_respelt_owners
+from society.taking.saving import Prepared, prepared_of
 from society.taking.screen import lines_of
 from society.taking.sentences import sentences_of
 from society.taking.suggestions import Call
@@ -45,14 +45,17 @@ class About:
     invented: int = 0
 
 
-def finish(next_book: NextBook, program: Herdbook, wishes: Wishes, source: Source, about: About) -> Outcome:
-    """Files the book, and writes it where nothing keeps it from being taken, and no preview is wished."""
+def finish(
+    next_book: NextBook, program: Herdbook, wishes: Wishes, source: Source, about: About
+) -> tuple[Outcome, Prepared | None]:
+    """Files the book, and prepares what is written where nothing keeps it from being taken, and no preview is
+    wished."""
+    keep(next_book)
     filed, outcome = file(next_book, program, wishes, about)
-    if not wishes.preview:
-        assert outcome.after
-        save(next_book, filed, program, wishes, source, outcome.after.new)
-        next_book.book.notes += export(next_book.book.folder)
-    return outcome
+    if wishes.preview:
+        return outcome, None
+    assert outcome.after
+    return outcome, prepared_of(next_book, filed, program, wishes, source, outcome.after.new)
 
 
 def file(next_book: NextBook, program: Herdbook, wishes: Wishes, about: About) -> tuple[Filed, Outcome]:
@@ -75,17 +78,20 @@ def file(next_book: NextBook, program: Herdbook, wishes: Wishes, about: About) -
     filed = filing.filed(program)
     tell_respelt_owners(next_book, owners_before)
     tell_owners_alike(next_book)
+    tell_mistyped_owners(next_book, owners_before)
     tell_withdrawn_exits(next_book)
     if wishes.strict and any(entry.what is What.LEFT_OUT for entry in report.entries):
         refuse_left_out(next_book, wishes)
     filing.tell_changes()
     tell_most_changed(next_book)
-    new = sum(1 for animal in next_book.animals.values() if animal.line and animal.id not in book.known)
+    with_row = [animal for animal in next_book.animals.values() if animal.line]
+    new = sum(animal.id not in book.known for animal in with_row)
+    added = sum(not animal.line and animal.id not in book.known for animal in next_book.animals.values())
     is_first = not before and not next_book.is_pedigree and not (wishes.breed and wishes.country)
     begin = (wishes.breed or BREED) + (wishes.country or COUNTRY)
     after = BookAfter(
         len(next_book.animals), new, about.invented, bool(before and filed.keeps is not None), begin * is_first,
-        wishes.drop_gone,
+        wishes.drop_gone, len(with_row), added,
     )  # fmt: skip
     return filed, Outcome(
         book.folder, about.call.after(), about.understood, tuple(about.read), tuple(next_book.obstacles), report, after

@@ -6,7 +6,7 @@ import pathlib
 from society.book.book import Book
 from society.book.files import source_of
 from society.book.kinds import Field
-from society.book.opening import to_change, to_look_at
+from society.book.opening import to_look_at
 from society.herdbook import Herdbook
 from society.mistake import Mistake, counted
 from society.reading.options import read_given
@@ -28,6 +28,7 @@ from society.taking.other_animals import add_others
 from society.taking.outcome import Outcome
 from society.taking.parents_elsewhere import refuse_alike
 from society.taking.report import Report
+from society.taking.saving import Prepared, take
 from society.taking.screen import told_with
 from society.taking.suggestions import Call
 from society.taking.wishes import Wishes
@@ -36,13 +37,20 @@ from society.taking.wishes import Wishes
 def take_pedigree(path: pathlib.Path, wishes: Wishes) -> list[str]:
     """Takes a pedigree; answers what is to be told besides."""
     program, call = Herdbook(), wishes.call("--pedigree", str(path))
-    with to_look_at(wishes.book, program) if wishes.preview else to_change(wishes.book, program) as book:
-        with told_with(call):
-            tell(take_into(book, path, wishes, program, call))
-    return book.notes
+    with told_with(call):
+        if wishes.preview:
+            with to_look_at(wishes.book, program) as book:
+                outcome, notes = take_into(book, path, wishes, program, call)[0], book.notes
+        else:
+            outcome, notes = take(wishes.book, program, lambda book: take_into(book, path, wishes, program, call))
+        tell(outcome)
+    return notes
 
 
-def take_into(book: Book, path: pathlib.Path, wishes: Wishes, program: Herdbook, call: Call) -> Outcome:
+def take_into(
+    book: Book, path: pathlib.Path, wishes: Wishes, program: Herdbook, call: Call
+) -> tuple[Outcome, Prepared | None]:
+    """What a pedigree makes of a book, and the change that is to be made, none for a preview."""
     book.read_all()
     report = Report()
     source = source_of(path, read_bytes(path))

@@ -8,10 +8,11 @@ from society.book.book import Book
 from society.book.changes import Option
 from society.book.files import source_of
 from society.book.kinds import Field, Remembered
-from society.book.opening import to_change, to_look_at
+from society.book.opening import to_look_at
 from society.book.state import Meaning
 from society.herdbook import Herdbook
 from society.mistake import MOST_NAMED
+from society.one_call import keep
 from society.reading.animal import Animal
 from society.reading.columns import Columns, find_columns
 from society.reading.options import read_given, read_sexes
@@ -26,6 +27,7 @@ from society.taking.obstacles import NoRowTaken
 from society.taking.outcome import Outcome
 from society.taking.remembering import Words, again, limits_of, remember, rename_owners, with_settings
 from society.taking.report import CantBeTaken, Report
+from society.taking.saving import Prepared, take
 from society.taking.screen import told_with
 from society.taking.understood import ColumnRead, Understood
 from society.taking.wishes import Wishes
@@ -34,10 +36,14 @@ from society.taking.wishes import Wishes
 def take_sheet(path: pathlib.Path, wishes: Wishes) -> list[str]:
     """Takes a sheet, or tells what would be taken; answers what is to be told besides."""
     program, call = Herdbook(), wishes.call(str(path))
-    with to_look_at(wishes.book, program) if wishes.preview else to_change(wishes.book, program) as book:
-        with told_with(call):
-            tell(take_into(book, path, wishes, program))
-    return book.notes
+    with told_with(call):
+        if wishes.preview:
+            with to_look_at(wishes.book, program) as book:
+                outcome, notes = take_into(book, path, wishes, program)[0], book.notes
+        else:
+            outcome, notes = take(wishes.book, program, lambda book: take_into(book, path, wishes, program))
+        tell(outcome)
+    return notes
 
 
 def preview_sheet(path: pathlib.Path, wishes: Wishes) -> Outcome:
@@ -46,18 +52,22 @@ def preview_sheet(path: pathlib.Path, wishes: Wishes) -> Outcome:
     program, wishes = Herdbook(), replace(wishes, preview=True)
     with to_look_at(wishes.book, program) as book:
         try:
-            return take_into(book, path, wishes, program)
+            return take_into(book, path, wishes, program)[0]
         except CantBeTaken as mistake:
             return Outcome(book.folder, wishes.call(str(path)), about=mistake.told, obstacles=mistake.obstacles)
 
 
-def take_into(book: Book, path: pathlib.Path, wishes: Wishes, program: Herdbook) -> Outcome:
+def take_into(
+    book: Book, path: pathlib.Path, wishes: Wishes, program: Herdbook
+) -> tuple[Outcome, Prepared | None]:
+    """What a sheet makes of a book, and the change that is to be made, none for a preview."""
     book.read_all()
     source = source_of(path, read_bytes(path))
     wishes = with_settings(book, wishes)
     words = remember(book, wishes)
     rename_owners(book, wishes)
     read = read_animals(path, wishes, book, words)
+    keep(book, read)
     next_book = NextBook(book, read.animals, set(read.columns.found), read.report)
     complete(next_book, read.columns, wishes)
     understood = understood_of(path, read, again(words, wishes), titles_before(book))
@@ -103,7 +113,10 @@ def read_animals(path: pathlib.Path, wishes: Wishes, book: Book, words: Words) -
                            [known.id for known in book.known.values() if known.standing.had_row()])  # fmt: skip
     month_first = bool(words[Remembered.MONTH_FIRST])
     born = {id: book.records[known.number].born for id, known in book.known.items() if not known.birth.is_inferred}
-    rows = Rows(sheet, columns.found, unknown, read_sexes(words[Remembered.SEXES]), report, month_first, born)
+    rows = Rows(
+        sheet, columns.found, unknown, read_sexes(words[Remembered.SEXES]), report, month_first, born,
+        words[Remembered.TOLD],
+    )  # fmt: skip
     animals = rows.animals() if Field.ID in columns.found else {}
     faults = [*sheet.faults, *columns.faults, *rows.faults]
     if faults:

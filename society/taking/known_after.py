@@ -4,6 +4,7 @@ from __future__ import annotations
 from society.book.inferred import OwnerDay
 from society.book.kinds import Standing
 from society.book.known import NO_FIELDS, Known
+from society.book.named import made
 from society.book.role import Role
 from society.reading.animal import Animal
 from society.taking.next_book import NextBook
@@ -29,7 +30,7 @@ def known_animals(next_book: NextBook) -> dict[str, Known]:
         before = known.get(id)
         by_hand = before.by_hand - next_book.overridden.get(id, NO_FIELDS) if before else NO_FIELDS
         sire, dam = written.get(id, NOTHING_WRITTEN)
-        kept[id] = Known(
+        values = (
             animal.number,
             id,
             animal.name,
@@ -43,6 +44,7 @@ def known_animals(next_book: NextBook) -> dict[str, Known]:
             by_hand,
             owner_day_of(animal, before),
         )
+        kept[id] = made(Known, values)
     return kept
 
 

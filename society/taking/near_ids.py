@@ -5,7 +5,7 @@ import collections
 
 from society.book.book import Book
 from society.reading.animal import Animal, links_outside
-from society.reading.ids import nearly
+from society.reading.ids import nearly, nearly_all
 from society.taking.look_findings import IdsAlike
 from society.taking.parent_findings import FoundByNearId
 from society.taking.parent_names import can_be
@@ -20,8 +20,9 @@ class NearIds:
         self.rows, self.animals = rows, animals
         self.with_row = rows.keys() | {id for id, known in book.known.items() if known.standing.had_row()}
         self.near: collections.defaultdict[str, list[str]] = collections.defaultdict(list)
-        for id in self.with_row & animals.keys():
-            self.near[nearly(id)].append(id)
+        ids = [*self.with_row & animals.keys()]
+        for id, near in zip(ids, nearly_all(ids)):
+            self.near[near].append(id)
 
     def find_parents(self, report: Report) -> None:
         """A parent that is no id, but differs so from just one, is that animal where it can be it."""

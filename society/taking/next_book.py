@@ -1,10 +1,11 @@
 """The book that is to be: what the sheet says of its animals, and what the book has besides."""
 from __future__ import annotations
 
+import functools
 import operator
 
 from society.book.book import Book
-from society.book.commands import Command, Record, birth, parents
+from society.book.commands import Command, Record, birth, day_text, parents
 from society.book.kinds import Field
 from society.book.role import Role
 from society.reading.animal import Animal
@@ -52,11 +53,21 @@ class NextBook:
         dam = animals[animal.dam].number if animal.dam else ""
         return birth(animal.number, animal.born, sire, dam, herd, animal.embryo)
 
+    def births_text(self, animals: list[Animal]) -> bytes:
+        """The births of animals in the first herd, as records of a command file."""
+        numbers = {"": "0", **{id: animal.number for id, animal in self.animals.items()}}
+        return "".join(
+            f"birth,{one.number},{day_text(one.born)},{numbers[one.sire]},{numbers[one.dam]},,1,{'1' * one.embryo}\n"
+            for one in animals
+        ).encode()
+
     def parents_of(self, animal: Animal) -> Command:
         return parents(animal.number, self.number_of(animal.sire), self.number_of(animal.dam))
 
     def number_of(self, id: str) -> str:
         return self.animals[id].number if id else ""
 
+    @functools.cached_property
     def by_birth(self) -> list[Animal]:
+        """All animals, once they have their numbers: from then on neither these nor birth days change."""
         return sorted(self.animals.values(), key=operator.attrgetter("born", "number"))

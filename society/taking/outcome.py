@@ -17,7 +17,8 @@ from society.taking.understood import Understood
 class BookAfter:
     """The book after a taking: how many animals it has, how many of them are new, and of how many sexes or days are
     invented; whether its journal begins a new edition; with what numbers begin, where that wasn't wished and it is the
-    first taking; and whether those that are gone are dropped."""
+    first taking; and whether those that are gone are dropped. `with_row` have a row, the new ones among them; `added`
+    have none and are parents that the book didn't have; the others were in the book."""
 
     animals: int
     new: int
@@ -25,6 +26,18 @@ class BookAfter:
     is_anew: bool
     numbers_begin: str
     drops_gone: bool
+    with_row: int = 0
+    added: int = 0
+
+    @property
+    def known(self) -> int:
+        """The animals with a row that the book had."""
+        return self.with_row - self.new
+
+    @property
+    def without_row(self) -> int:
+        """The animals of the book that have no row."""
+        return self.animals - self.with_row - self.added
 
 
 @dataclass(frozen=True)

@@ -37,6 +37,17 @@ class Spelling:
 
 
 @dataclass(frozen=True, slots=True)
+class OwnerMistyped(Look):
+    """An owner of few animals whose name is that of one of many but for a letter."""
+
+    owner: Spelling
+    meant: Spelling
+
+    def words(self) -> str:
+        return f"the owner {self.owner.words()} may be {self.meant.words()}: is '{self.meant.text}' meant?"
+
+
+@dataclass(frozen=True, slots=True)
 class OwnersAlike(Look):
     """Owners of the sheet whose names differ in case, accents, blanks or signs alone."""
 

@@ -102,7 +102,7 @@ class SameParentTwice(ParentLeftOut):
         return f"its dam {self.parent}"
 
     def why(self) -> str:
-        return f"{self.parent} is its sire too, and no calf has one parent twice"
+        return f"{self.parent} is its sire too, and no animal has one parent twice"
 
 
 @dataclass(frozen=True, slots=True)

@@ -16,6 +16,8 @@ from society.taking.report import Finding, Report
 MANY = 3
 # in a sheet a text without a digit is told where so many animals have it as a parent, and so many texts are
 SEVERAL, MOST_WORDS = 2, 9
+# so few parents without a row may be short ids in which two letters are swapped
+FEW = 5
 
 
 class Names:
@@ -64,9 +66,10 @@ class Names:
         """A founder for each parent without a row."""
         links = self.links_without_row()
         calves = collections.Counter(parent for _, _, parent in links)
+        are_few = len(calves.keys() - self.animals.keys()) <= FEW
         for animal, role, parent in links:
             if parent not in self.animals:
-                found = AddedAsParent(role, animal.id, calves[parent] - 1, *self.meant(animal, parent))
+                found = AddedAsParent(role, animal.id, calves[parent] - 1, *self.meant(animal, role, parent, are_few))
                 self.report.add(animal.line, parent, found)
                 self.animals[parent] = Animal(parent)
             one = self.animals[parent]
@@ -105,12 +108,16 @@ class Names:
         names = [(animal.name, id) for id, animal in self.animals.items() if animal.name]
         return SameLetters([*names, *((id, id) for id in self.animals)])
 
-    def meant(self, calf: Animal, text: str) -> tuple[str, tuple[str, ...]]:
-        """Which id may be meant by a text that is none, or several that have it as their name."""
+    def meant(self, calf: Animal, role: Role, text: str, are_few: bool) -> tuple[str, tuple[str, ...]]:
+        """Which id may be meant by a text that is none, or several that have it as their name. Where few parents lack a
+        row, a short text may also be one that can be the parent, two of whose letters are swapped."""
         ids = [one.id for one in self.others(calf, text)]
         if len(ids) > 1:
             return "", tuple(ids)
         alike = ids[0] if ids else self.same_letters.meant(text.removesuffix(".0")) or self.same_letters.meant(text)
+        if not alike and are_few:
+            swapped = self.same_letters.swapped(text)
+            alike = next((id for id in swapped if can_be(self.animals[id], role, calf)), "")
         return (alike if alike != calf.id else ""), ()
 
 

@@ -9,14 +9,19 @@ from society.book.kinds import Remembered
 from society.book.settings import Setting, settings_of
 from society.book.state import Meaning
 from society.mistake import Mistake
-from society.reading.words import clean, listed
+from society.reading.options import parts_of
+from society.reading.words import clean, listed, plain
 from society.taking.fault_sentences import TakingFault
 from society.taking.looks import APART, YOUNGEST, Limits
+from society.taking.suggestions import quoted
 from society.taking.wishes import Wishes
 
 Words = dict[Remembered, list[str]]
 # of these options the last word holds
 LAST_HOLDS = (Remembered.MONTH_FIRST, Remembered.YOUNGEST, Remembered.APART)
+# what stands beside a word of rows that are no animals, and the option that has it
+MEANINGS = {Remembered.TOLD: "no animal"}
+OPTIONS = {Remembered.TOLD: "--no-animal"}
 
 
 def with_settings(book: Book, wishes: Wishes) -> Wishes:
@@ -42,10 +47,14 @@ def remember(book: Book, wishes: Wishes) -> Words:
     # a word is known or unknown, as it is said now
     both[Remembered.UNKNOWN] = without(both[Remembered.UNKNOWN], wishes.known)
     both[Remembered.KNOWN] = without(both[Remembered.KNOWN], wishes.unknown)
+    animals = {plain(word) for word in parts_of(wishes.animal)}
+    both[Remembered.TOLD] = [word for word in both[Remembered.TOLD] if plain(word) not in animals]
     if wishes.day_first:
         both[Remembered.MONTH_FIRST] = []
     others = [one for one in book.remembered if one.what not in now]
-    book.remembered = others + [Meaning(kind, word) for kind, words in both.items() for word in words]
+    book.remembered = others + [
+        Meaning(kind, word, MEANINGS.get(kind, "")) for kind, words in both.items() for word in words
+    ]
     return both
 
 
@@ -65,6 +74,7 @@ def given_now(wishes: Wishes) -> Words:
         Remembered.MONTH_FIRST: ["yes"] * wishes.month_first,
         Remembered.YOUNGEST: [] if wishes.youngest is None else [str(wishes.youngest)],
         Remembered.APART: [] if wishes.apart is None else [str(wishes.apart)],
+        Remembered.TOLD: [quoted(word) for word in parts_of(wishes.no_animal)],
     }
 
 
@@ -72,7 +82,8 @@ def again(words: Words, wishes: Wishes) -> list[Option]:
     """The options that are used though they weren't given."""
     now = given_now(wishes)
     used = [(kind, word) for kind, those in words.items() for word in those if word not in now[kind]]
-    return [Option(f"--{kind.value}", word * (kind is not Remembered.MONTH_FIRST)) for kind, word in used]
+    names = {kind: OPTIONS.get(kind, f"--{kind.value}") for kind in words}
+    return [Option(names[kind], word * (kind is not Remembered.MONTH_FIRST)) for kind, word in used]
 
 
 def limits_of(words: Words) -> Limits:
@@ -84,14 +95,20 @@ def limits_of(words: Words) -> Limits:
 def rename_owners(book: Book, wishes: Wishes) -> None:
     """Owners are written otherwise from now on, as `--owner 'Meier=Meyer'` says."""
     for word in wishes.owners:
-        before, equals, now = (clean(piece) for piece in word.partition("="))
-        if not equals or not before or not now:
-            raise Mistake(TakingFault.OWNER_OPTION.said(word=word))
+        before, now = owner_pair(word)
         if before not in book.owners:
             raise Mistake(TakingFault.OWNER_LACKS.said(word=word, before=before, owners=names(book)))
         if now in book.owners:
             free_name(book, word, now)
         rename(book, before, now)
+
+
+def owner_pair(word: str) -> tuple[str, str]:
+    """How an owner was written, and is now."""
+    before, equals, now = (clean(piece) for piece in word.partition("="))
+    if not equals or not before or not now:
+        raise Mistake(TakingFault.OWNER_OPTION.said(word=word))
+    return before, now
 
 
 def free_name(book: Book, word: str, name: str) -> None:

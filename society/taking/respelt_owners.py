@@ -1,16 +1,21 @@
 """Owners that seem to be written otherwise: than before, where all animals of the one are of another who is much alike,
-and in one sheet."""
+and in one sheet, also by a wrong letter."""
 from __future__ import annotations
 
 import collections
 import difflib
 
+from society.reading.animal import Animal
 from society.reading.words import plain
 from society.taking.next_book import NextBook
-from society.taking.owner_findings import OwnerRespelt, OwnersAlike, Spelling
+from society.taking.owner_findings import OwnerMistyped, OwnerRespelt, OwnersAlike, Spelling
 
 # how much alike two names are, of which one may stand for the other
 ALIKE = 0.75
+# an owner of so few animals may be one with so many times as many whose name has a letter more, less or otherwise
+FEW, TIMES = 2, 5
+# in shorter names each letter counts
+SHORT = 4
 
 
 def tell_respelt_owners(next_book: NextBook, owners_before: set[str]) -> None:
@@ -36,3 +41,52 @@ def tell_owners_alike(next_book: NextBook) -> None:
     for name, spellings in alike.items():
         if name and len(spellings) > 1:
             next_book.report.add(0, "", OwnersAlike(tuple(spellings)))
+
+
+def tell_mistyped_owners(next_book: NextBook, owners_before: set[str]) -> None:
+    """Names of few rows that are those of many but for one letter, or for two that are swapped. One that the book had
+    before was told when it came."""
+    rows = collections.defaultdict[str, list[Animal]](list)
+    for animal in next_book.animals.values():
+        if animal.line and animal.owner:
+            rows[animal.owner].append(animal)
+    # of two names that differ by a letter each has one without one of its letters
+    pieces = collections.defaultdict[str, list[str]](list)
+    for owner, its in rows.items():
+        if len(its) >= TIMES and len(owner) >= SHORT:
+            for piece in without_a_letter(owner):
+                pieces[piece].append(owner)
+    for owner, its in rows.items():
+        if len(its) > FEW or len(owner) < SHORT or owner in owners_before:
+            continue
+        likely = dict.fromkeys(one for piece in without_a_letter(owner) for one in pieces.get(piece, ()))
+        near = [one for one in likely if len(rows[one]) >= TIMES * len(its) and differ_by_one(owner, one)]
+        if near:
+            meant = max(near, key=lambda one: len(rows[one]))
+            found = OwnerMistyped(Spelling(owner, len(its)), Spelling(meant, len(rows[meant])))
+            next_book.report.add(its[0].line, its[0].id, found)
+
+
+def without_a_letter(text: str) -> list[str]:
+    """A text in small letters, and what it is without each of them."""
+    folded = text.casefold()
+    return sorted({folded, *(folded[:at] + folded[at + 1 :] for at in range(len(folded)))})
+
+
+def differ_by_one(one: str, other: str) -> bool:
+    """Are two texts alike but for one letter, or for two that are swapped? Digits, and letters that stand alone, as in
+    `Hof 2` and `A. Huber`, tell owners apart."""
+    one, other = sorted((one.casefold(), other.casefold()), key=len)
+    if len(other) - len(one) > 1 or plain(one) == plain(other):
+        return False
+    front = next((at for at in range(len(one)) if one[at] != other[at]), len(one))
+    back = next((at for at in range(len(one) - front) if one[-1 - at] != other[-1 - at]), len(one) - front)
+    here, there = one[front : len(one) - back], other[front : len(other) - back]
+    if not (here + there).isalpha() or not is_in_word(other, front, front + len(there)):
+        return False
+    return len(there) == 1 or (len(here) == 2 and here == there[::-1])
+
+
+def is_in_word(text: str, begin: int, end: int) -> bool:
+    """Has the word at a place other letters beside it?"""
+    return text[max(begin - 1, 0) : begin].isalpha() or text[end : end + 1].isalpha()

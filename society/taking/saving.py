@@ -1,19 +1,26 @@
-"""Saves the book that a taking makes, as a change."""
+"""Saves the book that a taking makes, as a change: all that takes long is prepared before, while others work."""
 from __future__ import annotations
 
+import contextlib
+import pathlib
 from collections.abc import Callable
+from dataclasses import dataclass
 
 from society.book.book import Book
+from society.book.book_changed import Overtaken
 from society.book.changes import Change, Made, Source
-from society.book.commands import Record, record_after, replay
+from society.book.commands import Record, lines_of, record_after, replay, text_of
 from society.book.journal import accepted_commands
 from society.book.kinds import ChangeKind
 from society.book.known import Known
+from society.book.opening import export, still_to_change, to_change, to_prepare
 from society.book.state import CELL_FIELDS, Values
 from society.book.writing import Filed, Rows, State, animal_rows, write
 from society.herdbook import Herdbook
+from society.one_call import keep
 from society.taking.known_after import known_after
 from society.taking.next_book import NextBook
+from society.taking.outcome import Outcome
 from society.taking.report import What
 from society.taking.stored_findings import told_of
 from society.taking.wishes import Wishes
@@ -23,8 +30,51 @@ from society.taking.wishes import Wishes
 NOTHING = (None,) * len(CELL_FIELDS)
 
 
-def save(next_book: NextBook, filed: Filed, program: Herdbook, wishes: Wishes, source: Source, new: int) -> Change:
+@dataclass(frozen=True)
+class Prepared:
+    """A change that is to be made of the book after the change `before`, or of one that isn't there."""
+
+    before: Change | None
+    filed: Filed
+    state: State
+    made: Made
+
+
+# what a taking would make of a book, and the change that is to be made, none for a preview
+Prepare = Callable[[Book], tuple[Outcome, Prepared | None]]
+
+
+def take(folder: pathlib.Path, program: Herdbook, prepare: Prepare) -> tuple[Outcome, list[str]]:
+    """Takes what is prepared; answers what is to be told besides. Where somebody else changes the book meanwhile it is
+    prepared once more, and then others wait for that."""
+    with contextlib.suppress(Overtaken):
+        with to_prepare(folder, program) as book:
+            outcome, prepared = prepare(book)
+        with still_to_change(folder, book.change) as now:
+            return saved(now, program, outcome, prepared, book.notes)
+    with to_change(folder, program) as book:
+        outcome, prepared = prepare(book)
+        return saved(book, program, outcome, prepared, book.notes)
+
+
+def saved(
+    book: Book, program: Herdbook, outcome: Outcome, prepared: Prepared | None, notes: list[str]
+) -> tuple[Outcome, list[str]]:
+    assert prepared is not None
+    keep(prepared, outcome)
+    save(book, program, prepared)
+    return outcome, notes + export(book.folder)
+
+
+def save(book: Book, program: Herdbook, prepared: Prepared) -> Change:
     """The change, after which the book can't be used any more."""
+    return write(book, program, prepared.filed, prepared.state, prepared.made)
+
+
+def prepared_of(
+    next_book: NextBook, filed: Filed, program: Herdbook, wishes: Wishes, source: Source, new: int
+) -> Prepared:
+    """What is to be written. Nothing is yet."""
     book, report = next_book.book, next_book.report
     herds = (
         set() if book.connection is None else {herd for (herd,) in book.connection.execute("SELECT herd FROM owner")}
@@ -47,8 +97,21 @@ def save(next_book: NextBook, filed: Filed, program: Herdbook, wishes: Wishes, s
         Rows(book.cells, cell_rows(next_book)),
         book.remembered,
         {owner: herd for owner, herd in book.owners.items() if herd not in herds},
+        coefficients=program.lines(["inbreeding"], text_after(book, filed)),
     )
-    return write(book, program, filed, state, made)
+    return Prepared(book.change, filed, state, made)
+
+
+def text_after(book: Book, filed: Filed) -> bytes:
+    """The command file after the commands."""
+    commands = [step.command for step in filed.steps]
+    if not book.journal.length:
+        return text_of(commands)
+    text = book.command_file()
+    if filed.keeps is not None:
+        # behind the header
+        text = b"".join(text.splitlines(keepends=True)[: filed.keeps + 1])
+    return text + lines_of(commands)
 
 
 def changed_animals(book: Book, known: dict[str, Known], records: dict[str, Record]) -> Rows:

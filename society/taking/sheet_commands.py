@@ -8,6 +8,7 @@ from society.book.inferred import NO_DAY, ExitBasis
 from society.book.journal import Step, alike
 from society.book.kinds import CommandKind
 from society.book.known import Known
+from society.book.named import made
 from society.book.writing import Filed
 from society.herdbook import Herdbook
 from society.mistake import Mistake
@@ -37,11 +38,11 @@ class Filing:
         while True:
             more = self.more()
             if more is not None and not self.refused_behind(program, more):
-                return Filed([Step(command) for command in more])
+                return Filed(accepted(more))
             commands = self.anew()
             refused = program.file(commands)
             if not refused:
-                steps = [Step(command) for command in commands]
+                steps = accepted(commands)
                 keeps = alike(self.book.steps, steps)
                 return Filed(steps[keeps:], keeps)
             self.leave_out(commands, refused)
@@ -74,7 +75,7 @@ class Filing:
         if self.book.known.keys() - self.next_book.animals.keys():
             return None
         births, corrections, transfers, exits = [], [], [], []
-        for animal in self.next_book.by_birth():
+        for animal in self.next_book.by_birth:
             record, owners = self.next_book.record(animal.id), self.owners.of(animal)
             if record is None:
                 births.append(self.next_book.birth_of(animal, owners.first_herd))
@@ -96,7 +97,7 @@ class Filing:
         births: list[Command] = []
         transfers: list[Command] = []
         exits: list[Command] = []
-        for animal in self.next_book.by_birth():
+        for animal in self.next_book.by_birth:
             owners = self.owners.of(animal)
             births.append(self.next_book.birth_of(animal, owners.first_herd))
             transfers += owners.transfers
@@ -133,6 +134,10 @@ class Filing:
             # invented days are invented anew each time
             return [one for one in found if one.name != "birth day"]
         return found
+
+
+def accepted(commands: list[Command]) -> list[Step]:
+    return [made(Step, (command, 0)) for command in commands]
 
 
 def exit_words(left: datetime.date | None, basis: ExitBasis) -> str:

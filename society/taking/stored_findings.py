@@ -89,6 +89,12 @@ def kinds_of(kind: Any) -> dict[str, Any]:
     return {part: kinds[part] for part in parts_of(kind)}
 
 
+@functools.cache
+def later_parts(kind: Any) -> set[str]:
+    """The last fields, texts that a finding may lack which an earlier version stored."""
+    return {field.name for field in dataclasses.fields(kind) if field.default == ""}
+
+
 def value_of(kind: Any, name: str, texts: dict[str, str]) -> Any:
     """The value of a type from its texts."""
     return reader_of(kind)(name, texts)
@@ -99,7 +105,10 @@ def reader_of(kind: Any) -> Reader:
     """Reads values of a type. What a type is made of is found once, and not for each value."""
     if dataclasses.is_dataclass(kind):
         parts = [(part, reader_of(part_kind)) for part, part_kind in kinds_of(kind).items()]
-        return lambda name, texts: kind(*[read(within(name, part), texts) for part, read in parts])
+        later = later_parts(kind)
+        return lambda name, texts: kind(
+            *[read(within(name, part), texts) for part, read in parts if part not in later or within(name, part) in texts]
+        )
     parameters = typing.get_args(kind)
     if not parameters:
         return lambda name, texts: one_value(kind, texts[name])

@@ -10,8 +10,10 @@ from society.book.changes import Option
 from society.mistake import CALLED
 
 # options that may be given several times, and those that take one another back
-REPEATED = ("--columns", "--unknown", "--known", "--sexes", "--owner")
-OPPOSITE = {"--known": "--unknown", "--unknown": "--known"}
+REPEATED = ("--columns", "--unknown", "--known", "--sexes", "--owner", "--no-animal", "--animal")
+OPPOSITE = {
+    "--known": "--unknown", "--unknown": "--known", "--no-animal": "--animal", "--animal": "--no-animal",
+}  # fmt: skip
 # the folder of a book where none is named
 USUAL_BOOK = pathlib.Path("book")
 
@@ -21,9 +23,22 @@ ANYWAY, LEAVE_OUT, DROP_GONE, PREVIEW = map(Option, ("--anyway", "--leave-out", 
 
 def columns(titles: Mapping[str, str]) -> Option:
     """The option that names the columns of fields; a title with a comma stands in quotation marks."""
-    parts = [f"{field}={title}" for field, title in titles.items()]
-    quoted = ['"' + part.replace('"', '""') + '"' if "," in part else part for part in parts]
-    return Option(COLUMNS, ",".join(quoted))
+    return Option(COLUMNS, ",".join(quoted(f"{field}={title}") for field, title in titles.items()))
+
+
+def quoted(text: str) -> str:
+    """A text between commas."""
+    return '"' + text.replace('"', '""') + '"' if "," in text or text[:1] == '"' else text
+
+
+def is_no_animal(word: str) -> Option:
+    """The option by which rows with a word are left out."""
+    return Option("--no-animal", quoted(word))
+
+
+def is_animal(word: str) -> Option:
+    """The one that takes it back."""
+    return Option("--animal", quoted(word))
 
 
 @dataclass(frozen=True, slots=True)

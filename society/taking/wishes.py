@@ -42,12 +42,15 @@ class Wishes:
     day_first: bool = False
     # the token of the form by which a sheet is taken, empty for none
     form: str = ""
+    # words of rows that are no animals, and of those that are
+    no_animal: list[str] = field(default_factory=list)
+    animal: list[str] = field(default_factory=list)
 
     def options(self) -> tuple[Option, ...]:
         """The options as they were given, but for the book."""
         repeated = {
             "--columns": self.columns, "--unknown": self.unknown, "--known": self.known, "--sexes": self.sexes,
-            "--owner": self.owners,
+            "--owner": self.owners, "--no-animal": self.no_animal, "--animal": self.animal,
         }  # fmt: skip
         texts = {
             "--breed": self.breed, "--country": self.country, "--day": self.day, "--keep": self.keep,

@@ -9,6 +9,7 @@ import pytest
 
 from desk.site import Site
 from front_desk.desk import TOP
+from society.pages.picture import DAM, GREY, INBRED, INBRED_INK, INK, PAPER, SIRE
 
 PAGES = [
     "/", "/animals", "/animals?words=nothing", "/animal/HOLGBRM000000000402", "/sheet", "/file", "/file/birth",
@@ -108,6 +109,14 @@ def test_contrast(ink: str, ground: str) -> None:
     found = colours()
     light, dark = sorted((luminance(found[ink]), luminance(found[ground])), reverse=True)
     assert (light + 0.05) / (dark + 0.05) >= 4.5
+
+
+@pytest.mark.parametrize("ink, grounds", [(GREY, (SIRE, DAM, PAPER)), (INBRED_INK, (INBRED, PAPER)), (INK, (SIRE, DAM, INBRED))])
+def test_contrast_of_pictures(ink: str, grounds: tuple[str, ...]) -> None:
+    """So do those of pedigrees and certificates, on the colours of sires and dams."""
+    for ground in grounds:
+        light, dark = sorted((luminance(ink), luminance(ground)), reverse=True)
+        assert (light + 0.05) / (dark + 0.05) >= 4.5, ground
 
 
 def test_nothing_from_elsewhere() -> None:

@@ -183,8 +183,65 @@ def test_typing(chromium: webdriver.Chrome, society_desk: Desk) -> None:
     secretary.writes("sire", "GK-10/294b")
     secretary.writes("dam", "GK-17/472c" + Keys.ENTER)
     secretary.sees(TEXTS["accepted"][0])
+    # gone back to, the form has all that was written: another animal isn't filed without its parents
+    chromium.back()
+    assert [secretary.find(f'//input[@name="{name}"]').get_attribute("value") for name in ("id", "sire", "dam")] == [
+        "NEW-1", "GK-10/294b", "GK-17/472c",
+    ]  # fmt: skip
     assert "closed" in server.end()
     assert "17/512" in society_desk.good("show", "NEW-1").out
+
+
+def test_folded_on_paper(chromium: webdriver.Chrome, society_desk: Desk) -> None:
+    """What is folded on a screen, and how many it is, stands on paper, but for the animals that a sheet changed."""
+    server = Server(society_desk.room, society_desk.program)
+    secretary = Secretary(chromium, server, "en")
+    chromium.get(f"{secretary.base}/history/1")
+    folded = "document.querySelectorAll('details:not([open], .no-print, .stays) > :is(ul, .wide), summary .count')"
+    are_seen = f"return [...{folded}].map(one => one.checkVisibility())"
+    assert False in chromium.execute_script(are_seen)
+    chromium.execute_cdp_cmd("Emulation.setEmulatedMedia", {"media": "print"})
+    on_paper = chromium.execute_script(are_seen)
+    chromium.execute_cdp_cmd("Emulation.setEmulatedMedia", {"media": ""})
+    assert on_paper and all(on_paper)
+    server.end()
+
+
+def test_findings_on_a_telephone(chromium: webdriver.Chrome, society_desk: Desk) -> None:
+    """What is found stays within the width of a telephone: nothing is pushed aside to be read."""
+    server = Server(society_desk.room, society_desk.program)
+    secretary = Secretary(chromium, server, "de")
+    chromium.execute_cdp_cmd(
+        "Emulation.setDeviceMetricsOverride", {"width": 390, "height": 800, "deviceScaleFactor": 1, "mobile": True}
+    )
+    try:
+        chromium.get(f"{secretary.base}/history/1")
+        chromium.execute_script("document.querySelectorAll('details').forEach(one => one.open = true)")
+        widths = "return [...document.querySelectorAll('html, .findings')].map(one => [one.scrollWidth, one.clientWidth])"
+        found = chromium.execute_script(widths)
+        assert len(found) > 2 and all(needed <= there <= 390 for needed, there in found), found
+    finally:
+        chromium.execute_cdp_cmd("Emulation.clearDeviceMetricsOverride", {})
+    server.end()
+
+
+def test_tables_of_the_breed(chromium: webdriver.Chrome, society_desk: Desk) -> None:
+    """Ids and names stand at the left of their columns, and figures at the right."""
+    server = Server(society_desk.room, society_desk.program)
+    secretary = Secretary(chromium, server, "en")
+    secretary.goes_to("breed")
+    secretary.sees("Mean kinship")
+    WebDriverWait(chromium, SECONDS).until(seen.presence_of_element_located((By.CSS_SELECTOR, ".breed .measures")))
+    # the heading comes first, also on a telephone and for a screen reader
+    first = chromium.find_elements(By.CSS_SELECTOR, "main h1, main form, main .breed")
+    assert [one.tag_name for one in first] == ["h1", "form", "div"]
+    cells = chromium.find_elements(By.CSS_SELECTOR, ".breed tbody th, .breed tbody td")
+    assert len(cells) > 100
+    for cell in cells:
+        figure = "number" in str(cell.get_attribute("class")).split()
+        found = cell.value_of_css_property("text-align"), cell.value_of_css_property("display")
+        assert found[0] in (("right",) if figure else ("left", "start")) and found[1] == "table-cell", cell.text
+    server.end()
 
 
 def test_read_only(chromium: webdriver.Chrome, society_desk: Desk) -> None:

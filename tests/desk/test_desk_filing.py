@@ -5,10 +5,11 @@ from __future__ import annotations
 import concurrent.futures
 import pathlib
 import re
+import time
 
 import pytest
 
-from desk.site import Site, form_in, shown
+from desk.site import SECONDS, Site, form_in, shown
 from front_desk.desk import Desk
 from society.desk.texts import TEXTS
 from society.refusals import Refusal
@@ -30,6 +31,7 @@ COMMANDS = [
     ("exit", {"id": DAM, "day": "2024-05-01"}, ["exit", DAM, "--day", "2024-05-01"]),
     ("transfer", {"id": DAM, "day": "2024-05-01", "to": "New  owner"}, ["transfer", DAM, "--day", "2024-05-01", "--to", "New owner"]),
     ("parents", {"id": DAM, "sire": SIRE, "dam": ""}, ["parents", DAM, "--sire", SIRE, "--dam", "0"]),
+    ("birth", BIRTH | {"dam": "unknown", "embryo": "1"}, [*["0" if word == DAM else word for word in BIRTH_WORDS], "--embryo"]),
     # refused
     ("birth", BIRTH | {"sire": DAM}, [DAM if word == SIRE else word for word in BIRTH_WORDS]),
     ("exit", {"id": DAM, "day": "1999-05-01"}, ["exit", DAM, "--day", "1999-05-01"]),
@@ -109,6 +111,46 @@ def test_sent_twice(site: Site) -> None:
         assert book and book.change and book.change.number == 5
 
 
+def test_gone_back_to(site: Site) -> None:
+    """A form that somebody goes back to, and writes another animal into, is filed too; as it was it isn't."""
+    token = form_in(site.page("/file/birth"))
+    twin = BIRTH | {"id": "NEW-2", "name": "Bertold", "sex": "M"}
+    for fields, answered in (BIRTH, "/answer/2"), (twin, "/answer/3"), (BIRTH, "/answer/2"), (twin, "/answer/3"):
+        assert site.post("/file/birth", form=token, **fields).headers["Location"] == answered
+    assert "NEW-2" in shown(site.page("/answer/3"))
+    with site.desk.opened() as book:
+        assert book and book.change and book.change.number == 3
+        assert {"NEW-1", "NEW-2"} <= book.known.keys()
+
+
+@pytest.mark.parametrize("language, told", [
+    ("en", f"its dam {DAM} was 57 days old at its birth, less than 180"),
+    ("de", f"Mutter {DAM} war bei der Geburt 57 Tage alt, weniger als 180"),
+    ("fr", f"Mère {DAM} avait 57 jours à la naissance, moins de 180"),
+])  # fmt: skip
+def test_young_dam(site: Site, society_desk: Desk, language: str, told: str) -> None:
+    """A birth of a dam that was very young is accepted, as the register does, and told as a sheet's is."""
+    site.get(f"/language/{language}")
+    young = site.page(site.post("/file/birth", **BIRTH | {"day": "2018-01-17"}).headers["Location"])
+    assert TEXTS["accepted"][("en", "de", "fr").index(language)] in shown(young)
+    assert told.casefold() in shown(young).casefold() and told.casefold() in shown(site.page("/history/2")).casefold()
+    # her parents are filed anew: told too
+    again = site.post("/file/parents", id="NEW-1", sire="", dam=DAM).headers["Location"]
+    assert told.casefold() in shown(site.page(again)).casefold()
+    # old enough
+    later = site.page(site.post("/file/birth", **BIRTH | {"id": "NEW-2", "day": "2018-05-20"}).headers["Location"])
+    assert "180" not in shown(later)
+
+
+def test_files_beside(site: Site) -> None:
+    """The files beside the database have what a form filed."""
+    site.post("/file/exit", id=DAM, day="2024-05-01")
+    until = time.monotonic() + SECONDS
+    while "2024-05-01" not in (site.desk.folder / "commands.csv").read_text(encoding="utf-8"):
+        assert time.monotonic() < until
+        time.sleep(0.05)
+
+
 @pytest.mark.parametrize("language, at", [("de", 1), ("fr", 2)])
 def test_languages(site: Site, language: str, at: int) -> None:
     """The answer is in the language that was chosen."""
@@ -116,4 +158,7 @@ def test_languages(site: Site, language: str, at: int) -> None:
     site.post("/file/exit", id=DAM, day="2024-05-01")
     page = site.page(site.post("/file/exit", id=DAM, day="2024-05-02").headers["Location"])
     assert f'<html lang="{language}">' in page
+    # so is the day of an animal that is offered below a field
+    offered = site.get(f"/search?words={DAM}").get_json() or []
+    assert [one["born"] for one in offered] == ["21.11.2017" if at == 1 else "21/11/2017"]
     assert TEXTS["refused"][at] in shown(page) and TEXTS["refusal 12"][at] in shown(page)

@@ -8,8 +8,10 @@ import pytest
 from werkzeug.routing import Rule
 
 from desk.site import HOST, PORT, SECRET, Site, shown
+from society.desk.here import is_here
 from society.desk.rules import OPEN_TO_ALL
 from society.desk.texts import TEXTS
+from society.desk.uploads import harmless
 
 # what an address of a page may be made of
 VALUES = {
@@ -109,7 +111,7 @@ def test_read_only(reading_site: Site) -> None:
     for address in writing(site):
         answer = site.client.post(address, data={"csrf_token": token}, headers={"Host": HOST})
         assert answer.status_code == 403, address
-    for address in ("/sheet", "/file", "/file/exit", "/history/0/undo"):
+    for address in ("/sheet", "/file", "/file/exit", "/history/0/undo", "/book.sqlite"):
         assert site.get(address).status_code == 403
     for address in (
         "/",
@@ -202,6 +204,7 @@ def test_hostile_names(site: Site) -> None:
         assert not marks.acting
         assert "<script>alert" not in text
     assert not list(site.desk.folder.parent.glob("*script*"))
+    assert harmless("../a\u202e\nb\x00\x1b.csv") == "ab.csv"
 
 
 @pytest.mark.parametrize(
@@ -218,9 +221,15 @@ def test_addresses(site: Site, address: str) -> None:
     assert "Traceback" not in text and str(site.desk.folder.parent) not in text
 
 
+@pytest.mark.parametrize("to", ["//evil.example", "/\\evil.example", "https://evil.example", "/\t/evil.example", ""])
+def test_here(to: str) -> None:
+    """What a browser takes for another server's address isn't led to."""
+    assert not is_here(to) and is_here("/animals?words=mill")
+
+
 def test_faults(site: Site, monkeypatch: pytest.MonkeyPatch) -> None:
     """A fault of the desk itself is told without what it was."""
-    monkeypatch.setattr("society.desk.routes.history.all_changes", lambda connection: 1 / 0)
+    monkeypatch.setattr("society.desk.routes.history.last_that_changed", lambda connection: 1 / 0)
     answer = site.get("/history")
     assert answer.status_code == 500
     assert TEXTS["fault"][0] in shown(answer.get_data(as_text=True))

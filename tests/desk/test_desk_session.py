@@ -1,6 +1,7 @@
 """The one session that answers for a desk's book: how it is asked, and what is where it, the server or the disk fails."""
 from __future__ import annotations
 
+import contextlib
 import pathlib
 import shlex
 import signal
@@ -15,11 +16,15 @@ import pytest
 from desk.site import Site, shown, site_of
 from desk.test_desk_filing import BIRTH, DAM, SIRE
 from front_desk.desk import TOP, Desk
-from society.book.changes import Change
-from society.book.history import all_changes
+from society.book.book import Book
+from society.book.history import last_that_changed
 from society.book.sentences import BookFault
-from society.desk.office import BookMoved
+from society.desk.kept import NO_MARK
+from society.desk.office import BookMoved, Office
+from society.desk.sentences import DeskFault
+from society.desk.session import Answer, Places, Session, SessionEnded
 from society.desk.texts import SENTENCES, TEXTS
+from society.herdbook import Herdbook
 from society.mistake import Mistake
 
 
@@ -48,15 +53,20 @@ def test_by_the_session(site: Site, monkeypatch: pytest.MonkeyPatch) -> None:
 
 def test_coefficients(site: Site, society_desk: Desk) -> None:
     """What is kept of a birth's coefficient is the program's, at its place in age order, also of an animal that is older
-    than others."""
+    than others, or born on a day with another."""
     calves: list[tuple[str, dict[str, str]]] = [
         ("2024-03-01", {"sire": SIRE, "dam": DAM}), ("1999-01-01", {}), ("2012-06-01", {"dam": "GK-05/192c"}),
+        ("2024-03-01", {}),
     ]  # fmt: skip
     for at, (day, parents) in enumerate(calves):
         site.post("/file/birth", id=f"NEW-{at}", sex="F", day=day, **parents)
         assert TEXTS["accepted"][0] in shown(site.page(f"/answer/{at + 2}"))
     society_desk.good("verify")
     assert "17/512" in society_desk.good("show", "NEW-0").out
+    # those of all that descend from an animal change with its parents
+    site.post("/file/parents", id=DAM, sire=SIRE, dam="")
+    assert TEXTS["accepted"][0] in shown(site.page(f"/answer/{len(calves) + 2}"))
+    society_desk.good("verify")
 
 
 def test_session_killed(site: Site) -> None:
@@ -82,6 +92,33 @@ def test_beside_a_terminal(site: Site, society_desk: Desk) -> None:
     assert TEXTS["accepted"][0] in shown(site.page(site.post("/file/birth", **BIRTH).headers["Location"]))
     society_desk.good("verify")
     assert site.desk.program.journal.edition == 2
+
+
+@pytest.mark.parametrize("words", [["undo", "--to", "1"], ["restore", "copy.sqlite", "--anyway"]], ids=["undo", "restore"])
+def test_longer_without_it(site: Site, society_desk: Desk, words: list[str], monkeypatch: pytest.MonkeyPatch) -> None:
+    """What a terminal took back isn't in the session any more, also where more was filed since than before; a long journal
+    is filed in parts."""
+    monkeypatch.setattr("society.desk.office.AT_ONCE", 100)
+    society_desk.good("backup", "copy.sqlite")
+    site.post("/file/exit", id=DAM, day="2024-05-01")
+    society_desk.good(*words)
+    for id in SIRE, "GK-16/433c":
+        society_desk.good("exit", id, "--day", "2024-05-01")
+    page = site.page(site.post("/file/exit", id=DAM, day="2024-05-02").headers["Location"])
+    assert TEXTS["accepted"][0] in shown(page)
+    society_desk.good("verify")
+
+
+def test_ended_within_an_answer(monkeypatch: pytest.MonkeyPatch, tmp_path: pathlib.Path) -> None:
+    """What a session told of an answer before it ended isn't taken for the whole."""
+    script = tmp_path / "herdbook"
+    script.write_text("#!/bin/sh\nread -r request\necho t1,HOLGBRM000000000402,1/4,25.00\n", encoding="utf-8")
+    script.chmod(0o755)
+    monkeypatch.setenv("HERDBOOK", str(script))
+    session = Session(Herdbook(), Places())
+    with pytest.raises(SessionEnded):
+        session.ask(["inbreeding"])
+    session.end()
 
 
 def test_stored_reply_differs(site: Site, society_desk: Desk) -> None:
@@ -133,22 +170,37 @@ def test_book_moved(site: Site, monkeypatch: pytest.MonkeyPatch) -> None:
         assert earlier
         with pytest.raises(BookMoved):
             site.desk.program.ask(["certificate", "HOLGBRM000000000402"], earlier)
-    monkeypatch.setattr("society.desk.routes.history.all_changes", raising_once(BookMoved()))
+    monkeypatch.setattr("society.desk.routes.history.last_that_changed", raising_once(BookMoved()))
     answer = site.get("/history")
     assert answer.status_code == 302
     assert "3 filed a birth" in shown(site.page(answer.headers["Location"]))
 
 
-def raising_once(error: Exception) -> Callable[[sqlite3.Connection], list[Change]]:
-    """`all_changes`, but for the first call."""
+def test_book_moved_behind_the_question(site: Site, monkeypatch: pytest.MonkeyPatch) -> None:
+    """An answer of a longer history than the book that was asked of isn't shown."""
+    answer_of = Office.answer_of
+
+    def of_later(office: Office, question: list[str], book: Book) -> Answer:
+        found = answer_of(office, question, book)
+        found.steps += 1
+        return found
+
+    monkeypatch.setattr(Office, "answer_of", of_later)
+    with site.desk.opened() as book, pytest.raises(BookMoved):
+        assert book
+        site.desk.program.ask(["certificate", "HOLGBRM000000000402"], book)
+
+
+def raising_once(error: Exception) -> Callable[[sqlite3.Connection], int]:
+    """`last_that_changed`, but for the first call."""
     errors = [error]
 
-    def changes(connection: sqlite3.Connection) -> list[Change]:
+    def last(connection: sqlite3.Connection) -> int:
         if errors:
             raise errors.pop()
-        return all_changes(connection)
+        return last_that_changed(connection)
 
-    return changes
+    return last
 
 
 def test_killed_before_storing(society_desk: Desk, tmp_path: pathlib.Path) -> None:
@@ -189,3 +241,31 @@ def test_disk_full(site: Site, monkeypatch: pytest.MonkeyPatch) -> None:
         assert SENTENCES[BookFault.NO_ROOM][1] in page
     assert site.post("/file/exit", id=DAM, day="2024-05-01").headers["Location"] == "/answer/2"
     Desk(site.desk.folder.parent, site.desk.program.path.as_posix()).good("verify")
+
+
+def test_closed(site: Site) -> None:
+    """Where the desk is closed no session begins any more, whoever still asks."""
+    site.post("/file/exit", id=DAM, day="2024-05-01")
+    assert site.desk.program.session
+    site.desk.program.close()
+    with site.desk.opened() as book, pytest.raises(Mistake, match="session ended"):
+        assert book
+        site.desk.program.coefficients([book.known[DAM].number], book)
+    assert site.desk.program.session is None
+    site.desk.is_closing = True
+    answer = site.post("/file/exit", id=SIRE, day="2024-05-01")
+    assert answer.status_code == 400 and DeskFault.CLOSING.value in shown(answer.get_data(as_text=True))
+
+
+def test_seen_in_a_process_beside(site: Site, monkeypatch: pytest.MonkeyPatch) -> None:
+    """A large book is seen to be whole in a process beside the server, and one that isn't is changed by nobody."""
+    monkeypatch.setattr("society.desk.changing.MOST_HERE", 0)
+    assert site.post("/file/exit", id=DAM, day="2024-05-01").status_code == 302
+    with contextlib.closing(sqlite3.connect(site.desk.folder / "book.sqlite")) as connection:
+        connection.execute("UPDATE coefficient SET percent = '9.99' WHERE place = 7")
+        connection.commit()
+    site.desk.whole = NO_MARK
+    answer = site.post("/file/exit", id=SIRE, day="2024-05-01")
+    assert answer.status_code == 400 and "the program has 1 otherwise" in shown(answer.get_data(as_text=True))
+    with site.desk.opened() as book:
+        assert book and book.change and book.change.number == 2

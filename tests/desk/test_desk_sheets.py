@@ -11,8 +11,10 @@ import pytest
 
 from desk.site import HOST, Site, form_in, shown
 from front_desk.desk import TOP, Desk
+from society.book.exports import refresh
 from society.desk import uploads
-from society.desk.jobs import TAKING
+from society.desk.jobs import TAKING, Job
+from society.desk.taking_beside import Chosen, wishes_of
 from society.desk.texts import TEXTS
 
 EXAMPLE = (TOP / "examples/society.csv").read_bytes()
@@ -30,9 +32,12 @@ def test_first_sheet(empty_site: Site, program: str, tmp_path: pathlib.Path) -> 
     assert TEXTS["take first sheet"][0] in shown(site.page("/animals"))
     address = site.post("/sheet/example").headers["Location"]
     look = shown(site.page(address))
-    assert "The book would have 502 animals, 500 of them new." in look
+    assert "Rows of the sheet 501 of these left out 1 Animals with a row 500 Parents without a row, added 2" in look
+    assert "The book would have 502 animals." in look
     assert "Left out 2" in look and "Added as parents 2" in look
-    assert look.index("May be wrong 22") < look.index("Left out 2") < look.index("Inferred 4")
+    # births that are near one another are one line, which says whether something need be done
+    assert "22 births came less than 100 days after the same dam's one before, from 8 to 95 days." in look
+    assert look.index("May be wrong 1") < look.index("Left out 2") < look.index("Inferred 4")
     assert "276 GK-12/351b its sire GK-12/341c (line 148) is left out: it isn't male (refusal 5)" in look
     assert not site.desk.folder.exists()
     page = site.take(address)
@@ -40,10 +45,30 @@ def test_first_sheet(empty_site: Site, program: str, tmp_path: pathlib.Path) -> 
     by_word = Desk(tmp_path / "by word", program)
     by_word.good("take", str(TOP / "examples/society.csv"))
     by_page = Desk(site.desk.folder.parent, program)
+    # the files beside the database may not be written yet
+    assert refresh(site.desk.folder, 60) == ""
     assert by_page.commands() == by_word.commands()
     assert by_page.ids() == by_word.ids()
     assert by_page.good("history", "1").out.splitlines()[2:] == by_word.good("history", "1").out.splitlines()[2:]
     assert not any(site.desk.uploads.room.iterdir())
+
+
+def test_start_while_the_first_is_taken(empty_site: Site) -> None:
+    """While the first sheet is taken the start page says that the book is being made, and leads to the page that waits."""
+    site, job = empty_site, Job((TAKING, "a form"))
+    job.address = "/sheet/a-token/taking/a-form"
+    site.desk.jobs.jobs[job.key] = job
+    page = site.page("/")
+    assert TEXTS["book under way"][0] in shown(page) and f'href="{job.address}"' in page
+    assert TEXTS["no book yet"][0] not in shown(page)
+    job.is_over.set()
+    page = site.page("/")
+    assert TEXTS["no book yet"][0] in shown(page) and job.address not in page
+    address = site.drop("first.csv", EXAMPLE)
+    site.page(address)
+    to = site.post(f"{address}/take", change="0").headers["Location"]
+    taking = site.desk.jobs.found((TAKING, to.rpartition("/")[2]))
+    assert taking and taking.address == to and "first.csv" in shown(site.page(to))
 
 
 def test_left(site: Site) -> None:
@@ -51,7 +76,9 @@ def test_left(site: Site) -> None:
     before = files_of(site.desk.folder)
     address = site.drop("sheet.csv", EXAMPLE + b"Lower Mill,NEW-1,f,2019-01-01,,,\n")
     assert "501" not in before
-    assert "503 animals, 1 of them new." in shown(site.page(address))
+    look = shown(site.page(address))
+    assert "Animals with a row 501 of these new 1 of these in the book already 500 Animals of the book without a row 2" in look
+    assert "The book would have 503 animals." in look
     assert TEXTS["sheet left"][0].format("sheet.csv") in shown(
         site.page(site.post(f"{address}/leave").headers["Location"])
     )
@@ -73,8 +100,11 @@ def test_columns(empty_site: Site) -> None:
     assert "no column is found for: Sire, Dam. Choose below which it is" in shown(page)
     assert "/take" not in page
     chosen = {"column-sire": 'Vater, "der"', "understood-sire": "", "column-dam": "x", "understood-dam": ""}
-    page = site.page(site.post(f"{address}/columns", **chosen).headers["Location"])
-    assert "The book would have 3 animals, 3 of them new." in shown(page)
+    understood = {"column-id": "Tag", "understood-id": "Tag"}
+    page = site.page(site.post(f"{address}/columns", **chosen, **understood).headers["Location"])
+    # what was understood isn't chosen
+    assert [one.columns for one in site.desk.uploads.found.values()] == [{"sire": 'Vater, "der"', "dam": "x"}]
+    assert "The book would have 3 animals." in shown(page)
     site.take(address)
     with site.desk.opened() as book:
         assert book
@@ -86,17 +116,22 @@ def test_options(empty_site: Site) -> None:
     """Words for unknown parents and sexes, breed and country are said on the page; a wrong one is told."""
     site = empty_site
     address = site.drop("flock.csv", FLOCK.replace(b",a,b", b",Leihbock,b").replace(b"c,w", b"c,Zibbe"))
-    page = site.page(site.post(f"{address}/columns", breed="sk").headers["Location"])
+    page = site.page(site.post(f"{address}/columns", breed="sk", youngest="30").headers["Location"])
     assert "'sk' isn't three letters" in shown(page)
     said = {"unknown": "Leihbock", "sexes": "Zibbe=f", "breed": "SKU", "country": "DEU"}
     columns = {"column-sire": "V", "column-dam": "M"}
     page = site.page(site.post(f"{address}/columns", **said, **columns).headers["Location"])
+    # a field that was emptied says nothing any more
+    assert [one.options.keys() for one in site.desk.uploads.found.values()] == [said.keys()]
     assert "The book would have 3 animals" in shown(page)
     site.take(address)
     with site.desk.opened() as book:
         assert book
         assert book.known["c"].number == "SKUDEUF000000000003"
         assert book.records[book.known["c"].number].sire == ""
+    for first in ("month_first", "day_first"):
+        wishes = wishes_of(site.desk.folder, Chosen.of({}, {first: "1"}))
+        assert (wishes.month_first, wishes.day_first) == (first == "month_first", first == "day_first")
 
 
 def test_book_changed_between(site: Site, society_desk: Desk) -> None:
@@ -108,7 +143,7 @@ def test_book_changed_between(site: Site, society_desk: Desk) -> None:
     society_desk.good("birth", "NEW-1", "--sex", "f", "--day", "2019-01-01", "--owner", "Lower Mill")
     again = site.page(site.post(f"{address}/take", change="1").headers["Location"])
     assert TEXTS["book changed"][0] in shown(again)
-    assert "503 animals, 0 of them new." in shown(again)
+    assert "Animals with a row 501 of these in the book already 501 Animals" in shown(again)
     assert 'name="change" value="2"' in again
     assert len(society_desk.good("history").out.splitlines()) == 2
     site.take(address)
@@ -208,13 +243,15 @@ def test_second_sheet_and_undo(empty_site: Site) -> None:
         page = site.take(address)
     assert "Changed 1" in shown(page) and "New 1" in shown(page)
     question = site.page("/history/1/undo")
-    assert "Bring back the book as it was after change 1?" in shown(question)
+    assert "Bring back the book as it was after change 1?" in shown(question) and 'class="more"' not in question
     assert "nothing" not in shown(site.page(site.post("/history/1/undo", last="1").headers["Location"]))[:1]
     assert len(re.findall("<tr>", site.page("/history"))) == 3
     page = site.page(site.post("/history/1/undo", last="2").headers["Location"])
     assert TEXTS["brought back"][0].format(1) in shown(page)
     assert "d isn't in the book any more" in shown(page)
     assert "Animals 3 " in shown(site.page("/"))
+    # the state of now isn't brought back
+    assert site.post("/history/3/undo", last="3").headers["Location"] == "/history"
 
 
 def test_disk_full(site: Site, monkeypatch: pytest.MonkeyPatch) -> None:

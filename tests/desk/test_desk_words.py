@@ -8,14 +8,17 @@ import io
 import pathlib
 import re
 import sqlite3
+from fractions import Fraction
 from typing import Any
 
 import pytest
 
 from desk.site import Site, shown
 from front_desk.desk import Desk
+from society.desk.animal_rows import Asked, Order, asked_by, fields_of, found_by, turned
+from society.desk.routes.matings import level_of
 
-INBRED, DAM = "GK-14/388b", "GK-17/472c"
+INBRED, DAM, LEFT = "GK-14/388b", "GK-17/472c", "GK-10/294b"
 NUMBER = "HOLGBRM000000000402"
 LANGUAGES = ("en", "de", "fr")
 COLUMNS = "id,name,number,sex,birth,sire,dam,owner,exit,coefficient,decimal,percent"
@@ -36,10 +39,18 @@ def test_printed(site: Site, society_desk: Desk, language: str) -> None:
     assert site.get(f"/animal/{NUMBER}/pedigree?generations=8").get_data(as_text=True) == society_desk.text("tree.html")
 
 
+@pytest.mark.parametrize("generations", ["0", "11", "0019", "-1", "x"])
+def test_generations(site: Site, generations: str) -> None:
+    """A pedigree of more generations than are printed, or of none, has as many as usual."""
+    usual = site.get(f"/animal/{NUMBER}/pedigree").get_data()
+    assert site.get(f"/animal/{NUMBER}/pedigree?generations={generations}").get_data() == usual
+
+
 @pytest.mark.parametrize(
     "asked, words",
     [
         ("", []),
+        ("living=1", ["--living"]),
         ("living=1&sex=F&owner=Oak+Lodge", ["--living", "--sex", "f", "--owner", "Oak Lodge"]),
         ("from=2010&to=2012", ["--born", "2010..2012"]),
         ("sex=M&from=2015", ["--sex", "m", "--born", "2015.."]),
@@ -80,6 +91,29 @@ def sorted_by(order: str, row: dict[str, str]) -> Any:
     return float(row["percent"]) if order == "coefficient" else row[order].removesuffix(" (inferred)")
 
 
+def test_asked_again(site: Site, monkeypatch: pytest.MonkeyPatch) -> None:
+    """What leads from a page of animals to another asks for the same animals, sorted as it says; there is no page behind
+    the last one, and the search while typing has animals of the sex alone."""
+    asked = asked_by({"words": "gk 1", "living": "1", "sex": "F", "owner": "Oak Lodge", "from": "2001", "to": "2015", "down": "1"})
+    assert asked_by(fields_of(asked)) == asked
+    upwards = turned(asked, Order.ID)
+    assert not upwards.is_downwards and turned(upwards, Order.ID).is_downwards and not turned(asked, Order.BIRTH).is_downwards
+    # what an animal was before a change is no animal more
+    site.post("/file/exit", id=DAM, day="2024-05-01")
+    monkeypatch.setattr("society.desk.animal_rows.ON_A_PAGE", 251)
+    with site.desk.opened() as book:
+        assert book
+        found = found_by(book, Asked(page=9))
+        assert (found.total, found.page, found.pages, len(found.rows)) == (502, 2, 2, 251)
+        ids = [one["id"] for one in site.get("/search?words=gk&sex=M").get_json() or []]
+        assert ids and {book.known[id].number[6] for id in ids} == {"M"}
+
+
+def test_levels() -> None:
+    """A coefficient that is a bound is of the more related."""
+    assert [level_of(Fraction(1, part)) for part in (64, 32, 16, 8, 4)] == [0, 1, 2, 3, 4]
+
+
 def test_found(site: Site, society_desk: Desk) -> None:
     """The search finds what `find` finds."""
     for words in (["mill", "47"], ["gk-17"], ["HOLGBRM0000000004"]):
@@ -105,6 +139,7 @@ def test_an_animal(site: Site, society_desk: Desk) -> None:
 
 @pytest.mark.parametrize("left", ["", "1"])
 def test_matings(site: Site, society_desk: Desk, left: str) -> None:
+    site.post("/file/exit", id=LEFT, day="2024-05-01")
     words = ["mating", "--dam", DAM] + ["--left"] * bool(left)
     text = society_desk.good(*words).out
     assert site.get(f"/matings.csv?dam={DAM}&left={left}").get_data(as_text=True) == text
@@ -112,6 +147,9 @@ def test_matings(site: Site, society_desk: Desk, left: str) -> None:
     page = site.page(f"/matings?dam={DAM}&left={left}")
     assert re.findall(r'class="number level level-\d">([\d.]+)%<', page) == [row["percent"] for row in rows]
     assert ids_in(page) == [row["id"] for row in rows]
+    # the other advice is asked anew
+    other = ids_in(site.page(f"/matings?dam={DAM}&left={'' if left else 1}"))
+    assert (LEFT in ids_in(page), LEFT in other) == (bool(left), not left)
 
 
 def test_plan(site: Site, society_desk: Desk) -> None:
@@ -130,7 +168,15 @@ def test_breed(site: Site, society_desk: Desk, language: str) -> None:
     site.get(f"/language/{language}")
     page = site.page("/breed")
     society_desk.good("breed", "--language", language, "--out", "breed.html")
-    part = society_desk.text("breed.html").partition("<main>\n")[2].partition("</main>")[0]
+    if language == "de":
+        society_desk.good("breed", "--owner", "Oak Lodge", "--language", language, "--out", "owner.html")
+        society_desk.good("breed", "--born", "2010..2012", "--language", language, "--out", "born.html")
+        for asked, name in ("owner=Oak+Lodge", "owner.html"), ("from=2010&to=2012", "born.html"):
+            # nothing of other animals is shown meanwhile
+            assert 'class="breed"' not in site.get(f"/breed?{asked}").get_data(as_text=True)
+            own = society_desk.text(name).partition("</h1>\n")[2].partition("</main>")[0]
+            assert own in site.page(f"/breed?{asked}")
+    part = society_desk.text("breed.html").partition("</h1>\n")[2].partition("</main>")[0]
     assert part in page
     rows = society_desk.listed("list", "--columns", "number,mean_kinship")
     kinship = next(float(row["mean_kinship"]) for row in rows if row["number"] == NUMBER)
@@ -169,6 +215,10 @@ def test_history(site: Site, society_desk: Desk) -> None:
 def test_settings(site: Site, society_desk: Desk) -> None:
     """What is set on the page is what `settings` says, and the other way round; the next sheet's numbers have the
     breed and country."""
+    assert re.search(r'name="breed"[^>]* value="HOL"', site.page("/settings"))
+    assert '<html lang="fr">' in site.get("/settings", {"Accept-Language": "fr-CH, fr;q=0.9, en;q=0.8"}).get_data(as_text=True)
+    society_desk.good("birth", "NEW-1", "--sex", "f", "--day", "2024-03-01", "--breed", "ABC", "--country", "DEU")
+    assert re.search(r'name="breed"[^>]* value="ABC"', site.page("/settings"))
     site.post(
         "/settings",
         name="Goats & <Kids>",

@@ -1,9 +1,11 @@
 """The word `open`: its link, its port, and how it ends."""
 from __future__ import annotations
 
+import pathlib
 import re
 import signal
 import socket
+import tempfile
 import urllib.error
 import urllib.request
 from http.cookiejar import CookieJar
@@ -13,6 +15,7 @@ import pytest
 from desk.test_browser import SECONDS, Server
 from front_desk.desk import Desk
 from society.desk.forms import new_form
+from society.desk.serving import ADDRESS, bound, room
 
 
 def browser() -> urllib.request.OpenerDirector:
@@ -88,6 +91,22 @@ def test_killed_while_a_sheet_is_taken(society_desk: Desk) -> None:
     society_desk.good("exit", "GK-17/472c", "--day", "2024-05-01")
     assert len(society_desk.good("list").out.splitlines()) in (503, 3503)
     society_desk.good("verify")
+
+
+def test_rooms(tmp_path: pathlib.Path, monkeypatch: pytest.MonkeyPatch) -> None:
+    """What was dropped at a desk stays as long as that is open, also where another one is opened, and goes then."""
+    monkeypatch.setattr(tempfile, "tempdir", str(tmp_path))
+    with room() as first:
+        with room() as second:
+            assert [*tmp_path.iterdir()] in ([first, second], [second, first])
+        assert [*tmp_path.iterdir()] == [first]
+    assert not [*tmp_path.iterdir()]
+
+
+def test_this_machine_alone() -> None:
+    """Nobody else's machine reaches the desk."""
+    with bound(ADDRESS, 0, "") as listening:
+        assert listening.getsockname()[0] == "127.0.0.1"
 
 
 def test_port(society_desk: Desk) -> None:

@@ -25,12 +25,14 @@ from society.desk.finding_words import FINDINGS, VALUE, Sentence, sentence_in, s
 from society.desk.member_words import NAMES, word_for
 from society.desk.texts import SENTENCES
 from society.desk.texts.members import MEMBERS
+from society.desk.texts.of_one import OF_ONE
 from society.desk.words import Words
 from society.pages.languages import LANGUAGES
 from society.reading.sentences import Where
 from society.refusals import Refusal
 from society.taking.animal_findings import BirthDayInferred, CommandRefused, SexInferred, ValueChanged
 from society.taking.fault_sentences import TakingFault
+from society.taking.look_findings import ExitsWithdrawn
 from society.taking.report import KINDS
 from society.taking.stored_findings import kind_named, kinds_of, modules_of_findings
 
@@ -102,6 +104,22 @@ def test_findings(name: str) -> None:
         assert ("GK-1" in told.text) or not {"id", "parent", "dam", "sire", "text", "title", "worksheet"} & asked
 
 
+@pytest.mark.parametrize("kind", OF_ONE)
+def test_of_one(kind: str) -> None:
+    """Where one is found, it is told otherwise than two, with no other values."""
+    counted, _, *texts = OF_ONE[kind]
+    for one, many in zip(texts, FINDINGS[kind]):
+        assert one != many and set(VALUE.findall(one)) <= set(VALUE.findall(many)) and counted in VALUE.findall(many)
+
+
+def test_one_withdrawn() -> None:
+    told = [sentence_of(ExitsWithdrawn(count, ()), Words("de")).text for count in (1, 2)]
+    assert [one.partition(" wieder")[0] for one in told] == ["1 abgegangenes Tier zählt", "2 abgegangene Tiere zählen"]
+    assert [Words("de").counted("passed over left", count) for count in (1, 2)] == [
+        "1 abgegangenes männliches Tier ist ausgelassen.", "2 abgegangene männliche Tiere sind ausgelassen.",
+    ]  # fmt: skip
+
+
 def members() -> list[enum.Enum]:
     """The members of each enum that a finding has a value of, or a sentence of a page names."""
     kinds = [*NAMES, *{type(member) for member in MEMBERS}]
@@ -162,7 +180,7 @@ def test_values() -> None:
     assert [sentence_in(full, Words(language)).text for language in LANGUAGES] == [
         "book.sqlite can't be written (no room on the disk): nothing is changed",
         "book.sqlite kann nicht geschrieben werden (kein Platz auf dem Datenträger): nichts ist geändert.",
-        "book.sqlite ne peut pas être écrit (plus de place sur le disque) : rien n'est modifié.",
+        "book.sqlite ne peut pas être écrit (plus de place sur le disque)\u00a0: rien n'est modifié.",
     ]
     assert pickle.loads(pickle.dumps(full)).sentence is BookFault.FILE_CLOSED
     refused = TakingFault.REFUSED_ON.said(
@@ -198,12 +216,12 @@ DAY = datetime.date(2001, 2, 3)
 @pytest.mark.parametrize(
     "finding, german, french",
     [
-        (ValueChanged("birth day", "2001-02-03", ""), "Geburtstag: 03.02.2001, vorher –", "date de naissance : 03/02/2001, avant –"),
+        (ValueChanged("birth day", "2001-02-03", ""), "Geburtstag: 03.02.2001, vorher –", "date de naissance\u00a0: 03/02/2001, avant –"),
         (SexInferred("F", SexSource.DAM, False), "Geschlecht weiblich, da es Mutter ist", "sexe femelle, car elle est mère"),
         (CommandRefused(ChangeKind.EXIT, "2001-02-03", Refusal.LEFT_ALREADY), "Abgang am 03.02.2001 ist abgelehnt: es ist schon abgegangen",
-         "Sortie le 03/02/2001 : refusé, il est déjà sorti"),
+         "Sortie le 03/02/2001\u00a0: refusé, il est déjà sorti"),
         (BirthDayInferred(DAY, BirthBasis(BirthSource.PERIOD, Period("2001")), False, 0),
-         "Geburtstag 03.02.2001, aus Monat oder Jahr: 2001", "date de naissance 03/02/2001, d'après le mois ou l'année : 2001"),
+         "Geburtstag 03.02.2001, aus Monat oder Jahr: 2001", "date de naissance 03/02/2001, d'après le mois ou l'année\u00a0: 2001"),
         (BirthDayInferred(DAY, BirthBasis(BirthSource.OFFSPRING), False, 0),
          "Geburtstag 03.02.2001, aus den Nachkommen", "date de naissance 03/02/2001, d'après les descendants"),
     ],

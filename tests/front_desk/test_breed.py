@@ -2,8 +2,10 @@
 from __future__ import annotations
 
 import csv
+import datetime
 import io
 import itertools
+import re
 from fractions import Fraction
 
 import pytest
@@ -110,7 +112,7 @@ def test_plan(secretary_desk: Desk) -> None:
     assert [row["dam"] for row in plan] == [dam for dam in dict.fromkeys(row["dam"] for row in pairs)]
     used = [row["sire"] for row in plan]
     assert max(map(used.count, used)) <= 5
-    free = planned(desk, *words)
+    free = planned(desk, *words, "--most-for-a-sire", "any")
     least = {dam: min(Fraction(row["coefficient"]) for row in pairs if row["dam"] == dam) for dam in ids["F"]}
     assert sum(Fraction(row["coefficient"]) for row in free) == sum(least.values())
 
@@ -120,12 +122,47 @@ def test_plan_with_bounds(secretary_desk: Desk) -> None:
     done = desk.good("plan", "--at-most", "0", "--most-for-a-sire", "1")
     assert all(row["coefficient"] == "0" for row in csv.DictReader(io.StringIO(done.out)))
     assert "society: not mated, since " in done.err
-    assert " matings: the mean coefficient of the calves is 0.00%" in done.err
+    assert " matings: the mean coefficient of the offspring is 0.00%" in done.err
     old = {row["id"] for row in desk.listed("list") if row["birth"] < "1999"}
     assert {row["dam"] for row in planned(desk, "--minimum-age", "9999")} <= old
     desk.wrong("'2' isn't a fraction or a decimal from 0 to 1", "plan", "--at-most", "2")
     males = desk.write("males.txt", next(row["id"] for row in desk.listed("list") if row["number"][6] == "M"))
     desk.wrong("no dam can be male", "plan", "--dams", males)
+
+
+def test_plan_assumes(secretary_desk: Desk) -> None:
+    """Where nothing is said no sire has more than twice the even share, and an age is assumed, which is told."""
+    desk = secretary_desk
+    done = desk.good("plan")
+    plan = list(csv.DictReader(io.StringIO(done.out)))
+    sires = {row["sire"] for row in planned(desk, "--table", "--minimum-age", "0")}
+    said = re.search(r"no sire has more than ([\d,]+) dams, twice as many", done.err)
+    assert said and int(said[1]) == -(-2 * len(plan) // len(sires))
+    used = [row["sire"] for row in plan]
+    assert max(map(used.count, used)) <= int(said[1]) < len(plan)
+
+
+def test_plan_assumes_an_age(desk: Desk) -> None:
+    """Young animals are left out: those of a year, or those that are younger than parents of the book were; animals that
+    are named are taken, and so are those of which no birth year is known."""
+    today = datetime.date.today()
+
+    def before(days: int) -> datetime.date:
+        return today - datetime.timedelta(days)
+
+    rows = ["id,sex,birth,sire,dam", f"ram,m,{before(3000)},,", f"ewe,f,{before(3000)},,", f"lamb,f,{before(300)},ram,ewe",
+            "nobody,f,,,"]  # fmt: skip
+    desk.take("\n".join(rows))
+    done = desk.good("plan")
+    assert [row["dam"] for row in csv.DictReader(io.StringIO(done.out))] == ["nobody", "ewe"]
+    assert "assumed: parents are 365 days old at least (left out: 1 younger animal)" in done.err
+    assert "lamb" in desk.good("plan", "--minimum-age", "0").out
+    assert "lamb" in desk.good("plan", "--dams", desk.write("dams.txt", "lamb\n")).out
+    # dams of 280 days, and one of 100 that doesn't count among twenty
+    early = [f"dam{at},f,{before(2000)},,\nkid{at},m,{before(2000 - (280 if at else 100))},ram,dam{at}" for at in range(40)]
+    desk.take("\n".join(rows + early))
+    done = desk.good("plan")
+    assert "lamb" in done.out and "parents are 280 days old at least, as nineteen of twenty of the book's 42" in done.err
 
 
 def test_plan_of_days_after_today(desk: Desk) -> None:

@@ -8,13 +8,14 @@ import pathlib
 import shutil
 import sqlite3
 import tempfile
-from typing import Iterator
+from typing import Any, Iterator
 
 import pytest
 
 from front_desk.desk import Desk
 from front_desk.whole import FLOCK, GROWN, changes_of, run
 from society.book import book_changed, database, schema
+from society.mistake import Mistake
 
 # who has no rights: nobody
 NOBODY = 65534
@@ -36,9 +37,22 @@ CALLS = (["list"], ["take", "sheet.csv"], ["verify"], ["undo"], ["backup", "copy
 
 
 def test_no_database(flock_desk: Desk) -> None:
-    flock_desk.write("book/book.sqlite", "no database " * 999)
+    """A backup is restored in its place only where that is wished: it is kept with what stands beside it, and nothing of
+    that gets into the book."""
+    text, book = b"no database " * 999, flock_desk.room / "book"
+    flock_desk.good("backup", "good")
+    listed = flock_desk.good("list").out
+    with contextlib.closing(sqlite3.connect(book / "book.sqlite", isolation_level=None)) as connection:
+        connection.execute("UPDATE animal SET name = 'beside' WHERE id = 'a0'")
+        beside = (book / "book.sqlite-wal").read_bytes()
+    flock_desk.write("book/book.sqlite", text)
     for words in CALLS:
         flock_desk.wrong("book/book.sqlite is damaged, or isn't a database", *words)
+    flock_desk.wrong("to restore good in its place say --anyway", "restore", "good")
+    flock_desk.write("book/book.sqlite-wal", beside)
+    flock_desk.good("restore", "good", "--anyway")
+    assert flock_desk.good("list").out == listed
+    assert [path.read_bytes() for path in sorted((book / "old").iterdir())] == [text, beside]
 
 
 def test_damaged(flock_desk: Desk) -> None:
@@ -68,19 +82,24 @@ def test_database_of_another_program(flock_desk: Desk) -> None:
         flock_desk.wrong("is a database of another program, not a herd book", *words)
 
 
-@pytest.mark.parametrize(("statement", "told"), [
-    ("UPDATE command SET day = '1999-12-31' WHERE place = 3", "the journal has 1 animal otherwise"),
-    ("UPDATE command SET refusal = 5 WHERE place = 3", "the program's reply to command 3 is that it is accepted"),
-    ("UPDATE coefficient SET fraction = '1/2' WHERE place = 9", "the program has 1 kept coefficient otherwise"),
-    ("DELETE FROM command WHERE place = 16", "the journal has 15 commands, and its last change tells of 16"),
-    ("UPDATE coefficient SET place = -place", "the kept coefficients aren't in the program's order"),
-    ("UPDATE animal SET since = 9 WHERE id = 'a3'", "a row of the table animal names one of change that isn't there"),
+TAKE = ["take", "sheet.csv"]
+
+
+@pytest.mark.parametrize(("statement", "told", "words"), [
+    ("UPDATE command SET day = '1999-12-31' WHERE place = 3", "the journal has 1 animal otherwise", TAKE),
+    ("UPDATE command SET refusal = 5 WHERE place = 3", "the program's reply to command 3 is that it is accepted",
+     ["exit", "a0", "--day", "2012-01-01"]),
+    ("UPDATE coefficient SET fraction = '1/2' WHERE place = 9", "the program has 1 kept coefficient otherwise", TAKE),
+    ("DELETE FROM command WHERE place = 16", "the journal has 15 commands, and its last change tells of 16", ["undo"]),
+    ("UPDATE coefficient SET place = -place", "the kept coefficients aren't in the program's order", TAKE),
+    ("UPDATE animal SET since = 9 WHERE id = 'a3'", "a row of the table animal names one of change that isn't there",
+     TAKE),
 ])  # fmt: skip
-def test_verify(flock_desk: Desk, statement: str, told: str) -> None:
+def test_verify(flock_desk: Desk, statement: str, told: str, words: list[str]) -> None:
     """What somebody changed in the file is told before anything is written."""
     change_file(flock_desk, statement)
     flock_desk.wrong(told, "verify")
-    flock_desk.wrong(told, "take", "sheet.csv")
+    flock_desk.wrong(told, *words)
 
 
 def test_migration(flock_desk: Desk, monkeypatch: pytest.MonkeyPatch) -> None:
@@ -103,6 +122,30 @@ def test_migration(flock_desk: Desk, monkeypatch: pytest.MonkeyPatch) -> None:
             tables = connection.execute("SELECT count(*) FROM sqlite_schema WHERE name = 'added'").fetchone()[0]
         assert (version, tables) == (schema.VERSION + is_made, is_made)
     assert changes_of(folder) == 1
+
+
+class FailingAtItsEnd(sqlite3.Connection):
+    """It commits, and reports that it couldn't."""
+
+    def execute(self, statement: str, *values: Any) -> sqlite3.Cursor:
+        done = super().execute(statement, *values)
+        if statement == "COMMIT":
+            raise sqlite3.OperationalError("disk I/O error")
+        return done
+
+
+@pytest.mark.parametrize("is_made", [True, False])
+def test_commit_of_which_the_end_fails(flock_desk: Desk, is_made: bool) -> None:
+    """A change is made where the book has it, with its time: another of the same number isn't it."""
+    folder = flock_desk.room / "book"
+    path = folder / "book.sqlite"
+    with contextlib.closing(sqlite3.connect(path, isolation_level=None, factory=FailingAtItsEnd)) as connection:
+        moment = connection.execute("SELECT time FROM change").fetchone()[0]
+        connection.execute("BEGIN")
+        with contextlib.ExitStack() as stack:
+            if not is_made:
+                stack.enter_context(pytest.raises(Mistake, match="nothing is changed"))
+            book_changed.commit(connection, folder, 1, moment if is_made else moment + 1)
 
 
 @pytest.fixture
@@ -155,6 +198,8 @@ def test_exports(flock_desk: Desk) -> None:
     kept = {name: flock_desk.text(f"book/{name}") for name in ("commands.csv", "ids.csv", "report.csv")}
     assert all(row["change"] == "1" for row in flock_desk.table("book/ids.csv"))
     flock_desk.write("book/commands.csv", "changed")
+    flock_desk.good("list")
+    assert {name: flock_desk.text(f"book/{name}") for name in kept} == kept
     (flock_desk.room / "book/ids.csv").unlink()
     flock_desk.good("list")
     assert {name: flock_desk.text(f"book/{name}") for name in kept} == kept

@@ -35,14 +35,18 @@ def taken_flock(program: str, tmp_path_factory: pytest.TempPathFactory) -> Desk:
 
 @pytest.mark.parametrize("call", ["write", "sync", "rename"])
 def test_each_call_fails(taken_flock: Desk, failing: str, tmp_path: pathlib.Path, call: str) -> None:
-    """The first call fails, then the second, and so on, until a taking makes no more."""
+    """The first call fails, then the second, and so on, until a taking makes no more. What isn't on the disk isn't made,
+    and what a later call has to write is told."""
+    refused = later = 0
     for nth in range(1, MOST_CALLS):
         desk = taken_flock.copy_to(tmp_path / str(nth))
         met = desk.room / "met"
         done = run(desk, "take", "grown.csv", FAIL=call, FAIL_NTH=str(nth), FAIL_MET=str(met), LD_PRELOAD=failing)
         told_truly(done, 1, changes_of(desk.room / "book"))
+        refused, later = refused + done.status, later + ("a later call writes them" in done.out + done.err)
         if not met.exists():
             assert done.status == 0 and nth > 2
+            assert (refused > 0, later > 0) == (call != "rename", True)
             return
     pytest.fail("a taking makes more calls than are tried")
 

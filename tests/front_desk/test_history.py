@@ -1,11 +1,14 @@
 """The history of a book: single commands, what stays by hand, undo, backup and restore."""
 from __future__ import annotations
 
+import contextlib
 import hashlib
 import os
 import pwd
 import random
 import re
+import shutil
+import sqlite3
 
 import pytest
 
@@ -37,6 +40,11 @@ def test_single_commands(flock_desk: Desk) -> None:
         f"exit,{number},2014-01-01,,,,,",
     ]
     assert "calf: owner farm 1, before Neuer Hof" in flock_desk.good("history", "4").out
+    # a number is given to no other animal, and one that was in the book once has its digits again
+    flock_desk.good("undo", "--to", "1")
+    flock_desk.good("exit", "a0", "--day", "2012-01-01")
+    assert "(HOLGBRF000000000018)" in flock_desk.good("birth", "other", "--sex", "f", "--day", "2012-03-04").out
+    assert "(HOLGBRM000000000017)" in flock_desk.good("birth", "calf", "--sex", "m", "--day", "2012-03-04").out
     assert "is whole" in flock_desk.good("verify").out
 
 
@@ -50,10 +58,10 @@ def test_single_commands(flock_desk: Desk) -> None:
 ])  # fmt: skip
 def test_refused_commands(flock_desk: Desk, words: list[str], refusal: str) -> None:
     """The animals stay, and the history tells of the command with its reply."""
-    listed = flock_desk.good("list").out
+    listed, owners = flock_desk.good("list").out, flock_desk.owners()
     done = flock_desk.run(*words)
     assert done.status == 1 and refusal in done.err and "change 2 of the history" in done.err and not done.out
-    assert flock_desk.good("list").out == listed
+    assert flock_desk.good("list").out == listed and flock_desk.owners() == owners
     shown = flock_desk.good("history", "2").out
     assert refusal in shown and "animals changed: 0" in shown
     assert len(flock_desk.commands()) == 17 and "is whole" in flock_desk.good("verify").out
@@ -99,12 +107,15 @@ def test_undo(flock_desk: Desk) -> None:
     # no other animal gets a number that one had
     flock_desk.take("id,sex,born,sire,dam\nother,F,2001-01-01,,\n")
     assert flock_desk.numbers() == {"other": "HOLGBRF000000000018"}
+    # an animal that the third change took away is away in its state, though it came back and went again since
+    flock_desk.good("undo", "--to", "3")
+    assert flock_desk.good("list").out == first
     flock_desk.good("undo", "--to", "4")
     assert flock_desk.good("list").out == grown
-    assert changes_of(flock_desk.room / "book") == 7 and "is whole" in flock_desk.good("verify").out
-    flock_desk.wrong("--to takes 0 to 6", "undo", "--to", "7")
-    flock_desk.wrong("the book has no change 8: its changes are 1 to 7", "history", "8")
-    assert [line.split("  ")[0] for line in flock_desk.good("history").out.splitlines()] == list("1234567")
+    assert changes_of(flock_desk.room / "book") == 8 and "is whole" in flock_desk.good("verify").out
+    flock_desk.wrong("--to takes 0 to 7", "undo", "--to", "8")
+    flock_desk.wrong("the book has no change 9: its changes are 1 to 8", "history", "9")
+    assert [line.split("  ")[0] for line in flock_desk.good("history").out.splitlines()] == list("12345678")
 
 
 def test_what_is_kept_of_a_change(flock_desk: Desk) -> None:
@@ -132,16 +143,31 @@ def test_undo_of_what_is_remembered(flock_desk: Desk) -> None:
     assert flock_desk.take(FLOCK).report == (f"line 7: a5: inferred: {kept}",)
 
 
+def changed(desk: Desk, name: str, *statements: str) -> None:
+    """A backup as somebody else wrote it."""
+    path = shutil.copyfile(desk.room / "copy", desk.room / name)
+    with contextlib.closing(sqlite3.connect(path, isolation_level=None)) as connection:
+        for statement in statements:
+            connection.execute(statement)
+
+
 def test_backup(flock_desk: Desk) -> None:
     """A backup is restored where nothing else of the book is, and in the place of a book only where that is wished."""
     flock_desk.good(*CALF)
     listed = flock_desk.good("list").out
     assert flock_desk.good("backup", "copy").out == "copy has the book with its 2 changes\n"
+    # nothing is written beside it by who reads it
+    assert (flock_desk.room / "copy").read_bytes()[18:20] == b"\1\1"
     flock_desk.wrong("copy is there already", "backup", "copy")
     flock_desk.wrong("is a file of the book", "backup", "book/book.sqlite", "--force")
-    flock_desk.good("restore", "copy", "--book", "other")
+    flock_desk.wrong("book/book.sqlite is the book itself", "restore", "book/book.sqlite", "--anyway")
+    changed(flock_desk, "changed", "UPDATE command SET refusal = 5 WHERE place = 3")
+    flock_desk.wrong("changed: the program's reply to command 3", "restore", "changed", "--book", "other")
+    # one that the version before made
+    changed(flock_desk, "earlier", "DROP INDEX change_form", "ALTER TABLE change DROP COLUMN form", "PRAGMA user_version = 1")
+    flock_desk.good("restore", "earlier", "--book", "other")
     assert flock_desk.good("list", "--book", "other").out == listed
-    assert "restored the backup copy" in flock_desk.good("history", "--book", "other").out
+    assert "restored the backup earlier" in flock_desk.good("history", "--book", "other").out
     assert "is whole" in flock_desk.good("verify", "--book", "other").out
     flock_desk.take(GROWN)
     flock_desk.wrong("to restore copy in its place say --anyway", "restore", "copy")

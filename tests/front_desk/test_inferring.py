@@ -1,7 +1,7 @@
 """What is inferred where a sheet doesn't give it."""
 from __future__ import annotations
 
-from front_desk.desk import CALLED, Desk
+from front_desk.desk import Desk
 
 
 def test_inferred_days(desk: Desk) -> None:
@@ -174,82 +174,3 @@ def test_sire_and_dam_without_a_sex(desk: Desk) -> None:
     desk.take("id,born,sire,dam\na,2001,,\nb,2003,,a\n", "--book", "dam")
     again = desk.take("id,born,sire,dam\na,2001,,\nb,2003,,a\nc,2004,a,\nd,2005,a,\n", "--book", "dam")
     assert "2 left out (2 parents)" in again.last and "number" not in again.out
-
-
-MEANT = "if another is meant, write the id of that one"
-
-
-def test_named_parents(desk: Desk) -> None:
-    """A parent that is no id, but one animal's name, is that animal where it can be it; it is told with the
-    line."""
-    sheet = """\
-        id;name;sex;born;sire;dam
-        R1;Max;M;2001-01-01;;
-        R2;Moritz;M;2001-02-01;;
-        E1;Lotte;F;2002-01-01;;
-        E2;Lotte;F;2002-02-01;;
-        E3;Änne;F;2002-03-01;;
-        E4;Rosi;F;2002-03-01;;
-        R5;Leo;M;2001-03-01;;
-        L1;Moritz;M;2004-01-01;moritz;änne
-        L2;;F;2004-02-01;Max;Lotte
-        L3;;F;2000-01-01;Leo;Moritz
-        L4;;F;2004-02-01;Rosi;R1
-        L6;;F;2004-02-01;Leo;Rosi
-        """
-    done = desk.take(sheet)
-    done.tells(
-        f"line 9: L1: inferred: its sire 'moritz' is R2 by its name: {MEANT}",
-        f"line 9: L1: inferred: its dam 'änne' is E3 by its name: {MEANT}",
-        f"line 10: L2: inferred: its sire 'Max' is R1 by its name: {MEANT}",
-        f"line 13: L6: inferred: its dam 'Rosi' is E4 by its name: {MEANT}",
-        (
-            "line 10: Lotte: added: the dam of L2 has no row: added without parents (2 animals have this name, E1,"
-            " E2: write the id of the one that is meant)"
-        ),
-        "line 11: Leo: added: the sire of L3 and of 1 more has no row: added without parents (is R5 meant?)",
-        (
-            "line 11: Moritz: added: the dam of L3 has no row: added without parents (2 animals have this name, R2,"
-            " L1: write the id of the one that is meant)"
-        ),
-        "line 12: Rosi: added: the sire of L4 has no row: added without parents (is E4 meant?)",
-        "line 12: L4: its dam R1 (line 2) is left out: it isn't female (refusal 6)",
-    )
-    assert " 8 inferred, 1 left out (1 parent), 4 added, 0 gone" in done.last
-    parents = desk.parents()
-    wanted = {
-        "L1": ("R2", "E3"),
-        "L2": ("R1", "Lotte"),
-        "L3": ("Leo", "Moritz"),
-        "L4": ("Rosi", ""),
-        "L6": ("Leo", "E4"),
-    }
-    assert wanted.items() <= parents.items()
-    # a later animal of the name doesn't change what is in the book, but a new calf may be of either
-    more = "E9;Änne;F;2010-01-01;;\nL5;;F;2012-01-01;;Moritz\nL9;;F;2012-01-01;;Änne\n"
-    done = desk.take(sheet + more.replace("\n", "\n            "))
-    assert desk.parents()["L1"] == ("R2", "E3")
-    assert " 0 changed" in done.last
-    assert desk.parents()["L9"] == ("", "Änne")
-
-
-def test_named_parent_that_comes_later(desk: Desk) -> None:
-    """A row that comes later is found by its name, and a founder that stood for it is no parent any more."""
-    desk.take("id,name,sex,born,sire,dam\nc,,F,2004-01-01,Hans,\n")
-    grown = "id,name,sex,born,sire,dam\nc,,F,2004-01-01,Hans,\nH1,Hans,M,2000-01-01,,\n"
-    done = desk.take(grown)
-    stays = "no animal has it as a parent any more, and stays in the book as it is"
-    done.tells(
-        f"line 2: c: inferred: its sire 'Hans' is H1 by its name: {MEANT}",
-        "line 2: c: changed: sire: H1, before Hans",
-        f"Hans: gone: {stays}",
-    )
-    assert ", 1 gone: " in done.last
-    assert done.commands() == [f"{CALLED} take sheet.csv --drop-gone"]
-    why = "as in the book, where it was inferred: from its offspring"
-    done.tells(f"Hans: inferred: birth day 2002-01-01, {why}")
-    assert desk.numbers()["Hans"] == "HOLGBRM000000000001"
-    done = desk.take(grown, "--drop-gone")
-    done.tells("Hans: gone: no animal has it as a parent any more: it is dropped from the book")
-    assert desk.numbers().keys() == {"c", "H1"}
-    assert desk.parents()["c"] == ("H1", "")

@@ -4,6 +4,7 @@ from __future__ import annotations
 import pytest
 
 from front_desk.desk import Desk
+from society.reading.ids import nearly, nearly_all
 
 TITLES = "id;name;sex;birth;sire;dam\n"
 FLOCK = "DE 007;Max;M;2001-03-01;;\nDE 8;Eva;F;2001-03-02;;\n"
@@ -162,3 +163,11 @@ def test_sheet_that_is_sorted_again(desk: Desk) -> None:
         done = desk.take(TITLES + "\n".join(sheet) + "\n")
         assert (desk.parents(), desk.born(), desk.numbers()) == before, done
         assert " 0 new, 0 changed" in done.last
+
+
+def test_many_ids_are_compared_as_one_by_one() -> None:
+    ids = ["DE 001", "de-0010/00", "0", "000", "Ä 07 b", "10", "1 0", "\u00a05", "٠٥", "05", "a\t1", ""]
+    assert nearly_all(ids) == [*map(nearly, ids)]
+    assert nearly_all([]) == []
+    # a sign that is to stand between them
+    assert nearly_all([*ids, "a\0", "007"]) == [*map(nearly, [*ids, "a\0", "007"])]

@@ -14,6 +14,11 @@ def old_desk(desk: Desk) -> Desk:
 
 
 def test_taken_over(old_desk: Desk) -> None:
+    # a file that was kept before isn't written over
+    (old_desk.room / "book/old").mkdir()
+    old_desk.write("book/old/commands.csv", "precious")
+    old_desk.wrong("book/old/commands.csv isn't what book/commands.csv is: move the folder book/old away", "list")
+    (old_desk.room / "book/old/commands.csv").unlink()
     assert old_desk.good("list").out == LIST
     kept = {name: old_desk.text(f"book/old/{name}") for name in FILES}
     assert kept == FILES
@@ -23,6 +28,10 @@ def test_taken_over(old_desk: Desk) -> None:
     assert old_desk.text("book/commands.csv") == FILES["commands.csv"]
     assert "took over the folder of version 0.11" in old_desk.good("history").out
     assert "is whole" in old_desk.good("verify").out
+    # one that was dropped isn't there, and has its digits again where it is born; a later file of an old name stays
+    old_desk.write("book/owners.csv", "later")
+    old_desk.wrong("the book has no animal 'g'", "exit", "g", "--day", "2012-01-01")
+    assert "g (SKUGBRM000000000003)" in old_desk.good("birth", "g", "--sex", "m", "--day", "2003-01-01").out
 
 
 def test_taken_after_it(old_desk: Desk) -> None:

@@ -7,6 +7,11 @@ import pytest
 
 from front_desk.desk import Desk
 from front_desk.whole import FLOCK
+from society.book import backup as backups
+from society.book import out
+from society.book.book import Book
+from society.book.book_read import reading
+from society.mistake import Mistake
 
 ODD = "id,name,sex,born,sire,dam\n@SUM(A1),+x,F,2001-01-01,,\nA 1,\x1b[31mred,F,2001-01-01,,\nA-1,,F,2001-01-01,,\nA/1,,M,2001-01-01,,\n"
 
@@ -48,6 +53,20 @@ def test_onto_other_files(flock_desk: Desk) -> None:
     flock_desk.wrong("the folder absent isn't there", "take", "sheet.csv", "--book", "absent/book")
     (flock_desk.room / "matrix.ids").write_text("precious")
     flock_desk.wrong("matrix.ids is there already", "inverse", "--matrix-market", "matrix")
+
+
+def test_a_file_that_came_meanwhile(flock_desk: Desk, monkeypatch: pytest.MonkeyPatch) -> None:
+    """It came behind the look at its name, and isn't written over."""
+    path = flock_desk.room / "came"
+    with reading(flock_desk.room / "book") as connection:
+        book = Book(flock_desk.room / "book", connection)
+        for module in out, backups:
+            monkeypatch.setattr(module, "check", lambda *_: path.write_bytes(b"precious"))
+        with pytest.raises(Mistake, match="is there already"):
+            out.write_outs(book, {path: b"text"}, False)
+        with pytest.raises(Mistake, match="is there already"):
+            backups.backup(book, path, False)
+        assert path.read_bytes() == b"precious"
 
 
 def test_spreadsheets_and_terminals(desk: Desk) -> None:

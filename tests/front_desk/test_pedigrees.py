@@ -112,7 +112,7 @@ def test_odd_pedigree(desk: Desk) -> None:
         "take", "--pedigree", desk.write("odd.txt", "a b 0\nb a 0\nc a a\nd a b\ne b c\nf c a\n"), "--leave-out"
     )
     done.tells(
-        "line 3: c: its dam a is left out: a is its sire too, and no calf has one parent twice",
+        "line 3: c: its dam a is left out: a is its sire too, and no animal has one parent twice",
         "line 2: b: its sire a is left out: b would be its own ancestor (b > a > b)",
         "line 5: e: its dam c is left out: no choice of sexes fits all of the couples b and a (line 4), a and c"
         " (line 6), c and b (line 5)",

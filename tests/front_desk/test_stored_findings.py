@@ -10,6 +10,8 @@ from typing import Any
 
 import pytest
 
+from society.book.changes import Told
+from society.reading.cell_findings import LikeASum
 from society.taking.report import KINDS, Entry, Finding
 from society.taking.stored_findings import entry_of, modules_of_findings, told_of
 
@@ -47,3 +49,9 @@ def test_round_trip(kind: type[Finding], is_full: bool) -> None:
     finding = value_of(kind, is_full)
     entry = Entry(7, "DE 8", finding)
     assert entry_of(told_of(entry)) == entry
+
+
+def test_finding_of_an_earlier_version() -> None:
+    """A text that a finding has got since is empty where an earlier version stored it."""
+    assert entry_of(Told("like a sum", "", 3, "Summe", ())) == Entry(3, "Summe", LikeASum(""))
+    assert LikeASum("").suggestions() == ()

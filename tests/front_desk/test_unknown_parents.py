@@ -1,7 +1,11 @@
 """Words and signs for unknown parents, and a spreadsheet's errors."""
 from __future__ import annotations
 
+import random
+
 from front_desk.desk import Desk
+from society.reading.unknown import KNOWN_UNKNOWN, SIGNS, UnknownParents, compared
+from society.reading.words import is_error_value
 
 TITLES = "id;sex;birth;sire;dam\n"
 UNKNOWN = (
@@ -69,3 +73,13 @@ def test_columns_of_errors(desk: Desk) -> None:
     rows = "".join(f"a{at};F;2001-01-01;#BEZUG!;{word}\n" for at, word in enumerate(["x", "#REF!", "#REF!"]))
     rows += "".join(f"b{at};F;2001-01-01;;\n" for at in range(5))
     desk.wrong("3 of 3 cells of the column 'sire' (sire) show an error", "take", desk.write("sheet.csv", TITLES + rows))
+
+
+def test_how_a_text_begins_hides_no_word_sign_or_error() -> None:
+    draw = random.Random(4)
+    pieces = [*UNKNOWN, *ERRORS, *KNOWN_UNKNOWN, "Err", "#", ".", "0", "N", "n", "ẞ", "İ", "<", " ", "7", "DE"]
+    texts = {"".join(draw.choices(pieces, k=draw.randrange(1, 4))) for _ in range(5_000)} | {*pieces}
+    unknown = UnknownParents()
+    for text in texts:
+        is_sign = SIGNS.fullmatch(text) is not None
+        assert unknown.is_one(text) == (compared(text) in KNOWN_UNKNOWN or is_error_value(text) or is_sign), text

@@ -1,4 +1,4 @@
-"""What README and `docs/` show, and the table of statuses."""
+"""What README, `docs/` and CHANGELOG show, how long they are, and the list of statuses."""
 from __future__ import annotations
 
 import pathlib
@@ -8,7 +8,7 @@ from outside import test_growths, test_orders, test_statuses, test_threads, test
 from outside.rooms import Rooms
 from outside.runs import TOP, wrote
 
-# The rows of the table of statuses: the status, what is told, and the group of checks that brings it about.
+# The lines of the list of statuses: the status, what is told, and the group of checks that brings it about.
 STATUSES = [
     ("0", "nothing", test_orders.TestOrders.test_orders),
     ("1", "`herdbook: record NUMBER: fault CAUSE NAME`", test_statuses.TestStatuses.test_line_faults),
@@ -24,27 +24,57 @@ STATUSES = [
 ]
 
 
-# as many words are read in half a minute by who looks for what it is, why and how
+PAGES = [TOP / "README.md", TOP / "CHANGELOG.md", *sorted((TOP / "docs").glob("*.md"))]
+BENCH = TOP / "bench/README.md"
+
+# README is read in half a minute by who looks for what it is, why and how; all pages in an hour
 README_WORDS = 600
+ALL_WORDS = 12_600
+BENCH_WORDS = 2_000
+
+
+def words_of(page: pathlib.Path) -> int:
+    return len(page.read_text().split())
+
+
+def anchors_of(page: pathlib.Path) -> set[str]:
+    """What links to a page's headings may end with."""
+    headings = re.findall(r"^#+ (.*)", page.read_text(), re.M)
+    return {re.sub(r"[^\w -]", "", heading.lower()).replace(" ", "-") for heading in headings}
+
+
+def is_there(page: pathlib.Path, link: str) -> bool:
+    """Is what a link of a page points to there, with the heading that it names?"""
+    file, _, anchor = link.partition("#")
+    target = page.parent / file if file else page
+    return target.is_file() and (not anchor or anchor in anchors_of(target))
 
 
 class TestPages(Rooms):
     def test_pages(self) -> None:
         """The examples of each page as they stand there, in a folder of the page's own."""
-        pages = [TOP / "README.md", *sorted((TOP / "docs").glob("*.md"))]
-        counts = [self.page(path) for path in pages]
+        counts = [self.page(path) for path in PAGES]
         shown, ran = (sum(count) for count in zip(*counts))
         found = f"{ran} commands and {shown} printed texts were found"
         self.count(shown >= 8 and ran >= shown, f"the pages: {found}")
 
-    def test_readme(self) -> None:
-        """README is short, and what it points to is there."""
-        text = (TOP / "README.md").read_text()
-        words = len(text.split())
-        self.count(words <= README_WORDS, f"README has {words} words, {README_WORDS} at most")
-        links = re.findall(r"\]\(([^)#]+)", text)
-        lost = [link for link in links if not (TOP / link).is_file()]
-        self.count(bool(links) and not lost, f"what README points to isn't there: {lost}")
+    def test_words(self) -> None:
+        """README is short, and so are all pages together, and the page on benchmarks."""
+        counted = {page.name: words_of(page) for page in PAGES}
+        readme, of_all, bench = counted["README.md"], sum(counted.values()), words_of(BENCH)
+        self.count(readme <= README_WORDS, f"README has {readme} words, {README_WORDS} at most")
+        self.count(of_all <= ALL_WORDS, f"all pages have {of_all} words, {ALL_WORDS} at most: {counted}")
+        self.count(bench <= BENCH_WORDS, f"bench/README.md has {bench} words, {BENCH_WORDS} at most")
+
+    def test_links(self) -> None:
+        """What the pages point to is there."""
+        for page in [*PAGES, BENCH]:
+            links = [link for link in re.findall(r"\]\(([^)]+)\)", page.read_text()) if "://" not in link]
+            lost = [link for link in links if not is_there(page, link)]
+            self.count(not lost, f"what {page.name} points to isn't there: {lost}")
+        shown = [path.name for path in (TOP / "docs/pictures").iterdir()]
+        texts = " ".join(re.findall(r"!\[[^\]]+\]\(([^)]+)\)", "".join(page.read_text() for page in [*PAGES, BENCH])))
+        self.count(all(name in texts for name in shown), f"a picture that no page shows with a text: {shown}, {texts}")
 
     def test_program_to_begin_with(self) -> None:
         """The program that engineers are shown, and its proof file, stand so in the crate that is proved."""
@@ -57,16 +87,22 @@ class TestPages(Rooms):
         lost = [line for line in shown[begin : end + 1] if line not in there]
         self.count(end - begin > 20 and not lost, f"lines that the crate doesn't have: {lost}")
 
-    def test_table_of_statuses(self) -> None:
-        """Each row of the table has a group of checks, and each group's row is there."""
-        table = re.search(
-            r"\| status \| when \| standard error \|\n\|.*\n((?:\|.*\n)*)", (TOP / "docs/CLERK.md").read_text()
-        )
-        lines = table[1].splitlines() if table else []
-        told = [(cells[1], cells[-2]) for cells in (re.split(r" ?\| ?", line) for line in lines)]
+    def test_wrong_bodies(self) -> None:
+        """Each wrong body that the page on proofs names is an edit that the prover refuses, or a test."""
+        listed = re.findall(r"^- [^(\n]*\((`[^)]*)\): ", (TOP / "docs/PROOFS.md").read_text(), re.M)
+        named = re.findall(r"`(\w+)`", " ".join(listed))
+        edits = {path.stem for path in TOP.glob("crates/*/must-fail/*.edit")}
+        sources = "".join(path.read_text() for path in TOP.glob("crates/*_tests/src/*.rt"))
+        lost = [name for name in named if name not in edits and f"fn {name}(" not in sources]
+        self.count(len(named) > 20 and not lost, f"of {len(named)} wrong bodies these aren't there: {lost}")
+
+    def test_list_of_statuses(self) -> None:
+        """Each line of the list has a group of checks, and each group's line is there."""
+        _, _, below = (TOP / "docs/CLERK.md").read_text().partition("## Statuses\n")
+        told = re.findall(r"^- (\d), (`[^`]+`|[^`:]+): .", below, re.M)
         for at, (status, text, group) in enumerate(STATUSES):
-            self.count(told[at : at + 1] == [(status, text)], f"no row {at + 1} of {group}: {told[at : at + 1]}")
-        self.count(len(told) == len(STATUSES), f"rows without a group: {told[len(STATUSES) :]}")
+            self.count(told[at : at + 1] == [(status, text)], f"no line {at + 1} of {group}: {told[at : at + 1]}")
+        self.count(len(told) == len(STATUSES), f"lines without a group: {told[len(STATUSES) :]}")
 
     def page(self, path: pathlib.Path) -> tuple[int, int]:
         """How many of a page's commands have a text that they print, and how many there are."""

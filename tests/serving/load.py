@@ -22,13 +22,24 @@ Sent = tuple[str, dict[str, str]]
 
 @dataclass(frozen=True)
 class Plan:
-    """How many there are; a clerk files so many commands, and inspectors read for so long, with a pause between pages."""
+    """How many there are; a clerk files so many commands, each of which is written for a while, and inspectors read for so
+    long, with a pause between pages."""
 
     clerks: int
     commands: int
     inspectors: int
     seconds: float
     pause: float
+    writing: float = 0
+
+
+@dataclass(frozen=True)
+class Animals:
+    """The ids of females and males, and all numbers."""
+
+    females: list[str]
+    males: list[str]
+    numbers: list[str]
 
 
 @dataclass
@@ -56,21 +67,25 @@ def waits(found: list[float]) -> str:
     )
 
 
-def commands_of(clerk: int, count: int, ids: list[str]) -> list[Sent]:
-    """Births of one's own, and exits and transfers of animals that others file on too."""
+def commands_of(clerk: int, count: int, animals: Animals) -> list[Sent]:
+    """Births of one's own, of which every second has both parents, and exits and transfers of animals that others file on
+    too."""
     chosen, made = random.Random(clerk), []
     for at in range(count):
-        shared = chosen.choice(ids[:40])
+        shared = chosen.choice(animals.females[:40])
         day = f"2025-{chosen.randrange(1, 13):02}-{chosen.randrange(1, 29):02}"
-        birth = {"id": f"C{clerk}-{at}", "sex": "F", "day": day, "dam": chosen.choice(ids)}
+        birth = {"id": f"C{clerk}-{at}", "sex": "F", "day": day, "dam": chosen.choice(animals.females)}
+        birth |= {"sire": chosen.choice(animals.males)} if at % 2 else {}
         made.append(
             [("birth", birth), ("exit", {"id": shared, "day": day}), ("transfer", {"id": shared, "day": day, "to": "Mill"})][at % 3]
         )  # fmt: skip
     return made
 
 
-def file_all(browser: Browser, work: Work, commands: list[Sent]) -> None:
+def file_all(browser: Browser, work: Work, plan: Plan, commands: list[Sent], at: int) -> None:
+    chosen = random.Random(at)
     for kind, fields in commands:
+        time.sleep(chosen.uniform(0, 2 * plan.writing))
         work.open.append((kind, fields))
         began = time.monotonic()
         status, to, page = browser.post(f"/file/{kind}", **fields)
@@ -84,7 +99,8 @@ def file_all(browser: Browser, work: Work, commands: list[Sent]) -> None:
         work.answered[int(answer[1])] = (kind, fields), TEXTS["accepted"][0] in page
 
 
-def read_all(browser: Browser, work: Work, plan: Plan, ids: list[str], numbers: list[str], at: int) -> None:
+def read_all(browser: Browser, work: Work, plan: Plan, animals: Animals, at: int) -> None:
+    ids, numbers = animals.females, animals.numbers
     chosen, until = random.Random(at), time.monotonic() + plan.seconds
     pages: list[Callable[[], str]] = [
         lambda: "/",
@@ -92,7 +108,7 @@ def read_all(browser: Browser, work: Work, plan: Plan, ids: list[str], numbers: 
         lambda: f"/animal/{chosen.choice(numbers)}",
         lambda: f"/search?words={quote(chosen.choice(ids)[:5])}",
         lambda: f"/animals?page={chosen.randrange(1, 9)}&living=1",
-        lambda: "/history" if len(work.answered) < 200 else "/history/1",
+        lambda: chosen.choice(("/history", "/history/1")),
         lambda: f"/animal/{chosen.choice(numbers)}/certificate",
     ]
     for page in itertools.cycle(pages):
@@ -104,9 +120,7 @@ def read_all(browser: Browser, work: Work, plan: Plan, ids: list[str], numbers: 
         time.sleep(chosen.uniform(0, 2 * plan.pause))
 
 
-def at_work(
-    server: Server, plan: Plan, ids: list[str], numbers: list[str], until: Callable[[Work], bool] | None = None
-) -> Work:
+def at_work(server: Server, plan: Plan, animals: Animals, until: Callable[[Work], bool] | None = None) -> Work:
     """All of them at once, until each is done, or until something is the case: then the server is killed."""
     work = Work()
     clerks = [Browser(server, f"clerk {at}") for at in range(plan.clerks)]
@@ -121,9 +135,9 @@ def at_work(
 
     tasks: list[Callable[[], None]] = []
     for at, clerk in enumerate(clerks):
-        tasks.append(lambda clerk=clerk, at=at: file_all(clerk, work, commands_of(at, plan.commands, ids)))  # type: ignore[misc]
+        tasks.append(lambda clerk=clerk, at=at: file_all(clerk, work, plan, commands_of(at, plan.commands, animals), at))  # type: ignore[misc]
     for at, one in enumerate(inspectors):
-        tasks.append(lambda one=one, at=at: read_all(one, work, plan, ids, numbers, at))  # type: ignore[misc]
+        tasks.append(lambda one=one, at=at: read_all(one, work, plan, animals, at))  # type: ignore[misc]
     threads = [threading.Thread(target=kept, args=(task,)) for task in tasks]
     for thread in threads:
         thread.start()

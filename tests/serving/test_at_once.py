@@ -149,9 +149,17 @@ def test_login_over(served: Served, clerk: Visitor, kind: str, fields: dict[str,
 def test_login_over_elsewhere(served: Served) -> None:
     """What is kept is sent to a form of this desk alone, and no password is kept."""
     visitor = Visitor(served)
-    for path in ("http://evil.example/", "//evil.example/file/exit", "/nothing", "/animals", "javascript:alert(1)"):
+    for path in ("http://evil.example/", "//evil.example/file/exit", "/nothing", "/animals", "/login", "javascript:alert(1)"):
         assert visitor.log_in("Carl", **{"kept to": path, "kept-id": "x"}).status_code == 302
         visitor.post("/logout")
+    # who has another role meanwhile isn't asked whether to send it, nor shown what is no text of his own
+    assert visitor.log_in("Ines", **{"kept to": "/file/exit", "kept-id": DAM}).headers["Location"] == "/"
+    assert TEXTS["refused role"][0] in shown(visitor.page("/"))
+    visitor.post("/logout")
+    kept = {"kept to": "/file/exit", "kept-id": DAM, "kept-form": new_form()}
+    asked = shown(visitor.log_in("Carl", **kept).get_data(as_text=True))
+    assert DAM in asked and kept["kept-form"] not in asked
+    visitor.post("/logout")
     page = visitor.post("/accounts", name="Eve", role="keeper", password="one secret word", again="one secret word")
     assert page.status_code == 401 and "secret word" not in page.get_data(as_text=True)
 

@@ -12,7 +12,7 @@ from collections.abc import Callable, Iterator
 import pytest
 
 from front_desk.desk import Desk
-from serving.load import Plan, Sent, Work, at_work
+from serving.load import Animals, Plan, Sent, Work, at_work
 from serving.server import Browser, Server
 from serving.visitor import WORD
 from society.desk.people import AccountRole
@@ -20,7 +20,8 @@ from society.serving.accounts import Accounts
 
 SMALL = Plan(clerks=4, commands=6, inspectors=6, seconds=2, pause=0.1)
 LARGE = Plan(clerks=8, commands=100, inspectors=15, seconds=60, pause=0.5)
-FEW_FILE = Plan(clerks=1, commands=15, inspectors=15, seconds=30, pause=1)
+# clerks of a large society, who write for a while before each is filed
+LARGE_SOCIETY = Plan(clerks=8, commands=18, inspectors=15, seconds=45, pause=1, writing=1.5)
 LARGE_BOOK, SECONDS_TO_BEGIN = 59_000, 15
 # the first change took the sheet
 CHANGES = "SELECT change, login, kind, length FROM change WHERE change > 1"
@@ -48,14 +49,13 @@ def book_of(room: pathlib.Path) -> Iterator[sqlite3.Connection]:
         yield connection
 
 
-def animals_of(room: pathlib.Path) -> tuple[list[str], list[str]]:
-    """The ids and the numbers of the animals."""
+def animals_of(room: pathlib.Path) -> Animals:
     with book_of(room) as book:
         rows = book.execute(
             "SELECT id, number FROM animal WHERE until IS NULL AND standing <> 'dropped' ORDER BY id"
         ).fetchall()
-    females = [id for id, number in rows if number[6] == "F"]
-    return females, [number for _, number in rows]
+    of_sex = {sex: [id for id, number in rows if number[6] == sex] for sex in "FM"}
+    return Animals(of_sex["F"], of_sex["M"], [number for _, number in rows])
 
 
 def stands_once(desk: Desk, work: Work, all_are_answered: bool) -> None:
@@ -86,7 +86,7 @@ def stands_once(desk: Desk, work: Work, all_are_answered: bool) -> None:
 
 def all_at_work(desk: Desk, plan: Plan) -> Work:
     server = Server(desk.room, desk.program)
-    work = at_work(server, plan, *animals_of(desk.room))
+    work = at_work(server, plan, animals_of(desk.room))
     assert server.end().splitlines()[-1] == "The desk is closed."
     assert len(work.answered) == plan.clerks * plan.commands and not work.open
     stands_once(desk, work, all_are_answered=True)
@@ -96,7 +96,7 @@ def all_at_work(desk: Desk, plan: Plan) -> Work:
 def killed_at_work(desk: Desk, plan: Plan) -> Work:
     """The server is killed when half is answered, and started again."""
     server, half = Server(desk.room, desk.program), plan.clerks * plan.commands // 2
-    work = at_work(server, plan, *animals_of(desk.room), until=lambda work: len(work.answered) >= half)
+    work = at_work(server, plan, animals_of(desk.room), until=lambda work: len(work.answered) >= half)
     again = Server(desk.room, desk.program)
     clerk = Browser(again, "clerk 0")
     status, to, _ = clerk.post("/file/birth", id="AFTERWARDS", sex="M", day="2025-01-01")
@@ -132,14 +132,14 @@ def large_sheet() -> str:
 
 @pytest.mark.slow
 def test_large_book(new_desk: Callable[[], Desk], cheap: None) -> None:
-    """How long readers wait for a page of a large book, and a clerk for an answer, with all readers at work."""
+    """How long readers wait for a page of a large book, and clerks for an answer, with all of them at work."""
     desk = new_desk()
     desk.take(large_sheet(), "--anyway")
     with_people(desk)
     server = Server(desk.room, desk.program)
     # the server sees first that the book is whole
     time.sleep(SECONDS_TO_BEGIN)
-    work = at_work(server, FEW_FILE, *animals_of(desk.room))
+    work = at_work(server, LARGE_SOCIETY, animals_of(desk.room))
     with open(f"/proc/{server.process.pid}/status", encoding="ascii") as status:
         memory = next(line.split()[1] for line in status if line.startswith("VmHWM"))
     server.end()

@@ -3,11 +3,14 @@ from __future__ import annotations
 
 import hashlib
 import hmac
+import time
+from email.utils import parsedate_to_datetime
 
 import pytest
 
 from desk.site import HOST, shown
 from serving.visitor import WORD, Served, Visitor
+from society.desk.forms import new_form
 from society.desk.people import AccountRole
 from society.desk.texts import TEXTS
 from society.serving import passwords
@@ -104,9 +107,28 @@ def test_own_password(served: Served, clerk: Visitor) -> None:
     assert elsewhere.log_in("Carl", new["new"]).status_code == 302
 
 
+def test_guesses_of_own_password(clerk: Visitor) -> None:
+    """Whoever comes to a browser that is logged in guesses its password no faster than others."""
+    new = {"new": "a wholly new word", "again": "a wholly new word"}
+    for _ in range(FREE_BY_NAME):
+        assert clerk.post("/password", password="x", **new).status_code == 400
+    answer = clerk.post("/password", password=WORD, **new)
+    assert answer.status_code == 400 and TEXTS["login wait"][0].format(1) in shown(answer.get_data(as_text=True))
+
+
+def test_language_stays(served: Served) -> None:
+    """Who chose a language before the login has it behind it too."""
+    visitor = Visitor(served)
+    visitor.get("/language/de")
+    visitor.log_in("Carl")
+    assert TEXTS["logout"][1] in visitor.page("/")
+
+
 def test_cookies(served: Served) -> None:
-    """No script reads the cookie, and no other site sends it with a form."""
+    """No script reads the cookie, no other site sends it with a form, and a browser forgets it after a day."""
     cookie = Visitor(served).log_in("Carl").headers["Set-Cookie"]
+    ends = parsedate_to_datetime(cookie.partition("Expires=")[2].partition(";")[0]).timestamp() - time.time()
+    assert A_DAY - SECONDS < ends <= A_DAY + 1
     assert cookie.startswith("herdbook=") and "HttpOnly" in cookie and "SameSite=Lax" in cookie and "Path=/" in cookie
     assert "Secure" not in cookie and "Domain" not in cookie
 
@@ -133,14 +155,16 @@ def test_new_login_is_new(served: Served) -> None:
     with visitor.client.session_transaction(base_url=f"http://{HOST}") as session:
         second = dict(session)
     assert first["login"] != second["login"]
-    answer = visitor.client.post("/file/exit", data={"csrf_token": before}, headers={"Host": HOST})
+    assert not served.gate.accounts.person_of(first["login"])
+    data = {"csrf_token": before, "form": new_form(), "id": "GK-17/472c", "day": "2024-05-01"}
+    answer = visitor.client.post("/file/exit", data=data, headers={"Host": HOST})
     assert answer.status_code == 400 and TEXTS["refused form"][0] in shown(answer.get_data(as_text=True))
 
 
 def test_guesses_by_name(served: Served) -> None:
     """After a few wrong guesses by a name, from wherever, each waits longer; the right password waits too."""
-    for at in range(FREE_BY_NAME):
-        assert Visitor(served, address=f"10.0.0.{at}").log_in("Carl", "x").status_code == 401
+    for at, name in enumerate(("Carl", "CARL", "carl", " cArl ", "\uff23arl")[:FREE_BY_NAME]):
+        assert Visitor(served, address=f"10.0.0.{at}").log_in(name, "x").status_code == 401
     waited = []
     for _ in range(4):
         answer = Visitor(served, address="10.0.1.1").log_in("Carl")
@@ -169,9 +193,11 @@ def test_throttle_ends() -> None:
     """No wait is longer than the longest, what is right is forgotten, and what is kept in mind has a bound."""
     now = [0.0]
     throttle = Throttle(lambda: now[0])
-    for at in range(40):
-        now[0] += throttle.begin("a", "1.1.1.1")
-        assert throttle.begin("a", f"1.1.1.{at}") <= LONGEST
+    waited = []
+    for _ in range(40):
+        waited.append(throttle.begin("a", "1.1.1.1"))
+        now[0] += waited[-1]
+    assert max(waited) == LONGEST
     throttle.was_right("a", "1.1.1.1")
     assert throttle.begin("a", "2.2.2.2") == 0
     for at in range(30_000):
@@ -215,7 +241,7 @@ def test_faults(
     def fail(_: object) -> None:
         raise ValueError("what somebody wrote")
 
-    monkeypatch.setattr("society.desk.routes.history.all_changes", fail)
+    monkeypatch.setattr("society.desk.routes.history.last_that_changed", fail)
     answer = clerk.get("/history")
     assert answer.status_code == 500 and "somebody wrote" not in answer.get_data(as_text=True)
     assert "Traceback" not in caplog.text and "somebody wrote" not in caplog.text

@@ -2,6 +2,8 @@
 ends."""
 from __future__ import annotations
 
+import re
+
 import pytest
 from selenium import webdriver
 from selenium.webdriver.common.by import By
@@ -19,6 +21,8 @@ from society.serving.accounts import Accounts
 
 __all__ = ["chromium"]
 DAM, OTHER = "GK-17/472c", "another good word"
+# as the server's log has what was refused: the wrong password, and the form that was sent when the login was over
+REFUSED = [("POST /login", "401", "refused login as Carl"), ("POST /file/<kind>", "401", "refused login")]
 PHONE = {"width": 390, "height": 844, "deviceScaleFactor": 1, "mobile": True}
 
 
@@ -26,7 +30,7 @@ class Phone:
     """Who uses the pages on a small screen, and waits for what is needed."""
 
     def __init__(self, chromium: webdriver.Chrome, server: Server) -> None:
-        self.chromium, self.base = chromium, f"http://127.0.0.1:{server.port}"
+        self.chromium, self.server, self.base = chromium, server, f"http://127.0.0.1:{server.port}"
         chromium.execute_cdp_cmd("Emulation.setDeviceMetricsOverride", PHONE)
         chromium.delete_all_cookies()
 
@@ -48,6 +52,15 @@ class Phone:
             seen.element_to_be_clickable((By.XPATH, path)), path
         )
         return found
+
+    def waits_for(self, line: str) -> None:
+        """Something is in the server's log."""
+        WebDriverWait(self.chromium, SECONDS).until(lambda _: line in self.server.logged(), line)
+
+    def told(self) -> set[str]:
+        """Of what the browser found fault with. It tells of most pages with a fault, not of each."""
+        entries = self.chromium.get_log("browser")
+        return {one["message"].removeprefix(self.base) for one in entries if one["level"] == "SEVERE"}
 
     def writes(self, name: str, text: str) -> None:
         field = self.find(f'//main//*[@name="{name}"]')
@@ -83,7 +96,11 @@ def test_phone(chromium: webdriver.Chrome, society_desk: Desk, cheap: None) -> N
     phone.opens("/file/exit")
     phone.writes("id", DAM)
     chromium.execute_script("document.getElementsByName('day')[0].value = '2024-05-01'")
+    phone.waits_for("GET /search 200")
     Accounts(society_desk.room / "book").change_password("Carl", OTHER, OTHER)
+    # no animals are offered any more while somebody types, and that is no fault
+    phone.writes("id", DAM)
+    phone.waits_for("GET /search 302")
     phone.presses("file it")
     phone.sees(TEXTS["login over"][0])
     phone.logs_in("Carl", OTHER)
@@ -92,14 +109,19 @@ def test_phone(chromium: webdriver.Chrome, society_desk: Desk, cheap: None) -> N
     phone.sees(TEXTS["accepted"][0])
     for path in "/", "/history", "/history/2", "/settings", "/password", "/matings", "/sheet":
         phone.opens(path)
+    # where measures can't be made the page says why
+    phone.opens("/breed?from=2017&to=2017")
+    phone.sees("not each of the four paths")
     phone.presses("logout")
     phone.sees(TEXTS["logged out"][0])
     chromium.back()
     phone.sees(TEXTS["login"][0])
     chromium.execute_cdp_cmd("Emulation.clearDeviceMetricsOverride", {})
-    told = [one["message"] for one in chromium.get_log("browser") if one["level"] == "SEVERE"]
-    assert all("401" in one or "403" in one for one in told), told
+    is_told = " - Failed to load resource: the server responded with a status of 401 (UNAUTHORIZED)"
+    assert phone.told() <= {f"/login{is_told}", f"/file/exit{is_told}"}
     server.end()
+    refused = re.findall(r"([A-Z]+ \S+) ([45]\d\d) \d+ms(?: (.*))?", server.logged())
+    assert refused == REFUSED
     assert " Carl: " in society_desk.good("history").out
 
 

@@ -70,15 +70,18 @@ def test_without_rule(served: Served) -> None:
 @pytest.mark.parametrize("name", PEOPLE)
 def test_offered(served: Served, name: str) -> None:
     """Pages offer what somebody may do, and nothing else: each link and each form that they have is answered."""
+    assert Visitor(served, "Carl").post("/file/exit", id="GK-17/472c", day="2024-05-01").headers["Location"] == "/answer/2"
     visitor = Visitor(served, name)
     addresses = [
         "/",
+        "/answer/2",
         "/animals",
         "/animal/HOLGBRM000000000402",
         "/history",
         "/history/1",
         "/settings",
         "/matings",
+        "/matings?dam=GK-16/433c",
         "/breed",
     ]
     for address in addresses:

@@ -66,7 +66,8 @@ def test_proxy(proxied: Served) -> None:
     proxy, stranger = Visitor(proxied, address=PROXY), Visitor(proxied, address="10.0.0.3")
     assert proxy.client.get("/login", headers=BY_PROXY).status_code == 200
     assert stranger.client.get("/login", headers=BY_PROXY).status_code == 403
-    assert proxy.client.get("/login", headers=BY_PROXY | {"X-Forwarded-Proto": "http"}).status_code == 403
+    for scheme in "http", "https, http", "http, https", "":
+        assert proxy.client.get("/login", headers=BY_PROXY | {"X-Forwarded-Proto": scheme}).status_code == 403
     for missing in BY_PROXY:
         headers = {name: value for name, value in BY_PROXY.items() if name != missing}
         assert proxy.client.get("/login", headers=headers).status_code in (400, 403), missing

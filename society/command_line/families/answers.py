@@ -14,6 +14,7 @@ from society.command_line.output import tell
 from society.command_line.parser import Words
 from society.herdbook import Herdbook
 from society.mistake import Mistake, number_and_some
+from society.one_call import is_the_only_one, keep
 
 
 def add_words(words: Words) -> None:
@@ -89,8 +90,11 @@ def do_mating(asked: argparse.Namespace, book: Book, program: Herdbook) -> None:
         raise Mistake("--matrix is for many dams: name a file by --dams")
     if asked.sires and (asked.all or asked.left):
         raise Mistake("mating takes sires that are named, or all of them, not both: leave out --all and --left")
+    book.read_journal_beside()
     dam, sires = find(book, asked.dam), [find(book, sire) for sire in asked.sires]
     advice = advise(book, program, dam, sires, asked.left)
+    is_the_only_one()
+    keep(advice)
     give_table(asked, book, advice.table)
     for refused in advice.refused:
         tell(refused)

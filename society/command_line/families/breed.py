@@ -2,7 +2,6 @@
 from __future__ import annotations
 
 import argparse
-import datetime
 import pathlib
 from collections.abc import Callable
 from fractions import Fraction
@@ -11,7 +10,8 @@ from typing import TYPE_CHECKING
 from society.book.book import Book
 from society.book.out import write_outs, write_page
 from society.book.role import Role
-from society.command_line.arguments import add_force, birth_days, coefficient, days, file, positive
+from society.breed.bounds import Assume
+from society.command_line.arguments import add_force, birth_days, coefficient, days, file, most
 from society.command_line.giving import give_table, named_in
 from society.command_line.output import tell
 from society.command_line.parser import Words
@@ -42,8 +42,8 @@ def add_words(words: Words) -> None:
     plan = words.add_for_book(
         "plan",
         do_plan,
-        "write for each dam the sire so that the mean coefficient of the calves is least",
-        "No age is asked but by --minimum-age.",
+        "write for each dam the sire so that the mean coefficient of the offspring is least",
+        "What it assumes of ages and of dams for a sire is told.",
         Group.BREED,
     )
     for role in "dams", "sires":
@@ -51,9 +51,15 @@ def add_words(words: Words) -> None:
             f"--{role}", type=pathlib.Path, metavar="FILE", help=f"the {role}, one id a line [all living ones]"
         )
     plan.add_argument("--living", action="store_true", help="all living animals, as where no file is named")
-    plan.add_argument("--most-for-a-sire", type=positive, metavar="N", help="no sire has more dams than these [any]")
-    plan.add_argument("--at-most", type=coefficient, metavar="F", help="no calf is above this, as 1/16 or 0.0625 [any]")
-    plan.add_argument("--minimum-age", type=days, metavar="DAYS", help="leave out younger animals [none]")
+    plan.add_argument(
+        "--most-for-a-sire", type=most, default=Assume.USUAL, metavar="N",
+        help="no sire has more dams than these, or `any` [twice as many as if all had the same]",
+    )  # fmt: skip
+    plan.add_argument("--at-most", type=coefficient, metavar="F", help="no offspring is above this, as 1/16 or 0.0625 [any]")
+    plan.add_argument(
+        "--minimum-age", type=days, default=Assume.USUAL, metavar="DAYS",
+        help="leave out younger animals, 0 for none [as old as parents of the book are at their first offspring]",
+    )  # fmt: skip
     plan.add_argument(
         "--kinship-weight", type=coefficient, default=Fraction(0), metavar="W",
         help="count a sire's mean kinship with the living so much of a coefficient [0]",
@@ -118,19 +124,14 @@ def population_of(asked: argparse.Namespace, breed: Breed) -> tuple[list[int], s
 
 
 def do_plan(asked: argparse.Namespace, book: Book, program: Herdbook) -> None:
-    from society.answers.candidates import candidates_of
-    from society.breed.mated import best_plan, old_enough, plan_table, told_of
-    from society.breed.plan import Rules
+    from society.breed.assumed import Asked, prepared
+    from society.breed.mated import best_plan, plan_table, told_of
 
-    named = {Role.DAM: asked.dams, Role.SIRE: asked.sires}
-    dams, sires = (candidates_of(book, role, named_in(path, book) if path else None) for role, path in named.items())
-    passed_over = dams.told() + sires.told()
-    # days that are invented for a long pedigree may lie after today, so none is asked where that isn't wished
-    if asked.minimum_age is not None:
-        youngest = datetime.date.today() - datetime.timedelta(days=asked.minimum_age)
-        dams, sires = old_enough(dams, youngest), old_enough(sires, youngest)
-    rules = Rules(asked.most_for_a_sire, asked.at_most, asked.kinship_weight)
-    found = best_plan(book, program, dams, sires, rules)
+    files = {Role.DAM: asked.dams, Role.SIRE: asked.sires}
+    named = {role: named_in(path, book) if path else None for role, path in files.items()}
+    wished = Asked(asked.most_for_a_sire, asked.at_most, asked.minimum_age, asked.kinship_weight)
+    among = prepared(book, wished, named)
+    found = best_plan(book, program, among.dams, among.sires, among.rules)
     give_table(asked, book, plan_table(book, found, asked.table))
-    for sentence in told_of(book, found) + passed_over:
+    for sentence in [*told_of(book, found), *among.assumed, *among.dams.told(), *among.sires.told()]:
         tell(sentence)

@@ -18,6 +18,7 @@ from society.command_line.parser import Parser, Words
 from society.herdbook import Herdbook
 from society.mistake import Mistake
 from society.reading.unknown import unknown_words
+from society.taking.report import What
 
 # the command that somebody wishes, given the book
 Wished = Callable[[argparse.Namespace, Book], ByHand]
@@ -28,7 +29,7 @@ NO_OPTIONS = ("word", "book", "does", "id")
 def add_words(words: Words) -> None:
     kept = "A refused one is kept in the book's history too, with the program's reply."
     birth = words.add("birth", does(wished_birth), "file a birth", kept)
-    birth.add_argument("id", metavar="ID", help="the calf's id")
+    birth.add_argument("id", metavar="ID", help="the newborn's id")
     birth.add_argument("--sex", type=sex, required=True, metavar="SEX", help="m or f")
     birth.add_argument("--name", default="", help="its name")
     add_parents(birth, "[unknown]")
@@ -70,6 +71,9 @@ def does(wished: Wished) -> Callable[[argparse.Namespace], None]:
                 f"before; change {change.number} of the history tells of it"
             )
         print(f"{one.known.id} ({one.known.number}): {what(one)} accepted: change {change.number}")
+        for finding in one.findings:
+            if finding.what is What.LOOK:
+                tell(f"{one.known.id}: {finding.words()}")
 
     return filed
 

@@ -12,6 +12,7 @@ from society.command_line.arguments import day, days, three_letters
 from society.command_line.output import tell
 from society.command_line.parser import Words
 from society.mistake import Mistake
+from society.one_call import is_the_only_one
 from society.packages import Group, need
 
 if TYPE_CHECKING:
@@ -63,6 +64,14 @@ def add_words(words: Words) -> None:
         help="more words for the sexes, as Aue=f,Bk=m",
     )  # fmt: skip
     take.add_argument(
+        "--no-animal", action="append", default=[], metavar="WORD,..",
+        help="rows with such a word, as Summe, are no animals, and are left out, also later",
+    )  # fmt: skip
+    take.add_argument(
+        "--animal", action="append", default=[], metavar="WORD,..",
+        help="rows with such a word are animals: takes back one of --no-animal",
+    )  # fmt: skip
+    take.add_argument(
         "--worksheet", default="", metavar="NAME", help="the worksheet of an .xlsx file [the one whose titles fit]"
     )
     take.add_argument(
@@ -76,10 +85,10 @@ def add_words(words: Words) -> None:
         help="take the sheet though it looks like another one than the book's: another flock, another id, an older one",
     )  # fmt: skip
     take.add_argument(
-        "--youngest", type=days, metavar="DAYS", help="tell parents that were younger at a birth, also later [180]"
+        "--youngest", type=days, metavar="DAYS", help="report parents that were younger at a birth, also later [180]"
     )
     take.add_argument(
-        "--apart", type=days, metavar="DAYS", help="tell births of one dam that are nearer, also later [100]"
+        "--apart", type=days, metavar="DAYS", help="report births of one dam that are nearer, also later [100]"
     )
     take.add_argument("--breed", type=three_letters, metavar="ABC", help="the numbers' breed [HOL, or as in the book]")
     take.add_argument(
@@ -88,7 +97,7 @@ def add_words(words: Words) -> None:
     )  # fmt: skip
     take.add_argument("--day", type=day, help="the day on which owners changed [today, which is inferred]")
     take.add_argument(
-        "--preview", action="store_true", help="tell what would change and what may be wrong, and write nothing"
+        "--preview", action="store_true", help="report what would change and what may be wrong, and write nothing"
     )
     take.add_argument("--strict", action="store_true", help="take nothing where anything would be left out")
     take.add_argument(
@@ -107,19 +116,22 @@ def do_take(asked: argparse.Namespace) -> None:
         raise Mistake("take reads one file: name a sheet, or a pedigree with --pedigree")
     if asked.pedigree and asked.sexes:
         raise Mistake("--sexes is for a sheet: in a pedigree write M and F, or 1 and 2")
+    if asked.pedigree and (asked.no_animal or asked.animal):
+        raise Mistake("--no-animal and --animal are for a sheet: leave such lines out of a pedigree")
     if asked.sheet and (asked.keep or asked.leave_out):
         raise Mistake("--keep and --leave-out are for a pedigree, as --pedigree FILE")
     wishes = Wishes(
         asked.book, asked.columns, asked.unknown, asked.sexes, asked.breed or "", asked.country or "", asked.day,
         asked.strict, asked.drop_gone, asked.semicolons, asked.keep, asked.leave_out, asked.worksheet,
         asked.month_first, asked.anyway, asked.preview, asked.youngest, asked.apart, asked.known, asked.owner,
-        asked.day_first,
+        asked.day_first, no_animal=asked.no_animal, animal=asked.animal,
     )  # fmt: skip
     if asked.sheet and is_workbook(asked.sheet):
         need(Group.WORKBOOKS, ": or save the sheet as CSV, and take that")
     # what a taking makes of a large sheet is needed to its end, and nothing of it goes round: to look for what isn't
     # needed any more would find nothing, again and again
     gc.disable()
+    is_the_only_one()
     for note in anew_where_a_book_came(lambda: taken(asked, wishes)):
         tell(note)
 

@@ -35,7 +35,7 @@ def add_words(words: Words) -> None:
         "number", nargs="?", type=whole_number, metavar="N", help="what this change did, animal by animal [all changes]"
     )
     back = words.add(
-        "undo", do_undo, "bring back the state before the last change, as a new change", "Nothing is lost by it."
+        "undo", do_undo, "bring back the state before the last change that changed something, as a new change", "Nothing is lost by it."
     )
     back.add_argument("--to", type=whole_number, metavar="N", help="the state after this change, 0 for the empty book")
     settings = words.add(

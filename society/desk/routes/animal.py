@@ -79,6 +79,6 @@ def certificates(book: Book, animals: list[Known]) -> Response:
 def pedigree(book: Book, number: str) -> Answer:
     """The pedigree on a page of its own, or on several."""
     asked = request.args.get("generations", "")
-    generations = int(asked) if asked.isdecimal() and 1 <= int(asked[:3]) <= MOST_GENERATIONS else DRAWN
+    generations = int(asked) if asked in map(str, range(1, MOST_GENERATIONS + 1)) else DRAWN
     found = Pedigree(book, animal_of(book, number), kept_coefficients(book), generations, the_words().language)
     return printed(found.text(), "text/html" if found.is_long else "image/svg+xml")

@@ -8,7 +8,7 @@ from werkzeug.wrappers import Response
 
 from society.book.book import Book
 from society.book.coefficients import coefficients_among
-from society.desk.animal_rows import Asked, Found, Order, asked_by, fields_of, file_of, found_by, turned
+from society.desk.animal_rows import Asked, Found, Order, asked_by, fields_of, file_of, first_rows, found_by, turned
 from society.desk.desk import Answer, with_book
 from society.desk.finding_words import Sentence
 from society.desk.shown_animals import line_of
@@ -61,5 +61,5 @@ def file(book: Book) -> Answer:
 def search(book: Book) -> Answer:
     """The first animals that have the words, of a sex where that is asked for."""
     asked = asked_by({**request.args, "order": "id"})
-    rows = found_by(book, asked).rows[:OFFERED] if asked.words else []
-    return jsonify([{"id": row.id, "name": row.name, "born": row.born} for row in rows])
+    rows = first_rows(book, asked)[:OFFERED] if asked.words else []
+    return jsonify([{"id": row.id, "name": row.name, "born": the_words().day(row.born)} for row in rows])

@@ -4,18 +4,20 @@ from __future__ import annotations
 from flask import Blueprint, abort, redirect, render_template, request, url_for
 
 from society.book.book import Book
-from society.book.history import change_numbered, told_by
+from society.book.history import change_numbered
 from society.book.kinds import ChangeKind
+from society.desk.change_lines import ChangeLine, line_of
 from society.desk.desk import Answer, the_desk, with_book
-from society.desk.filing import KINDS, Form, file_form
+from society.desk.filing import KINDS, Form, file_form, written_in
 from society.desk.finding_words import Sentence
 from society.desk.forms import sent_form
-from society.desk.shown_changes import line_of
+from society.desk.office import BookMoved
+from society.desk.rules import may
+from society.desk.shown_changes import told_of_change
 from society.desk.shown_mistakes import on_page
 from society.desk.words import the_words
 from society.mistake import Mistake
-from society.taking.animal_findings import CommandRefused
-from society.taking.stored_findings import entry_of
+from society.taking.report import What
 
 page = Blueprint("filing", __name__)
 
@@ -45,18 +47,21 @@ def parents_now(book: Book, word: str) -> dict[str, str]:
     return {role: book.by_number()[number].id for role, number in named.items() if number}
 
 
-def shown(book: Book, kind: str, given: dict[str, str], faults: list[Sentence]) -> Answer:
+def shown(
+    book: Book, kind: str, given: dict[str, str], faults: list[Sentence], answered: ChangeLine | None = None
+) -> Answer:
+    """The form with what was written, below why it wasn't filed, or below the register's answer."""
     if kind not in KINDS:
         abort(404)
     page = render_template(
-        "form.html", kind=kind, given=given, faults=faults, owners=sorted(book.owners), animal=given.get("id", "")
+        "form.html", kind=kind, given=given, faults=faults, owners=sorted(book.owners), answered=answered
     )
     return (page, 400) if faults else page
 
 
 @page.post("/file/<kind>")
 def file(kind: str) -> Answer:
-    """Files it; where a field can't be read the form comes back with what was written."""
+    """Files it; where a field can't be read, or the book changed meanwhile, the form comes back with what was written."""
     if kind not in KINDS:
         abort(404)
     desk, form = the_desk(), Form(KINDS[kind], request.form, sent_form())
@@ -64,6 +69,8 @@ def file(kind: str) -> Answer:
         change = file_form(desk, form)
     except Mistake as mistake:
         return form_again(kind, on_page(mistake.sentences))
+    except BookMoved:
+        return form_again(kind, [Sentence(the_words()("book moved"))])
     return redirect(url_for("filing.answer", number=change.number))
 
 
@@ -75,15 +82,13 @@ def form_again(book: Book, kind: str, faults: list[Sentence]) -> Answer:
 @page.get("/answer/<int(max=999999999):number>")
 @with_book
 def answer(book: Book, number: int) -> Answer:
-    """The reply to a command, as it is stored."""
+    """The reply to a command, as it is stored; where it was refused the form is there again with what was written."""
     assert book.connection is not None
     change = change_numbered(book.connection, number)
     if change is None or change.kind not in KINDS.values():
         abort(404)
-    entries = [entry_of(one) for one in told_by(book.connection, number)]
-    refused = next((one.finding.refusal for one in entries if isinstance(one.finding, CommandRefused)), None)
-    id = next((one.id for one in entries), "")
-    known = book.known.get(id)
-    return render_template(
-        "answer.html", kind=change.kind.value, change=line_of(change, the_words()), refused=refused, id=id, known=known
-    )
+    line, kind = line_of(book.connection, change, the_words()), change.kind.value
+    if line.refused and may("filing.form"):
+        return shown(book, kind, written_in(change, line.id), [], line)
+    looks = [one for group in told_of_change(book, number, the_words()) if group.what is What.LOOK for one in group.lines]
+    return render_template("answer.html", kind=kind, change=line, known=book.known.get(line.id), looks=looks)

@@ -10,25 +10,30 @@ from society.book.backup import bytes_of
 from society.book.book import Book
 from society.book.changes import Change
 from society.book.exports import report_text
-from society.book.history import all_changes, change_numbered
+from society.book.history import change_numbered, last_changes, last_that_changed
 from society.book.last_backup import last_backup, remember
 from society.book.undo import undo
+from society.desk.change_lines import line_of, lines_of
 from society.desk.desk import Answer, the_desk, with_book
 from society.desk.forms import change_once, sent_form
-from society.desk.shown_changes import differences_of, line_of, told_of_change
+from society.desk.paging import part_read
+from society.desk.shown_changes import differences_of, told_of_change
+from society.desk.shown_options import given_of
 from society.desk.words import the_words
 
 page = Blueprint("history", __name__)
-# so many animals that a change changed are shown
-MOST_SHOWN = 200
+# so many animals that a change changed are shown, and so many changes that would be taken back
+MOST_SHOWN, MOST_TOLD = 200, 20
 
 
 @page.get("/history", endpoint="page")
 @with_book
 def history(book: Book) -> Answer:
-    assert book.connection is not None
-    changes = [line_of(change, the_words()) for change in all_changes(book.connection)[::-1]]
-    return render_template("history.html", changes=changes, backed_up=last_backup(book.folder))
+    assert book.connection is not None and book.change is not None
+    connection, count = book.connection, book.change.number
+    part = part_read(count, lambda first, most: lines_of(connection, last_changes(connection, most, first), the_words()))
+    last = last_that_changed(connection)
+    return render_template("history.html", part=part, last=last, backed_up=last_backup(book.folder))
 
 
 @page.get("/history/<int(max=999999999):number>")
@@ -41,9 +46,9 @@ def change(book: Book, number: int) -> Answer:
     words = the_words()
     count, shown = differences_of(book, number, words, MOST_SHOWN)
     return render_template(
-        "change.html", change=line_of(found, words), source=found.source, options=found.options, length=found.length,
-        edition=found.edition, count=count, differences=shown, groups=told_of_change(book, number, words),
-        last=book.change.number,
+        "change.html", change=line_of(book.connection, found, words), source=found.source,
+        given=given_of(found, words), length=found.length, edition=found.edition, count=count, differences=shown,
+        groups=told_of_change(book, number, words), last=last_that_changed(book.connection),
     )  # fmt: skip
 
 
@@ -64,10 +69,15 @@ def report(book: Book, number: int) -> Answer:
 @with_book
 def ask_undo(book: Book, number: int) -> Answer:
     """Asks whether the state after a change is brought back; 0 is the empty book."""
-    assert book.change is not None
-    if number >= book.change.number:
+    assert book.connection is not None and book.change is not None
+    last = book.change.number
+    if number >= last_that_changed(book.connection):
         abort(404)
-    return render_template("undo.html", number=number, last=book.change.number)
+    newest = last_changes(book.connection, min(last - number, MOST_TOLD))
+    return render_template(
+        "undo.html", number=number, last=last, taken_back=lines_of(book.connection, newest, the_words()),
+        more=last - number - len(newest),
+    )  # fmt: skip
 
 
 @page.post("/history/<int(max=999999999):number>/undo")

@@ -10,7 +10,7 @@ from society.desk.desk import Answer
 from society.desk.finding_words import Sentence
 from society.desk.here import is_here
 from society.desk.people import the_person
-from society.desk.rules import LEAST
+from society.desk.rules import LEAST, may
 from society.desk.shown_mistakes import on_page
 from society.desk.words import the_words
 from society.mistake import Mistake
@@ -57,18 +57,21 @@ def enter() -> Answer:
         told = words("login wait", found) if found else words("login wrong")
         return form([told], kept, kept_to, 429 if found else 401, to)
     gate.begin(found)
-    if is_form(kept_to):
+    endpoint = form_at(kept_to)
+    if endpoint and may(endpoint):
         return render_template("again.html", kept=kept[:MOST_FIELDS], kept_to=kept_to)
+    if endpoint:
+        flash(words("refused role"), "look")
     return redirect(to if is_here(to) else url_for("start.page"))
 
 
-def is_form(path: str) -> bool:
-    """Is it the address of a form of this desk?"""
+def form_at(path: str) -> str:
+    """The page of a form of this desk that has an address, empty where there is none."""
     try:
         endpoint, _ = current_app.url_map.bind("localhost").match(path, "POST")
     except HTTPException:
-        return False
-    return endpoint in LEAST
+        return ""
+    return endpoint if endpoint in LEAST else ""
 
 
 @page.post("/logout")

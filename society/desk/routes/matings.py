@@ -1,6 +1,7 @@
 """The page of matings: a dam with all sires, or the plan for all dams."""
 from __future__ import annotations
 
+from collections.abc import Sequence
 from fractions import Fraction
 from typing import NamedTuple
 
@@ -11,19 +12,22 @@ from society.answers.advice import Advice
 from society.answers.table import Cell
 from society.book.book import Book
 from society.book.search import find
+from society.breed.assumed import Asked
+from society.breed.bounds import Assume
 from society.desk.advice_here import advice_for
 from society.command_line.arguments import coefficient, days, positive
 from society.desk.desk import Answer, the_desk, with_book
+from society.desk.finding_words import Sentence
 from society.desk.jobs import Stage
 from society.desk.paging import part_of
-from society.desk.plan_beside import PlanMade, Rules, plan_for
+from society.desk.plan_beside import Bounds, PlanMade, plan_for, told_of, usual_of
 from society.desk.shown_mistakes import on_page
 from society.desk.taking_beside import read
 from society.desk.words import the_words
 from society.mistake import Mistake
 
 page = Blueprint("matings", __name__)
-# how related a pair is, by the coefficient of its calves: below each of these one kind
+# how related a pair is, by the coefficient of its offspring: below each of these one kind
 LEVELS = (Fraction(1, 32), Fraction(1, 16), Fraction(1, 8), Fraction(1, 4))
 
 
@@ -51,7 +55,7 @@ def matings(book: Book) -> Answer:
     if not word:
         return render_template("matings.html", given=request.args)
     try:
-        dam = find(book, word)
+        dam = find(book, word, may_be_file=False)
     except Mistake as mistake:
         return render_template("matings.html", given=request.args, faults=on_page(mistake.sentences))
     job = advice_for(the_desk(), book, dam, request.args.get("left") == "1")
@@ -78,7 +82,7 @@ def sire_of(id: Cell, name: Cell, number: Cell, birth: Cell, fraction: Cell, _: 
 @page.get("/matings.csv")
 @with_book
 def file(book: Book) -> Answer:
-    dam = find(book, request.args.get("dam", ""))
+    dam = find(book, request.args.get("dam", ""), may_be_file=False)
     job = advice_for(the_desk(), book, dam, request.args.get("left") == "1")
     job.is_over.wait()
     if not isinstance(job.value, Advice):
@@ -93,39 +97,57 @@ def csv_of(text: str, semicolons: bool, name: str) -> Response:
     return response
 
 
-def rules_of(given: dict[str, str]) -> Rules:
-    return Rules(
-        read(positive, given.get("most", "").strip()),
+def asked_of(given: dict[str, str]) -> Asked:
+    """What the form says; a field that is empty is no bound, and for one that isn't there the usual is assumed."""
+    return Asked(
+        read(positive, given["most"].strip()) if "most" in given else Assume.USUAL,
         read(coefficient, given.get("at_most", "").strip()),
-        read(days, given.get("age", "").strip()),
+        read(days, given["age"].strip()) if "age" in given else Assume.USUAL,
     )
 
 
 @page.get("/matings/plan")
 @with_book
 def plan(book: Book) -> Answer:
-    if not request.args.get("made"):
-        return render_template("plan.html", given=request.args, plan=None, faults=[], level=level_of)
+    desk, given = the_desk(), dict(request.args)
+    usual = usual_of(desk, book)
+    if not given.get("made"):
+        return plan_page(given, usual)
     try:
-        job = plan_for(the_desk(), book, rules_of(dict(request.args)))
+        asked = asked_of(given)
+        job = plan_for(desk, book, asked)
     except Mistake as mistake:
-        faults = on_page(mistake.sentences)
-        return render_template("plan.html", given=request.args, plan=None, faults=faults, level=level_of), 400
+        return plan_page(given, usual, on_page(mistake.sentences))
     if job.stage is Stage.UNDER_WAY:
-        return render_template("waiting.html", what="planning", told=job.told, seconds=job.seconds)
+        return render_template("waiting.html", what="planning", told=told_of(desk, book, asked), seconds=job.seconds)
     if job.stage is Stage.FAILED:
-        faults = on_page(job.failed.sentences)
-        the_desk().jobs.forget(job.key)
-        return render_template("plan.html", given=request.args, plan=None, faults=faults, level=level_of), 400
+        desk.jobs.forget(job.key)
+        return plan_page(given, usual, on_page(job.failed.sentences))
     assert isinstance(job.value, PlanMade)
-    part = part_of(job.value.pairs)
-    return render_template("plan.html", given=request.args, plan=job.value, faults=[], level=level_of, part=part)
+    return plan_page(given, usual, [], job.value)
+
+
+def plan_page(
+    given: dict[str, str], usual: Bounds, faults: Sequence[Sentence] = (), made: PlanMade | None = None
+) -> Answer:
+    """The form with what was asked for, and for what wasn't the usual; the plan below it, if it is made."""
+    used = made.bounds if made else usual
+    fields = {"most": text_of(used.most_for_a_sire), "age": text_of(used.minimum_age)} | given
+    page = render_template(
+        "plan.html", given=fields, plan=made, faults=faults, level=level_of,
+        part=part_of(made.pairs) if made else None, assumed=on_page(used.assumed),
+    )  # fmt: skip
+    return (page, 400) if faults else page
+
+
+def text_of(bound: int | None) -> str:
+    return "" if bound is None else str(bound)
 
 
 @page.get("/matings/plan.csv")
 @with_book
 def plan_file(book: Book) -> Answer:
-    job = plan_for(the_desk(), book, rules_of(dict(request.args)))
+    job = plan_for(the_desk(), book, asked_of(dict(request.args)))
     if not isinstance(job.value, PlanMade):
         abort(404)
     semicolons = the_words().language.name != "en"

@@ -5,11 +5,14 @@ from __future__ import annotations
 from flask import Blueprint, abort, flash, redirect, render_template, request, url_for
 from werkzeug.wrappers import Response
 
-from society.desk.desk import Answer, the_desk
+from society.book.backup import change_now
+from society.desk.changing import go_on
+from society.desk.desk import Answer, Desk, the_desk
 from society.desk.finding_words import Sentence
 from society.desk.jobs import TAKING, Job, Stage
 from society.desk.people import the_name
-from society.desk.restoring_beside import Backup, change_now, looked_into, restored
+from society.desk.kept import NO_MARK
+from society.desk.restoring_beside import Backup, looked_into, restored
 from society.desk.shown_mistakes import on_page
 from society.desk.taking_beside import LOOKING, Taken
 from society.desk.uploads import Upload
@@ -48,7 +51,7 @@ def look(token: str) -> Answer:
     job = desk.jobs.of((LOOKING, token), looked_into, (upload.path,))
     if job.stage is Stage.DONE:
         assert isinstance(job.value, Backup)
-        now = change_now(desk.folder)
+        now = change_now(desk.folder) or 0
         return render_template("backup.html", upload=upload, backup=job.value, now=now)
     return not_done(job)
 
@@ -68,8 +71,16 @@ def bring_back(token: str) -> Answer:
     upload, desk, looked = upload_of(token), the_desk(), request.form.get("change", "")
     if not looked.isdecimal() or len(looked) > 9:
         abort(400)
-    desk.jobs.of((TAKING, token), restored, (desk.folder, upload.path, int(looked)))
+    values = (desk.folder, upload.path, int(looked))
+    desk.jobs.of((TAKING, token), restored, values, lambda value: is_restored(desk, value))
     return redirect(url_for("restoring.under_way", token=token))
+
+
+def is_restored(desk: Desk, value: object) -> None:
+    """The session has another journal then."""
+    if isinstance(value, Taken) and value.mark != NO_MARK:
+        desk.program.forget(desk.program.session)
+        go_on(desk, value.mark)
 
 
 @page.get("/restore/<token>/under-way")
@@ -86,9 +97,6 @@ def under_way(token: str) -> Answer:
     if job.value.book_changed:
         flash(the_words()("book changed"), "look")
         return to_look(upload)
-    # the session has another journal
-    desk.program.close()
     desk.uploads.drop(token)
-    desk.exports.wish()
     flash(the_words()("backup restored", upload.path.name), "done")
     return redirect(url_for("history.change", number=job.value.change))

@@ -8,7 +8,8 @@ from werkzeug.wrappers import Response
 
 from society.book.changes import Option
 from society.book.kinds import Field
-from society.desk.desk import Answer, the_desk
+from society.desk.changing import go_on
+from society.desk.desk import Answer, Desk, the_desk
 from society.desk.jobs import TAKING, Job, Stage
 from society.desk.example import EXAMPLE
 from society.desk.finding_words import Sentence, sentence_in, sentence_of, sentence_of_entry
@@ -16,18 +17,21 @@ from society.desk.forms import made_by, sent_form
 from society.desk.people import the_name
 from society.desk.shown_findings import groups_of
 from society.desk.shown_mistakes import on_page, without_paths
-from society.desk.suggested import COLUMNS, field_of, proposed, suggestions_of
+from society.desk.suggested import COLUMNS, Proposed, field_of, labels_of, proposed, suggestions_of
 from society.desk.suggested import choose as choose_suggested
-from society.desk.taking_beside import LOOKING, Chosen, Look, looked_at, taken
+from society.desk.kept import NO_MARK
+from society.desk.taking_beside import LOOKING, Chosen, Look, Taken, looked_at, taken
 from society.desk.uploads import Upload
 from society.desk.words import the_words
-from society.taking.report import Entry
+from society.desk.wrong_fields import cleaned, wrong_fields
+from society.taking.report import Entry, What
+from society.taking.suggestions import DROP_GONE
 
 page = Blueprint("sheet", __name__)
 # the fields of the form beside the columns
 OPTIONS = (
-    "unknown", "known", "sexes", "owner", "breed", "country", "day", "youngest", "apart", "worksheet", "drop_gone",
-    "month_first", "day_first", "anyway",
+    "unknown", "known", "sexes", "no_animal", "animal", "owner", "breed", "country", "day", "youngest", "apart",
+    "worksheet", "drop_gone", "month_first", "day_first", "anyway",
 )  # fmt: skip
 MOST_LETTERS = 500
 
@@ -89,11 +93,27 @@ def look(token: str) -> Answer:
     words = the_words()
     sentences = [*told_of(found), *without_paths(sentence_of(one, words) for one in found.obstacles)]
     is_read = found.after is not None
+    groups = groups_of(found.entries, words, found.totals, found.days)
     return render_template(
-        "look.html", upload=upload, look=found, fields=list(Field), groups=groups_of(found.entries, words, found.totals),
-        faults=[] if is_read else sentences, guards=sentences if is_read else [], given=upload.options,
-        solutions=proposed(suggestions_of(found.obstacles), words), proposals=proposed(found.suggestions, words),
+        "look.html", upload=upload, look=found, fields=list(Field), given=upload.options, wrong=told_wrong(upload),
+        faults=[] if is_read else sentences, guards=sentences if is_read else [],
+        groups=groups, has_choices=any(line.choices for group in groups for line in group.lines),
+        remembered=[label for one in found.remembered for label in labels_of(one, words)],
+        drop_gone=dropped_by(found), solutions=proposed(suggestions_of(found.obstacles), words),
     )  # fmt: skip
+
+
+def told_wrong(upload: Upload) -> dict[str, Sentence]:
+    """What was chosen and can't be read so, by its field: the sheet is looked at without it, and isn't taken."""
+    words = the_words()
+    return {name: sentence_in(sentence, words) for name, sentence in wrong_fields(upload.options).items()}
+
+
+def dropped_by(look: Look) -> Proposed | None:
+    """What drops the animals that are gone, if any are and they stay."""
+    if look.after is None or look.after.drops_gone or not look.totals.get(What.GONE):
+        return None
+    return Proposed(the_words()("drop these"), (DROP_GONE,))
 
 
 def told_of(look: Look) -> list[Sentence]:
@@ -117,7 +137,8 @@ def choose(token: str) -> Answer:
         title = given.get(f"column-{name}")
         if title is not None and title != given.get(f"understood-{name}", ""):
             upload.columns[name.value] = title[:MOST_LETTERS]
-    upload.options = {name: given[name].strip()[:MOST_LETTERS] for name in OPTIONS if given.get(name, "").strip()}
+    read = {name: cleaned(name, given.get(name, "")[:MOST_LETTERS]) for name in OPTIONS}
+    upload.options = {name: text for name, text in read.items() if text}
     return to_look(upload)
 
 
@@ -136,11 +157,22 @@ def take(token: str) -> Answer:
     desk, form, looked = the_desk(), sent_form(), request.form.get("change", "")
     if not looked.isdecimal() or len(looked) > 9:
         abort(400)
+    to = url_for("sheet.taking", token=token, form=form)
     if not taken_by(form):
         upload = upload_of(token)
+        if wrong_fields(upload.options):
+            return to_look(upload)
         chosen = Chosen.of(upload.columns, upload.options)
-        desk.jobs.of((TAKING, form), taken, (desk.folder, upload.path, chosen, int(looked), form))
-    return redirect(url_for("sheet.taking", token=token, form=form))
+        values = (desk.folder, upload.path, chosen, int(looked), form)
+        job = desk.jobs.of((TAKING, form), taken, values, lambda value: is_taken(desk, value))
+        job.address = to
+    return redirect(to)
+
+
+def is_taken(desk: Desk, value: object) -> None:
+    """What a taking made is gone on with, before its page asks for it."""
+    if isinstance(value, Taken) and value.mark != NO_MARK:
+        go_on(desk, value.mark)
 
 
 def taken_by(form: str) -> int:

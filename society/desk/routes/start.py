@@ -6,12 +6,12 @@ import functools
 from flask import Blueprint, redirect, render_template, request, session, url_for
 from werkzeug.wrappers import Response
 
-from society.book.history import all_changes
+from society.book.history import last_changes
+from society.desk.change_lines import lines_of
 from society.desk.desk import Answer, the_desk
 from society.desk.example import EXAMPLE
-from society.desk.glance import glance_of
 from society.desk.here import is_here
-from society.desk.shown_changes import line_of
+from society.desk.jobs import TAKING
 from society.desk.words import CHOSEN, the_words
 from society.pages.languages import LANGUAGES
 
@@ -25,10 +25,10 @@ def start() -> Answer:
     desk = the_desk()
     with desk.opened() as book:
         if book is None or book.connection is None or book.change is None:
-            return render_template("begin.html", has_example=EXAMPLE.exists())
-        glance = desk.kept.of(book, ("glance",), functools.partial(glance_of, book))
-        last = all_changes(book.connection)[: -LAST_CHANGES - 1 : -1]
-        return render_template("start.html", glance=glance, changes=[line_of(one, the_words()) for one in last])
+            return render_template("begin.html", has_example=EXAMPLE.exists(), taking=desk.jobs.under_way(TAKING))
+        glance = desk.kept.of(book, ("glance",), functools.partial(desk.glances.of, book))
+        last = lines_of(book.connection, last_changes(book.connection, LAST_CHANGES), the_words())
+        return render_template("start.html", glance=glance, changes=last)
 
 
 @page.get("/favicon.ico")

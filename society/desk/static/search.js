@@ -13,6 +13,12 @@ function afterPause(call) {
   };
 }
 
+// The answer to an address; none where it is another page's, as that of the login once that is over.
+async function answerOf(address) {
+  const answer = await fetch(address);
+  return answer.ok && new URL(answer.url).pathname === address.pathname ? answer : null;
+}
+
 // Animals are offered below a field.
 function offer(input) {
   const list = document.getElementById(input.getAttribute("list"));
@@ -21,8 +27,8 @@ function offer(input) {
     if (!words) return;
     const address = new URL(input.dataset.search, location.href);
     address.searchParams.set("words", words);
-    const answer = await fetch(address);
-    if (!answer.ok || input.value.trim() !== words) return;
+    const answer = await answerOf(address);
+    if (!answer || input.value.trim() !== words) return;
     list.replaceChildren(...(await answer.json()).map((animal) => {
       const option = document.createElement("option");
       option.value = animal.id;
@@ -40,8 +46,8 @@ function showFound(form) {
     const address = new URL(form.action);
     for (const [name, value] of new FormData(form)) if (value) address.searchParams.append(name, value);
     asked = address.href;
-    const answer = await fetch(address);
-    if (!answer.ok || asked !== address.href) return;
+    const answer = await answerOf(address);
+    if (!answer || asked !== address.href) return;
     const page = new DOMParser().parseFromString(await answer.text(), "text/html");
     document.getElementById(part).replaceChildren(...page.getElementById(part).childNodes);
     history.replaceState(null, "", address);

@@ -12,8 +12,9 @@ TEXTS = {
     "male": ("male", "männlich", "mâle"),
     "castrated": ("castrated", "kastriert", "castré"),
     "born": ("Born", "Geboren", "Naissance"),
-    "born from": ("Born from year", "Geboren ab Jahr", "Né à partir de"),
-    "born to": ("to year", "bis Jahr", "jusqu'à"),
+    "born from": ("Born from", "Geboren ab", "Né depuis"),
+    "a year": ("year", "Jahr", "année"),
+    "born to": ("to", "bis", "jusqu'à"),
     "from embryo": ("from a stored embryo", "aus einem gelagerten Embryo", "d'un embryon conservé"),
     "exit": ("Exit", "Abgang", "Sortie"),
     "no exit": ("none", "keiner", "aucune"),
@@ -26,6 +27,12 @@ TEXTS = {
     "only living": ("only living", "nur lebende", "vivants seulement"),
     "animals found": ("{} animals", "{} Tiere", "{} animaux"),
     "animals found (one)": ("{} animal", "{} Tier", "{} animal"),
+    "none found": (
+        "No animal is so. Write less, or a part of an id or a name.",
+        "Kein Tier passt dazu. Schreiben Sie weniger, oder einen Teil einer Ohrmarke oder eines Namens.",
+        "Aucun animal ne correspond. Écrivez moins, ou une partie d'une boucle ou d'un nom.",
+    ),
+    "show all animals": ("Show all animals", "Alle Tiere zeigen", "Montrer tous les animaux"),
     "certificates of living": (
         "Certificates of all living", "Abstammungsnachweise aller lebenden", "Certificats de tous les vivants",
     ),
@@ -73,9 +80,12 @@ TEXTS = {
     ),
     "sires (one)": ("{} sire.", "{} Vater.", "{} père."),
     "passed over left": (
-        "{} males that left are passed over.", "{} abgegangene männliche sind ausgelassen.", "{} mâles sortis sont omis.",
+        "{} males that left are passed over.", "{} abgegangene männliche Tiere sind ausgelassen.", "{} mâles sortis sont omis.",
     ),
-    "coefficient of calves": (
+    "passed over left (one)": (
+        "{} male that left is passed over.", "{} abgegangenes männliches Tier ist ausgelassen.", "{} mâle sorti est omis.",
+    ),
+    "coefficient of offspring": (
         "Coefficient of the offspring", "Koeffizient der Nachkommen", "Coefficient des descendants",
     ),
     "fraction": ("As a fraction", "Als Bruch", "En fraction"),
@@ -91,9 +101,22 @@ TEXTS = {
         "Pour chaque mère vivante le père, de sorte que le coefficient moyen de tous les descendants soit le plus petit.",
     ),
     "most for a sire": ("Most dams for a sire", "Höchstens Mütter je Vater", "Mères par père au plus"),
+    "most for a sire hint": (
+        "usually twice as many as if all sires had the same; empty for any",
+        "üblich ist das Doppelte dessen, was alle gleich hätten; leer für beliebig viele",
+        "d'habitude deux fois plus que si tous en avaient autant ; vide pour tous",
+    ),
     "at most": ("No coefficient above", "Kein Koeffizient über", "Aucun coefficient au-dessus de"),
-    "at most hint": ("as 1/16 or 0.0625", "etwa 1/16 oder 0,0625", "comme 1/16 ou 0,0625"),
+    "at most hint": (
+        "as 1/16 or 0.0625; empty for any", "etwa 1/16 oder 0,0625; leer für beliebig",
+        "comme 1/16 ou 0,0625 ; vide pour tous",
+    ),
     "minimum age": ("Youngest age in days", "Mindestalter in Tagen", "Âge minimal en jours"),
+    "minimum age hint": (
+        "proposed is how old parents of the book were at their first offspring; empty for any",
+        "vorgeschlagen ist, wie alt Eltern des Herdbuchs beim ersten Nachkommen waren; leer für jedes",
+        "est proposé l'âge des parents du livre au premier descendant ; vide pour tous",
+    ),
     "make plan": ("Make the plan", "Plan machen", "Établir le plan"),
     "planned": ("{} matings.", "{} Anpaarungen.", "{} accouplements."),
     "planned (one)": ("{} mating.", "{} Anpaarung.", "{} accouplement."),
@@ -123,9 +146,9 @@ TEXTS = {
     "living of owner": ("Living animals of", "Lebende Tiere von", "Animaux vivants de"),
     "measure these": ("Measure these", "Diese messen", "Mesurer ceux-ci"),
     "measuring": (
-        "The measures of the book after change {} are being made, {} seconds so far.",
-        "Die Maße des Herdbuchs nach Änderung {} werden berechnet, bisher {} Sekunden.",
-        "Les mesures du livre après la modification {} sont en cours, {} secondes déjà.",
+        "The measures of the book after change {} are being made.",
+        "Die Maße des Herdbuchs nach Änderung {} werden berechnet.",
+        "Les mesures du livre après la modification {} sont en cours.",
     ),
     "older state": (
         "This is the state after change {}; the book is at change {}.",

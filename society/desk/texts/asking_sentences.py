@@ -103,6 +103,24 @@ SENTENCES: dict[Sentence, tuple[str, str, str]] = {
         "none is so old: ask for fewer days",
         "keines ist so alt: nennen Sie weniger Tage.", "aucun n'est si âgé : demandez moins de jours.",
     ),
+    Mating.ASSUMED_AGE: (
+        "Assumed: parents are {days} days old at least, as nineteen of twenty of the book's {parents} were at their first "
+        "offspring. Left out as too young: {count}.",
+        "Angenommen: Eltern sind mindestens {days} Tage alt, wie neunzehn von zwanzig der {parents} im Herdbuch bei ihrem "
+        "ersten Nachkommen. Als zu jung ausgelassen: {count}.",
+        "Supposé : les parents ont au moins {days} jours, comme dix-neuf sur vingt des {parents} du livre à leur premier "
+        "descendant. Omis car trop jeunes : {count}.",
+    ),
+    Mating.ASSUMED_YEAR: (
+        "Assumed: parents are {days} days old at least. Left out as too young: {count}.",
+        "Angenommen: Eltern sind mindestens {days} Tage alt. Als zu jung ausgelassen: {count}.",
+        "Supposé : les parents ont au moins {days} jours. Omis car trop jeunes : {count}.",
+    ),
+    Mating.ASSUMED_MOST: (
+        "Assumed: no sire has more than {most} dams, twice as many as if all had the same.",
+        "Angenommen: kein Vater hat mehr als {most} Mütter, doppelt so viele, wie wenn alle gleich viele hätten.",
+        "Supposé : aucun père n'a plus de {most} mères, deux fois plus que si tous en avaient autant.",
+    ),
     Mating.ASK_FOR_LEFT: ("", "fragen Sie auch nach abgegangenen.", "demandez aussi ceux qui sont sortis."),
     Mating.NAME_OTHERS: ("", "nennen Sie andere.", "nommez-en d'autres."),
     DeskFault.NO_DAY: (
@@ -131,6 +149,10 @@ SENTENCES: dict[Sentence, tuple[str, str, str]] = {
         "",
         "Die Datei kann hier nicht abgelegt werden ({error}): machen Sie Platz auf dem Datenträger.",
         "Le fichier ne peut pas être déposé ici ({error}) : faites de la place sur le disque.",
+    ),
+    DeskFault.PLAN_DIFFERS: (
+        "", "Der Plan und das Register sagen Verschiedenes über {dam} und {sire}: der Plan wird nicht gezeigt.",
+        "Le plan et le registre disent autre chose de {dam} et {sire} : le plan n'est pas montré.",
     ),
     DeskFault.WORK_ENDED: (
         "",

@@ -26,6 +26,12 @@ TEXTS = {
         "In diesem Ordner gibt es noch kein Herdbuch.",
         "Il n'y a pas encore de livre dans ce dossier.",
     ),
+    "book under way": (
+        "The book is being made: it is here when that is done.",
+        "Das Herdbuch wird gerade angelegt: danach steht es hier.",
+        "Le livre est en cours de création : il sera ici ensuite.",
+    ),
+    "look how far": ("See how far it is", "Sehen, wie weit es ist", "Voir où cela en est"),
     "first sheet": ("Your first sheet", "Ihre erste Tabelle", "Votre premier tableau"),
     "first sheet how": (
         "A spreadsheet with a row for each animal makes the book: ear tag, birth day, sire and dam are needed. You see "
@@ -41,6 +47,9 @@ TEXTS = {
         "The book of an invented society with 500 goats. Undo makes it empty again.",
         "Das Herdbuch eines erfundenen Verbands mit 500 Ziegen. Rückgängig gemacht ist es wieder leer.",
         "Le livre d'une association inventée de 500 chèvres. Annuler le rend vide.",
+    ),
+    "have backup": (
+        "You have a copy of your book?", "Sie haben eine Kopie Ihres Herdbuchs?", "Vous avez une copie de votre livre ?",
     ),
     "take example": ("Look at the example", "Beispiel ansehen", "Voir l'exemple"),
     "book": ("The book in a glance", "Das Herdbuch auf einen Blick", "Le livre en un coup d'œil"),
@@ -65,10 +74,11 @@ TEXTS = {
     "page of": ("page {} of {}", "Seite {} von {}", "page {} sur {}"),
     "as csv": ("Save as CSV", "Als CSV speichern", "Enregistrer en CSV"),
     "of change": ("(of the book after change {})", "(Stand nach Änderung {})", "(livre après la modification {})"),
-    "working": (
-        "{} seconds so far. This page looks again by itself.",
-        "Bisher {} Sekunden. Diese Seite sieht von selbst wieder nach.",
-        "{} secondes déjà. Cette page regarde de nouveau d'elle-même.",
+    "so far": ("{} seconds so far.", "Bisher {} Sekunden.", "{} secondes déjà."),
+    "so far (one)": ("{} second so far.", "Bisher {} Sekunde.", "{} seconde déjà."),
+    "looks again": (
+        "This page looks again by itself.", "Diese Seite sieht von selbst wieder nach.",
+        "Cette page regarde de nouveau d'elle-même.",
     ),
     "look again": ("Look again now", "Jetzt nachsehen", "Regarder maintenant"),
     "wait looking": ("The sheet is looked at", "Die Tabelle wird angesehen", "Le tableau est examiné"),

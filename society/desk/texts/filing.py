@@ -12,7 +12,7 @@ TEXTS = {
     "command transfer": ("New owner", "Besitzerwechsel", "Changement de propriétaire"),
     "command exit": ("Exit", "Abgang", "Sortie"),
     "command birth how": (
-        "of a calf, kid, lamb or foal", "eines Kalbs, Kitzes, Lamms oder Fohlens", "d'un veau, chevreau, agneau ou poulain",
+        "of an animal, with its parents", "eines Tiers, mit seinen Eltern", "d'un animal, avec ses parents",
     ),
     "command parents how": ("of an animal of the book", "eines Tiers im Herdbuch", "d'un animal du livre"),
     "command transfer how": (
@@ -28,13 +28,21 @@ TEXTS = {
         "by id, name or number; empty where unknown", "nach Ohrmarke, Name oder Nummer; leer, wo unbekannt",
         "par boucle, nom ou numéro ; vide si inconnu",
     ),
+    "owner hint": ("empty where not known", "leer, wo nicht bekannt", "vide si inconnu"),
     "by id name number": ("by id, name or number", "nach Ohrmarke, Name oder Nummer", "par boucle, nom ou numéro"),
     "file it": ("File it", "Melden", "Déclarer"),
     "answer": ("The register's answer", "Die Antwort des Registers", "La réponse du registre"),
     "accepted": ("Accepted.", "Angenommen.", "Accepté."),
     "refused": ("Refused.", "Abgelehnt.", "Refusé."),
-    "refused stays": ("The animals are as before.", "Die Tiere sind wie vorher.", "Les animaux sont comme avant."),
-    "refusal number": ("refusal {}", "Ablehnung {}", "refus {}"),
+    "correct it": (
+        "Correct it here, and file it again.", "Berichtigen Sie es hier und melden Sie es noch einmal.",
+        "Corrigez-le ici et déclarez-le de nouveau.",
+    ),
+    "book moved": (
+        "Somebody changed the book meanwhile: look at it, and file it again.",
+        "Das Herdbuch wurde inzwischen geändert: sehen Sie nach und melden Sie es noch einmal.",
+        "Le livre a été modifié entre-temps : vérifiez et déclarez-le de nouveau.",
+    ),
     "stored as": ("It is stored as", "Gespeichert als", "Enregistré comme"),
     "file another": ("File another one", "Noch einen Vorgang melden", "Faire une autre déclaration"),
 }  # fmt: skip

@@ -69,9 +69,10 @@ FINDINGS: dict[str, tuple[str, str]] = {
         "{animals} animaux sortis comptent de nouveau comme vivants : leurs sorties manquent-elles dans la colonne ?",
     ),
     "may be unknown": (
-        "„{word}“ hat keine Zeile, und ist der Vater von {sire_of} und die Mutter von {dam_of} Tieren: ist ein unbekanntes "
-        "Tier gemeint?",
-        "« {word} » n'a pas de ligne, et est le père de {sire_of} et la mère de {dam_of} animaux : est-ce un parent inconnu ?",
+        "„{word}“ hat keine Zeile und steht bei mehreren Tieren[, als Vater {sire_of}-mal][, als Mutter {dam_of}-mal]: ist ein "
+        "unbekanntes Tier gemeint?",
+        "« {word} » n'a pas de ligne et figure chez plusieurs animaux[, comme père {sire_of} fois][, comme mère {dam_of} fois] : "
+        "est-ce un parent inconnu ?",
     ),
     "ids alike": (
         "die Ohrmarke gleicht {other}[ (Zeile {line})] bis auf Großschreibung, Leerzeichen oder Nullen: ist es ein Tier?",
@@ -110,12 +111,20 @@ FINDINGS: dict[str, tuple[str, str]] = {
         "la date de naissance est {now}, elle était {before} : est-ce un autre animal dont la boucle a resservi ?",
     ),
     "like a sum": (
-        "ist diese Zeile ein Tier? Sie wird so übernommen: lassen Sie Zeilen weg, die zählen oder zusammenfassen",
-        "cette ligne est-elle un animal ? Elle est reprise ainsi : omettez les lignes de totaux",
+        "diese Zeile sieht nach einer Summe aus[ („{word}“)] und nicht nach einem Tier",
+        "cette ligne ressemble à un total[ (« {word} »)] et non à un animal",
     ),
     "id alone": (
         "ist diese Zeile ein Tier? Sie hat nur eine Ohrmarke, und kein Tier hat es als Elterntier. Sie wird so übernommen",
         "cette ligne est-elle un animal ? Elle n'a qu'une boucle, et aucun animal ne l'a pour parent. Elle est reprise ainsi",
+    ),
+    "no animal": (
+        "die Zeile ist weggelassen: eine mit „{word}“ ist kein Tier, wie gesagt",
+        "la ligne est omise : une ligne avec « {word} » n'est pas un animal, comme dit",
+    ),
+    "owner mistyped": (
+        "der Besitzer {owner} ist vielleicht {meant}: ist „{meant_text}“ gemeint?",
+        "le propriétaire {owner} est peut-être {meant} : s'agit-il de « {meant_text} » ?",
     ),
     "owner respelt": (
         "die {animals} Tiere von „{before}“ sind jetzt von „{now}“, den das Herdbuch nicht hatte: ist es derselbe, anders "

@@ -8,6 +8,8 @@ TEXTS = {
         "Ce poste est en lecture seule : rien ne peut y être modifié.",
     ),
     "not done": ("This wasn't done", "Das wurde nicht getan", "Cela n'a pas été fait"),
+    "not there": ("Not found", "Nicht gefunden", "Introuvable"),
+    "to start": ("To the start page", "Zur Startseite", "Vers la page d'accueil"),
     "mistake": ("A mistake", "Ein Fehler", "Une erreur"),
     "or": ("or", "oder", "ou"),
     "reason ENOSPC": ("no room on the disk", "kein Platz auf dem Datenträger", "plus de place sur le disque"),
@@ -21,15 +23,34 @@ TEXTS = {
     "reason ENOMEM": ("there isn't enough memory", "der Arbeitsspeicher reicht nicht", "pas assez de mémoire"),
     "reason EAGAIN": ("too much goes on at once", "zu viel läuft zugleich", "trop de travaux à la fois"),
     "reason other": ("fault {} of the system", "Fehler {} des Systems", "erreur {} du système"),
-    "doing columns": ("the columns are read", "die Spalten werden gelesen", "lecture des colonnes"),
-    "doing changes": ("the rows are compared", "die Zeilen werden verglichen", "comparaison des lignes"),
-    "doing taking": ("the book is written", "das Herdbuch wird geschrieben", "écriture du livre"),
-    "doing restoring": ("the copy is compared", "die Kopie wird verglichen", "comparaison de la copie"),
-    "doing coefficients": ("coefficients", "Koeffizienten", "coefficients"),
-    "doing mean kinships": ("mean kinships", "mittlere Verwandtschaften", "parentés moyennes"),
-    "doing birth years": ("birth years", "Geburtsjahre", "années de naissance"),
-    "doing generations": ("generations", "Generationen", "générations"),
-    "doing founders and ancestors": ("founders and ancestors", "Gründer und Ahnen", "fondateurs et ancêtres"),
+    "doing columns": ("The columns are read.", "Die Spalten werden gelesen.", "Les colonnes sont lues."),
+    "doing changes": (
+        "The rows are compared with the book.", "Die Zeilen werden mit dem Herdbuch verglichen.",
+        "Les lignes sont comparées au livre.",
+    ),
+    "doing taking": ("The book is written.", "Das Herdbuch wird geschrieben.", "Le livre est écrit."),
+    "doing restoring": (
+        "The copy is compared with the register.", "Die Kopie wird mit dem Register verglichen.",
+        "La copie est comparée au registre.",
+    ),
+    "doing coefficients": (
+        "The coefficients are computed.", "Die Koeffizienten werden berechnet.", "Les coefficients sont calculés.",
+    ),
+    "doing mean kinships": (
+        "The mean kinships are computed.", "Die mittleren Verwandtschaften werden berechnet.",
+        "Les parentés moyennes sont calculées.",
+    ),
+    "doing birth years": (
+        "The birth years are gone through.", "Die Geburtsjahre werden durchgegangen.",
+        "Les années de naissance sont parcourues.",
+    ),
+    "doing generations": (
+        "The generations are counted.", "Die Generationen werden gezählt.", "Les générations sont comptées.",
+    ),
+    "doing founders and ancestors": (
+        "The founders and ancestors are looked for.", "Die Gründer und Ahnen werden gesucht.",
+        "Les fondateurs et ancêtres sont cherchés.",
+    ),
     "fault": (
         "A fault of the desk itself: nothing is lost, and the window in which the desk was opened tells what it was.",
         "Ein Fehler des Programms selbst: nichts ist verloren, und das Fenster, in dem es gestartet wurde, sagt, was es "

@@ -193,11 +193,18 @@ ENGLISH: dict[str, str] = {
     "parents lack": "{lost} of {links} parents have no row, the first are {texts}: {like}",
     "worksheet unclear": "which worksheet is meant: {worksheets}?",
     "worksheet lacks": "there is no worksheet '{named}', but {worksheets}",
+    "like a sum": "this row looks like a total[ ('{word}')] and not like an animal",
+    "no animal": "the row is left out: one with '{word}' is no animal, as was said",
+    "may be unknown": (
+        "'{word}' has no row, and stands with several animals[, as the sire of {sire_of}][, as the dam of {dam_of}]: is an "
+        "unknown animal meant?"
+    ),
 }
 # a part of a finding, of which there may be several
 WITHIN: dict[str, tuple[str, str, str]] = {
     "row of": ("{id}[ (line {line})]", "{id}[ (Zeile {line})]", "{id}[ (ligne {line})]"),
     "couple": ("{one} and {mate}[ (line {line})]", "{one} und {mate}[ (Zeile {line})]", "{one} et {mate}[ (ligne {line})]"),
+    "spelling": ("'{text}' ({animals}×)", "„{text}“ ({animals}-mal)", "« {text} » ({animals} fois)"),
     "sex word": ("{word_text} for '{whole}'", "„{word_text}“ für „{whole}“", "« {word_text} » pour « {whole} »"),
     "text in line": (
         "'{text}'[ for '{mended}'][ (line {line})]", "„{text}“[ für „{mended}“][ (Zeile {line})]",

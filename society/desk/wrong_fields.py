@@ -1,0 +1,49 @@
+"""Fields of a form that can't be read so, each with why."""
+from __future__ import annotations
+
+import argparse
+from collections.abc import Callable, Mapping
+
+from society.command_line.arguments import day, days, three_letters
+from society.mistake import Mistake
+from society.reading.options import read_sexes
+from society.taking.remembering import owner_pair
+
+# between several owners of a field
+BETWEEN = ";"
+
+
+def owners_of(text: str) -> list[str]:
+    """The owners that are written otherwise now, each as `Meier=Meyer`."""
+    return [one.strip() for one in text.split(BETWEEN) if one.strip()]
+
+
+READERS: dict[str, Callable[[str], object]] = {
+    "breed": three_letters,
+    "country": three_letters,
+    "day": day,
+    "youngest": days,
+    "apart": days,
+    "sexes": lambda text: read_sexes([text]),
+    "owner": lambda text: [owner_pair(one) for one in owners_of(text)],
+}
+# these are written in capitals
+CODES = ("breed", "country")
+
+
+def cleaned(name: str, text: str) -> str:
+    """What somebody wrote into a field, without blanks around it; three letters in capitals."""
+    found = text.strip()
+    return found.upper() if name in CODES and len(found) == 3 and found.isascii() else found
+
+
+def wrong_fields(given: Mapping[str, str]) -> dict[str, str]:
+    """The fields that can't be read so, each with a sentence."""
+    found = {}
+    for name, reader in READERS.items():
+        try:
+            if given.get(name):
+                reader(given[name])
+        except (argparse.ArgumentTypeError, Mistake) as error:
+            found[name] = error.args[0] if isinstance(error, argparse.ArgumentTypeError) else error.sentences[0]
+    return found

@@ -1,0 +1,102 @@
+"""Coefficients of a register of some animals and their ancestors alone are those of the whole book."""
+from __future__ import annotations
+
+import datetime
+import random
+from collections.abc import Sequence
+
+import pytest
+
+from desk.site import Site
+from front_desk.desk import Desk
+from society.book.book import Book
+from society.desk.ancestors_alone import BOTH_KNOWN, lines_alone
+from society.desk.office import Office
+from society.herdbook import Herdbook
+
+DAM, SIRE = "GK-17/472c", "GK-10/294b"
+
+
+def kept(book: Book) -> dict[str, str]:
+    """The line of each animal that the program wrote of the whole book."""
+    assert book.connection is not None
+    rows = book.connection.execute("SELECT number, fraction, percent FROM coefficient")
+    return {row[0]: ",".join(row) for row in rows}
+
+
+def test_as_of_the_whole_book(site: Site) -> None:
+    """Those of one animal and of several, with both parents known and without."""
+    program, chosen = Herdbook(), random.Random(5)
+    with site.desk.opened() as book:
+        assert book and book.connection
+        lines = kept(book)
+        inbred = [number for number, line in lines.items() if not line.endswith(",0,0.00")]
+        some = [[number] for number in chosen.sample(inbred, 25) + chosen.sample(sorted(lines), 15)]
+        some += [chosen.sample(sorted(lines), 6), sorted(lines)[:40]]
+        for numbers in some:
+            assert lines_alone(program, book, numbers) == [lines[number] for number in numbers]
+        known = {bool(book.connection.execute(BOTH_KNOWN, one).fetchone()[0]) for one in some[:40]}
+    assert known == {True, False} and len(inbred) > 90
+
+
+class Refusing(Herdbook):
+    """A program that refuses the first birth."""
+
+    def lines(self, words: list[str], book: bytes) -> list[str]:
+        return super().lines(words, book)[1:]
+
+
+def test_refused(site: Site) -> None:
+    """Where a birth is refused in such a register there is no answer of it."""
+    with site.desk.opened() as book:
+        assert book
+        known = book.known[DAM].number
+        assert lines_alone(Herdbook(), book, [known]) and not lines_alone(Refusing(), book, [known])
+
+
+def test_births(site: Site, society_desk: Desk, monkeypatch: pytest.MonkeyPatch) -> None:
+    """In a large book the session isn't asked for a coefficient where a birth is filed; the book is whole."""
+    asked = Office.asked
+
+    def but_coefficients(office: Office, question: Sequence[str], book: Book) -> list[str]:
+        assert question[0] not in ("coefficient", "inbreeding")
+        return asked(office, [*question], book)
+
+    site.post("/file/exit", id="GK-16/433c", day="2024-05-01")
+    monkeypatch.setattr("society.desk.office.LARGE", 0)
+    monkeypatch.setattr(Office, "asked", but_coefficients)
+    for at, (sire, dam) in enumerate([(SIRE, DAM), ("", DAM), ("", "")]):
+        answer = site.post("/file/birth", id=f"NEW-{at}", sex="F", day="2024-03-01", sire=sire, dam=dam)
+        assert answer.status_code == 302
+    assert "17/512" in society_desk.good("show", "NEW-0").out
+    society_desk.good("verify")
+
+
+def test_expected(site: Site, society_desk: Desk, monkeypatch: pytest.MonkeyPatch) -> None:
+    """The coefficient of a calf is asked for before others wait, and once more where parents were corrected since."""
+    monkeypatch.setattr("society.desk.office.LARGE", 0)
+    asked = list[str]()
+
+    def alone(program: Herdbook, book: Book, numbers: Sequence[str]) -> list[str]:
+        asked.append("alone")
+        return lines_alone(program, book, numbers)
+
+    monkeypatch.setattr("society.desk.office.lines_alone", alone)
+    calf = {"sex": "F", "day": "2024-03-01", "sire": SIRE, "dam": DAM}
+    site.post("/file/birth", id="NEW-1", **calf)
+    assert not asked and "17/512" in society_desk.good("show", "NEW-1").out
+    with site.desk.opened() as book:
+        assert book
+        both = [book.known[id].number for id in ("NEW-1", DAM)]
+        assert site.desk.program.coefficients(both, book) == [kept(book)[number] for number in both]
+    assert asked.pop() == "alone"
+    expect = Office.expect
+
+    def and_corrected(program: Office, book: Book, sire: str, dam: str, day: datetime.date) -> None:
+        expect(program, book, sire, dam, day)
+        society_desk.good("parents", DAM, "--sire", "0", "--dam", "0")
+
+    monkeypatch.setattr(Office, "expect", and_corrected)
+    site.post("/file/birth", id="NEW-2", **calf)
+    assert asked == ["alone"] and "17/512" not in society_desk.good("show", "NEW-2").out
+    society_desk.good("verify")

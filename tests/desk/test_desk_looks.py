@@ -1,0 +1,259 @@
+"""What a look at a sheet says first, and what a click does about it: rows of totals, misspelt parents and owners, words
+for unknown parents, births that are near one another, and fields that can't be read."""
+from __future__ import annotations
+
+import re
+
+import pytest
+
+from desk.site import Site, shown
+from society.desk.texts import TEXTS
+from society.desk.words import Words
+from society.pages.languages import LANGUAGES
+
+TITLES = "Ohrmarke;Name;Geschlecht;geb;Vater;Mutter;Besitzer\n"
+PAIR = "001;Max;m;2001-01-01;;;Huber\n002;Eva;w;2001-02-01;;;Huber\n018;Rex;m;2001-03-01;;;Huber\n"
+
+
+def calves(count: int, sire: str = "001", dam: str = "002") -> str:
+    return "".join(f"{100 + at};;w;{2003 + at}-01-01;{sire};{dam};Huber\n" for at in range(count))
+
+
+class Says:
+    """The texts of a language as `shown` has them."""
+
+    def __init__(self, language: str) -> None:
+        self.words = Words(language)
+
+    def __call__(self, what: str, *values: object) -> str:
+        return " ".join(self.words(what, *values).split())
+
+    def counted(self, what: str, count: int) -> str:
+        return " ".join(self.words.counted(what, count).split())
+
+
+def look_at(site: Site, text: str, **options: str) -> tuple[str, str]:
+    """The address and the page of a sheet."""
+    address = site.drop("herde.csv", text.encode())
+    if options:
+        site.post(f"{address}/columns", **options)
+    return address, site.page(address)
+
+
+def buttons_of(page: str) -> list[str]:
+    """What the buttons say that choose something."""
+    return [shown(one) for one in re.findall(r'<form class="choice".*?</form>', page, re.DOTALL)]
+
+
+def press(site: Site, address: str, page: str, label: str) -> str:
+    """The page behind a button."""
+    form = next(one for one in re.findall(r'<form class="choice".*?</form>', page, re.DOTALL) if shown(one) == label)
+    [option] = re.findall(r'name="option" value="([^"]*)"', form)
+    [word] = re.findall(r'name="word" value="([^"]*)"', form)
+    return site.page(site.post(f"{address}/suggested", option=option, word=word).headers["Location"])
+
+
+def part(page: str, what: str, language: str = "en") -> str:
+    """A part of what is found, from its title to the next one."""
+    found = re.search(rf"<details[^>]*>\s*<summary><h3>{Words(language)(what)} .*?</table>", page, re.DOTALL)
+    return found[0] if found else ""
+
+
+@pytest.mark.parametrize("total", ["Summe;;;;;;", "Summe;;;63;;;", "63;Summe;;;;;", "63;;;;;;Gesamt"])
+def test_row_of_a_total(empty_site: Site, total: str) -> None:
+    """It is told before all else; a click leaves its line out, which is told, and later sheets are read so too."""
+    site, text = empty_site, TITLES + PAIR + calves(9)
+    address, page = look_at(site, text + total + "\n")
+    first = re.search(r"<tbody>.*?</tr>", part(page, "what to look at"), re.DOTALL)
+    assert first and "14 " in shown(first[0]) and "this row looks like a total" in shown(first[0])
+    assert "The book would have 13 animals." in shown(page)
+    page = press(site, address, page, "Leave out line 14")
+    assert "this row looks like a total" not in page
+    assert "Rows of the sheet 13 of these left out 1 Animals with a row 12" in shown(page)
+    assert "The book would have 12 animals." in shown(page)
+    assert "the row is left out: one with" in shown(part(page, "what left out"))
+    site.take(address)
+    with site.desk.opened() as book:
+        assert book and len(book.known) == 12
+    # the next year the total stands elsewhere
+    address, page = look_at(site, text + "190;;w;2015-01-01;001;002;Huber\n" + total + "\n")
+    assert "Animals with a row 13 of these new 1 of these in the book already 12" in shown(page)
+    assert "As at the last time: Rows that are no animals:" in shown(page)
+    page = press(site, address, page, "It is an animal: take line 15")
+    assert "Animals with a row 14" in shown(page) and "this row looks like a total" in shown(page)
+
+
+def test_total_that_was_taken(empty_site: Site) -> None:
+    """A total that the book has as an animal may be dropped, by a decision of its own."""
+    site, text = empty_site, TITLES + PAIR + calves(9) + "Summe;;;;;;\n"
+    address, page = look_at(site, text)
+    site.take(address)
+    address, page = look_at(site, text, no_animal="Summe")
+    assert "Animals of the book without a row 1" in shown(page)
+    page = press(site, address, page, TEXTS["drop these"][0])
+    assert "The book would have 12 animals." in shown(page)
+    assert TEXTS["drop these"][0] not in buttons_of(page)
+
+
+def test_animals_with_words_of_totals(empty_site: Site) -> None:
+    """What is said of a total leaves out no animal that has its word as a name or an owner."""
+    rows = "300;Total;w;2003-01-01;001;002;Total\n301;;w;2004-01-01;001;002;Total\n302;Total;m;;;;\n"
+    _, page = look_at(empty_site, TITLES + PAIR + rows + "Total;;;;;;\n", no_animal="Total")
+    assert "Rows of the sheet 7 of these left out 1 Animals with a row 6" in shown(page)
+
+
+@pytest.mark.parametrize(("written", "meant"), [("O18", "018"), ("0l8", "018"), ("0I8", "018"), ("081", "018")])
+def test_misspelt_parent(empty_site: Site, written: str, meant: str) -> None:
+    """It stands among what may be wrong, which is unfolded, with its line, what stands there and what may be meant."""
+    _, page = look_at(empty_site, TITLES + PAIR + calves(9) + f"200;;w;2012-01-01;{written};002;Huber\n")
+    found = part(page, "what to look at")
+    assert found.startswith("<details open>")
+    assert f"14 {written} the sire of 200 has no row: added without parents (is {meant} meant?)" in shown(found)
+    assert f"14 {written}" in shown(part(page, "what added"))
+
+
+def test_parents_that_are_no_misspelt_ones(empty_site: Site) -> None:
+    """A short id is no swapped one where the other can't be the parent, or many parents lack a row."""
+    _, page = look_at(empty_site, TITLES + PAIR + calves(9) + "200;;w;2012-01-01;;081;Huber\n")
+    assert "meant?" not in page
+    strange = "".join(f"{200 + at};;w;2012-01-01;{501 + at};;Huber\n" for at in range(6))
+    _, page = look_at(empty_site, TITLES + PAIR + calves(9) + strange + "220;;w;2012-01-01;081;;Huber\n")
+    assert "meant?" not in page
+
+
+FREMD = calves(3, "fremd", "fremd") + calves(3, "fremd").replace("10", "20")
+
+
+@pytest.mark.parametrize(("language", "told"), [
+    ("en", "'fremd' has no row, and stands with several animals, as the sire of 6: is an unknown animal meant?"),
+    ("de", "„fremd“ hat keine Zeile und steht bei mehreren Tieren, als Vater 6-mal: ist ein unbekanntes Tier gemeint?"),
+    ("fr", "« fremd » n'a pas de ligne et figure chez plusieurs animaux, comme père 6 fois : est-ce un parent inconnu ?"),
+])  # fmt: skip
+def test_word_for_unknown_parents(empty_site: Site, language: str, told: str) -> None:
+    """It is told alike in each language and without a count of none; what drops animals is another decision."""
+    site = empty_site
+    rows = FREMD.replace("fremd;fremd", "fremd;002")
+    address, page = look_at(site, TITLES + PAIR + rows)
+    site.take(address)
+    site.get(f"/language/{language}")
+    address, page = look_at(site, TITLES + PAIR + rows)
+    words = Says(language)
+    assert told in re.sub(r"\s", " ", shown(page)) and " 0 " not in told
+    unknown = words("means", "fremd", words("unknown parent"))
+    assert unknown in buttons_of(page) and words("drop these") not in buttons_of(page)
+    page = press(site, address, page, unknown)
+    assert words.counted("would be", 10) in shown(page)
+    page = press(site, address, page, words("drop these"))
+    assert words.counted("would be", 9) in shown(page)
+
+
+def test_births_near_one_another(empty_site: Site) -> None:
+    """Each may be said to be possible; the button says how many reports end, and no others do."""
+    site, days = empty_site, (5, 60, 95)
+    rows = "".join(
+        f"50{at};;w;{2003 + at}-01-01;001;002;Huber\n60{at};;w;{date};001;002;Huber\n"
+        for at, date in enumerate(("2003-01-06", "2004-03-01", "2005-04-06"))
+    )
+    address, page = look_at(site, TITLES + PAIR + rows)
+    found = shown(part(page, "what to look at"))
+    assert [f"{count} days before" in found for count in days] == [True] * 3
+    label = "That can be: report only what is below {} days (ends {} of these 3 reports)".format
+    assert [one for one in buttons_of(page) if one.startswith("That can be")] == [label(5, 3), label(60, 2), label(95, 1)]
+    page = press(site, address, page, label(60, 2))
+    found = shown(part(page, "what to look at"))
+    assert [f"{count} days before" in found for count in days] == [True, False, False]
+    assert 'name="apart" type="text" value="60"' in page
+
+
+def test_one_birth_near_another(empty_site: Site) -> None:
+    _, page = look_at(empty_site, TITLES + PAIR + "501;;w;2003-01-01;001;002;\n502;;w;2003-03-01;001;002;\n")
+    assert buttons_of(page) == ["That can be: report only what is below 59 days"]
+
+
+@pytest.mark.parametrize("language", LANGUAGES)
+def test_many_births_near_one_another(empty_site: Site, language: str) -> None:
+    """Many are one line, and each can be shown."""
+    empty_site.get(f"/language/{language}")
+    rows = "".join(f"{at}0;;w;{2003 + at}-01-01;001;002;\n{at}1;;w;{2003 + at}-02-0{at};001;002;\n" for at in range(1, 6))
+    _, page = look_at(empty_site, TITLES + PAIR + rows)
+    found, words = part(page, "what to look at", language), Says(language)
+    assert words("births near", 5, 100, 31, 35) in shown(found)
+    assert len(re.findall("<li>", found)) == 5 and len(re.findall("<tr>", found)) == 2
+
+
+def test_owner_with_a_letter_more(empty_site: Site) -> None:
+    """An owner of few animals who is one of many but for a letter is told, once; houses and initials tell owners apart."""
+    rows = calves(9) + "300;;w;2015-01-01;001;002;Hubber\n301;;w;2015-01-01;001;002;Huber 2\n302;;w;2015-01-01;;;A. Huber\n"
+    address, page = look_at(empty_site, TITLES + PAIR + rows)
+    found = shown(part(page, "what to look at"))
+    assert "14 300 the owner 'Hubber' (1 animal) may be 'Huber' (12 animals): is 'Huber' meant?" in found
+    assert found.count("meant?") == 1
+    empty_site.take(address)
+    _, page = look_at(empty_site, TITLES + PAIR + rows)
+    assert "meant?" not in page
+
+
+@pytest.mark.parametrize("language", LANGUAGES)
+def test_wrong_country(empty_site: Site, language: str) -> None:
+    """It is told beside its field, what would change is shown without it, and it isn't taken before it is mended."""
+    site, words = empty_site, Says(language)
+    site.get(f"/language/{language}")
+    address, page = look_at(site, TITLES + PAIR, breed="sku", country="DE")
+    field = re.search(r'<input id="country"[^>]*>\s*<strong class="is-wrong" id="country-wrong">.*?</strong>', page)
+    assert field and 'aria-invalid="true"' in field[0] and "country-wrong" in field[0] and "DE" in shown(field[0])
+    assert words("mend first") in shown(page) and words.counted("would be", 3) in shown(page)
+    assert f"{address}/take" not in page and words("wrong how") in shown(page)
+    site.post(f"{address}/take", change="0")
+    assert site.desk.folder.exists() is False
+    site.post(f"{address}/columns", breed="sku", country="deu")
+    site.take(address)
+    # settings have what the numbers begin with, and tell what is wrong beside its field
+    page = site.page("/settings")
+    assert re.search(r'name="breed"[^>]*value="SKU"', page) and re.search(r'name="country"[^>]*value="DEU"', page)
+    page = site.post("/settings", country="DE").get_data(as_text=True)
+    assert re.search(r'<input id="country"[^>]*aria-invalid="true"[^>]*>\s*<strong class="is-wrong"', page)
+
+
+@pytest.mark.parametrize("language", LANGUAGES)
+def test_unknown_of_earlier_sheets(empty_site: Site, language: str) -> None:
+    """Settings have the words for unknown parents that sheets were read with; they hold on."""
+    site, words = empty_site, Says(language)
+    site.get(f"/language/{language}")
+    assert words("unknown said", "") not in shown(site.page("/settings"))
+    address, _ = look_at(site, TITLES + PAIR + "019;Uli;m;2003-03-01;fremd;extern;Huber\n", unknown="fremd,extern")
+    site.take(address)
+    assert words("unknown said", "fremd,extern") in shown(site.page("/settings"))
+
+
+@pytest.mark.parametrize("field, text", [
+    ("day", "morgen"), ("youngest", "x"), ("apart", "-1"), ("sexes", "Zibbe"), ("owner", "Meier"),
+])  # fmt: skip
+def test_wrong_fields(empty_site: Site, field: str, text: str) -> None:
+    _, page = look_at(empty_site, TITLES + PAIR, **{field: text})
+    assert f'<strong class="is-wrong" id="{field}-wrong">' in page
+    assert "The book would have 3 animals." in shown(page) and "/take" not in page
+
+
+def test_findings_come_first_on_a_telephone(empty_site: Site) -> None:
+    """What is found stands above the lists of columns there."""
+    _, page = look_at(empty_site, TITLES + PAIR)
+    assert page.index('<form class="reading"') < page.index('<div class="outcome">')
+    css = empty_site.get("/static/desk.css").get_data(as_text=True)
+    narrow = css[css.index("@media (max-width: 40rem)") : css.index("@page")]
+    assert ".sheet .reading { order: 1; }" in narrow
+
+
+@pytest.mark.parametrize(("language", "told"), [
+    ("en", "15 animals: 14 new, 1 added as parents, 1 left out, 1 inferred"),
+    ("de", "15 Tiere: 14 neu, 1 als Eltern hinzugefügt, 1 weggelassen, 1 erschlossen"),
+    ("fr", "15 animaux : 14 nouveaux, 1 ajoutés comme parents, 1 omis, 1 déduits"),
+])  # fmt: skip
+def test_counts_of_a_change(empty_site: Site, language: str, told: str) -> None:
+    """All animals stand first, and what they are made up of behind them."""
+    site = empty_site
+    rows = calves(10) + "200;;w;2015-01-01;900;002;Huber\n001;;;;;;\n"
+    address, page = look_at(site, TITLES + PAIR + rows)
+    assert "Animals with a row 14 Parents without a row, added 1" in shown(page)
+    site.take(address)
+    site.get(f"/language/{language}")
+    assert told in shown(site.page("/history/1")).replace("  ", " ")

@@ -1,0 +1,236 @@
+"""What pages say and offer: a refused command with its form, the history in words, the animals that have left, and the plan
+of matings with what it assumes."""
+from __future__ import annotations
+
+import html
+import pathlib
+import re
+
+import pytest
+
+from desk.site import Site, form_in, shown
+from desk.test_desk_filing import BIRTH, DAM, SIRE
+from front_desk.desk import Desk
+from society.book.changes import Change, Option
+from society.book.history import EPOCH, FILED_BY_HAND
+from society.book.kinds import ChangeKind
+from society.breed.meanings import MEANINGS
+from society.desk.shown_options import given_of
+from society.desk.texts import SENTENCES, TEXTS
+from society.desk.words import Words
+from society.pages.languages import LANGUAGES
+from society.taking.wishes import Wishes
+
+LEFT = {"id": DAM, "day": "2024-05-01"}
+
+
+def written_in(page: str) -> dict[str, str]:
+    """What the fields of a page's form have."""
+    found = {}
+    for field in re.findall(r"<input [^>]*>", page):
+        name, value = (re.search(rf'{what}="([^"]*)"', field) for what in ("name", "value"))
+        if name and value and ('type="radio"' not in field and 'type="checkbox"' not in field or " checked" in field):
+            found[name[1]] = html.unescape(value[1])
+    return found
+
+
+REFUSED = [
+    ("birth", BIRTH | {"sire": DAM, "embryo": "1"}, "refusal 5"),
+    ("parents", {"id": DAM, "sire": SIRE, "dam": SIRE}, "refusal 6"),
+    ("transfer", {"id": DAM, "day": "1999-05-01", "to": "Nobody & <sons>"}, "refusal 14"),
+    ("exit", {"id": DAM, "day": "1999-05-01"}, "refusal 14"),
+]
+
+
+@pytest.mark.parametrize("language", LANGUAGES)
+@pytest.mark.parametrize("kind, fields, why", REFUSED, ids=[kind for kind, *_ in REFUSED])
+def test_refused_comes_back(site: Site, language: str, kind: str, fields: dict[str, str], why: str) -> None:
+    """The form of a refused command is there again with all that was written, below the register's answer."""
+    site.get(f"/language/{language}")
+    at = LANGUAGES.index(language)
+    page = site.page(site.post(f"/file/{kind}", **fields).headers["Location"])
+    assert TEXTS[why][at] in html.unescape(page) and TEXTS["refused"][at] in shown(page)
+    kept = written_in(page)
+    assert fields.items() <= kept.items()
+    assert f'action="/file/{kind}"' in page
+
+
+def test_corrected_and_filed(site: Site) -> None:
+    """What was refused is filed again by the same page, once it is correct, as a change of its own."""
+    page = site.page(site.post("/file/birth", **BIRTH | {"sire": DAM}).headers["Location"])
+    again = written_in(page) | {"sire": SIRE, "form": form_in(page)}
+    again.pop("csrf_token")
+    assert site.post("/file/birth", **again).headers["Location"] == "/answer/3"
+    assert TEXTS["accepted"][0] in shown(site.page("/answer/3"))
+
+
+def test_unreadable_comes_back(site: Site) -> None:
+    """So it is where a field can't be read."""
+    given = BIRTH | {"sire": "nobody of that", "embryo": "1"}
+    answer = site.post("/file/birth", **given)
+    assert answer.status_code == 400
+    assert given.items() <= written_in(answer.get_data(as_text=True)).items()
+
+
+def test_history_of_refused(site: Site, society_desk: Desk) -> None:
+    """A refused command is shown as refused, with the reason and its animal; undo goes back before the last change that
+    changed something, and says what it takes back."""
+    site.post("/file/birth", **BIRTH)
+    site.post("/file/exit", id="NEW-1", day="1999-05-01")
+    why = TEXTS["refusal 14"][0]
+    for page in ("/history", "/"):
+        assert f"filed an exit : NEW-1 {TEXTS['refused short'][0]}" in shown(site.page(page))
+    history, change = site.page("/history"), site.page("/history/3")
+    assert why in shown(history) and why in shown(change)
+    assert TEXTS["changes nothing"][0] in shown(change) and "/undo" not in change
+    assert re.findall(r"/history/\d+/undo", history) == ["/history/1/undo", "/history/1/undo"]
+    assert [site.get(f"/history/{number}/undo").status_code for number in (1, 2, 3)] == [200, 404, 404]
+    asked = shown(site.page("/history/1/undo"))
+    assert "Change 3: filed an exit : NEW-1 refused" in asked and "Change 2: filed a birth : NEW-1" in asked
+    assert "Change 1:" not in asked
+    # the word goes back as far
+    assert "brought back the state after change 1" in society_desk.good("undo").out
+    assert "NEW-1" not in society_desk.good("list").out
+
+
+def test_history_has_pages(site: Site, monkeypatch: pytest.MonkeyPatch) -> None:
+    """A long history is shown in parts."""
+    monkeypatch.setattr("society.desk.paging.ON_A_PAGE", 2)
+    for at in range(3):
+        site.post("/file/birth", **BIRTH | {"id": f"NEW-{at}"})
+    first, second = site.page("/history"), site.page("/history?page=2")
+    assert "NEW-2" in first and "NEW-1" in first and "NEW-0" not in first
+    assert "NEW-0" in second and "society.csv" in second
+
+
+def test_correction_of_nothing(site: Site) -> None:
+    """A correction that leaves the parents as they are has its animal in the history too."""
+    page = site.page(f"/file/parents?id={DAM}")
+    given = written_in(page)
+    site.post("/file/parents", id=DAM, sire=given["sire"], dam=given["dam"])
+    assert f"filed parents : {DAM}" in shown(site.page("/history"))
+
+
+@pytest.mark.parametrize("language", LANGUAGES)
+def test_options_in_words(language: str) -> None:
+    """No option of a terminal is shown to somebody who never saw one."""
+    wishes = Wishes(
+        pathlib.Path(), ["id=Ohrmarke,dam=Mutter"], ["Leih"], ["Aue=f"], "SKU", "DEU", EPOCH.date(), True, True, True,
+        pathlib.Path("keep.txt"), True, "Blatt 2", True, True, True, 300, 200, ["x"], ["Meier=Meyer"], True,
+        no_animal=["Summe"], animal=["Total"],
+    )  # fmt: skip
+    options = wishes.options()
+    assert {one.option for one in options} >= {"--drop-gone", "--columns", "--leave-out", "--semicolons", "--anyway"}
+    filed = [Option("--day", "2024-03-01"), Option("--sex", "f"), Option("--sire", "0"), Option("--embryo"), Option("--from", "x")]
+    changes = [Change(1, kind, EPOCH, "me", 1, 1, None, tuple(filed)) for kind in FILED_BY_HAND]
+    words = Words(language)
+    said = [one for change in [Change(1, ChangeKind.TAKE, EPOCH, "me", 1, 1, None, options), *changes] for one in given_of(change, words)]
+    assert len(said) == len(options) + 1 + 5 * len(FILED_BY_HAND)
+    assert not [one for one in said if "--" in one.what or "--" in one.value]
+    assert (words("field dam"), "Mutter") in said and (words("sire"), words("unknown")) in said
+    assert (words("sex"), words("female")) in said and (words("day of exit"), words.day("2024-03-01")) in said
+
+
+def test_facts_in_the_language(site: Site) -> None:
+    """What a change changed of an animal is said in the page's language."""
+    site.get("/language/de")
+    site.post("/file/birth", **BIRTH)
+    said = shown(site.page("/history/2"))
+    assert "im Herdbuch: von Hand gemeldet" in said and "Geburtstag: 01.03.2024" in said
+    assert "von Hand gemeldet: Name, Geschlecht, Geburtstag, Vater, Mutter, Besitzer" in said
+
+
+@pytest.mark.parametrize("living", [True, False])
+def test_offered(site: Site, living: bool) -> None:
+    """Of an animal that has left neither sires nor another exit or owner are offered."""
+    if not living:
+        site.post("/file/exit", **LEFT)
+    with site.desk.opened() as book:
+        assert book
+        number = book.known[DAM].number
+    said = shown(site.page(f"/animal/{number}"))
+    for what in ("mates for it", "file exit", "file transfer"):
+        assert (TEXTS[what][0] in said) is living
+    assert TEXTS["file parents"][0] in said and TEXTS["certificate"][0] in said
+
+
+def test_plan_assumes(site: Site, society_desk: Desk) -> None:
+    """The page shows what a plan assumes in fields that can be changed, and the word assumes the same."""
+    said = re.findall(r"(\d+) days old|more than (\d+) dams", society_desk.good("plan").err)
+    days, most = said[0][0], said[1][1]
+    fields = written_in(site.page("/matings/plan"))
+    assert (fields["age"], fields["most"]) == (days, most)
+    page = site.page("/matings/plan?made=1")
+    assert (written_in(page)["age"], written_in(page)["most"]) == (days, most)
+    assert site.get("/matings/plan.csv?made=1").get_data(as_text=True) == society_desk.good("plan").out
+    # an empty field sets no bound
+    free = site.page("/matings/plan?made=1&age=&most=")
+    assert written_in(free)["age"] == written_in(free)["most"] == ""
+    words = ["plan", "--minimum-age", "0", "--most-for-a-sire", "any"]
+    done = society_desk.good(*words)
+    assert site.get("/matings/plan.csv?made=1&age=&most=").get_data(as_text=True) == done.out
+    assert "assumed" not in done.err
+
+
+def test_neutral_words() -> None:
+    """No page speaks of calves: the book may be of goats, dogs or horses."""
+    several = [*TEXTS.values(), *SENTENCES.values(), *MEANINGS.values()]
+    told = [text for texts in several for text in texts if re.search(r"\b(cal(f|ves)|kalb|kälber\w*|veaux?)\b", text, re.I)]
+    assert not told
+
+
+def test_whole_sentences() -> None:
+    """What a page that waits says are sentences."""
+    for what, texts in TEXTS.items():
+        if re.match(r"(doing|so far|looks again|measuring)\b", what):
+            assert all(text.endswith(".") and (text[0].isupper() or text[0] == "{") for text in texts), what
+
+
+def test_blanks_of_french(site: Site) -> None:
+    """A sign of French doesn't begin a line, and a quotation mark that opens doesn't end one."""
+    site.get("/language/fr")
+    refused = site.post("/file/birth", **BIRTH | {"sire": DAM}).headers["Location"]
+    wrong = site.post("/file/birth", **BIRTH | {"sire": "nobody"}).get_data(as_text=True)
+    for page in (wrong, *(site.page(path) for path in (refused, "/history", "/history/1", "/matings/plan?made=1", "/animals?from=x"))):
+        content = html.unescape(page.partition('<main id="content"')[2].partition("</main>")[0])
+        assert not re.findall(r"\w* [:;?!»]|« ", re.sub(r"<[^>]*>", "", content))
+        assert "\u00a0" in content
+
+
+def menu_of(page: str) -> list[str]:
+    return re.findall(r'href="([^"]*)"', page.partition("<nav")[2].partition("</nav>")[0])
+
+
+def test_without_a_book(empty_site: Site) -> None:
+    """Where there is no book yet the menu has nothing that needs one, and a copy can be restored."""
+    page = empty_site.page("/")
+    assert menu_of(page) == ["/", "/sheet"]
+    assert 'href="/restore"' in page and "<form" in empty_site.page("/restore")
+
+
+def test_menu(site: Site) -> None:
+    assert {"/", "/sheet", "/animals", "/file", "/matings", "/breed", "/history", "/settings"} == {*menu_of(site.page("/"))}
+
+
+def test_not_there(site: Site) -> None:
+    """A page that isn't there says so, and leads back."""
+    for path in ("/nothing", "/animal/HOLGBRM000000999999", "/answer/77", "/history/1/undo"):
+        answer = site.get(path)
+        page = answer.get_data(as_text=True)
+        assert answer.status_code == 404 and f"<h1>{TEXTS['not there'][0]}</h1>" in page
+        assert f'<a href="/">{TEXTS["to start"][0]}</a>' in page
+
+
+@pytest.mark.parametrize("year", ["x", "0", "99999", "000002015999"])
+def test_no_year(site: Site, year: str) -> None:
+    assert f"'{year}' isn't a year" in shown(site.page(f"/animals?from={year}"))
+
+
+@pytest.mark.parametrize("path", ["/animals?words=nothing+of+that", "/animals?owner=Nobody+Of+That"])
+def test_none_found(site: Site, path: str) -> None:
+    """An empty list says what may be done."""
+    page = site.page(path)
+    if TEXTS["animals found"][0].format(0) in shown(page):
+        assert TEXTS["none found"][0] in shown(page) and 'href="/animals"' in page
+    else:
+        assert "Nobody Of That" in shown(page)

@@ -1,0 +1,61 @@
+"""What is found out beside other work is what it would be without, whatever happens meanwhile."""
+from __future__ import annotations
+
+import pathlib
+import sqlite3
+import threading
+
+import pytest
+
+from front_desk.desk import Desk
+from society.book.beside import Beside
+from society.book.book import Book
+from society.book.book_read import reading
+
+
+def test_the_value_is_waited_for() -> None:
+    may_end = threading.Event()
+
+    def find() -> int:
+        assert may_end.wait(20)
+        return 7
+
+    beside = Beside(find)
+    may_end.set()
+    assert beside.value() == 7
+    assert beside.value() == 7
+
+
+def test_what_goes_wrong_is_raised_where_the_value_is_asked_for() -> None:
+    def find() -> int:
+        raise ValueError("no")
+
+    beside = Beside(find)
+    for _ in range(2):
+        with pytest.raises(ValueError, match="no"):
+            beside.value()
+
+
+def test_a_journal_that_is_read_beside_is_that_of_its_moment(mrode_desk: Desk) -> None:
+    """Another change, and an undo that begins a new edition, are committed before it is read."""
+    with reading(mrode_desk.room / "book") as connection:
+        book = Book(mrode_desk.room / "book", connection)
+        text = Book(book.folder, connection).command_file()
+        mrode_desk.good("birth", "new", "--sex", "f", "--day", "2020-01-01")
+        mrode_desk.good("undo", "--to", "0")
+        book.read_journal_beside()
+        assert book.beside is not None and book.beside.value() == text
+        assert book.command_file() == text and Book(book.folder, connection).change == book.change
+
+
+def test_a_journal_is_read_though_it_can_not_be_read_beside(
+    mrode_desk: Desk, monkeypatch: pytest.MonkeyPatch
+) -> None:
+    def closed(path: pathlib.Path, mode: str) -> sqlite3.Connection:
+        raise sqlite3.OperationalError("unable to open database file")
+
+    monkeypatch.setattr("society.book.beside.connect", closed)
+    with reading(mrode_desk.room / "book") as connection:
+        book = Book(mrode_desk.room / "book", connection)
+        book.read_journal_beside()
+        assert book.command_file() == Book(book.folder, connection).command_file()

@@ -1,0 +1,50 @@
+"""A text of which no cell has to be cleaned is known as such, and is read as if each were cleaned."""
+from __future__ import annotations
+
+import csv
+import io
+import random
+
+import pytest
+
+from society.reading.sheet import is_clean, read_records
+from society.reading.words import clean
+
+PIECES = ("a", "7", "Ö", "ō", "-", ".", "\t", ",", ";", "\n", "\r\n", "\r")
+# what a cell is cleaned of, each beside a plain text that isn't
+ODD = (" ", "  ", "\u00a0", "\u200b", "\u2003", "o\u0308", "\x1c", "\x0b", "\u3000", "\ufeff", "\u00ad", "\u2028")
+
+
+def cleaned(text: str, separator: str) -> list[list[str]]:
+    """The rows that have a cell with text, each cell cleaned by itself."""
+    reader = csv.reader(io.StringIO(text, newline=""), delimiter=separator, strict=True)
+    rows = ([clean(cell) for cell in cells] for cells in reader)
+    return [row for row in rows if any(row)]
+
+
+@pytest.mark.parametrize("separator", [",", ";", "\t"])
+@pytest.mark.parametrize("pieces", [PIECES, PIECES + ODD], ids=["plain", "odd"])
+def test_rows_are_read_as_if_each_cell_were_cleaned(pieces: tuple[str, ...], separator: str) -> None:
+    draw = random.Random(8)
+    for _ in range(2_000):
+        text = "".join(draw.choices(pieces, k=draw.randrange(12)))
+        assert [row.cells for row in read_records(text, separator)] == cleaned(text, separator), repr(text)
+
+
+def test_most_sheets_need_no_cleaning() -> None:
+    assert is_clean("id,name\r\nDE 1,Löwe 7\r\n", ",")
+    assert is_clean("id\tname\nDE 1\tLöwe 7\n", "\t")
+
+
+@pytest.mark.parametrize("odd", ODD)
+@pytest.mark.parametrize("cell", ["{}b", "b{}"])
+def test_a_cell_that_has_to_be_cleaned_is_seen(odd: str, cell: str) -> None:
+    text = f"id,name\n1,{cell.format(odd)}\n"
+    assert not is_clean(text, ",")
+    assert [row.cells for row in read_records(text, ",")] == cleaned(text, ",")
+
+
+def test_cells_in_quotes_are_looked_at_one_by_one() -> None:
+    text = 'id,name\n"=""007""",1\n'
+    assert not is_clean(text, ",")
+    assert read_records(text, ",")[1].cells == ["007", "1"]

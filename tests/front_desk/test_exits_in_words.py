@@ -1,0 +1,99 @@
+"""What a cell says of an exit in words: with a day, without one, or that the animal lives."""
+from __future__ import annotations
+
+from front_desk.desk import Desk
+
+
+def without_day(word: str) -> str:
+    """What is told of exits without a day, behind the texts."""
+    return (
+        "such an animal counts as gone, on a day that isn't known unless the book has it; where you know the day, "
+        f"write it as 01.03.2001, or behind the word, as {word} 01.03.2001"
+    )
+
+
+def test_exits_in_words(desk: Desk) -> None:
+    """What a cell says of an exit: a day within a text, a word alone, or that the animal lives."""
+    cells = [
+        ("geschlachtet 12.11.2022", "2022-11-12"), ("12.11.2022 (verkauft)", "2022-11-12"),
+        ("died 2021-02-03.", "2021-02-03"), ("sold 2020", "2020-12-31"),
+        ("verk. 11.2021 an Meier", "2021-11-30"), ("vendu le 03/04/2021", "2021-04-03"),
+        ("verkauft 31.02.2020", "2020-02-29"), ("2021-02-03 10:00", "2021-02-03"),
+        ("sold 3.4.2020, died 5.6.2021", "gone"), ("tot", "gone"), ("sold for 2020 EUR", "gone"),
+        ("12.11.22", "gone"), ("verkauft 12.11.22", "gone"), ("about 1950", "gone"), ("ja", "gone"),
+        ("nein", ""), ("-", ""), ("im Bestand", ""), ("alive", ""), ("vivante", ""), ("", ""),
+    ]  # fmt: skip
+    done = desk.take(
+        "id;sex;born;sire;dam;exit\n" + "".join(f"a{at};M;2001-01-01;;;{cell}\n" for at, (cell, _) in enumerate(cells)),
+        "--unknown",
+        "tot",
+    )
+    left = {line.split(",")[1]: line.split(",")[2] for line in desk.commands() if line.startswith("exit")}
+    unknown = {row["id"] for row in desk.table("book/ids.csv") if row["exit"].startswith("day unknown")}
+    for at, (cell, wanted) in enumerate(cells):
+        id = f"a{at}"
+        found = left.get(desk.numbers()[id], "gone" if id in unknown else "")
+        assert found == wanted, f"exit {cell!r}: {found!r}; wanted {wanted!r}"
+        assert (f": {id}: " in done.told) == bool(wanted and cell[:4] != "2021"), f"exit {cell!r} is told: {done}"
+    done.tells(
+        (
+            "line 13: a11: its exit is left out: '12.11.22' has two digits of the year: write all four; the "
+            "animal counts as gone"
+        ),
+        (
+            "line 14: a12: its exit is left out: 'verkauft 12.11.22' has no single day with a year of four digits; "
+            "the animal counts as gone"
+        ),
+        (
+            "line 15: a13: its exit is left out: the day in 'about 1950' would be before its birth; the animal "
+            "counts as gone"
+        ),
+        (
+            "to look at: 2 of 15 cells that tell of an exit in the column 'exit' can't be read, the first in line 13: "
+            "'12.11.22', 'about 1950': write days as 2001-03-01 or 01.03.2001, a word such as sold, verkauft or "
+            "vendu where the day isn't known, and nothing or alive, lebt or vivant where the animal hasn't left; "
+            "or name another column by --columns; if no column tells of exits, say --columns exit="
+        ),
+        (
+            "to look at: an exit without a day stands in 5 of 15 cells that tell of an exit in the column 'exit', the "
+            "first in line 10: 'sold 3.4.2020, died 5.6.2021', 'tot', 'sold for 2020 EUR', 'verkauft 12.11.22', "
+            f"'ja': {without_day('sold')}"
+        ),
+    )
+    # what a sheet without the column says changes nothing
+    before = desk.ids()
+    desk.take("id;sex;born;sire;dam\n" + "".join(f"a{at};M;2001-01-01;;\n" for at in range(len(cells))))
+    assert desk.ids() == before
+
+
+def test_exits_in_words_alone(desk: Desk) -> None:
+    """A column that has words and no day is taken: what is told says what they mean and how a day is written, and
+    that is read."""
+
+    def sheet(*cells: str) -> str:
+        rows = (f"a{at};2001-01-01;;;{cell}\n" for at, cell in enumerate(cells))
+        return "Tier;geboren;Vater;Mutter;Abgang\n" + "".join(rows)
+
+    done = desk.take(sheet("verkauft", "tot", "verkauft", "sold", "vendu", "lebt", "alive", "vivant", ""))
+    done.tells(
+        "to look at: an exit without a day stands in 5 of 5 cells that tell of an exit in the column 'Abgang', the "
+        f"first in line 2: 'verkauft' (2 times), 'tot', 'sold', 'vendu': {without_day('verkauft')}"
+    )
+    assert "can't be read" not in done.out
+    # two cells are too few for a wrong column
+    assert (
+        "2 of 2 cells that tell of an exit in the column 'Abgang' can't be read"
+        in desk.take(sheet("Hof", "Hof"), "--book", "two").out
+    )
+    assert [bool(row["exit"]) for row in desk.table("book/ids.csv")] == [True] * 5 + [False] * 4
+    done = desk.take(sheet("verkauft 01.03.2001", "01.03.2001", "verkauft", "sold", "vendu", "", "", "", ""))
+    assert [line[-16:] for line in desk.commands()[-2:]] == [",2001-03-01,,,,,"] * 2
+    # a day that the book has stays where a word replaces it
+    done = desk.take(sheet("verkauft", "tot", "verkauft", "sold", "vendu", "", "", "", ""))
+    done.tells(
+        "line 2: a0: its exit is left out: 'verkauft' has no day; the animal counts as gone",
+        "line 2: a0: inferred: exit on 2001-03-01, as in the book, since its cell gives no day",
+    )
+    # a day that is filed by hand is known
+    desk.good("exit", "a2", "--day", "2012-01-01")
+    assert [row["exit"] for row in desk.table("book/ids.csv")][2:4] == ["", "day unknown: 'sold'"]

@@ -1,0 +1,49 @@
+"""A file is put into its place whole, and into no other."""
+from __future__ import annotations
+
+import os
+import pathlib
+import secrets
+from typing import Callable
+
+import pytest
+
+from society.book.files import put
+
+
+def test_synced_before_it_has_its_name(tmp_path: pathlib.Path, monkeypatch: pytest.MonkeyPatch) -> None:
+    """Its bytes before, and the folder with its name behind it."""
+    called: list[str] = []
+
+    def noted(name: str) -> Callable[..., None]:
+        done = getattr(os, name)
+
+        def both(*values: object) -> None:
+            called.append(name)
+            done(*values)
+
+        return both
+
+    for name in "fsync", "replace":
+        monkeypatch.setattr(os, name, noted(name))
+    put(tmp_path / "file", b"text", changed=7)
+    assert called == ["fsync", "replace", "fsync"]
+    assert (tmp_path / "file").read_bytes() == b"text" and (tmp_path / "file").stat().st_mtime_ns == 7
+
+
+def test_planted(tmp_path: pathlib.Path, monkeypatch: pytest.MonkeyPatch) -> None:
+    """Who guesses the name that a file has before can't have another one written over by it."""
+    monkeypatch.setattr(secrets, "token_hex", lambda _: "guessed")
+    (tmp_path / "precious").write_bytes(b"precious")
+    os.link(tmp_path / "precious", tmp_path / ".file.guessed")
+    with pytest.raises(FileExistsError):
+        put(tmp_path / "file", b"text")
+    assert (tmp_path / "precious").read_bytes() == b"precious" and not (tmp_path / "file").exists()
+
+
+def test_not_in_place_of_another(tmp_path: pathlib.Path) -> None:
+    """Nothing is left beside it."""
+    (tmp_path / "file").write_bytes(b"precious")
+    with pytest.raises(FileExistsError):
+        put(tmp_path / "file", b"text", replaces=False)
+    assert [path.read_bytes() for path in tmp_path.iterdir()] == [b"precious"]

@@ -1,0 +1,43 @@
+"""What a book remembers of how a sheet is read, and what its report has."""
+from __future__ import annotations
+
+from front_desk.desk import Desk
+
+
+def test_remembered(desk: Desk) -> None:
+    """Columns, words for sexes and words for unknown parents are those of the last time."""
+    sheet = "Tag;S;born;sire;dam\n1;Bk;2001-01-01;fremd;\n2;Schf;2001-01-01;;\n3;Schf;2004;1;2\n"
+    desk.take(sheet, "--columns", "id=Tag,sex=S", "--unknown", "fremd", "--sexes", "Bk=m,Schf=f")
+    before = desk.commands()
+    done = desk.take(sheet)
+    done.tells(
+        "as at the last time: --columns id=Tag,sex=S, --unknown fremd, --sexes Bk=m,Schf=f (the book "
+        "remembers these)"
+    )
+    assert desk.commands() == before
+    assert " 0 left out, 0 added" in done.last
+    done = desk.take(sheet.replace(";S;", ";sex;"), "--sexes", "Schf=m,Bk=f")
+    assert desk.numbers()["1"][6] == "F"
+    assert "--columns id=Tag,sex=S, --unknown fremd" in done.out
+    desk.wrong("there is no column 'X', which --columns names for id", "take", "sheet.csv", "--columns", "id=X")
+
+
+def test_many_lines(desk: Desk) -> None:
+    """The report has all lines of a kind, and a German spreadsheet opens it."""
+    rows = (
+        "".join(f"{at};F;2001-01-01;;;sold {at}\n" for at in range(40))
+        + "mate;F;2001-01-01;dam;;\ndam;F;1999-01-01;;;\n"
+    )
+    done = desk.take("id;sex;born;sire;dam;exit\n" + rows, "--semicolons")
+    done.tells(
+        "line 41: 39: its exit is left out: 'sold 39' has no single day with a year of four digits; the animal counts as "
+        "gone",
+        "line 42: mate: its sire dam (line 43) is left out: it isn't male (refusal 5)",
+    )
+    text = (desk.room / "book/report.csv").read_bytes()
+    assert text.startswith(b"\xef\xbb\xbfline;id;what;why;change\n;;to look at;") and b"\n2;0;left out;" in text
+    assert text.count(b";left out;") == 41
+    shown = "id;name;sex;born;sire;dam\n1;Max;M;2001-01-01;;\n2;Max;M;2001-01-01;;\n3;;F;2005-01-01;Max;\n"
+    desk.take(shown, "--book", "names")
+    done = desk.good("certificate", "Max", "--book", "names")
+    assert done.err == "society: 'Max' is taken for the animal with this id; others have this name: 1, 2\n"

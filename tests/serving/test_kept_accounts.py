@@ -1,0 +1,141 @@
+"""The accounts and the guesses as they are kept, without a desk."""
+from __future__ import annotations
+
+import contextlib
+import io
+import pathlib
+import sqlite3
+
+import pytest
+
+from serving.visitor import WORD, Clock
+from society.desk.people import AccountRole
+from society.mistake import Mistake
+from society.serving import passwords
+from society.serving.access_log import AccessLog
+from society.serving.accounts import A_DAY, Accounts
+from society.serving.throttle import FREE_BY_ADDRESS, FREE_BY_NAME, MOST, Throttle
+
+KEEPER, CLERK = AccountRole.KEEPER, AccountRole.CLERK
+
+
+@pytest.fixture
+def accounts(cheap: None, tmp_path: pathlib.Path) -> Accounts:
+    """Those of a keeper and a clerk."""
+    found = Accounts(tmp_path, Clock())
+    found.add("Kim", KEEPER, WORD, WORD)
+    found.add("Carl", CLERK, WORD, WORD)
+    return found
+
+
+def logins(accounts: Accounts) -> int:
+    with contextlib.closing(sqlite3.connect(accounts.path)) as connection:
+        return int(connection.execute("SELECT count(*) FROM login").fetchone()[0])
+
+
+def test_names(accounts: Accounts) -> None:
+    """A name is the same in capitals and as wide letters, and there is one of it; one that misleads isn't taken."""
+    wide = "\uff2b\uff49\uff4d"
+    assert accounts.fits("KIM ", WORD) and accounts.fits(wide, WORD) and not accounts.fits("Kin", WORD)
+    for name in "kim", " KIM", wide:
+        with pytest.raises(Mistake, match="there is an account"):
+            accounts.add(name, CLERK, WORD, WORD)
+    for name in "", "  ", "\u202eeve", "e\0ve", "-eve", "x" * 41:
+        with pytest.raises(Mistake, match="can't be an account's name"):
+            accounts.add(name, CLERK, WORD, WORD)
+    assert [one.name for one in accounts.all()] == ["Carl", "Kim"]
+
+
+def test_roles() -> None:
+    """Each role may what the ones before it may, and no more."""
+    roles = [AccountRole.INSPECTOR, CLERK, KEEPER]
+    allowed = [[one.may(least) for least in roles] for one in roles]
+    assert allowed == [[True, False, False], [True, True, False], [True, True, True]]
+
+
+def test_keys(accounts: Accounts, tmp_path: pathlib.Path) -> None:
+    """Each file signs with a key of its own, and each login has a token that nobody guesses."""
+    (tmp_path / "other").mkdir()
+    other = Accounts(tmp_path / "other")
+    other.add("Kim", KEEPER, WORD, WORD)
+    assert len(accounts.key()) == 32 and accounts.key() != other.key()
+    carl = accounts.fits("Carl", WORD)
+    assert carl
+    tokens = {accounts.begin_login(carl) for _ in range(20)}
+    assert len(tokens) == 20 and min(map(len, tokens)) >= 43
+    assert not other.person_of(tokens.pop())
+
+
+def test_logins_end(accounts: Accounts) -> None:
+    """Logins whose day is over aren't kept, and a change that isn't allowed ends none."""
+    clock, kim = accounts.clock, accounts.fits("Kim", WORD)
+    assert isinstance(clock, Clock) and kim
+    token = accounts.begin_login(kim)
+    with pytest.raises(Mistake, match="somebody has to be a keeper"):
+        accounts.remove("kim")
+    with pytest.raises(Mistake, match="somebody has to be a keeper"):
+        accounts.change_role("kim", CLERK)
+    assert accounts.person_of(token) and logins(accounts) == 1
+    clock.now += A_DAY
+    assert not accounts.person_of(token)
+    accounts.begin_login(kim)
+    assert logins(accounts) == 1
+
+
+def test_other_file(tmp_path: pathlib.Path) -> None:
+    """Another database in the accounts' place lets nobody in."""
+    path = tmp_path / "accounts.sqlite"
+    path.touch(mode=0o600)
+    with contextlib.closing(sqlite3.connect(path)) as connection:
+        connection.execute("CREATE TABLE account (name, role, folded)")
+    with pytest.raises(Mistake, match="isn't a file of accounts"):
+        Accounts(tmp_path)
+
+
+def test_long_password(cheap: None) -> None:
+    """Nothing of a password is cut off."""
+    longest = WORD.ljust(passwords.MOST_LETTERS, "x")
+    kept = passwords.kept_of(longest)
+    assert passwords.fits(longest, kept) and not passwords.fits(f"{longest}x", kept)
+    assert not passwords.fits(longest[:-1], kept)
+
+
+def test_throttle_right() -> None:
+    """Whoever knows one password of an address gives its guesses of others no new beginning."""
+    throttle = Throttle(lambda: 0.0)
+    for at in range(FREE_BY_ADDRESS - 1):
+        assert throttle.begin(f"name {at}", "1.1.1.1") == 0
+    for _ in range(3):
+        assert throttle.begin("own", "1.1.1.1") == 0
+        throttle.was_right("own", "1.1.1.1")
+    assert throttle.begin("one", "1.1.1.1") == 0 and throttle.begin("other", "1.1.1.1") == 1
+
+
+def test_throttle_full() -> None:
+    """However many names are guessed at, the last ones are kept in mind."""
+    throttle, others = Throttle(lambda: 0.0), iter(range(MOST))
+
+    def guess_others() -> None:
+        for at in [next(others) for _ in range(MOST * 3 // 10)]:
+            throttle.begin(f"name {at}", f"10.1.{at >> 8}.{at & 255}")
+
+    throttle.begin("Carl", "1.1.1.1")
+    guess_others()
+    for at in range(1, FREE_BY_NAME):
+        throttle.begin("Carl", f"1.1.1.{at + 1}")
+    guess_others()
+    assert throttle.begin("Carl", "2.2.2.2") == 1
+    for at in range(FREE_BY_NAME):
+        assert throttle.begin("Clara", f"3.3.3.{at}") == 0
+    assert throttle.begin("Clara", "4.4.4.4") == 1
+
+
+def test_log_that_is_full() -> None:
+    """Nobody's work ends where the log can't be written."""
+    closed = io.StringIO()
+    closed.close()
+    AccessLog(closed).tell("something")
+    with open("/dev/full", "w", encoding="utf-8") as full:
+        AccessLog(full).tell("something")
+        with contextlib.suppress(OSError):
+            full.close()

@@ -1,0 +1,184 @@
+"""Who waits for whom: one changes the book at a time, and nobody waits longer than for what is written then."""
+from __future__ import annotations
+
+import contextlib
+import pathlib
+import sqlite3
+import threading
+import time
+from collections.abc import Callable
+
+import pytest
+
+from front_desk.desk import Desk
+from society.book import backup as backups
+from society.book import exports
+from society.book.backup import restore
+from society.book.book_changed import Overtaken
+from society.book.exports import refresh
+from society.desk import taking_beside
+from society.desk.forms import new_form
+from society.desk.taking_beside import Chosen, Taken, taken
+from society.herdbook import Herdbook
+from society.taking import from_sheet
+from society.taking.from_sheet import take_sheet
+from society.taking.wishes import Wishes
+
+DAM, OTHER, DAY = "GK-17/472c", "GK-16/433c", "2024-05-01"
+
+
+@pytest.fixture
+def folder(society_desk: Desk, program: str, monkeypatch: pytest.MonkeyPatch) -> pathlib.Path:
+    monkeypatch.setenv("HERDBOOK", program)
+    return society_desk.room / "book"
+
+
+def is_free(folder: pathlib.Path) -> bool:
+    """May somebody change the book at once?"""
+    with contextlib.closing(sqlite3.connect(folder / "book.sqlite", timeout=0, isolation_level=None)) as connection:
+        try:
+            connection.execute("BEGIN IMMEDIATE")
+        except sqlite3.OperationalError:
+            return False
+        return True
+
+
+def kinds(folder: pathlib.Path) -> list[str]:
+    """The kinds of the changes, from the first on."""
+    with contextlib.closing(sqlite3.connect(folder / "book.sqlite")) as connection:
+        return [kind for (kind,) in connection.execute("SELECT kind FROM change ORDER BY change")]
+
+
+def sheet(desk: Desk) -> pathlib.Path:
+    path = desk.room / "more.csv"
+    path.write_text("id,name,sex,birth,sire,dam\nNEW-1,,f,2024-01-01,,\n", encoding="utf-8")
+    return path
+
+
+def exit_of(desk: Desk) -> None:
+    desk.good("exit", DAM, "--day", DAY)
+
+
+def behind(monkeypatch: pytest.MonkeyPatch, module: object, name: str, do: Callable[[], object]) -> None:
+    """Does something once, behind what a function of a module does."""
+    made, done = getattr(module, name), list[bool]()
+
+    def both(*values: object, **named: object) -> object:
+        result = made(*values, **named)
+        if not done:
+            done.append(True)
+            do()
+        return result
+
+    monkeypatch.setattr(module, name, both)
+
+
+def taken_now(folder: pathlib.Path, path: pathlib.Path) -> Taken:
+    """A sheet is taken at a desk that looked at the first change."""
+    return taken(folder, path, Chosen(options=(("anyway", "1"),)), 1, new_form(), lambda _: None)
+
+
+def test_sheet_of_a_desk(folder: pathlib.Path, society_desk: Desk, monkeypatch: pytest.MonkeyPatch) -> None:
+    """Others file while a sheet is prepared, and then it isn't taken, but looked at anew."""
+    path = sheet(society_desk)
+
+    def file() -> None:
+        assert is_free(folder)
+        exit_of(society_desk)
+
+    behind(monkeypatch, taking_beside, "take_into", file)
+    assert taken_now(folder, path).book_changed
+    assert kinds(folder) == ["take", "exit"]
+    monkeypatch.undo()
+    monkeypatch.setenv("HERDBOOK", society_desk.program)
+    made = taken(folder, path, Chosen(options=(("anyway", "1"),)), 2, new_form(), lambda _: None)
+    assert (made.change, made.book_changed) == (3, False) and kinds(folder) == ["take", "exit", "take"]
+    society_desk.good("verify")
+
+
+def test_sheet_of_a_terminal(folder: pathlib.Path, society_desk: Desk, monkeypatch: pytest.MonkeyPatch) -> None:
+    """There it is prepared anew behind what another filed meanwhile, and then others wait for it."""
+    path, free = sheet(society_desk), list[bool]()
+
+    def file() -> None:
+        free.append(is_free(folder))
+        exit_of(society_desk)
+        behind(monkeypatch, from_sheet, "finish", lambda: free.append(is_free(folder)))
+
+    behind(monkeypatch, from_sheet, "finish", file)
+    take_sheet(path, Wishes(folder, anyway=True))
+    assert free == [True, False] and kinds(folder) == ["take", "exit", "take"]
+    living = {row["id"] for row in society_desk.listed("list", "--living")}
+    assert "NEW-1" in living and DAM not in living
+    society_desk.good("verify")
+
+
+def test_exports(folder: pathlib.Path, society_desk: Desk, monkeypatch: pytest.MonkeyPatch) -> None:
+    """Nobody waits for the files beside the database, and they are never put back to an earlier change."""
+    society_desk.good("exit", OTHER, "--day", DAY)
+    (folder / exports.IDS).unlink()
+    later = threading.Thread(target=refresh, args=(folder, 60))
+
+    def file() -> None:
+        assert is_free(folder)
+        with contextlib.closing(sqlite3.connect(folder / "book.sqlite")) as connection:
+            connection.execute("UPDATE change SET time = time + 1 WHERE change = 2")
+            connection.commit()
+        later.start()
+
+    behind(monkeypatch, exports, "report_text", file)
+    assert refresh(folder, 0) == ""
+    later.join()
+    with contextlib.closing(sqlite3.connect(folder / "book.sqlite")) as connection:
+        moment = connection.execute("SELECT max(time) FROM change").fetchone()[0]
+    assert all((folder / name).stat().st_mtime_ns == moment * 1000 for name in exports.NAMES)
+
+
+def test_exports_one_after_the_other(folder: pathlib.Path) -> None:
+    """Whoever doesn't wait for another who writes them says that they aren't written."""
+    (folder / exports.IDS).unlink()
+    with exports.turn(folder, 0):
+        assert "couldn't all be written" in refresh(folder, 0)
+    assert refresh(folder, 0) == "" and (folder / exports.IDS).exists()
+
+
+def test_restoring(folder: pathlib.Path, society_desk: Desk, monkeypatch: pytest.MonkeyPatch) -> None:
+    """Nobody changes the book between its keeping in `old` and its replacing: who wants to waits, and then files in the
+    book that is restored."""
+    society_desk.good("backup", "copy.sqlite")
+    society_desk.good("exit", OTHER, "--day", DAY)
+    filing = threading.Thread(target=society_desk.good, args=("exit", DAM, "--day", DAY))
+
+    def file() -> None:
+        assert not is_free(folder)
+        filing.start()
+        # it looks whether it may, and has to wait
+        filing.join(1.5)
+        assert filing.is_alive()
+
+    behind(monkeypatch, backups, "keep_old", file)
+    restore(folder, society_desk.room / "copy.sqlite", Herdbook(), anyway=True)
+    filing.join()
+    assert kinds(folder) == ["take", "restore", "exit"]
+    (old,) = (folder / "old").glob("book-*.sqlite")
+    with contextlib.closing(sqlite3.connect(old)) as connection:
+        assert [kind for (kind,) in connection.execute("SELECT kind FROM change")] == ["take", "exit"]
+    society_desk.good("verify")
+    # two in one second don't get the same name
+    monkeypatch.setattr(time, "strftime", lambda _: "now")
+    for _ in range(2):
+        backups.keep_old(folder)
+    assert len(list((folder / "old").glob("book-now-*.sqlite"))) == 2
+
+
+def test_restoring_of_another_book(folder: pathlib.Path, society_desk: Desk, monkeypatch: pytest.MonkeyPatch) -> None:
+    """Where somebody files behind the look at a book, and be it at the last moment, nothing is restored, and the book is as
+    it was left."""
+    society_desk.good("backup", "copy.sqlite")
+    exits = iter((OTHER, DAM))
+    for looked, name in enumerate(("prepare", "set_write_ahead"), 1):
+        behind(monkeypatch, backups, name, lambda: society_desk.good("exit", next(exits), "--day", DAY))
+        with pytest.raises(Overtaken):
+            restore(folder, society_desk.room / "copy.sqlite", Herdbook(), anyway=True, looked=looked)
+    assert kinds(folder) == ["take", "exit", "exit"] and not (folder / "old").exists()
+    society_desk.good("verify")
