@@ -15,7 +15,7 @@ def on_page(sentences: Iterable[str]) -> list[Sentence]:
 def without_paths(sentences: Iterable[Sentence]) -> list[Sentence]:
     """The sentences with files by their names alone."""
     desk = the_desk()
-    folders = [one.path.parent for one in desk.uploads.found.values()]
+    folders = [desk.uploads.folder_of(token) for token in desk.uploads.found]
     folders += [desk.uploads.room, desk.folder, desk.folder.absolute(), desk.folder.absolute().parent]
     folders.append(desk.program.path.parent)
     found = list(sentences)

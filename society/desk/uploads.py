@@ -18,6 +18,8 @@ SECONDS = 3600
 # so many of one person lie there at once
 MOST = 20
 LONGEST_NAME = 120
+# the name of a file that came without one
+NAMELESS = "sheet.csv"
 
 
 @dataclass
@@ -43,9 +45,9 @@ class Uploads:
     def add(self, file: FileStorage, who: str) -> Upload:
         self.drop_old()
         token = secrets.token_urlsafe(16)
-        folder = self.room / token
+        folder = self.folder_of(token)
         folder.mkdir(mode=0o700)
-        upload = Upload(token, who, folder / harmless(file.filename or ""), time.monotonic())
+        upload = Upload(token, who, right_in(folder, harmless(file.filename or "")), time.monotonic())
         try:
             file.save(upload.path)
         except OSError as error:
@@ -62,11 +64,15 @@ class Uploads:
             upload = self.found.get(token)
         return upload if upload and upload.who == who else None
 
+    def folder_of(self, token: str) -> pathlib.Path:
+        """The folder that is made for one file, whatever that is called."""
+        return self.room / token
+
     def drop(self, token: str) -> None:
         with self.lock:
             upload = self.found.pop(token, None)
         if upload:
-            shutil.rmtree(upload.path.parent, ignore_errors=True)
+            shutil.rmtree(self.folder_of(upload.token), ignore_errors=True)
 
     def drop_old(self) -> None:
         """Drops those whose hour is over, and the oldest where somebody has too many."""
@@ -79,6 +85,12 @@ class Uploads:
                 self.drop(one.token)
 
 
+def right_in(folder: pathlib.Path, name: str) -> pathlib.Path:
+    """A file of a folder by its name; one that would lie elsewhere gets another name."""
+    path = folder / name
+    return path if path.parent == folder and path.name != ".." else folder / NAMELESS
+
+
 def harmless(name: str) -> str:
     """The last part of a file's name, without what does something in a folder or on a terminal."""
     last = name.replace("\\", "/").rpartition("/")[2]
@@ -87,4 +99,4 @@ def harmless(name: str) -> str:
     while len(shown.encode("utf-8", "replace")) > LONGEST_NAME:
         stem = stem[:-1]
         shown = f"{stem}{dot}{suffix[:10]}"
-    return shown.encode("utf-8", "ignore").decode() or "sheet.csv"
+    return shown.encode("utf-8", "ignore").decode() or NAMELESS

@@ -4,7 +4,6 @@ from __future__ import annotations
 import io
 import pathlib
 import re
-import time
 import zipfile
 
 import pytest
@@ -12,7 +11,6 @@ import pytest
 from desk.site import HOST, Site, form_in, shown
 from front_desk.desk import TOP, Desk
 from society.book.exports import refresh
-from society.desk import uploads
 from society.desk.jobs import TAKING, Job
 from society.desk.taking_beside import Chosen, wishes_of
 from society.desk.texts import TEXTS
@@ -208,30 +206,6 @@ def test_wrong_files(empty_site: Site, name: str, text: bytes, told: str) -> Non
     assert not empty_site.desk.folder.exists()
 
 
-def test_too_large(empty_site: Site) -> None:
-    data = {"csrf_token": empty_site.token(), "sheet": (io.BytesIO(b"x" * 51_000_000), "large.csv")}
-    answer = empty_site.client.post("/sheet", data=data, headers={"Host": HOST})
-    assert answer.status_code == 413 and TEXTS["refused size"][0] in shown(answer.get_data(as_text=True))
-    assert not any(empty_site.desk.uploads.room.iterdir())
-
-
-def test_an_hour(empty_site: Site, monkeypatch: pytest.MonkeyPatch) -> None:
-    """A file that isn't taken goes after an hour, and of very many the oldest go."""
-    site = empty_site
-    first = site.drop("flock.csv", FLOCK)
-    monkeypatch.setattr(uploads, "MOST", 3)
-    for _ in range(3):
-        last = site.drop("flock.csv", FLOCK)
-    assert site.get(first).status_code == 404
-    assert site.get(last).status_code == 200
-    now = time.monotonic()
-    monkeypatch.setattr(time, "monotonic", lambda: now + uploads.SECONDS - 60)
-    assert site.get(last).status_code == 200
-    monkeypatch.setattr(time, "monotonic", lambda: now + uploads.SECONDS + 60)
-    assert site.get(last).status_code == 404
-    assert not any(site.desk.uploads.room.iterdir())
-
-
 def test_second_sheet_and_undo(empty_site: Site) -> None:
     """A grown sheet changes what it says; undo asks, and brings back the state before as a new change."""
     site = empty_site
@@ -252,16 +226,3 @@ def test_second_sheet_and_undo(empty_site: Site) -> None:
     assert "Animals 3 " in shown(site.page("/"))
     # the state of now isn't brought back
     assert site.post("/history/3/undo", last="3").headers["Location"] == "/history"
-
-
-def test_disk_full(site: Site, monkeypatch: pytest.MonkeyPatch) -> None:
-    """A drop for which the disk has no room is told, and leaves nothing."""
-
-    def full(*_: object) -> None:
-        raise OSError(28, "No space left on device")
-
-    monkeypatch.setattr("werkzeug.datastructures.FileStorage.save", full)
-    data = {"csrf_token": site.token(), "sheet": (io.BytesIO(FLOCK), "flock.csv")}
-    answer = site.client.post("/sheet", data=data, headers={"Host": HOST})
-    assert answer.status_code == 400 and "no room on the disk" in shown(answer.get_data(as_text=True))
-    assert not any(site.desk.uploads.room.iterdir())
