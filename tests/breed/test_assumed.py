@@ -10,13 +10,15 @@ from typing import cast
 import pytest
 
 from society.answers.candidates import Candidate, Candidates
+from society.book.asking_sentences import Mating
 from society.book.book import Book
 from society.book.known import Known
 from society.book.role import Role
 from society.breed.assumed import (
-    YEAR, Asked, UsualAge, ages_at_first_offspring, born_at_latest, grown_up, old_enough, prepared, usual_age, usual_bounds,
-    usual_most,
+    YEAR, Asked, UsualAge, ages_at_first_offspring, born_at_latest, grown_up, old_enough, prepared, told_of_age, usual_age,
+    usual_bounds, usual_most,
 )  # fmt: skip
+from society.sentence import Count
 
 # a number, how many days ago it was born, its parents, and where the day comes from
 Born = tuple[str, int, str, str, str]
@@ -59,7 +61,12 @@ def test_first_offspring() -> None:
     born += [(male(1), 1500, male(0), female(0), "given"), (male(2), 1200, male(0), female(0), "given")]
     born += [(male(3), 1600, "", female(0), "given"), (male(4), 1700, male(0), female(1), "period")]
     born += [(male(5), 1400, "", female(1), "given")]
-    assert ages_at_first_offspring(book_of(born)) == {female(0): 400, male(0): 400}
+    book = book_of(born)
+    # a birth day that was corrected since
+    former = "INSERT INTO animal (number, born, sire, dam, birth_source, until) VALUES (?, ?, ?, ?, 'given', 2)"
+    assert book.connection
+    book.connection.execute(former, (male(3), born_at_latest(1700), "", female(0)))
+    assert ages_at_first_offspring(book) == {female(0): 400, male(0): 400}
 
 
 def test_usual_age() -> None:
@@ -94,7 +101,7 @@ def test_old_enough() -> None:
 
 
 def test_named(monkeypatch: pytest.MonkeyPatch) -> None:
-    """Young ones that are named stay, unless an age is asked; what is asked of coefficients is passed on."""
+    """Young ones that are named stay, unless an age is asked; what is asked is passed on, and what isn't is told."""
     found = candidates(YEAR, YEAR - 1)
     monkeypatch.setattr("society.breed.assumed.candidates_of", lambda book, role, named: found)
     named = {Role.DAM: [Known(female(0), "a"), Known(female(1), "b")], Role.SIRE: None}
@@ -102,4 +109,10 @@ def test_named(monkeypatch: pytest.MonkeyPatch) -> None:
     plan = prepared(book_of([]), asked, named)
     assert (plan.dams.animals, plan.sires.animals) == (found.animals, found.animals[:1])
     assert (plan.rules.most_for_a_sire, plan.rules.at_most, plan.rules.kinship_weight) == (4, Fraction(1, 8), Fraction(1, 3))
+    left_out, most = Count(1, "younger animal"), Mating.ASSUMED_MOST.said(most=4)
+    assert (plan.minimum_age, plan.assumed) == (YEAR, (Mating.ASSUMED_YEAR.said(days=YEAR, count=left_out), most))
     assert prepared(book_of([]), Asked(minimum_age=YEAR), named).dams.animals == found.animals[:1]
+    said = prepared(book_of([]), Asked(7, minimum_age=None), named)
+    assert (said.sires, said.rules.most_for_a_sire, said.minimum_age, said.assumed) == (found, 7, None, ())
+    known = Mating.ASSUMED_AGE.said(days=280, count=left_out, parents=20)
+    assert told_of_age(UsualAge(280, 20), 1) == known

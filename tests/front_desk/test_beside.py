@@ -21,18 +21,21 @@ def test_the_value_is_waited_for() -> None:
         return 7
 
     beside = Beside(find)
+    # nobody who ends waits for it
+    assert beside.thread.daemon
     may_end.set()
     assert beside.value() == 7
     assert beside.value() == 7
 
 
-def test_what_goes_wrong_is_raised_where_the_value_is_asked_for() -> None:
+@pytest.mark.parametrize("error", [ValueError("no"), SystemExit("no")])
+def test_what_goes_wrong_is_raised_where_the_value_is_asked_for(error: BaseException) -> None:
     def find() -> int:
-        raise ValueError("no")
+        raise error
 
     beside = Beside(find)
     for _ in range(2):
-        with pytest.raises(ValueError, match="no"):
+        with pytest.raises(type(error), match="no"):
             beside.value()
 
 

@@ -21,11 +21,12 @@ def cell(draw: random.Random, pieces: tuple[str, ...]) -> object:
     return "".join(draw.choices(pieces, k=draw.randrange(4)))
 
 
-def by_csv(titles: list[str], columns: list[list[object]], delimiter: str) -> str:
+def by_csv(titles: list[str], columns: list[list[object]], delimiter: str, order: list[int] | None = None) -> str:
     text = io.StringIO()
     writer = csv.writer(text, delimiter=delimiter, lineterminator="\n")
     writer.writerow(titles)
-    writer.writerows(zip(*columns))
+    rows = [*zip(*columns)]
+    writer.writerows(rows if order is None else [rows[at] for at in order])
     return text.getvalue()
 
 
@@ -37,7 +38,8 @@ def test_columns_are_written_as_csv_writes_them(pieces: tuple[str, ...], delimit
         rows = draw.randrange(5)
         columns = [[cell(draw, pieces) for _ in range(rows)] for _ in range(draw.randrange(1, 5))]
         titles = [f"{draw.choice(pieces)}x" for _ in columns]
-        assert csv_text(titles, columns, delimiter) == by_csv(titles, columns, delimiter)
+        order = draw.choice((None, draw.sample(range(rows), rows)))
+        assert csv_text(titles, columns, delimiter, order) == by_csv(titles, columns, delimiter, order)
 
 
 @pytest.mark.parametrize("sign", [",", '"', "\n", "\r"])

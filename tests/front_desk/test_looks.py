@@ -1,7 +1,21 @@
 """What is taken as it stands, and told for somebody to look at."""
 from __future__ import annotations
 
+import datetime
+from types import SimpleNamespace
+from typing import cast
+
 from front_desk.desk import CALLED, Desk
+from society.book.book import Book
+from society.book.by_hand import with_parents
+from society.book.commands import birth, replay
+from society.book.inferred import BirthBasis, BirthSource
+from society.book.kinds import Remembered
+from society.book.known import Known
+from society.book.role import Role
+from society.book.state import Meaning
+from society.taking.look_findings import YoungParent
+from society.taking.young_parents import young_parents
 
 TITLES = "id;sex;birth;sire;dam;exit\n"
 PARENTS = "s;M;2001-03-01;;;\nd;F;2001-03-02;;;\n"
@@ -29,6 +43,23 @@ def test_young_parents(desk: Desk) -> None:
     assert done.commands() == [f"{CALLED} take sheet.csv --youngest 149"]
     # a day that is inferred tells nothing
     assert "days old" not in desk.take(TITLES + "p;M;2001;;;\nq;F;2001-08-01;p;;\n", "--book", "inferred").out
+
+
+def test_young_parents_by_hand() -> None:
+    """They are told where they are younger than the book says, at least a day old, and no day of theirs is inferred."""
+    sire, dam, calf = (Known(f"SKUDEU{'F' if at else 'M'}{at:012}", id) for at, id in enumerate("sdc"))
+    day, inferred = datetime.date(2001, 7, 29), BirthBasis(BirthSource.NEAREST)
+    born = {one.number: day - datetime.timedelta(days) for one, days in ((sire, 149), (dam, 150), (calf, 0))}
+    records = replay(birth(number, one, "", "", 1, False) for number, one in born.items())
+    records[calf.number] = records[calf.number]._replace(sire=sire.number, dam=dam.number)
+    remembered = [Meaning(Remembered.YOUNGEST, "150"), Meaning(Remembered.APART, "500")]
+    book, other = (cast(Book, SimpleNamespace(records=records, remembered=its)) for its in (remembered, []))
+    told = [YoungParent(Role.SIRE, "s", 0, 149, 150)]
+    assert [*young_parents(book, day, sire, dam)] == [*with_parents(book, calf, sire, dam).findings] == told
+    both = [YoungParent(Role.SIRE, "s", 0, 149, 180), YoungParent(Role.DAM, "d", 0, 150, 180)]
+    assert [*young_parents(other, day, sire, dam)] == both and [*young_parents(other, day, None, dam)] == both[1:]
+    assert [*young_parents(other, born[sire.number], sire, dam._replace(birth=inferred))] == []
+    assert with_parents(book, calf._replace(birth=inferred), sire, dam).findings == ()
 
 
 def test_births_of_one_dam(desk: Desk) -> None:

@@ -39,9 +39,12 @@ def test_nothing_is_kept_where_a_process_goes_on(monkeypatch: pytest.MonkeyPatch
 def test_a_process_ends_with_its_status_and_what_it_wrote(
     status: int, kept: tuple[str, ...], tmp_path: pathlib.Path
 ) -> None:
-    call = f"print('told'); one_call.is_the_only_one(); one_call.keep(*{kept!r}); one_call.end({status})"
+    """At once where something is kept and all is well, and as others do where not."""
+    told = "atexit.register(print, 'at last'); print('told'); print('and', end='', file=sys.stderr)"
+    call = f"{told}; one_call.is_the_only_one(); one_call.keep(*{kept!r}); one_call.end({status})"
     done = subprocess.run(
-        [sys.executable, "-c", f"from society import one_call; {call}"],
+        [sys.executable, "-c", f"import atexit, sys; from society import one_call; {call}"],
         cwd=tmp_path, env={"PYTHONPATH": str(TOP)}, capture_output=True, text=True,
     )  # fmt: skip
-    assert (done.returncode, done.stdout, done.stderr) == (status, "told\n", "")
+    at_last = "" if kept and not status else "at last\n"
+    assert (done.returncode, done.stdout, done.stderr) == (status, f"told\n{at_last}", "and")

@@ -2,16 +2,18 @@
 from __future__ import annotations
 
 import os
+import pathlib
 
 import pytest
 
 from front_desk.desk import Desk
 from front_desk.whole import FLOCK
 from society.book import backup as backups
-from society.book import out
+from society.book import files, out
 from society.book.book import Book
 from society.book.book_read import reading
 from society.mistake import Mistake
+from society.reading.sheet import MOST_BYTES, MOST_LETTERS, MOST_ROWS, Row, check_bounds, read_bytes
 
 ODD = "id,name,sex,born,sire,dam\n@SUM(A1),+x,F,2001-01-01,,\nA 1,\x1b[31mred,F,2001-01-01,,\nA-1,,F,2001-01-01,,\nA/1,,M,2001-01-01,,\n"
 
@@ -69,6 +71,22 @@ def test_a_file_that_came_meanwhile(flock_desk: Desk, monkeypatch: pytest.Monkey
         assert path.read_bytes() == b"precious"
 
 
+def test_all_or_none(tmp_path: pathlib.Path, monkeypatch: pytest.MonkeyPatch) -> None:
+    """Where one of several can't be written those before it go again, but for one that was there."""
+
+    def put(path: pathlib.Path, text: bytes, replaces: bool) -> None:
+        if path.name == "full":
+            raise OSError(28, "No space left on device")
+        files.put(path, text, replaces=replaces)
+
+    monkeypatch.setattr(out, "put", put)
+    was_there, new, full = (tmp_path / name for name in ("was there", "new", "full"))
+    was_there.write_bytes(b"before")
+    with pytest.raises(Mistake, match="full can't be written"):
+        out.write_outs(Book(tmp_path / "book", None), {was_there: b"a", new: b"b", full: b"c"}, True)
+    assert {path.name: path.read_bytes() for path in tmp_path.iterdir()} == {"was there": b"a"}
+
+
 def test_spreadsheets_and_terminals(desk: Desk) -> None:
     """No cell is a formula, and nothing that a terminal shows does something there."""
     done = desk.take(ODD)
@@ -95,3 +113,12 @@ def test_file_names(desk: Desk) -> None:
 ])  # fmt: skip
 def test_bounds(desk: Desk, text: str | bytes, told: str) -> None:
     desk.wrong(told, "take", desk.write("sheet.csv", text))
+
+
+def test_at_the_bounds(tmp_path: pathlib.Path) -> None:
+    """So much is just taken."""
+    path = tmp_path / "sheet.csv"
+    check_bounds(path, [Row(1, ["b" * MOST_LETTERS])] * MOST_ROWS)
+    path.touch()
+    os.truncate(path, MOST_BYTES)
+    assert len(read_bytes(path)) == MOST_BYTES

@@ -1,0 +1,65 @@
+"""Parts of a book by themselves: records, the journal, changes, and the kept coefficients."""
+from __future__ import annotations
+
+import dataclasses
+import datetime
+import sqlite3
+
+import pytest
+
+from society.book.changes import Made
+from society.book.coefficients import kept_lines, write_coefficients
+from society.book.commands import birth, leave, record_after, transfer
+from society.book.history import all_changes, changed_one_by_one, write_change
+from society.book.journal import NO_JOURNAL, Step, alike
+from society.book.kinds import ChangeKind
+from society.book.schema import MIGRATIONS
+
+NUMBER = "HOLGBRF000000000001"
+BORN, GIVEN, LEFT = (datetime.date(year, 1, 2) for year in (2001, 2003, 2005))
+
+
+@pytest.fixture
+def connection() -> sqlite3.Connection:
+    """A book without a change."""
+    made = sqlite3.connect(":memory:")
+    for script in MIGRATIONS:
+        made.executescript(script)
+    return made
+
+
+def test_a_record_names_its_giver_and_the_day() -> None:
+    first = record_after(None, birth(NUMBER, BORN, "", "", 4, False))
+    assert (first.herd, first.since, first.giver, first.left) == (4, BORN, 0, None)
+    then = record_after(first, transfer(NUMBER, GIVEN, 4, 7))
+    assert then == first._replace(herd=7, since=GIVEN, giver=4)
+    assert record_after(then, leave(NUMBER, LEFT)) == then._replace(left=LEFT)
+
+
+def test_journals_that_begin_alike() -> None:
+    """Also where one of them is the beginning of the other."""
+    one, other, refused = (Step(leave(NUMBER, day), refusal) for day, refusal in ((GIVEN, 0), (LEFT, 0), (GIVEN, 14)))
+    assert alike([one, other], [one]) == alike([one], [one, other]) == alike([one, other], [one, one]) == 1
+    assert alike([one, other], [one, other]) == 2 and alike([one], [refused]) == alike([], [one]) == 0
+
+
+def test_changed_one_by_one(connection: sqlite3.Connection) -> None:
+    """Not since a change of another book, as before a restoring, nor since parents were changed."""
+    for number, kind in enumerate((ChangeKind.TAKE, ChangeKind.BIRTH, ChangeKind.PARENTS, ChangeKind.EXIT), 1):
+        write_change(connection, number, 1000 * number, NO_JOURNAL, Made(kind))
+    changes = all_changes(connection)
+    assert [changed_one_by_one(connection, one) for one in changes] == [False, False, True, True]
+    last = changes[-1]
+    assert not changed_one_by_one(connection, dataclasses.replace(last, time=changes[0].time))
+    assert not changed_one_by_one(connection, dataclasses.replace(last, number=9))
+
+
+@pytest.mark.parametrize("after", [
+    ["A,0,0.00", "C,1/4,25.00", "D,0,0.00"], ["A,1/4,25.00", "B,0,0.00", "D,0,0.00"], ["A,0,0.00", "B,0,0.00"],
+    ["A,0,0.00", "B,0,0.00", "D,0,0.00", "E,1/2,50.00"], ["B,0,0.00", "A,0,0.00", "D,0,0.00"], ["N,0,0.00"], [],
+])  # fmt: skip
+def test_coefficients_are_kept_as_the_program_writes_them(connection: sqlite3.Connection, after: list[str]) -> None:
+    """Of the same animals, or of others as many, more or fewer."""
+    for lines in ["A,0,0.00", "B,0,0.00", "D,0,0.00"], after:
+        write_coefficients(connection, lines)
+        assert kept_lines(connection) == lines
