@@ -1,7 +1,8 @@
 #!/usr/bin/env python3
 """Draws what `bench.sh` printed as a chart of bars, an SVG on standard output.
 
-    bench.sh PROGRAM --sizes 60000 --skip file --against exact-breed,exact-colleau-lists,f64-hybrid > round1
+    bench.sh PROGRAM --sizes 60000 --shapes narrow,dairy,broad,deep,fullsib,pairs --skip file
+             --against exact-breed,exact-colleau-lists,f64-hybrid > round1
     chart.py round1 round2 > docs/pictures/times.svg
 
 A group of bars for each shape of book: processor time of whole runs, the least of all rounds, on a scale of powers

@@ -1,4 +1,4 @@
-"""The generation interval: parents' ages at the birth of offspring that became parents themselves (James 1972)."""
+"""The generation interval: parents' ages at the birth of offspring that became parents themselves (James 1977)."""
 from __future__ import annotations
 
 import enum

@@ -93,11 +93,11 @@ MEANINGS: dict[Name, Three] = {
     ),
     Name.GENERATION_INTERVAL: (
         "Parents' age, in years, at the birth of offspring that have offspring themselves: the mean of four paths "
-        "(James 1972).",
+        "(James 1977).",
         "Das Alter der Eltern in Jahren bei der Geburt von Nachkommen, die selbst Nachkommen haben: das Mittel von "
-        "vier Pfaden (James 1972).",
+        "vier Pfaden (James 1977).",
         "L'âge des parents, en années, à la naissance de descendants qui en ont eux-mêmes : la moyenne de quatre "
-        "voies (James 1972).",
+        "voies (James 1977).",
     ),
     Name.GENERATION_INTERVAL_SIRE_TO_SON: (
         "Sires' age at the birth of sons that have offspring.",

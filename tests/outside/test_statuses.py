@@ -29,6 +29,7 @@ NO_COMMAND_LINES: list[tuple[list[str], str]] = [
     (["clerks", "--base", "-1"], "'-1'"),
     (["session", "--desks", "17"], "'17'"),
     (["session", "--inspectors", "0"], "'0'"),
+    (["session", "--inspectors", "17"], "'17'"),
     (["session", "--limit-animals", "60001"], "'60001'"),
     (["session", "--limit-steps", "0"], "'0'"),
 ]
