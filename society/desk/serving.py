@@ -110,8 +110,11 @@ def room() -> Iterator[pathlib.Path]:
     drop_left(pathlib.Path(tempfile.gettempdir()))
     path = pathlib.Path(tempfile.mkdtemp(prefix=PREFIX))
     try:
-        with open(path / LOCK, "w", encoding="ascii") as lock:
+        # a desk that is opened at the same moment sees no lock that isn't held
+        begun = path / f".{LOCK}"
+        with open(begun, "w", encoding="ascii") as lock:
             fcntl.flock(lock, fcntl.LOCK_EX)
+            begun.rename(path / LOCK)
             yield path
     finally:
         shutil.rmtree(path, ignore_errors=True)

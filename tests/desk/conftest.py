@@ -6,11 +6,12 @@ from collections.abc import Iterator
 
 import pytest
 
+from desk.server import none_left
 from desk.site import Site, site_of
-from front_desk.conftest import desk, new_desk, society_desk, taken_society
+from front_desk.conftest import desk, new_desk, society_desk, taken_society, today
 from front_desk.desk import Desk
 
-__all__ = ["desk", "new_desk", "society_desk", "taken_society"]
+__all__ = ["desk", "new_desk", "none_left", "society_desk", "taken_society", "today"]
 
 
 @pytest.fixture

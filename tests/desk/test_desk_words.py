@@ -194,7 +194,7 @@ def test_glance(site: Site, society_desk: Desk) -> None:
     assert mean and shown_mean and abs(float(mean[1]) - float(shown_mean[1])) <= 0.0051
 
 
-def test_history(site: Site, society_desk: Desk) -> None:
+def test_history(site: Site, society_desk: Desk, today: datetime.date) -> None:
     """The history has each change, and the copy is a whole book."""
     society_desk.good("exit", DAM, "--day", "2024-05-01")
     page = shown(site.page("/history"))
@@ -203,7 +203,7 @@ def test_history(site: Site, society_desk: Desk) -> None:
     assert f"{DAM} exit: 2024-05-01" in change
     assert site.get("/history/2/report.csv").get_data(as_text=True) == society_desk.text("book/report.csv")
     answer = site.get("/book.sqlite")
-    assert str(datetime.date.today()) in answer.headers["Content-Disposition"]
+    assert str(today) in answer.headers["Content-Disposition"]
     copy = society_desk.room / "copy.sqlite"
     copy.write_bytes(answer.get_data())
     society_desk.good("restore", str(copy), "--book", "again")

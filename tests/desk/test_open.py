@@ -1,6 +1,7 @@
 """The word `open`: its link, its port, and how it ends."""
 from __future__ import annotations
 
+import fcntl
 import pathlib
 import re
 import signal
@@ -8,18 +9,27 @@ import socket
 import tempfile
 import urllib.error
 import urllib.request
+from http.client import HTTPException, HTTPResponse
 from http.cookiejar import CookieJar
+from typing import Any, cast
 
 import pytest
 
-from desk.test_browser import SECONDS, Server
+from desk.server import SECONDS, Server, free_port
 from front_desk.desk import Desk
 from society.desk.forms import new_form
 from society.desk.serving import ADDRESS, bound, room
 
 
-def browser() -> urllib.request.OpenerDirector:
-    return urllib.request.build_opener(urllib.request.HTTPCookieProcessor(CookieJar()))
+class Browser:
+    """One that keeps its cookies, and asks nobody on the way."""
+
+    def __init__(self) -> None:
+        kept = urllib.request.HTTPCookieProcessor(CookieJar())
+        self.opener = urllib.request.build_opener(urllib.request.ProxyHandler({}), kept)
+
+    def open(self, address: str | urllib.request.Request) -> HTTPResponse:
+        return cast(HTTPResponse, self.opener.open(address, timeout=SECONDS))
 
 
 def test_link(society_desk: Desk) -> None:
@@ -27,25 +37,26 @@ def test_link(society_desk: Desk) -> None:
     server = Server(society_desk.room, society_desk.program)
     assert re.fullmatch(r"http://127\.0\.0\.1:\d+/enter/[\w-]{32}", server.link)
     for _ in range(2):
-        with browser().open(server.link) as answer:
+        with Browser().open(server.link) as answer:
             assert answer.status == 200 and b"502" in answer.read()
             assert "Server" not in answer.headers
     with pytest.raises(urllib.error.HTTPError, match="403"):
-        browser().open(server.link.partition("/enter")[0])
+        Browser().open(server.base)
     assert server.end().splitlines()[-1] == "The desk is closed."
-    with pytest.raises(urllib.error.URLError):
-        browser().open(server.link)
+    # nobody answers, or another server that got the port meanwhile, which doesn't know the link
+    with pytest.raises((OSError, HTTPException)):
+        Browser().open(server.link)
 
 
 def begin_taking(server: Server) -> None:
     """Drops a sheet of many animals, and begins to take it."""
-    opened, base = browser(), server.link.partition("/enter")[0]
-    opened.open(server.link)
+    opened, base = Browser(), server.base
+    opened.open(server.link).close()
 
     def posted(address: str, body: bytes, kind: str) -> str:
         request = urllib.request.Request(base + address, body, {"Content-Type": kind})
         with opened.open(request) as answer:
-            return f"{answer.url.removeprefix(base)}\n{answer.read().decode()}"
+            return f"{answer.geturl().removeprefix(base)}\n{answer.read().decode()}"
 
     with opened.open(f"{base}/sheet") as answer:
         found = re.search(r'name="csrf_token" value="([^"]+)"', answer.read().decode())
@@ -103,6 +114,22 @@ def test_rooms(tmp_path: pathlib.Path, monkeypatch: pytest.MonkeyPatch) -> None:
     assert not [*tmp_path.iterdir()]
 
 
+def test_rooms_at_once(tmp_path: pathlib.Path, monkeypatch: pytest.MonkeyPatch) -> None:
+    """A desk that is opened while another one makes its folder leaves it there."""
+    monkeypatch.setattr(tempfile, "tempdir", str(tmp_path))
+    lock, seen = fcntl.flock, list[pathlib.Path]()
+
+    def late(*values: Any) -> None:
+        monkeypatch.setattr(fcntl, "flock", lock)
+        with room() as path:
+            seen.append(path)
+        lock(*values)
+
+    monkeypatch.setattr(fcntl, "flock", late)
+    with room() as path:
+        assert seen and [*tmp_path.iterdir()] == [path]
+
+
 def test_this_machine_alone() -> None:
     """Nobody else's machine reaches the desk."""
     with bound(ADDRESS, 0, "") as listening:
@@ -111,8 +138,7 @@ def test_this_machine_alone() -> None:
 
 def test_port(society_desk: Desk) -> None:
     """A port may be named; one that is taken, and one that there isn't, is told."""
-    with socket.create_server(("127.0.0.1", 0)) as taken:
-        port = taken.getsockname()[1]
+    with socket.create_server(("127.0.0.1", port := free_port())):
         society_desk.wrong(f"port {port} can't be used", "open", "--no-browser", "--port", str(port))
     society_desk.wrong("there is no port 65536", "open", "--no-browser", "--port", "65536")
     server = Server(society_desk.room, society_desk.program, "--port", str(port))

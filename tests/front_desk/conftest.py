@@ -1,13 +1,32 @@
 """Folders with the front desk in them, and books that are taken already."""
 from __future__ import annotations
 
+import datetime
 import itertools
 import pathlib
+import time
 
 import pytest
 
 from front_desk.desk import TOP, Desk, NewDesk
 from front_desk.sheet import Secretary, sheet_text
+
+# so long a test with today in it may take, in seconds
+BEFORE_MIDNIGHT = 180
+
+
+@pytest.fixture
+def today(monkeypatch: pytest.MonkeyPatch) -> datetime.date:
+    """That of all of a test: where a day is about to end the next one is waited for. The front desk isn't told of another
+    place's time."""
+    monkeypatch.delenv("TZ", raising=False)
+    time.tzset()
+    now = datetime.datetime.now()
+    midnight = datetime.datetime.combine(now.date() + datetime.timedelta(1), datetime.time())
+    left = (midnight - now).total_seconds()
+    if left < BEFORE_MIDNIGHT:
+        time.sleep(left + 1)
+    return datetime.date.today()
 
 
 @pytest.fixture

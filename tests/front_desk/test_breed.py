@@ -142,10 +142,9 @@ def test_plan_assumes(secretary_desk: Desk) -> None:
     assert max(map(used.count, used)) <= int(said[1]) < len(plan)
 
 
-def test_plan_assumes_an_age(desk: Desk) -> None:
+def test_plan_assumes_an_age(desk: Desk, today: datetime.date) -> None:
     """Young animals are left out: those of a year, or those that are younger than parents of the book were; animals that
     are named are taken, and so are those of which no birth year is known."""
-    today = datetime.date.today()
 
     def before(days: int) -> datetime.date:
         return today - datetime.timedelta(days)

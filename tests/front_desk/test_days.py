@@ -8,8 +8,6 @@ import pytest
 from front_desk.desk import Desk
 
 TITLES = "id;sex;birth;sire;dam;exit\n"
-TODAY = datetime.date.today()
-NEXT_MONTH = TODAY + datetime.timedelta(days=40)
 
 DAYS = {
     "3. April 2010": "2010-04-03",
@@ -81,21 +79,22 @@ def test_no_day_shows_the_order(desk: Desk) -> None:
     assert told not in desk.take(TITLES + "a;F;03/04/2001;;;\nb;F;25/05/2004;;;\n").out
 
 
-def test_days_after_today(desk: Desk) -> None:
+def test_days_after_today(desk: Desk, today: datetime.date) -> None:
     """A birth or an exit after today is left out, and told, and no day that is inferred is after today."""
+    next_month = today + datetime.timedelta(40)
     done = desk.take(
         TITLES
-        + f"a;F;2062-03-01;;;\nb;F;2001-03-01;;;{NEXT_MONTH}\nc;F;{TODAY};;b;{TODAY}\nd;F;{TODAY.year};;;{TODAY.year}\n"
-        f"e;F;;;c;\nf;F;;;b;\nh;M;{TODAY - datetime.timedelta(40)};;;\ni;F;;h;;\n"
+        + f"a;F;2062-03-01;;;\nb;F;2001-03-01;;;{next_month}\nc;F;{today};;b;{today}\nd;F;{today.year};;;{today.year}\n"
+        f"e;F;;;c;\nf;F;;;b;\nh;M;{today - datetime.timedelta(40)};;;\ni;F;;h;;\n"
     )
     done.tells(
         "line 2: a: its birth day is left out: 2062-03-01 is after today",
-        f"line 3: b: its exit is left out: {NEXT_MONTH} is after today",
+        f"line 3: b: its exit is left out: {next_month} is after today",
     )
-    assert all(day <= str(TODAY) for day in desk.born().values())
+    assert all(day <= str(today) for day in desk.born().values())
     left = {line.split(",")[1]: line.split(",")[2] for line in desk.commands() if line.startswith("exit")}
     ids = {number: id for id, number in desk.numbers().items()}
-    assert {ids[number]: day for number, day in left.items()} == {"c": str(TODAY), "d": str(TODAY)}
+    assert {ids[number]: day for number, day in left.items()} == {"c": str(today), "d": str(today)}
     exits = {row["id"]: row["exit"] for row in desk.table("book/ids.csv")}
     assert exits["b"] == ""
 

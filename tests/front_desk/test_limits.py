@@ -1,10 +1,11 @@
 """The program is always run with a limit of memory and of time, and what it leaves then is told."""
 from __future__ import annotations
 
-import os
 import pathlib
 import signal
+import subprocess
 import sys
+from typing import Any
 
 import pytest
 
@@ -12,21 +13,30 @@ from front_desk.desk import TOP, Desk
 from society import herdbook
 from society.mistake import Mistake
 
+LIMITS = (herdbook.MOST_BYTES, herdbook.MOST_SECONDS)
+# they are set from outside, and waited for
+SEEN = f"""
+import os, resource, sys, time
+until, limits = time.monotonic() + 60, ()
+while limits != {LIMITS} and time.monotonic() < until:
+    limits = tuple(resource.getrlimit(one)[0] for one in (resource.RLIMIT_AS, resource.RLIMIT_CPU))
+    time.sleep(0.01)
+"""
 # takes more memory than it may, and says so as the program does
-HUNGRY = """
-import sys
+HUNGRY = f"""{SEEN}
 try:
-    eaten = bytearray({bytes})
+    eaten = bytearray({herdbook.MOST_BYTES + (1 << 30)})
 except MemoryError:
     sys.exit("herdbook: no memory")
 """
-# says who it is, and is then never done: in the one it waits, in the other it has no end of work
-WAITING = "import os, time; print(os.getpid(), flush=True, file=open('process', 'w')); time.sleep(60)"
-BUSY = "import os; print(os.getpid(), flush=True, file=open('process', 'w'))\nwhile True: pass"
-# writes the limits that it has, once they are set, and is the program then
-TELLING = "import os, resource, sys, time; time.sleep(0.2); {tell}; os.execv({program!r}, [{program!r}, *sys.argv[1:]])"
-LIMITS = "print(*(resource.getrlimit(one)[0] for one in {kinds}), file=open({told!r}, 'a'))"
-KINDS = "(resource.RLIMIT_AS, resource.RLIMIT_CPU)"
+# writes its limits, and is the program then
+TELLING = f"""{SEEN}
+print(*limits, file=open("limits", "a"))
+os.execv("PROGRAM", ["PROGRAM", *sys.argv[1:]])
+"""
+# is never done: in the one it waits, in the other it has no end of work
+WAITING = "import time; time.sleep(600)"
+BUSY = "while True: pass"
 # a call of each kind that asks the program
 CALLS = [
     ["take", "--pedigree", str(TOP / "examples/mrode.txt"), "--book", "other"],
@@ -47,16 +57,13 @@ def stand_in(room: pathlib.Path, text: str) -> str:
 @pytest.mark.parametrize("words", CALLS, ids=[words[0] for words in CALLS])
 def test_limits(mrode_desk: Desk, program: str, words: list[str]) -> None:
     """Each run of the program has both."""
-    told = mrode_desk.room / "limits"
-    tell = LIMITS.format(kinds=KINDS, told=str(told))
-    done = mrode_desk.run(*words, program=stand_in(mrode_desk.room, TELLING.format(tell=tell, program=program)))
+    done = mrode_desk.run(*words, program=stand_in(mrode_desk.room, TELLING.replace("PROGRAM", program)))
     assert done.status == 0, f"{words}: {done}"
-    limits = {tuple(map(int, line.split())) for line in told.read_text().splitlines()}
-    assert limits == {(herdbook.MOST_BYTES, herdbook.MOST_SECONDS)}
+    assert {tuple(map(int, line.split())) for line in mrode_desk.text("limits").splitlines()} == {LIMITS}
 
 
 def test_too_much_memory(mrode_desk: Desk) -> None:
-    hungry = stand_in(mrode_desk.room, HUNGRY.format(bytes=herdbook.MOST_BYTES + (1 << 30)))
+    hungry = stand_in(mrode_desk.room, HUNGRY)
     before = mrode_desk.files()
     done = mrode_desk.run("undo", program=hungry)
     told = f"no memory (it may use {herdbook.MOST_BYTES >> 30} GB of memory). Nothing is changed"
@@ -70,10 +77,17 @@ def test_too_long(text: str, tmp_path: pathlib.Path, monkeypatch: pytest.MonkeyP
     monkeypatch.chdir(tmp_path)
     monkeypatch.setenv("HERDBOOK", stand_in(tmp_path, text))
     monkeypatch.setattr(herdbook, "MOST_SECONDS", 2)
+    begun, start = list[subprocess.Popen[bytes]](), herdbook.Herdbook.start
+
+    def kept(*values: Any) -> subprocess.Popen[bytes]:
+        begun.append(start(*values))
+        return begun[-1]
+
+    monkeypatch.setattr(herdbook.Herdbook, "start", kept)
     with pytest.raises(Mistake, match="was ended, since it wasn't done after 0 minutes: .* Nothing is changed"):
         herdbook.Herdbook().run(["file"], b"")
-    with pytest.raises(ProcessLookupError):
-        os.kill(int((tmp_path / "process").read_text()), 0)
+    (process,) = begun
+    assert process.returncode is not None and process.stdout and process.stdout.closed
 
 
 def test_no_end_of_work(tmp_path: pathlib.Path, monkeypatch: pytest.MonkeyPatch) -> None:

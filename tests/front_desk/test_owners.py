@@ -7,8 +7,6 @@ from front_desk.desk import CALLED, Desk
 
 TITLES = "id;sex;birth;sire;dam;owner;exit\n"
 PARENTS = "s;M;2001-03-01;;;Meier;\nd;F;2001-03-02;;;Meier;\n"
-TODAY = datetime.date.today()
-LAST_WEEK = TODAY - datetime.timedelta(7)
 
 
 def transfers(desk: Desk) -> list[str]:
@@ -23,16 +21,17 @@ def since(desk: Desk, id: str) -> str:
     return words[1].split("Pedigree")[0].strip()
 
 
-def test_owner_changed_and_then_an_exit_before(desk: Desk) -> None:
+def test_owner_changed_and_then_an_exit_before(desk: Desk, today: datetime.date) -> None:
     """The day of a change is inferred, and gives way to an exit of last week."""
+    last_week = today - datetime.timedelta(7)
     desk.take(TITLES + PARENTS)
     desk.take(TITLES + PARENTS.replace("d;F;2001-03-02;;;Meier", "d;F;2001-03-02;;;Groß"))
-    assert transfers(desk) == [str(TODAY)]
-    assert since(desk, "d") == f"{TODAY} (inferred)"
-    done = desk.take(TITLES + PARENTS.replace("d;F;2001-03-02;;;Meier;", f"d;F;2001-03-02;;;Groß;{LAST_WEEK}"))
+    assert transfers(desk) == [str(today)]
+    assert since(desk, "d") == f"{today} (inferred)"
+    done = desk.take(TITLES + PARENTS.replace("d;F;2001-03-02;;;Meier;", f"d;F;2001-03-02;;;Groß;{last_week}"))
     assert " 0 left out" in done.last
-    assert transfers(desk) == [str(LAST_WEEK)]
-    assert desk.commands()[-1].startswith(f"exit,HOLGBRF000000000002,{LAST_WEEK}")
+    assert transfers(desk) == [str(last_week)]
+    assert desk.commands()[-1].startswith(f"exit,HOLGBRF000000000002,{last_week}")
 
 
 def test_birth_corrected_past_a_transfer(desk: Desk) -> None:
@@ -47,7 +46,7 @@ def test_birth_corrected_past_a_transfer(desk: Desk) -> None:
     assert transfers(desk) == ["2006-03-02"]
 
 
-def test_day_of_a_change_has_a_column(desk: Desk) -> None:
+def test_day_of_a_change_has_a_column(desk: Desk, today: datetime.date) -> None:
     """It is that of the sheet; an inferred one gives way to it, and one after today isn't yet."""
     titles = TITLES.replace("owner", "Besitzer seit;owner")
 
@@ -56,21 +55,21 @@ def test_day_of_a_change_has_a_column(desk: Desk) -> None:
 
     desk.take(TITLES + PARENTS)
     desk.take(TITLES + PARENTS.replace("d;F;2001-03-02;;;Meier", "d;F;2001-03-02;;;Groß"))
-    assert transfers(desk) == [str(TODAY)]
+    assert transfers(desk) == [str(today)]
     done = desk.take(sheet("03.04.2010", "Groß"))
     assert transfers(desk) == ["2010-04-03"]
     assert since(desk, "d") == "2010-04-03"
     desk.take(sheet("01.05.2012", "Weiß"))
     assert transfers(desk) == ["2010-04-03", "2012-05-01"]
-    done = desk.take(sheet(f"{TODAY + datetime.timedelta(9)}", "Löw"))
+    done = desk.take(sheet(f"{today + datetime.timedelta(9)}", "Löw"))
     assert "its first day with its owner is left out" in done.out
     assert len(transfers(desk)) == 2
     assert " 0 changed" in done.last
     # of a month or a year that hasn't ended it is no day after today
-    desk.take(sheet(str(TODAY.year), "Löw"))
-    assert transfers(desk)[2:] == [str(TODAY)]
-    assert " 0 left out" in desk.take(sheet(str(TODAY), "Süß")).last
-    assert transfers(desk)[2:] == [str(TODAY)] * 2
+    desk.take(sheet(str(today.year), "Löw"))
+    assert transfers(desk)[2:] == [str(today)]
+    assert " 0 left out" in desk.take(sheet(str(today), "Süß")).last
+    assert transfers(desk)[2:] == [str(today)] * 2
 
 
 def test_day_before_an_inferred_one(desk: Desk) -> None:

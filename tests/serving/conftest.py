@@ -6,6 +6,7 @@ from collections.abc import Iterator
 
 import pytest
 
+from desk.server import none_left
 from desk.site import HOST
 from front_desk.conftest import desk, new_desk, society_desk, taken_society
 from front_desk.desk import Desk
@@ -13,7 +14,7 @@ from serving.visitor import Served, Visitor, served_of, with_accounts
 from society.serving import passwords
 from society.serving.way import Way
 
-__all__ = ["desk", "new_desk", "society_desk", "taken_society"]
+__all__ = ["desk", "new_desk", "none_left", "society_desk", "taken_society"]
 
 
 @pytest.fixture

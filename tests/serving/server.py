@@ -2,54 +2,38 @@
 from __future__ import annotations
 
 import http.client
-import os
 import pathlib
 import re
 import signal
-import subprocess
 import tempfile
 import urllib.parse
 
+from desk.server import SECONDS, Running
 from front_desk.desk import TOP
 from serving.visitor import WORD
 from society.desk.forms import new_form
 
-SECONDS = 60
 TOKEN = re.compile(r'name="csrf_token" value="([^"]+)"')
 
 
-class Server:
+class Server(Running):
     """The word `serve`, until it is ended."""
 
     def __init__(self, room: pathlib.Path, program: str, *words: str, port: int = 0) -> None:
-        known = {"PATH": os.environ["PATH"], "HERDBOOK": program, "LANG": "C"}
-        command = [str(TOP / "society/society"), "serve", "--listen", f"127.0.0.1:{port}", *words]
         self.log = tempfile.TemporaryFile("w+", encoding="utf-8")
-        self.process = subprocess.Popen(
-            command, cwd=room, env=known, stdout=subprocess.PIPE, stderr=self.log, text=True
-        )
-        assert self.process.stdout
-        told = self.process.stdout.readline()
-        found = re.match(r"The desk answers at (https?)://([^/]+)/; Ctrl-C or SIGTERM ends it\.", told)
-        assert found, f"{told}{self.logged()}"
+        command = [str(TOP / "society/society"), "serve", "--listen", f"127.0.0.1:{port}", *words]
+        super().__init__(room, program, command, self.log)
+        found = re.match(r"The desk answers at (https?)://([^/]+)/; Ctrl-C or SIGTERM ends it\.", self.said)
+        assert found, f"{self.said}{self.logged()}"
         self.host = found[2]
         self.port = int(self.host.rpartition(":")[2]) if ":" in self.host else port
 
     def logged(self) -> str:
-        self.log.flush()
         with open(f"/proc/self/fd/{self.log.fileno()}", encoding="utf-8") as file:
             return file.read()
 
     def end(self, how: signal.Signals = signal.SIGTERM) -> str:
-        """What it printed last; it ends well."""
-        self.process.send_signal(how)
-        told = self.process.communicate(timeout=SECONDS)[0]
-        assert self.process.returncode == 0, self.logged()
-        return told
-
-    def kill(self) -> None:
-        self.process.kill()
-        self.process.communicate()
+        return super().end(how)
 
 
 class Browser:

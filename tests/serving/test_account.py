@@ -6,9 +6,11 @@ import pty
 import re
 import signal
 import socket
+import threading
 
 import pytest
 
+from desk.server import SECONDS, free_port
 from desk.site import shown
 from front_desk.desk import TOP, Desk
 from serving.server import Browser, Server
@@ -28,6 +30,8 @@ def typed(desk: Desk, words: list[str], *lines: str) -> tuple[int, str]:
             str(TOP / "society/society"), ["society", *words], {"PATH": os.environ["PATH"], "HERDBOOK": desk.program}
         )
     shown_there, left = "", list(lines)
+    late = threading.Timer(SECONDS, os.kill, (child, signal.SIGKILL))
+    late.start()
     while True:
         try:
             text = os.read(terminal, 4096).decode()
@@ -36,6 +40,7 @@ def typed(desk: Desk, words: list[str], *lines: str) -> tuple[int, str]:
         shown_there += text
         if text.rstrip().endswith(":") and left:
             os.write(terminal, f"{left.pop(0)}\n".encode())
+    late.cancel()
     _, status = os.waitpid(child, 0)
     os.close(terminal)
     return os.waitstatus_to_exitcode(status), shown_there
@@ -99,7 +104,7 @@ def test_where(society_desk: Desk, cheap: None) -> None:
 def test_ends(society_desk: Desk, cheap: None, how: signal.Signals) -> None:
     """It ends well by SIGTERM and by Ctrl-C, and who is logged in is so still when it is started again."""
     Accounts(society_desk.room / "book").add("Kim", AccountRole.KEEPER, WORD, WORD)
-    server = Server(society_desk.room, society_desk.program)
+    server = Server(society_desk.room, society_desk.program, port=free_port())
     kim = Browser(server, "Kim")
     assert kim.post("/file/exit", id="GK-17/472c", day="2024-05-01")[1] == "/answer/2"
     assert server.end(how).splitlines() == ["The desk is closed."]
@@ -124,7 +129,7 @@ def test_odd_requests(society_desk: Desk, cheap: None) -> None:
                     b"POST /login HTTP/1.1\r\nHost: %s\r\nContent-Length: 99999999999\r\n\r\n" % server.host.encode(),
                     b"TRACE / HTTP/1.1\r\nHost: %s\r\n\r\n" % server.host.encode(),
                     b"POST /login HTTP/1.1\r\nHost: %s\r\nTransfer-Encoding: chunked\r\nContent-Length: 3\r\n\r\n0\r\n\r\n" % server.host.encode()):  # fmt: skip
-        with socket.create_connection(("127.0.0.1", server.port), timeout=10) as connection:
+        with socket.create_connection(("127.0.0.1", server.port), timeout=SECONDS) as connection:
             connection.sendall(request)
             connection.shutdown(socket.SHUT_WR)
             answer = b""

@@ -3,6 +3,7 @@ killed in the midst."""
 from __future__ import annotations
 
 import contextlib
+import dataclasses
 import pathlib
 import random
 import sqlite3
@@ -94,16 +95,17 @@ def all_at_work(desk: Desk, plan: Plan) -> Work:
 
 
 def killed_at_work(desk: Desk, plan: Plan) -> Work:
-    """The server is killed when half is answered, and started again."""
+    """The server is killed when half is answered, and started again. However late it is killed, more is to be filed."""
     server, half = Server(desk.room, desk.program), plan.clerks * plan.commands // 2
-    work = at_work(server, plan, animals_of(desk.room), until=lambda work: len(work.answered) >= half)
+    endless = dataclasses.replace(plan, commands=plan.commands * 1000)
+    work = at_work(server, endless, animals_of(desk.room), until=lambda work: len(work.answered) >= half)
     again = Server(desk.room, desk.program)
     clerk = Browser(again, "clerk 0")
     status, to, _ = clerk.post("/file/birth", id="AFTERWARDS", sex="M", day="2025-01-01")
     assert status == 302
     again.end()
     after: Sent = ("birth", {"id": "AFTERWARDS", "sex": "M", "day": "2025-01-01"})
-    assert half <= len(work.answered) < plan.clerks * plan.commands
+    assert half <= len(work.answered) < endless.clerks * endless.commands
     work.open.append(after)
     stands_once(desk, work, all_are_answered=False)
     return work

@@ -1,17 +1,16 @@
 """The examples for whoever sets a server up: the unit for systemd, and the proxy."""
 from __future__ import annotations
 
-import os
 import pathlib
 import re
 import shutil
 import signal
 import socket
 import subprocess
-import time
 
 import pytest
 
+from desk.server import SECONDS, Running, free_port
 from front_desk.desk import TOP, Desk
 from serving.visitor import WORD
 from society.desk.forms import new_form
@@ -21,15 +20,9 @@ from society.serving.accounts import Accounts
 EXAMPLES = TOP / "examples/serving"
 UNIT = (EXAMPLES / "herdbook.service").read_text(encoding="utf-8")
 NAME = "herdbook.example.org"
-SECONDS = 60
 
 
-def free_port() -> int:
-    with socket.create_server(("127.0.0.1", 0)) as taken:
-        return int(taken.getsockname()[1])
-
-
-def started_as_unit(desk: Desk, port: int, name: str = NAME) -> subprocess.Popen[str]:
+def started_as_unit(desk: Desk, port: int, name: str = NAME) -> Running:
     """What the unit starts, with a folder, a port and a name of the test's own."""
     Accounts(desk.room / "book").add("Kim", AccountRole.KEEPER, WORD, WORD)
     begun = re.search(r"^ExecStart=(.*)$", UNIT, re.MULTILINE)
@@ -44,21 +37,18 @@ def started_as_unit(desk: Desk, port: int, name: str = NAME) -> subprocess.Popen
     for before, after in own.items():
         assert any(before in word for word in words)
         words = [word.replace(before, after) for word in words]
-    known = {"PATH": os.environ["PATH"], "HERDBOOK": desk.program}
-    process = subprocess.Popen(words, env=known, stdout=subprocess.PIPE, stderr=subprocess.DEVNULL, text=True)
-    assert process.stdout
-    assert process.stdout.readline() == f"The desk answers at https://{name}/; Ctrl-C or SIGTERM ends it.\n"
-    return process
+    server = Running(desk.room, desk.program, words)
+    assert server.said == f"The desk answers at https://{name}/; Ctrl-C or SIGTERM ends it.\n"
+    return server
 
 
 def test_unit(society_desk: Desk, cheap: None) -> None:
     """The unit's command serves the book to its proxy alone, and ends by SIGTERM, which goes to the server alone."""
-    process = started_as_unit(society_desk, port := free_port())
+    server = started_as_unit(society_desk, port := free_port())
     with socket.create_connection(("127.0.0.1", port), timeout=SECONDS) as connection:
         connection.sendall(f"GET / HTTP/1.0\r\nHost: {NAME}\r\n\r\n".encode())
         assert connection.recv(4096).startswith(b"HTTP/1.0 403")
-    process.send_signal(signal.SIGTERM)
-    assert process.communicate(timeout=SECONDS)[0] == "The desk is closed.\n" and process.returncode == 0
+    assert server.end(signal.SIGTERM) == "The desk is closed.\n"
     assert "KillMode=mixed" in UNIT and "User=herdbook" in UNIT
 
 
@@ -76,7 +66,7 @@ def test_unit_as_systemd_reads_it(tmp_path: pathlib.Path) -> None:
 
 def curl(room: pathlib.Path, port: int, path: str, *words: str) -> str:
     """What a browser is answered by the proxy, with the headers."""
-    command = ["curl", "-sik", "-b", "cookies", "-c", "cookies", "--resolve", f"{NAME}:{port}:127.0.0.1", *words]
+    command = ["curl", "-sik", "-b", "cookies", "-c", "cookies", "--retry", "60", "--retry-connrefused", "--resolve", f"{NAME}:{port}:127.0.0.1", *words]
     return subprocess.run(
         [*command, f"https://{NAME}:{port}{path}"], cwd=room, capture_output=True, text=True, check=True
     ).stdout
@@ -115,7 +105,6 @@ def test_proxy(society_desk: Desk, cheap: None, tmp_path: pathlib.Path) -> None:
         ["nginx", "-p", str(tmp_path), "-c", str(tmp_path / "nginx.conf"), "-e", str(tmp_path / "errors")]
     )
     try:
-        time.sleep(1)
         page = curl(tmp_path, port, "/login")
         assert "__Host-herdbook=" in page and "Secure" in page and "Strict-Transport-Security" in page
         token = page.partition('name="csrf_token" value="')[2].partition('"')[0]
@@ -144,6 +133,6 @@ def test_proxy(society_desk: Desk, cheap: None, tmp_path: pathlib.Path) -> None:
         assert " 301 " in plainly.stdout.splitlines()[0] and f"https://{NAME}/" in plainly.stdout
     finally:
         proxy.send_signal(signal.SIGTERM)
-        server.send_signal(signal.SIGTERM)
-        assert proxy.wait(SECONDS) == 0 and server.wait(SECONDS) == 0
+        server.end(signal.SIGTERM)
+        assert proxy.wait(SECONDS) == 0
     society_desk.good("verify")
