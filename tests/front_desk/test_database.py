@@ -15,6 +15,7 @@ import pytest
 from front_desk.desk import Desk
 from front_desk.whole import FLOCK, GROWN, changes_of, run
 from society.book import book_changed, database, schema
+from society.book.exports import refresh
 from society.mistake import Mistake
 
 # who has no rights: nobody
@@ -196,7 +197,14 @@ def test_only_to_be_read(flock_desk: Desk, open_room: pathlib.Path) -> None:
 def test_exports(flock_desk: Desk) -> None:
     """Exports that were changed or are missing are written again, and never read."""
     kept = {name: flock_desk.text(f"book/{name}") for name in ("commands.csv", "ids.csv", "report.csv")}
-    assert all(row["change"] == "1" for row in flock_desk.table("book/ids.csv"))
+    rows = flock_desk.table("book/ids.csv")
+    assert all(row["change"] == "1" for row in rows)
+    # by their digits, whatever their sexes are
+    assert [row["number"][7:] for row in rows] == sorted(row["number"][7:] for row in rows)
+    # those that are as they were aren't written anew
+    files = [(flock_desk.room / "book" / name).stat().st_ino for name in kept]
+    assert refresh(flock_desk.room / "book", 0) == ""
+    assert [(flock_desk.room / "book" / name).stat().st_ino for name in kept] == files
     flock_desk.write("book/commands.csv", "changed")
     flock_desk.good("list")
     assert {name: flock_desk.text(f"book/{name}") for name in kept} == kept

@@ -1,10 +1,19 @@
 """A folder of version 0.11 is taken over on the first call, with the same numbers."""
 from __future__ import annotations
 
+import fcntl
+import os
+import pathlib
+import subprocess
+
 import pytest
 
 from front_desk.desk import Desk
 from front_desk.old_folder import FILES, LIST, SHEET, write_old
+from front_desk.whole import changes_of, ended, start
+from society.book import old_folder
+from society.book.old_names import is_old
+from society.herdbook import Herdbook
 
 
 @pytest.fixture
@@ -26,6 +35,7 @@ def test_taken_over(old_desk: Desk) -> None:
         "book.sqlite", "commands.csv", "ids.csv", "old", "report.csv"
     ]  # fmt: skip
     assert old_desk.text("book/commands.csv") == FILES["commands.csv"]
+    assert not is_old(old_desk.room / "book")
     assert "took over the folder of version 0.11" in old_desk.good("history").out
     assert "is whole" in old_desk.good("verify").out
     # one that was dropped isn't there, and has its digits again where it is born; a later file of an old name stays
@@ -43,17 +53,52 @@ def test_taken_after_it(old_desk: Desk) -> None:
     assert old_desk.text("book/old/ids.csv") == FILES["ids.csv"]
 
 
+def test_commands_of_others(old_desk: Desk) -> None:
+    """An animal that the commands have is in the book: it is gone where `ids.csv` has it as dropped, and has its number
+    as its id where that doesn't name it; letters in a number are no digits that others go on from."""
+    births = "".join(f"birth,SKUGBRF{digits},2003-01-01,0,0,,1,\n" for digits in ("000000000003", "0000000000Z9"))
+    old_desk.write("book/commands.csv", FILES["commands.csv"] + births)
+    done = old_desk.good("list")
+    assert "animals without a row in the sheet: 2 (g, x): added as parents, or gone" in done.err
+    assert "SKUGBRF0000000000Z9,,SKUGBRF0000000000Z9," in done.out
+    assert "n (SKUGBRM000000000008)" in old_desk.good("birth", "n", "--sex", "m", "--day", "2012-01-01").out
+
+
+def test_two_first_calls_at_once(old_desk: Desk, monkeypatch: pytest.MonkeyPatch) -> None:
+    """While one takes the folder over the other waits, and finds the book."""
+    others: list[subprocess.Popen[bytes]] = []
+    read = old_folder.read
+
+    def read_while_another_comes(folder: pathlib.Path, program: Herdbook) -> old_folder.OldBook:
+        others.append(start(old_desk, "list"))
+        descriptor = os.open(folder, os.O_RDONLY)
+        with pytest.raises(BlockingIOError):
+            fcntl.flock(descriptor, fcntl.LOCK_EX | fcntl.LOCK_NB)
+        os.close(descriptor)
+        return read(folder, program)
+
+    monkeypatch.setattr(old_folder, "read", read_while_another_comes)
+    monkeypatch.setenv("HERDBOOK", old_desk.program)
+    old_folder.take_over(old_desk.room / "book", Herdbook())
+    assert [ended(one).out for one in others] == [LIST] and changes_of(old_desk.room / "book") == 1
+
+
 @pytest.mark.parametrize(("name", "text", "told"), [
     ("commands.csv", FILES["commands.csv"] + "exit,HOLGBRF000000000009,2001-01-01,,,,,\n",
      "book/commands.csv: command 8 is refused: it isn't in the book (refusal 11). Somebody has changed this file"),
     ("commands.csv", FILES["commands.csv"] + "exit,SKUGBRF000000000001,2001-02-30,,,,,\n",
      "the program `herdbook file` can't do it: record 8: fault 5 Day. Somebody has changed the command file"),
+    ("commands.csv", None, "the folder book has files of version 0.11, and no commands.csv: restore it"),
     ("commands.csv", "birth\n", "book/commands.csv: line 1 isn't the header of a command file"),
+    ("commands.csv", FILES["commands.csv"][:-8], "book/commands.csv: line 8 has 3 cells, not 8: mend it, or restore"),
     ("ids.csv", "number\n", "book/ids.csv is missing or was changed"),
     ("owners.csv", "herd,owner\nx,y\n", "book/owners.csv is missing or was changed"),
+    ("options.csv", "option,word\nx,y\n", "book/options.csv is missing or was changed"),
 ])  # fmt: skip
-def test_changed_by_somebody(old_desk: Desk, name: str, text: str, told: str) -> None:
-    old_desk.write(f"book/{name}", text.encode())
+def test_changed_by_somebody(old_desk: Desk, name: str, text: str | None, told: str) -> None:
+    (old_desk.room / "book" / name).unlink()
+    if text is not None:
+        old_desk.write(f"book/{name}", text.encode())
     old_desk.wrong(told, "list")
 
 
