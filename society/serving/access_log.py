@@ -11,7 +11,7 @@ from typing import TextIO
 from flask import Flask, g, request
 from flask.wrappers import Response
 
-from society.book.cells import for_terminals
+from society.book.cells import escape, for_terminals
 from society.desk.people import the_person
 
 # what stands before the name of a part of an address, as `int:`
@@ -42,7 +42,8 @@ class AccessLog:
         now = datetime.datetime.now(datetime.timezone.utc)
         # nobody's work ends where the log can't be written
         with self.lock, contextlib.suppress(OSError, ValueError):
-            print(f"{now:%Y-%m-%dT%H:%M:%SZ} {for_terminals(what)}", file=self.out, flush=True)
+            line = for_terminals(what).replace("\n", escape("\n"))
+            print(f"{now:%Y-%m-%dT%H:%M:%SZ} {line}", file=self.out, flush=True)
 
 
 def begin() -> None:

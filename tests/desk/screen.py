@@ -1,5 +1,5 @@
-"""Pages in Chromium, and who uses them: what is needed is waited for, also while a page is left for another on a machine
-that is slow, and nothing is sent twice."""
+"""Pages in Chromium, and who uses them: what is needed is waited for, also where a page is left for another on a slow
+machine, and nothing is sent twice."""
 from __future__ import annotations
 
 import contextlib

@@ -118,7 +118,8 @@ def test_typing(chromium: webdriver.Chrome, society_desk: Desk) -> None:
     secretary.fills("words", "mill 47")
     secretary.sees("2 animals")
     secretary.is_shown("location.search.includes('words=mill+47')", True)
-    secretary.is_shown("[...document.querySelectorAll('tbody th')].map(one => one.innerText)", ["GK-03/142c", "GK-16/433c"])
+    rows = "[...document.querySelectorAll('tbody th')].map(one => one.innerText)"
+    secretary.is_shown(rows, ["GK-03/142c", "GK-16/433c"])
     secretary.opens("/file/birth")
     secretary.fills("id", "NEW-1")
     secretary.does('//input[@name="sex"][@value="F"]', lambda field: field.send_keys(Keys.SPACE))
@@ -159,7 +160,8 @@ def test_findings_on_a_telephone(chromium: webdriver.Chrome, society_desk: Desk)
     secretary.becomes_small()
     secretary.opens("/history/1")
     secretary.reads("document.querySelectorAll('details').forEach(one => one.open = true)")
-    found = secretary.reads("[...document.querySelectorAll('html, .findings')].map(one => [one.scrollWidth, one.clientWidth])")
+    widths = "[...document.querySelectorAll('html, .findings')].map(one => [one.scrollWidth, one.clientWidth])"
+    found = secretary.reads(widths)
     assert isinstance(found, list) and len(found) > 2
     assert all(needed <= there <= PHONE["width"] for needed, there in found), found
     server.end()

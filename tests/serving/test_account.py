@@ -1,12 +1,14 @@
 """The words `account` and `serve`: who gets an account, and where the server listens."""
 from __future__ import annotations
 
+import logging
 import os
 import pty
 import re
 import signal
 import socket
 import threading
+from typing import NoReturn
 
 import pytest
 
@@ -15,8 +17,12 @@ from desk.site import shown
 from front_desk.desk import TOP, Desk
 from serving.server import Browser, Server
 from serving.visitor import WORD
+from society.desk.office import Office
 from society.desk.people import AccountRole
+from society.mistake import Mistake
 from society.serving.accounts import Accounts
+from society.serving.serve import serve
+from society.serving.way import Place
 
 OTHER = "another good word"
 
@@ -118,6 +124,24 @@ def test_ends(society_desk: Desk, cheap: None, how: signal.Signals) -> None:
         r"(\d{4}-\d\d-\d\dT\d\d:\d\d:\d\dZ 127\.0\.0\.1 Kim \(keeper\) \w+ /\S+ \d{3} \d+ms\n)+", log
     ), log
     society_desk.good("verify")
+
+
+def test_quiet(society_desk: Desk, cheap: None, monkeypatch: pytest.MonkeyPatch, caplog: pytest.LogCaptureFixture) -> None:
+    """What the server's own library says of a fault stands neither in an answer nor in the log."""
+    folder, given = society_desk.room / "book", dict[str, object]()
+    Accounts(folder).add("Kim", AccountRole.KEEPER, WORD, WORD)
+    monkeypatch.setenv("HERDBOOK", society_desk.program)
+    monkeypatch.setattr(logging.getLogger("waitress"), "propagate", True)
+
+    def create(_: object, **words: object) -> NoReturn:
+        given.update(words)
+        logging.getLogger("waitress").error("what somebody wrote")
+        raise Mistake("no server")
+
+    monkeypatch.setattr("society.desk.serving.create_server", create)
+    with pytest.raises(Mistake, match="no server"):
+        serve(folder, Office(), Place("127.0.0.1", 0), [], "")
+    assert given["expose_tracebacks"] is False and given["ident"] is None and not caplog.text
 
 
 def test_odd_requests(society_desk: Desk, cheap: None) -> None:

@@ -164,6 +164,16 @@ def test_login_over_elsewhere(served: Served) -> None:
     assert page.status_code == 401 and "secret word" not in page.get_data(as_text=True)
 
 
+def test_login_over_much(served: Served) -> None:
+    """Of a form so many fields are kept, each with so many letters, and of a very large one nothing."""
+    visitor = Visitor(served)
+    for count, length, kept in ((100, 10, 60), (3, 3_000, 3), (40, 3_000, 0)):
+        written = {f"field{at}": "x" * length for at in range(count)}
+        page = visitor.post("/file/birth", **written).get_data(as_text=True)
+        found = re.findall(r'name="kept-field\d+" value="(x*)"', page)
+        assert kept - 2 <= len(found) <= kept and all(len(text) == min(length, 2_000) for text in found)
+
+
 def test_backup(served: Served, society_desk: Desk) -> None:
     """Backups are made while others work, and the page says when the last one was made; the accounts aren't in it."""
     carl, ines = Visitor(served, "Carl"), Visitor(served, "Ines")

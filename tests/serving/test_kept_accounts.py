@@ -14,7 +14,7 @@ from society.mistake import Mistake
 from society.serving import passwords
 from society.serving.access_log import AccessLog
 from society.serving.accounts import A_DAY, Accounts
-from society.serving.throttle import FREE_BY_ADDRESS, FREE_BY_NAME, MOST, Throttle
+from society.serving.throttle import FREE_BY_ADDRESS, FREE_BY_NAME, MOST, SECONDS, Throttle
 
 KEEPER, CLERK = AccountRole.KEEPER, AccountRole.CLERK
 
@@ -100,6 +100,16 @@ def test_long_password(cheap: None) -> None:
     assert not passwords.fits(longest[:-1], kept)
 
 
+@pytest.mark.parametrize("password, is_taken", [
+    ("abcdefghi", False), ("abcdefghij", True), ("abcde" * 40, True), ("abcde" * 40 + "f", False),
+    ("abcdabcdabcd", False), ("abcdeabcdea", True), ("abcd of KIM.", False), ("abcde of KIM.", True),
+])  # fmt: skip
+def test_new_passwords(password: str, is_taken: bool) -> None:
+    """It has 10 to 200 letters, five of them different, and as many without a name that is in it."""
+    with contextlib.nullcontext() if is_taken else pytest.raises(Mistake):
+        assert passwords.checked(password, password, "Kim") == password
+
+
 def test_throttle_right() -> None:
     """Whoever knows one password of an address gives its guesses of others no new beginning."""
     throttle = Throttle(lambda: 0.0)
@@ -109,6 +119,15 @@ def test_throttle_right() -> None:
         assert throttle.begin("own", "1.1.1.1") == 0
         throttle.was_right("own", "1.1.1.1")
     assert throttle.begin("one", "1.1.1.1") == 0 and throttle.begin("other", "1.1.1.1") == 1
+
+
+def test_throttle_after_an_hour() -> None:
+    """What was guessed an hour ago counts no more."""
+    now = [0.0]
+    throttle = Throttle(lambda: now[0])
+    for hour in range(2):
+        now[0] = (SECONDS + 1) * hour
+        assert [throttle.begin("Carl", "1.1.1.1") for _ in range(FREE_BY_NAME + 1)] == [0] * FREE_BY_NAME + [1]
 
 
 def test_throttle_full() -> None:
@@ -128,6 +147,13 @@ def test_throttle_full() -> None:
     for at in range(FREE_BY_NAME):
         assert throttle.begin("Clara", f"3.3.3.{at}") == 0
     assert throttle.begin("Clara", "4.4.4.4") == 1
+
+
+def test_log_in_lines() -> None:
+    """Whatever is told is a line of its own, and does nothing to a terminal."""
+    out = io.StringIO()
+    AccessLog(out).tell("one\r\nforged \x1b[2J\u202ex")
+    assert out.getvalue().endswith("Z one\\x0d\\x0aforged \\x1b[2J\\u202ex\n")
 
 
 def test_log_that_is_full() -> None:

@@ -3,6 +3,7 @@ from __future__ import annotations
 
 import hashlib
 import hmac
+import threading
 import time
 from email.utils import parsedate_to_datetime
 
@@ -38,17 +39,22 @@ def test_in_and_out(served: Served) -> None:
 
 
 @pytest.mark.parametrize("name, password", [("Carl", "x"), ("Carl", ""), ("nobody", WORD), ("", ""), ("Carl", WORD + " "),
-                                            ("Carl", "x" * 5000), ("Kim' OR 1=1 --", WORD), ("Carl\0", WORD)])  # fmt: skip
+                                            ("Carl", "x" * 5000), ("Kim' OR 1=1 --", WORD), ("Carl\0", WORD), ("x" * 5000, WORD)])  # fmt: skip
 def test_wrong(served: Served, name: str, password: str) -> None:
-    """A wrong name and a wrong password are told alike."""
+    """A wrong name and a wrong password are told alike, and of a long name the beginning is kept in mind alone."""
     answer = Visitor(served).log_in(name, password)
     assert answer.status_code == 401 and WRONG in shown(answer.get_data(as_text=True))
+    assert all(len(text) <= 100 for _, text in served.gate.throttle.guesses)
 
 
 def test_kept(monkeypatch: pytest.MonkeyPatch) -> None:
     """A password is kept by scrypt with a salt of its own; it costs as much where there is no account."""
     one, other = passwords.kept_of(WORD), passwords.kept_of(WORD)
     assert one.digest == hashlib.scrypt(WORD.encode(), salt=one.salt, n=1 << 15, r=8, p=3, maxmem=1 << 27, dklen=32)
+    # few guesses at once need memory
+    assert [passwords.AT_ONCE.acquire(blocking=False) for _ in range(3)] == [True, True, False]
+    passwords.AT_ONCE.release(2)
+    monkeypatch.setattr(passwords, "AT_ONCE", turn := threading.Lock())
     assert len(one.salt) == 16 and one.salt != other.salt and one.digest != other.digest
     compared: list[object] = []
     costs: list[tuple[int, ...]] = []
@@ -59,7 +65,7 @@ def test_kept(monkeypatch: pytest.MonkeyPatch) -> None:
         return compare(*values)
 
     def seen_scrypt(text: bytes, *, salt: bytes, n: int, r: int, p: int, maxmem: int, dklen: int) -> bytes:
-        costs.append((n, r, p))
+        costs.append((n, r, p) if turn.locked() else ())
         return scrypt(text, salt=salt, n=n, r=r, p=p, maxmem=maxmem, dklen=dklen)
 
     monkeypatch.setattr(hmac, "compare_digest", seen_compare)
@@ -255,5 +261,7 @@ def test_file(served: Served) -> None:
     assert path.stat().st_mode & 0o777 == 0o600
     with Visitor(served, "Kim").client.session_transaction(base_url=f"http://{HOST}") as session:
         token = session["login"]
+    # cookies are signed with its key
+    assert served.app.config["SECRET_KEY"] == served.gate.accounts.key()
     assert WORD.encode() not in path.read_bytes() and token.encode() not in path.read_bytes()
     assert [(one.name, one.role) for one in served.gate.accounts.all()][1] == ("Clara", AccountRole.CLERK)

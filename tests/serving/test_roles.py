@@ -19,6 +19,11 @@ KEEPERS = {
     "accounts.remove",
     "restoring.page", "restoring.drop", "restoring.look", "restoring.bring_back", "restoring.under_way",
 }  # fmt: skip
+# what nobody does who only reads
+CLERKS = {
+    "sheet.page", "sheet.drop", "sheet.drop_example", "sheet.look", "sheet.choose", "sheet.take_suggestion", "sheet.take",
+    "sheet.taking", "sheet.leave", "history.backup", "filing.page", "filing.form", "filing.file",
+}  # fmt: skip
 OWN = {"login.leave", "login.change_password"}
 
 
@@ -58,7 +63,8 @@ def test_rules(served: Served) -> None:
     for rule, method in asked(served):
         if method == "POST" and rule.endpoint not in OWN and rule.endpoint not in OPEN_TO_ALL:
             assert LEAST[rule.endpoint].may(AccountRole.CLERK), rule
-    assert {endpoint for endpoint, least in LEAST.items() if least is AccountRole.KEEPER} == KEEPERS
+    for role, endpoints in (AccountRole.KEEPER, KEEPERS), (AccountRole.CLERK, CLERKS):
+        assert {endpoint for endpoint, least in LEAST.items() if least is role} == endpoints
 
 
 def test_without_rule(served: Served) -> None:

@@ -66,7 +66,8 @@ def test_unit_as_systemd_reads_it(tmp_path: pathlib.Path) -> None:
 
 def curl(room: pathlib.Path, port: int, path: str, *words: str) -> str:
     """What a browser is answered by the proxy, with the headers."""
-    command = ["curl", "-sik", "-b", "cookies", "-c", "cookies", "--retry", "60", "--retry-connrefused", "--resolve", f"{NAME}:{port}:127.0.0.1", *words]
+    waits = ["--retry", "60", "--retry-connrefused", "--resolve", f"{NAME}:{port}:127.0.0.1"]
+    command = ["curl", "-sik", "-b", "cookies", "-c", "cookies", *waits, *words]
     return subprocess.run(
         [*command, f"https://{NAME}:{port}{path}"], cwd=room, capture_output=True, text=True, check=True
     ).stdout

@@ -5,6 +5,7 @@ from __future__ import annotations
 import io
 import pathlib
 import re
+import tempfile
 from collections.abc import Iterator
 
 import pytest
@@ -31,7 +32,7 @@ FIELD = re.compile(r'name="([\w -]+)"|field\("([\w -]+)"|\.get\("(\w+)"')
 MORE_FIELDS = ("kept to", "kept-id", "kept-csrf_token", "column-id", "understood-id", "option", "word", "page", "secret")
 TEMPLATES = sorted((TOP / "society/desk/templates").glob("*.html"))
 # what a page or the log may not have of the machine and the program
-TOLD = ("Traceback", str(TOP), "/tmp/", "site-packages", "dist-packages", "sqlite3.", "root:x:0", "werkzeug", "jinja2")
+TOLD = ("Traceback", str(TOP), f"{tempfile.gettempdir()}/", "site-packages", "dist-packages", "sqlite3.", "root:x:0", "werkzeug", "jinja2")
 
 
 def fields() -> set[str]:

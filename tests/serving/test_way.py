@@ -110,6 +110,7 @@ def test_places() -> None:
             place_of(wrong)
     assert way_of(place_of("127.0.0.1:80"), [], "") == Way(("127.0.0.1:80", "localhost:80"))
     assert way_of(place_of("192.0.2.1:80"), ["Herd"], "") == Way(("192.0.2.1:80", "herd"))
+    assert way_of(place_of("0.0.0.0:80"), ["herd.example"], "") == Way(("herd.example",))
     assert way_of(place_of("127.0.0.1:80"), ["herd.example"], PROXY) == Way(("herd.example",), PROXY)
     for place, proxy in ("0.0.0.0:80", ""), ("[::]:80", ""), ("127.0.0.1:80", PROXY):
         with pytest.raises(Mistake, match="by which name"):
