@@ -27,7 +27,7 @@ PROGRAM = "herdbook"
 LINES = lines_of(TOP / "crates.txt")
 CRATES = closure(LINES, PROGRAM)
 BELOW = {name: named(LINES[name]) & CRATES for name in CRATES}
-SECONDS = 60
+SECONDS = 180
 
 # What stands in for rt. The file NAME.seconds says how long a crate takes, and with NAME.fails it isn't proved.
 STAND_IN = """#!/usr/bin/env python3
@@ -150,7 +150,7 @@ def heeds_signals() -> None:
 
 
 def ended(call: subprocess.Popen[str]) -> tuple[int, str, str]:
-    """The status of a call, and what it wrote. One that takes longer than a minute is killed."""
+    """The status of a call, and what it wrote. One that takes too long is killed."""
     try:
         out, err = call.communicate(timeout=SECONDS)
     except subprocess.TimeoutExpired:
@@ -175,7 +175,7 @@ def in_order(noted: list[tuple[str, str]]) -> bool:
 
 
 def wait_until(is_so: Callable[[], bool]) -> None:
-    """Waits until it is so, a minute at most."""
+    """Waits until it is so, some minutes at most."""
     until = time.monotonic() + SECONDS
     while not is_so() and time.monotonic() < until:
         time.sleep(0.05)

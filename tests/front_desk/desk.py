@@ -18,7 +18,7 @@ from typing import Callable
 TOP = pathlib.Path(__file__).resolve().parent.parent.parent
 # how the front desk is called
 CALLED = shlex.quote(str(TOP / "society/society"))
-SECONDS = 120
+SECONDS = 300
 
 
 @dataclasses.dataclass(frozen=True, repr=False)

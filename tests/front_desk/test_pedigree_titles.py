@@ -6,7 +6,7 @@ import subprocess
 
 import pytest
 
-from front_desk.desk import TOP, Desk
+from front_desk.desk import SECONDS, TOP, Desk
 
 # the same six animals, as eight programs write them: a calf of full sibs and what is not its parents' sexes
 BODY = [("a", "0", "0"), ("b", "0", "0"), ("c", "a", "b"), ("d", "a", "b"), ("e", "c", "d")]
@@ -83,8 +83,8 @@ def test_standard_input(desk: Desk, program: str) -> None:
     words = [str(TOP / "society/society"), "take", "--pedigree", "-"]
     env = {**os.environ, "HERDBOOK": program}
     given = "a 0 0\nb a 0\n"
-    done = subprocess.run(words, cwd=desk.room, env=env, input=given, capture_output=True, text=True, timeout=60)
+    done = subprocess.run(words, cwd=desk.room, env=env, input=given, capture_output=True, text=True, timeout=SECONDS)
     assert done.returncode == 0 and "standard input: the sexes and birth days of 2 animals" in done.stdout
     assert desk.parents() == {"a": ("", ""), "b": ("a", "")}
-    done = subprocess.run(words, cwd=desk.room, env=env, input="", capture_output=True, text=True, timeout=60)
+    done = subprocess.run(words, cwd=desk.room, env=env, input="", capture_output=True, text=True, timeout=SECONDS)
     assert done.returncode == 1 and "standard input has no animals" in done.stderr

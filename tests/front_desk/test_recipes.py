@@ -8,7 +8,7 @@ import sys
 
 import pytest
 
-from front_desk.desk import TOP, Desk
+from front_desk.desk import SECONDS, TOP, Desk
 
 # the solutions of Mrode's example 3.1 as printed (Linear Models for the Prediction of Animal Breeding Values, 2014)
 SOLUTIONS = {
@@ -35,7 +35,7 @@ def test_recipes_by_scipy(desk: Desk) -> None:
 
 def recipe(desk: Desk, name: str, *words: str) -> list[list[str]]:
     command = [sys.executable, str(TOP / "examples/recipes" / name), *words]
-    done = subprocess.run(command, cwd=desk.room, capture_output=True, text=True, timeout=60, check=True)
+    done = subprocess.run(command, cwd=desk.room, capture_output=True, text=True, timeout=SECONDS, check=True)
     return [line.split() for line in done.stdout.splitlines()]
 
 
@@ -112,6 +112,6 @@ def test_exported_society(society_desk: Desk) -> None:
 
 def read_by_r(desk: Desk) -> list[str]:
     """The coefficients of inbreeding that R computes from `all.txt`; it is seen that `inverse.mtx` fits them."""
-    done = subprocess.run(["Rscript", "-e", READ_BY_R], cwd=desk.room, capture_output=True, text=True, timeout=120)
+    done = subprocess.run(["Rscript", "-e", READ_BY_R], cwd=desk.room, capture_output=True, text=True, timeout=SECONDS)
     assert done.returncode == 0, done.stderr
     return done.stdout.split()

@@ -12,7 +12,7 @@ import pytest
 from counting import Counts, counts_of
 
 TOP = pathlib.Path(__file__).resolve().parent.parent.parent
-SECONDS = 60
+SECONDS = 180
 
 Words = Sequence[str | bytes]
 # a text, or the handle of an open file

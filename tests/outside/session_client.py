@@ -4,7 +4,8 @@ from __future__ import annotations
 import dataclasses
 import subprocess
 import threading
-from collections.abc import Sequence
+import time
+from collections.abc import Callable, Sequence
 
 from outside.runs import SECONDS
 from outside.session_requests import Request
@@ -88,6 +89,11 @@ class Client:
     def take(self, answer: Answer) -> None:
         self.answers.append(answer)
         self.most_told = max(self.most_told, answer.serial() or 0)
+
+    def wait_until(self, is_so: Callable[[], bool]) -> None:
+        """Waits for what answers come to. Where the session ends before, none comes any more."""
+        while self.reader.is_alive() and not is_so():
+            time.sleep(0.001)
 
     def end(self) -> int:
         """Ends the input, and gives the status."""

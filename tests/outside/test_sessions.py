@@ -52,8 +52,7 @@ class TestSessions(Checks):
             for place, line in enumerate(text.removeprefix(HEADER).splitlines(), 1):
                 client.given.write(f"a{place},desk,1,{line},\n".encode())
             client.flush()
-            while len(client.answers) < place:
-                time.sleep(0.001)
+            client.wait_until(lambda: len(client.answers) == place)
             replies = "".join(f"{answer.lines[0]}\n" for answer in client.answers)
             self.count(replies.encode() == self.run(["file"], text).out, f"replies as of file: {seed}")
             self.as_word(client, text, "inbreeding", ["inbreeding"])
@@ -70,10 +69,8 @@ class TestSessions(Checks):
         client.flush()
         wanted = self.run(words, text)
         # the tag was never asked by `ask`, so that each line is an answer
-        lines: list[str] = []
-        while not lines or not lines[-1].startswith("end,"):
-            time.sleep(0.001)
-            lines = [answer.lines[0] for answer in client.answers[before:]]
+        client.wait_until(lambda: len(client.answers) > before and client.answers[-1].lines[0].startswith("end,"))
+        lines = [answer.lines[0] for answer in client.answers[before:]]
         told = "".join(f"{line}\n" for line in lines[:-1]).encode()
         self.count(told == wanted.out, f"as {words}: {told[-160:]!r}, not {wanted.out[-160:]!r}")
 
@@ -92,8 +89,7 @@ class TestSessions(Checks):
         for one in range(20_000):
             client.given.write(f"a,desk,1,birth,{animal('MF'[one % 2], one)},2000-01-01,0,0,,1,\n".encode())
         client.flush()
-        while len(client.answers) < 20_000:
-            time.sleep(0.001)
+        client.wait_until(lambda: len(client.answers) == 20_000)
         for at in range(5):
             client.given.write(f"q{at},inspector,1,inbreeding\nb{at},desk,1,exit,{DAM},2001-01-01,,,,,\n".encode())
         client.end()

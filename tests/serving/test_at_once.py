@@ -172,6 +172,8 @@ def test_login_over_much(served: Served) -> None:
         page = visitor.post("/file/birth", **written).get_data(as_text=True)
         found = re.findall(r'name="kept-field\d+" value="(x*)"', page)
         assert kept - 2 <= len(found) <= kept and all(len(text) == min(length, 2_000) for text in found)
+    sent = {"kept to": "/file/birth"} | {f"kept-field{at}": "x" for at in range(100)}
+    assert len(re.findall(r'name="field\d+"', visitor.log_in("Carl", **sent).get_data(as_text=True))) == 60
 
 
 def test_backup(served: Served, society_desk: Desk) -> None:
