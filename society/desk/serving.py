@@ -3,6 +3,7 @@ from __future__ import annotations
 
 import contextlib
 import fcntl
+import logging
 import os
 import pathlib
 import secrets
@@ -68,6 +69,9 @@ def desk_of(folder: pathlib.Path, program: Office, read_only: bool, pause: float
 
 def answer(desk: Desk, app: Flask, listening: socket.socket, threads: int, begin: Callable[[], None]) -> None:
     """Answers until Ctrl-C or SIGTERM. What changes the book is done to its end then, and told."""
+    # what waitress tells of a fault would have a trace
+    logging.getLogger("waitress").addHandler(logging.NullHandler())
+    logging.getLogger("waitress").propagate = False
     server = create_server(
         app, sockets=[listening], threads=threads, ident=None, max_request_body_size=MOST_BYTES * 2,
         expose_tracebacks=False,

@@ -1,7 +1,6 @@
 """Serves the desk of a book to several people, each with an account."""
 from __future__ import annotations
 
-import logging
 import pathlib
 import sys
 from dataclasses import replace
@@ -28,9 +27,6 @@ def serve(folder: pathlib.Path, program: Office, place: Place, names: list[str],
     accounts = Accounts(folder)
     if not accounts.all():
         raise Mistake(f"nobody has an account yet: make one for a keeper, as {CALLED} account NAME --role keeper")
-    # what waitress tells of a fault would have a trace
-    logging.getLogger("waitress").addHandler(logging.NullHandler())
-    logging.getLogger("waitress").propagate = False
     with bound(place.address, place.port, "name another one by --listen") as listening:
         with desk_of(folder, program, read_only=False, pause=PAUSE) as desk:
             way = way_of(replace(place, port=listening.getsockname()[1]), names, proxy)

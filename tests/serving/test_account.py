@@ -126,12 +126,16 @@ def test_ends(society_desk: Desk, cheap: None, how: signal.Signals) -> None:
     society_desk.good("verify")
 
 
-def test_quiet(society_desk: Desk, cheap: None, monkeypatch: pytest.MonkeyPatch, caplog: pytest.LogCaptureFixture) -> None:
+def test_quiet(
+    society_desk: Desk, cheap: None, monkeypatch: pytest.MonkeyPatch, caplog: pytest.LogCaptureFixture,
+    capfd: pytest.CaptureFixture[str],
+) -> None:  # fmt: skip
     """What the server's own library says of a fault stands neither in an answer nor in the log."""
     folder, given = society_desk.room / "book", dict[str, object]()
     Accounts(folder).add("Kim", AccountRole.KEEPER, WORD, WORD)
     monkeypatch.setenv("HERDBOOK", society_desk.program)
     monkeypatch.setattr(logging.getLogger("waitress"), "propagate", True)
+    monkeypatch.setattr(logging.getLogger("waitress"), "handlers", [])
 
     def create(_: object, **words: object) -> NoReturn:
         given.update(words)
@@ -141,7 +145,8 @@ def test_quiet(society_desk: Desk, cheap: None, monkeypatch: pytest.MonkeyPatch,
     monkeypatch.setattr("society.desk.serving.create_server", create)
     with pytest.raises(Mistake, match="no server"):
         serve(folder, Office(), Place("127.0.0.1", 0), [], "")
-    assert given["expose_tracebacks"] is False and given["ident"] is None and not caplog.text
+    assert given["expose_tracebacks"] is False and given["ident"] is None
+    assert not caplog.text and not capfd.readouterr().err
 
 
 def test_odd_requests(society_desk: Desk, cheap: None) -> None:
