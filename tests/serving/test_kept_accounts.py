@@ -114,8 +114,12 @@ def test_new_passwords(password: str, is_taken: bool) -> None:
 
 
 def test_throttle_right() -> None:
-    """Whoever knows one password of an address gives its guesses of others no new beginning."""
+    """Who guessed right may guess anew by that name; whoever knows one password of an address gives its guesses of others
+    no new beginning."""
     throttle = Throttle(lambda: 0.0)
+    for _ in range(2):
+        assert [throttle.begin("Carl", "2.2.2.2") for _ in range(FREE_BY_NAME)] == [0] * FREE_BY_NAME
+        throttle.was_right("Carl", "2.2.2.2")
     for at in range(FREE_BY_ADDRESS - 1):
         assert throttle.begin(f"name {at}", "1.1.1.1") == 0
     for _ in range(3):
