@@ -30,7 +30,8 @@
 //! | refusals, in replies and in advice | `RefusedText` | `refused_text` | |
 //! | fractions and percentages | `CoefficientText` | `coefficient_text` | `CoefficientFacts` |
 //! | the ends of lines, made once for equal values | | `line_end` | |
-//! | the list of coefficients; the line of one animal | `InbreedingList`; `CoefficientText` | `inbreeding_list`; `coefficient_line` | `CoefficientFacts` |
+//! | the list of coefficients | `InbreedingList` | `inbreeding_list` | `CoefficientFacts` |
+//! | the line of one animal | `CoefficientLine` | `coefficient_line` | `CoefficientFacts` |
 //! | certificates | `Certificate`, `Ancestors` | `certificate`, `ancestors` | `CertificateFacts`, `AncestorFacts` |
 //! | mating advice | `MatingList` | `mating_list` | `MatingFacts` |
 //! | the inverse of A | `InverseList` | `inverse_list` | `ContributionFacts` |

@@ -2,7 +2,8 @@ ghost use Rattle.std.specs.Prelude.{◌≡◌, ◌<◌, IfErr, IfOk, IfSome, OnO
 ghost use Rattle.herd_frozen.specs.declared.TheConstants.{DEPTH_LIMIT};
 ghost use Rattle.herd_kinship.specs.Coefficients.{AreCoefficients};
 ghost use Rattle.herd_report.specs.reading.CommandFile.{commands};
-ghost use Rattle.herd_report.specs.Run.{AnswersIfKnown, CanEndBy, CanEndReplying, EndsIfKnown, EndsReplying, EndsReporting, IsReplied, IsReported};
+ghost use Rattle.herd_report.specs.Run.{AnswersIfKnown, CanEndBy, CanEndReplying, EndsIfKnown};
+ghost use Rattle.herd_report.specs.Run.{EndsReplying, EndsReporting, IsReplied, IsReported};
 
 use crate::command_filing::{fault_of_rest, file_commands};
 use crate::reading::command_reader::CommandReader;

@@ -1,6 +1,7 @@
 //! What one field means, or the cause that its column gives.
 ghost use Rattle.std.specs.Prelude.{◌≡◌, if◌then◌else◌};
-ghost use Rattle.herd_report.specs.reading.Field.{day_in, herd_in, is_animal_number, is_day, is_embryo, is_embryo_flag, is_empty, is_herd, is_parent, is_unknown, parent_in};
+ghost use Rattle.herd_report.specs.reading.Field.{day_in, herd_in, is_animal_number, is_day, is_embryo};
+ghost use Rattle.herd_report.specs.reading.Field.{is_embryo_flag, is_empty, is_herd, is_parent, is_unknown, parent_in};
 
 use crate::reading::line_fault::LineCause;
 use herd_animal::{AnimalNumber, Day, Herd};

@@ -5,7 +5,8 @@ ghost use Rattle.herd_frozen.specs.declared.TheConstants.{DEPTH_LIMIT};
 ghost use Rattle.herd_kinship.specs.Coefficients.{AreCoefficients};
 ghost use Rattle.herd_kinship.specs.FrozenAncestry.{ancestry_of, number_of_row};
 ghost use Rattle.herd_kinship.specs.Table.{coefficient};
-ghost use Rattle.herd_report.specs.writing.Certificate.{EndsCertificate, IsCertified, animal_text, certificate_of, labelled_line, left_text, sex_text};
+ghost use Rattle.herd_report.specs.writing.Certificate.{EndsCertificate, IsCertified};
+ghost use Rattle.herd_report.specs.writing.Certificate.{animal_text, certificate_of, labelled_line, left_text, sex_text};
 ghost use Rattle.herd_report.specs.writing.CoefficientText.{coefficient_text};
 
 use crate::writing::ancestors::push_ancestors;

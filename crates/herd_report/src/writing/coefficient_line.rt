@@ -1,4 +1,6 @@
-ghost use Rattle.std.specs.Prelude.{◌≡◌, IfErr, OnOk};
+ghost use Rattle.std.specs.Prelude.{◌≡◌, false, IfErr, OnOk};
+ghost use Rattle.herd_frozen.specs.rules.Book.{is_there};
+ghost use Rattle.herd_frozen.specs.freezing.Frozen.{book_of};
 ghost use Rattle.herd_frozen.specs.declared.TheConstants.{DEPTH_LIMIT};
 ghost use Rattle.herd_kinship.specs.Coefficients.{AreCoefficients};
 ghost use Rattle.herd_report.specs.writing.CoefficientLine.{EndsCoefficient, IsCoefficientTold};
@@ -23,6 +25,7 @@ pub fn write_coefficient<W: Write, A: Allocator, F: Allocator, C: Allocator>(
     requires { AreCoefficients DEPTH_LIMIT frozen.now coefficients.now }
     ensures ok { OnOk result (IsCoefficientTold frozen.now number (W.contents writer.old) (W.contents writer.new)) }
     ensures err { IfErr result (EndsCoefficient frozen.now number (W.contents writer.old) (W.contents writer.new)) }
+    ensures untouched { is_there (book_of frozen.now) number ≡ false → writer.new ≡ writer.old }
 {
     let Some(rank) = frozen.rank(&number) else {
         return Err(CertificateFault::NotRegistered);

@@ -6,7 +6,8 @@ ghost use Rattle.herd_frozen.specs.freezing.Frozen.{book_of};
 ghost use Rattle.herd_kinship.specs.Coefficients.{AreCoefficients};
 ghost use Rattle.herd_report.specs.RunFault.{EndsReport};
 ghost use Rattle.herd_report.specs.writing.RefusedText.{refused_line_end};
-ghost use Rattle.herd_report.specs.writing.RelationshipList.{absent_line, column_lines, lines_with, names_of, partners_of as partners_in, relationship_line, relationships_text, AreAsked, IsAsked};
+ghost use Rattle.herd_report.specs.writing.RelationshipList.{AreAsked, IsAsked, absent_line, column_lines, lines_with, names_of};
+ghost use Rattle.herd_report.specs.writing.RelationshipList.{partners_of as partners_in, relationship_line, relationships_text};
 ghost use Rattle.herd_report.specs.writing.Text.{AppendsFront, PassesOn};
 
 use crate::writing::inverse_list::with_comma;

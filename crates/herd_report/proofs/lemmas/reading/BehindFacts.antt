@@ -1,5 +1,5 @@
 -- Fields that stand behind others.
-use Rattle.std.proofs.Common.{◌≡◌, ◌∙◌, ◌+◌, ℕ, zero, suc, List, [], ◌∷◌, drop, refl, ap, arith}
+use Rattle.std.proofs.Common.{◌≡◌, ◌∙◌, ◌+◌, ℕ, zero, suc, [], ◌∷◌, drop, refl, ap, arith}
 use Rattle.csv.specs.Records.{field_at}
 use Rattle.herd_report.specs.reading.Grammar.{Fields, field}
 
