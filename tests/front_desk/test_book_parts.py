@@ -8,12 +8,15 @@ import sqlite3
 import pytest
 
 from society.book.changes import Made
-from society.book.coefficients import kept_lines, write_coefficients
-from society.book.commands import birth, leave, record_after, transfer
+from society.book.coefficients import few_descendants, kept_lines, write_coefficients
+from society.book.commands import birth, leave, record_after, replay, transfer
 from society.book.history import all_changes, changed_one_by_one, write_change
 from society.book.journal import NO_JOURNAL, Step, alike
 from society.book.kinds import ChangeKind
+from society.book.known import Known
 from society.book.schema import MIGRATIONS
+from society.book.state import ANIMALS, bring_back, write_rows
+from society.book.writing import animal_rows
 
 NUMBER = "HOLGBRF000000000001"
 BORN, GIVEN, LEFT = (datetime.date(year, 1, 2) for year in (2001, 2003, 2005))
@@ -63,3 +66,19 @@ def test_coefficients_are_kept_as_the_program_writes_them(connection: sqlite3.Co
     for lines in ["A,0,0.00", "B,0,0.00", "D,0,0.00"], after:
         write_coefficients(connection, lines)
         assert kept_lines(connection) == lines
+
+
+def test_few_descendants(connection: sqlite3.Connection, monkeypatch: pytest.MonkeyPatch) -> None:
+    """By sires and by dams, each once, as the book is now; none where they are too many."""
+    sire, dam, son, daughter, calf, other = (f"HOLGBR{sex}{at:012}" for at, sex in enumerate("MFMFMF"))
+    parents = {sire: ("", ""), dam: ("", ""), son: (sire, dam), daughter: ("", dam), calf: (son, daughter), other: ("", "")}
+    records = replay(birth(number, BORN, *both, 1, False) for number, both in parents.items())
+    rows = animal_rows({number: Known(number, number) for number in parents}, records)
+    write_rows(connection, ANIMALS, 1, {}, rows)
+    every = {number: sorted(few_descendants(connection, number)) for number in parents}
+    assert every[dam] == sorted([dam, son, daughter, calf]) and every[other] == [other]
+    assert every[sire] == sorted([sire, son, calf]) and every[daughter] == sorted([daughter, calf])
+    monkeypatch.setattr("society.book.coefficients.MOST_ONE_BY_ONE", 3)
+    assert few_descendants(connection, dam) == [] and sorted(few_descendants(connection, sire)) == every[sire]
+    bring_back(connection, 2, 0)
+    assert few_descendants(connection, sire) == [sire]

@@ -1,7 +1,13 @@
 """What a book remembers of how a sheet is read, and what its report has."""
 from __future__ import annotations
 
+import pytest
+
 from front_desk.desk import Desk
+from society.book.book import Book
+from society.book.book_read import reading
+from society.book.search import find
+from society.mistake import Mistake
 
 
 def test_remembered(desk: Desk) -> None:
@@ -38,6 +44,12 @@ def test_many_lines(desk: Desk) -> None:
     assert text.startswith(b"\xef\xbb\xbfline;id;what;why;change\n;;to look at;") and b"\n2;0;left out;" in text
     assert text.count(b";left out;") == 41
     shown = "id;name;sex;born;sire;dam\n1;Max;M;2001-01-01;;\n2;Max;M;2001-01-01;;\n3;;F;2005-01-01;Max;\n"
-    desk.take(shown, "--book", "names")
+    desk.take(shown + "4;Eva;F;2001-01-01;;\n5;EVA;F;2001-01-01;;\n", "--book", "names")
     done = desk.good("certificate", "Max", "--book", "names")
     assert done.err == "society: 'Max' is taken for the animal with this id; others have this name: 1, 2\n"
+    # as it is written where it is so
+    with reading(desk.room / "names") as connection:
+        book = Book(desk.room / "names", connection)
+        assert find(book, "EVA").id == "5"
+        with pytest.raises(Mistake, match="4, 5"):
+            find(book, "eva")

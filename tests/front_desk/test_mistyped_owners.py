@@ -1,0 +1,51 @@
+"""Owners of a few rows who are one of many rows but for a letter."""
+from __future__ import annotations
+
+from collections.abc import Mapping
+from types import SimpleNamespace
+from typing import cast
+
+import pytest
+
+from society.reading.animal import Animal
+from society.taking.next_book import NextBook
+from society.taking.owner_findings import OwnerMistyped
+from society.taking.report import Report
+from society.taking.respelt_owners import differ_by_one, tell_mistyped_owners
+
+
+@pytest.mark.parametrize(("one", "other", "is_alike"), [
+    ("Huber", "Hubber", True), ("HUBER", "hubr", True), ("Huber", "Hufer", True), ("Huber", "Hubre", True),
+    ("Xhuber", "Huber", True), ("Huber", "Huberr", True), ("Huber", "Huber", False), ("Huber", "Hufar", False),
+    ("Huber", "Hubberr", False), ("Huber", "Hreub", False), ("Meier Hof", "Meier-Hof", False), ("Hof 2", "Hof 3", False),
+    ("Hof 12", "Hof 21", False), ("Hof2", "Hof3", False), ("A. Huber", "B. Huber", False), ("Hof B", "Hof C", False),
+    ("Löwe", "Lowe", False),
+])  # fmt: skip
+def test_differ_by_one(one: str, other: str, is_alike: bool) -> None:
+    """A letter more, less or otherwise, or two that are swapped; digits, signs and letters that stand alone tell apart."""
+    assert differ_by_one(one, other) == differ_by_one(other, one) == is_alike
+
+
+def told(rows: Mapping[str, int], before: set[str]) -> list[tuple[int, str, str]]:
+    """For owners with so many rows: the first line of each that is told, and whom it means. Others have no row."""
+    owners = [owner for owner, count in rows.items() for _ in range(count)]
+    animals = {f"a{at}": Animal(f"a{at}", at, owner=owner) for at, owner in enumerate(owners, 2)}
+    animals |= {f"b{at}": Animal(f"b{at}", owner="Hubber") for at in range(9)}
+    report = Report()
+    tell_mistyped_owners(cast(NextBook, SimpleNamespace(animals=animals, report=report)), before)
+    found = [(one.line, one.finding) for one in report.entries]
+    return [(line, one.owner.text, one.meant.text) for line, one in found if isinstance(one, OwnerMistyped)]
+
+
+@pytest.mark.parametrize(("rows", "before", "found"), [
+    ({"Huber": 10, "Hubber": 2}, set(), [(12, "Hubber", "Huber")]),
+    ({"Huber": 9, "Hubber": 2}, set(), []), ({"Huber": 99, "Hubber": 3}, set(), []),
+    ({"Huber": 5, "Hubber": 1}, set(), [(7, "Hubber", "Huber")]), ({"Huber": 4, "Hubber": 1}, set(), []),
+    ({"Huber": 10, "Hubber": 2}, {"Hubber"}, []), ({"Huber": 10, "Hubber": 2}, {"Huber"}, [(12, "Hubber", "Huber")]),
+    ({"Huber": 20, "Hubber": 1, "Hubbera": 10}, set(), [(22, "Hubber", "Huber")]),
+    ({"Gros": 5, "Gras": 1, "Abt": 5, "Ast": 1}, set(), [(7, "Gras", "Gros")]),
+])  # fmt: skip
+def test_mistyped_owners(rows: Mapping[str, int], before: set[str], found: list[tuple[int, str, str]]) -> None:
+    """Of two rows at most, where the other has five times as many; of several the one with most. The book's are told no
+    more, and in names of three letters each letter counts."""
+    assert told(rows, before) == found
