@@ -102,15 +102,16 @@ def usual_age(book: Book) -> UsualAge:
 def ages_at_first_offspring(book: Book) -> dict[str, int]:
     """Of each parent, by its number, in days, where both birth days are given."""
     assert book.connection is not None
-    asked = f"SELECT number, CAST(julianday(born) AS INTEGER), sire, dam FROM {ALL_ROWS} WHERE {NOW} AND {IN_BOOK} AND birth_source = ?"
-    rows = book.connection.execute(asked, (BirthSource.GIVEN.value,)).fetchall()
-    born = {number: day for number, day, _, _ in rows}
+    asked = f"""
+        SELECT number, CAST(julianday(born) AS INTEGER) AS day, sire, dam FROM {ALL_ROWS}
+        WHERE {NOW} AND {IN_BOOK} AND birth_source = ? ORDER BY day DESC
+    """
+    born: dict[str, int] = {}
     first: dict[str, int] = {}
-    for _, day, *parents in rows:
-        for parent in parents:
-            if parent in born and not first.get(parent, day) < day:
-                first[parent] = day
-    return {parent: day - born[parent] for parent, day in first.items()}
+    # the older one's day stays: a page waits for each look at what is there already
+    for number, day, sire, dam in book.connection.execute(asked, (BirthSource.GIVEN.value,)):
+        born[number] = first[sire] = first[dam] = day
+    return {parent: day - born[parent] for parent, day in first.items() if parent in born}
 
 
 def usual_most(dams: int, sires: int) -> int:

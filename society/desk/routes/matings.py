@@ -110,28 +110,27 @@ def asked_of(given: dict[str, str]) -> Asked:
 @with_book
 def plan(book: Book) -> Answer:
     desk, given = the_desk(), dict(request.args)
-    usual = usual_of(desk, book)
     if not given.get("made"):
-        return plan_page(given, usual)
+        return plan_page(given, usual_of(desk, book))
     try:
         asked = asked_of(given)
         job = plan_for(desk, book, asked)
     except Mistake as mistake:
-        return plan_page(given, usual, on_page(mistake.sentences))
+        return plan_page(given, usual_of(desk, book), on_page(mistake.sentences))
     if job.stage is Stage.UNDER_WAY:
         return render_template("waiting.html", what="planning", told=told_of(desk, book, asked), seconds=job.seconds)
     if job.stage is Stage.FAILED:
         desk.jobs.forget(job.key)
-        return plan_page(given, usual, on_page(job.failed.sentences))
+        return plan_page(given, usual_of(desk, book), on_page(job.failed.sentences))
     assert isinstance(job.value, PlanMade)
-    return plan_page(given, usual, [], job.value)
+    return plan_page(given, job.value.bounds, [], job.value)
 
 
 def plan_page(
-    given: dict[str, str], usual: Bounds, faults: Sequence[Sentence] = (), made: PlanMade | None = None
+    given: dict[str, str], used: Bounds, faults: Sequence[Sentence] = (), made: PlanMade | None = None
 ) -> Answer:
-    """The form with what was asked for, and for what wasn't the usual; the plan below it, if it is made."""
-    used = made.bounds if made else usual
+    """The form with what was asked for, and the bounds that were used for the rest, or are usual; the plan below it, if
+    it is made."""
     fields = {"most": text_of(used.most_for_a_sire), "age": text_of(used.minimum_age)} | given
     page = render_template(
         "plan.html", given=fields, plan=made, faults=faults, level=level_of,
