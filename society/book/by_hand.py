@@ -19,6 +19,7 @@ from society.herdbook import Herdbook
 from society.mistake import Mistake
 from society.refusals import Refusal
 from society.taking.animal_findings import CommandRefused, NewAnimal, ValueChanged
+from society.taking.new_owners import new_owner
 from society.taking.report import Entry, Finding
 from society.taking.stored_findings import told_of
 from society.taking.young_parents import young_parents
@@ -69,7 +70,9 @@ def born(book: Book, calf: Calf) -> ByHand:
     by_hand = frozenset(one for one, value in said.items() if value)
     known = Known(number, calf.id, calf.name, Standing.FILED, by_hand=by_hand)
     command = birth(number, calf.day, sire, dam, herd, calf.embryo)
-    findings = NewAnimal(number), *young_parents(book, calf.day, calf.sire, calf.dam)
+    findings = (
+        NewAnimal(number), *young_parents(book, calf.day, calf.sire, calf.dam), *new_owner(book, calf.owner)
+    )  # fmt: skip
     return ByHand(ChangeKind.BIRTH, command, known, findings, new_owners)
 
 
@@ -127,7 +130,7 @@ def transferred(book: Book, known: Known, day: datetime.date, taker: str, giver:
     found = ValueChanged("owner", taker, book.owner_of(record.herd))
     after = known._replace(by_hand=known.by_hand | {Field.OWNER})
     command = transfer(known.number, day, herd_before, herd)
-    return ByHand(ChangeKind.TRANSFER, command, after, (found,), new_owners)
+    return ByHand(ChangeKind.TRANSFER, command, after, (found, *new_owner(book, taker)), new_owners)
 
 
 def departed(book: Book, known: Known, day: datetime.date) -> ByHand:

@@ -58,7 +58,7 @@ def counts_of(change: Change, words: Words) -> str:
     """All animals, and behind them how many are new and what became of how many others."""
     counts = change.counts
     known = [what for what in COUNTED if counts.get(what)] + [what for what in counts if what not in ALL_COUNTED]
-    parts = [f"{words.count(counts[what])} {words(f'counted {what}')}" for what in known if counts[what]]
+    parts = [words.counted(f"counted {what}", counts[what]) for what in known if counts[what]]
     if not counts.get("animals"):
         return ", ".join(parts)
     animals = words.counted("counted animals", counts["animals"])

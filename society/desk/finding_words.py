@@ -84,7 +84,7 @@ def values_of(prefix: str, value: object, words: Words) -> Iterator[tuple[str, s
     for field in dataclasses.fields(value):
         one, name = getattr(value, field.name), f"{prefix}{field.name}"
         if isinstance(one, DayFault):
-            yield name, MEMBERS[one][words.at].format(getattr(value, "text"))
+            yield name, MEMBERS[one][words.at].format(text_of("text", getattr(value, "text"), words))
         else:
             yield name, shown(name, one, words)
         if dataclasses.is_dataclass(one):

@@ -5,7 +5,7 @@ import argparse
 import csv
 import io
 import pathlib
-from collections.abc import Callable, Mapping
+from collections.abc import Callable, Collection, Mapping
 from dataclasses import dataclass, field, replace
 from typing import TypeVar
 
@@ -20,7 +20,7 @@ from society.desk.kept import NO_MARK, Mark
 from society.desk.sheet_columns import ColumnsShown, columns_shown
 from society.desk.shown_findings import first_of_each, totals_of
 from society.desk.suggested import Days, days_of
-from society.desk.wrong_fields import owners_of, wrong_fields
+from society.desk.wrong_fields import owners_of
 from society.herdbook import Herdbook
 from society.mistake import Mistake
 from society.reading.cell_findings import OddRow
@@ -44,9 +44,8 @@ class Chosen:
     options: tuple[tuple[str, str], ...] = ()
 
     @classmethod
-    def of(cls, columns: Mapping[str, str], options: Mapping[str, str]) -> Chosen:
+    def of(cls, columns: Mapping[str, str], options: Mapping[str, str], wrong: Collection[str] = ()) -> Chosen:
         """Without the fields that can't be read."""
-        wrong = wrong_fields(options)
         read = {name: text for name, text in options.items() if name not in wrong}
         return cls(tuple(sorted(columns.items())), tuple(sorted(read.items())))
 

@@ -5,7 +5,6 @@ import datetime
 import enum
 import errno
 import pathlib
-import re
 
 from society.desk.member_words import word_for
 from society.desk.texts import TEXTS
@@ -27,7 +26,7 @@ NONE_IF_ZERO, NO_COUNTS = ("line", "more", "of"), (
 # so many of several are told
 MOST_TOLD = 12
 # texts that may be a day, and those that say so where they are empty
-DAYS, FACTS = ("after", "before", "value", "day"), ("after", "before", "value")
+DAYS, FACTS = ("after", "before", "value", "day", "text"), ("after", "before", "value")
 
 
 def text_of(name: str, value: object, words: Words) -> str:
@@ -52,7 +51,7 @@ def text_of(name: str, value: object, words: Words) -> str:
 
 def some_of(texts: list[str], most: int, words: Words) -> str:
     """The first of them, and how many more there are."""
-    more = f" {words('and more', words.count(len(texts) - most))}" if len(texts) > most else ""
+    more = f" {words.counted('and more', len(texts) - most)}" if len(texts) > most else ""
     return ", ".join(texts[:most]) + more
 
 
@@ -74,6 +73,6 @@ def word_of(name: str, text: str, words: Words) -> str:
         return words(f"fact {text}")
     if name == "command" and f"command {text}" in TEXTS:
         return words(f"command {text}")
-    if name in DAYS and re.fullmatch(r"\d{4}-\d\d-\d\d", text):
-        return words.day(text)
+    if name in DAYS and text:
+        return words.written(text)
     return text or "–" * (name in FACTS)

@@ -14,6 +14,8 @@ from society.decimals import percent
 from society.pages.languages import LANGUAGES, Language
 
 CHOSEN = "language"
+# a day as sheets are read
+DAY = re.compile(r"\d{4}-\d\d-\d\d")
 # the blanks before and behind these don't end a line in French
 SIGNS = re.compile(" (?=[:;?!»])|(?<=«) ")
 NAMES = {"en": "English", "de": "Deutsch", "fr": "Français"}
@@ -33,10 +35,10 @@ class Words:
         """A text of the catalogue: in French no line begins with a sign, nor ends with a quotation mark that opens."""
         return SIGNS.sub("\u00a0", text) if self.language.name == "fr" else text
 
-    def counted(self, what: str, count: int) -> str:
-        """A text that counts. French counts none as one."""
+    def counted(self, what: str, count: int, *values: object) -> str:
+        """A text that counts, also one of several values, whose first is the count. French counts none as one."""
         is_one = count == 1 or count == 0 and self.language.name == "fr"
-        return self(f"{what} (one)" if is_one else what, self.language.count(count))
+        return self(f"{what} (one)" if is_one else what, self.language.count(count), *values)
 
     @property
     def colon(self) -> str:
@@ -45,6 +47,10 @@ class Words:
 
     def day(self, day: object) -> str:
         return self.language.day(day) if day else ""
+
+    def written(self, text: str) -> str:
+        """A text of a sheet; a day, which may be that of an .xlsx file, as the language writes it."""
+        return self.day(text) if DAY.fullmatch(text) else text
 
     def time(self, time: datetime.datetime) -> str:
         here = time.astimezone()
@@ -64,7 +70,9 @@ def usual_language() -> str:
     """That of the settings, else the one that the browser likes best."""
     with the_desk().opened() as book:
         kept = settings_of(book)[Setting.LANGUAGE] if book else ""
-    return kept or request.accept_languages.best_match(LANGUAGES, default=LANGUAGES[0]) or LANGUAGES[0]
+    # one of a country stands for the language: fr-CH is French
+    asked = (asked.partition("-")[0].lower() for asked, quality in request.accept_languages if quality > 0)
+    return kept or next((language for language in asked if language in LANGUAGES), LANGUAGES[0])
 
 
 def the_words() -> Words:

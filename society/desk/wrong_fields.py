@@ -4,10 +4,12 @@ from __future__ import annotations
 import argparse
 from collections.abc import Callable, Mapping
 
+from society.book.book import Book
 from society.command_line.arguments import day, days, three_letters
 from society.mistake import Mistake
 from society.reading.options import read_sexes
-from society.taking.remembering import owner_pair
+from society.taking.remembering import rename_owners
+from society.taking.wishes import Wishes
 
 # between several owners of a field
 BETWEEN = ";"
@@ -25,7 +27,6 @@ READERS: dict[str, Callable[[str], object]] = {
     "youngest": days,
     "apart": days,
     "sexes": lambda text: read_sexes([text]),
-    "owner": lambda text: [owner_pair(one) for one in owners_of(text)],
 }
 # these are written in capitals
 CODES = ("breed", "country")
@@ -37,10 +38,15 @@ def cleaned(name: str, text: str) -> str:
     return found.upper() if name in CODES and len(found) == 3 and found.isascii() else found
 
 
-def wrong_fields(given: Mapping[str, str]) -> dict[str, str]:
-    """The fields that can't be read so, each with a sentence."""
+def wrong_fields(given: Mapping[str, str], book: Book) -> dict[str, str]:
+    """The fields that can't be read so, each with a sentence. The book, which is read for this alone, is to have each
+    owner who is written otherwise now."""
+
+    def renamed(text: str) -> None:
+        rename_owners(book, Wishes(book.folder, owners=owners_of(text)))
+
     found = {}
-    for name, reader in READERS.items():
+    for name, reader in (READERS | {"owner": renamed}).items():
         try:
             if given.get(name):
                 reader(given[name])

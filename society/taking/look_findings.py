@@ -236,7 +236,5 @@ class MoreMayBeUnknown(Look):
     harm = Harm.PARENTS
 
     def words(self) -> str:
-        return (
-            f"{self.count} more parents without a row are no numbers, and of several animals: the report has all that "
-            "were added"
-        )
+        are = "parents without a row are no numbers" if self.count > 1 else "parent without a row is no number"
+        return f"{self.count} more {are}, and of several animals: the report has all that were added"

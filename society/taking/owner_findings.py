@@ -18,7 +18,9 @@ class OwnerRespelt(Look):
     animals: int
 
     def words(self) -> str:
-        return f"the {counted(self.animals, 'animal')} of '{self.before}' are now of '{self.now}', whom the book didn't have"
+        are = "is" if self.animals == 1 else "are"
+        animals = counted(self.animals, "animal")
+        return f"the {animals} of '{self.before}' {are} now of '{self.now}', whom the book didn't have"
 
     def suggestions(self) -> tuple[Suggestion, ...]:
         option = Option("--owner", f"{self.before}={self.now}")
@@ -45,6 +47,17 @@ class OwnerMistyped(Look):
 
     def words(self) -> str:
         return f"the owner {self.owner.words()} may be {self.meant.words()}: is '{self.meant.text}' meant?"
+
+
+@dataclass(frozen=True, slots=True)
+class OwnerMeant(Look):
+    """A command names an owner whom the book didn't have, and whose name is near that of one."""
+
+    owner: str
+    meant: str
+
+    def words(self) -> str:
+        return f"the book had no owner '{self.owner}' before: is '{self.meant}' meant?"
 
 
 @dataclass(frozen=True, slots=True)

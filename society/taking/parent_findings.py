@@ -67,7 +67,8 @@ class AddedAsParent(Finding):
     def hint(self) -> str:
         if self.named:
             ids = ", ".join(self.named[:5])
-            return f" ({len(self.named)} animals have this name, {ids}: write the id of the one that is meant)"
+            have = "1 animal has" if len(self.named) == 1 else f"{len(self.named)} animals have"
+            return f" ({have} this name, {ids}: write the id of the one that is meant)"
         return f" (is {self.meant} meant?)" if self.meant else ""
 
     def does(self) -> Harm:

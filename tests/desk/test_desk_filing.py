@@ -142,6 +142,22 @@ def test_young_dam(site: Site, society_desk: Desk, language: str, told: str) -> 
     assert "180" not in shown(later)
 
 
+@pytest.mark.parametrize("kind, owner, told", [
+    ("transfer", "Oak Lodg", "das Herdbuch hatte keinen Besitzer „Oak Lodg“: ist „Oak Lodge“ gemeint?"),
+    ("birth", "oak-lodge", "das Herdbuch hatte keinen Besitzer „oak-lodge“: ist „Oak Lodge“ gemeint?"),
+    ("transfer", "Oak Lodge", ""), ("transfer", "Oak Lodge 2", ""), ("birth", "Hof am See", ""), ("birth", "", ""),
+])  # fmt: skip
+def test_new_owner(site: Site, taken_society: Desk, tmp_path: pathlib.Path, kind: str, owner: str, told: str) -> None:
+    """An owner whom the book didn't have is filed, and told where he is near another; the word tells the same."""
+    site.get("/language/de")
+    given = {"to": owner, "id": DAM, "day": "2024-05-01"} if kind == "transfer" else BIRTH | {"owner": owner}
+    page = shown(site.page(site.post(f"/file/{kind}", **given).headers["Location"]))
+    assert TEXTS["accepted"][1] in page and (told in page if told else "gemeint" not in page)
+    words = ["transfer", DAM, "--day", "2024-05-01", "--to", owner] if kind == "transfer" else [*BIRTH_WORDS[:-1], owner]
+    by_word = taken_society.copy_to(tmp_path / "by word").good(*words)
+    assert ("had no owner" in by_word.err) == ("is 'Oak Lodge' meant?" in by_word.err) == bool(told)
+
+
 def test_files_beside(site: Site) -> None:
     """The files beside the database have what a form filed."""
     site.post("/file/exit", id=DAM, day="2024-05-01")

@@ -1,62 +1,15 @@
 """What a look at a sheet says first, and what a click does about it: rows of totals, misspelt parents and owners, words
-for unknown parents, births that are near one another, and fields that can't be read."""
+for unknown parents, and births that are near one another."""
 from __future__ import annotations
 
 import re
 
 import pytest
 
+from desk.looks import PAIR, TITLES, Says, buttons_of, calves, look_at, part, press
 from desk.site import Site, shown
 from society.desk.texts import TEXTS
-from society.desk.words import Words
 from society.pages.languages import LANGUAGES
-
-TITLES = "Ohrmarke;Name;Geschlecht;geb;Vater;Mutter;Besitzer\n"
-PAIR = "001;Max;m;2001-01-01;;;Huber\n002;Eva;w;2001-02-01;;;Huber\n018;Rex;m;2001-03-01;;;Huber\n"
-
-
-def calves(count: int, sire: str = "001", dam: str = "002") -> str:
-    return "".join(f"{100 + at};;w;{2003 + at}-01-01;{sire};{dam};Huber\n" for at in range(count))
-
-
-class Says:
-    """The texts of a language as `shown` has them."""
-
-    def __init__(self, language: str) -> None:
-        self.words = Words(language)
-
-    def __call__(self, what: str, *values: object) -> str:
-        return " ".join(self.words(what, *values).split())
-
-    def counted(self, what: str, count: int) -> str:
-        return " ".join(self.words.counted(what, count).split())
-
-
-def look_at(site: Site, text: str, **options: str) -> tuple[str, str]:
-    """The address and the page of a sheet."""
-    address = site.drop("herde.csv", text.encode())
-    if options:
-        site.post(f"{address}/columns", **options)
-    return address, site.page(address)
-
-
-def buttons_of(page: str) -> list[str]:
-    """What the buttons say that choose something."""
-    return [shown(one) for one in re.findall(r'<form class="choice".*?</form>', page, re.DOTALL)]
-
-
-def press(site: Site, address: str, page: str, label: str) -> str:
-    """The page behind a button."""
-    form = next(one for one in re.findall(r'<form class="choice".*?</form>', page, re.DOTALL) if shown(one) == label)
-    [option] = re.findall(r'name="option" value="([^"]*)"', form)
-    [word] = re.findall(r'name="word" value="([^"]*)"', form)
-    return site.page(site.post(f"{address}/suggested", option=option, word=word).headers["Location"])
-
-
-def part(page: str, what: str, language: str = "en") -> str:
-    """A part of what is found, from its title to the next one."""
-    found = re.search(rf"<details[^>]*>\s*<summary><h3>{Words(language)(what)} .*?</table>", page, re.DOTALL)
-    return found[0] if found else ""
 
 
 @pytest.mark.parametrize("total", ["Summe;;;;;;", "Summe;;;63;;;", "63;Summe;;;;;", "63;;;;;;Gesamt"])
@@ -191,69 +144,3 @@ def test_owner_with_a_letter_more(empty_site: Site) -> None:
     empty_site.take(address)
     _, page = look_at(empty_site, TITLES + PAIR + rows)
     assert "meant?" not in page
-
-
-@pytest.mark.parametrize("language", LANGUAGES)
-def test_wrong_country(empty_site: Site, language: str) -> None:
-    """It is told beside its field, what would change is shown without it, and it isn't taken before it is mended."""
-    site, words = empty_site, Says(language)
-    site.get(f"/language/{language}")
-    address, page = look_at(site, TITLES + PAIR, breed="sku", country="DE")
-    field = re.search(r'<input id="country"[^>]*>\s*<strong class="is-wrong" id="country-wrong">.*?</strong>', page)
-    assert field and 'aria-invalid="true"' in field[0] and "country-wrong" in field[0] and "DE" in shown(field[0])
-    assert words("mend first") in shown(page) and words.counted("would be", 3) in shown(page)
-    assert f"{address}/take" not in page and words("wrong how") in shown(page)
-    site.post(f"{address}/take", change="0")
-    assert site.desk.folder.exists() is False
-    site.post(f"{address}/columns", breed="sku", country="deu")
-    site.take(address)
-    # settings have what the numbers begin with, and tell what is wrong beside its field
-    page = site.page("/settings")
-    assert re.search(r'name="breed"[^>]*value="SKU"', page) and re.search(r'name="country"[^>]*value="DEU"', page)
-    page = site.post("/settings", country="DE").get_data(as_text=True)
-    assert re.search(r'<input id="country"[^>]*aria-invalid="true"[^>]*>\s*<strong class="is-wrong"', page)
-
-
-@pytest.mark.parametrize("language", LANGUAGES)
-def test_unknown_of_earlier_sheets(empty_site: Site, language: str) -> None:
-    """Settings have the words for unknown parents that sheets were read with; they hold on."""
-    site, words = empty_site, Says(language)
-    site.get(f"/language/{language}")
-    assert words("unknown said", "") not in shown(site.page("/settings"))
-    address, _ = look_at(site, TITLES + PAIR + "019;Uli;m;2003-03-01;fremd;extern;Huber\n", unknown="fremd,extern")
-    site.take(address)
-    assert words("unknown said", "fremd,extern") in shown(site.page("/settings"))
-
-
-@pytest.mark.parametrize("field, text", [
-    ("day", "morgen"), ("youngest", "x"), ("apart", "-1"), ("sexes", "Zibbe"), ("owner", "Meier"),
-])  # fmt: skip
-def test_wrong_fields(empty_site: Site, field: str, text: str) -> None:
-    _, page = look_at(empty_site, TITLES + PAIR, **{field: text})
-    assert f'<strong class="is-wrong" id="{field}-wrong">' in page
-    assert "The book would have 3 animals." in shown(page) and "/take" not in page
-
-
-def test_findings_come_first_on_a_telephone(empty_site: Site) -> None:
-    """What is found stands above the lists of columns there."""
-    _, page = look_at(empty_site, TITLES + PAIR)
-    assert page.index('<form class="reading"') < page.index('<div class="outcome">')
-    css = empty_site.get("/static/desk.css").get_data(as_text=True)
-    narrow = css[css.index("@media (max-width: 40rem)") : css.index("@page")]
-    assert ".sheet .reading { order: 1; }" in narrow
-
-
-@pytest.mark.parametrize(("language", "told"), [
-    ("en", "15 animals: 14 new, 1 added as parents, 1 left out, 1 inferred"),
-    ("de", "15 Tiere: 14 neu, 1 als Eltern hinzugefügt, 1 weggelassen, 1 erschlossen"),
-    ("fr", "15 animaux : 14 nouveaux, 1 ajoutés comme parents, 1 omis, 1 déduits"),
-])  # fmt: skip
-def test_counts_of_a_change(empty_site: Site, language: str, told: str) -> None:
-    """All animals stand first, and what they are made up of behind them."""
-    site = empty_site
-    rows = calves(10) + "200;;w;2015-01-01;900;002;Huber\n001;;;;;;\n"
-    address, page = look_at(site, TITLES + PAIR + rows)
-    assert "Animals with a row 14 Parents without a row, added 1" in shown(page)
-    site.take(address)
-    site.get(f"/language/{language}")
-    assert told in shown(site.page("/history/1")).replace("  ", " ")

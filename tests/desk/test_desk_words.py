@@ -216,7 +216,7 @@ def test_settings(site: Site, society_desk: Desk) -> None:
     """What is set on the page is what `settings` says, and the other way round; the next sheet's numbers have the
     breed and country."""
     assert re.search(r'name="breed"[^>]* value="HOL"', site.page("/settings"))
-    assert '<html lang="fr">' in site.get("/settings", {"Accept-Language": "fr-CH, fr;q=0.9, en;q=0.8"}).get_data(as_text=True)
+    assert '<html lang="fr">' in site.get("/settings", {"Accept-Language": "en;q=0.8, de;q=0, it, FR-ch"}).get_data(as_text=True)
     society_desk.good("birth", "NEW-1", "--sex", "f", "--day", "2024-03-01", "--breed", "ABC", "--country", "DEU")
     assert re.search(r'name="breed"[^>]* value="ABC"', site.page("/settings"))
     site.post(

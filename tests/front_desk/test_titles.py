@@ -38,6 +38,14 @@ def test_titles(desk: Desk, kind: str) -> None:
     assert ("not read" in done.out) == (kind == "names of parents")
 
 
+def test_name_of_an_owner(desk: Desk) -> None:
+    """A title that says whose name a column has is one of owners, beside that of the animals' names."""
+    desk.take("id;Name;Name des Besitzers;birth;sire;dam\na;Alma;Huber;2001;;\nb;;Meier;2002;;\n")
+    assert [(row["name"], row["owner"]) for row in desk.listed("list", "--columns", "name,owner")] == [
+        ("Alma", "Huber"), ("", "Meier"),
+    ]  # fmt: skip
+
+
 def test_status_of_something_else(desk: Desk) -> None:
     """A column `Status` whose cells tell of no exit isn't read."""
     done = desk.take("id;birth;sire;dam;Status\na;2001;;;Herdbuch A\nb;2002;;;Herdbuch B\nc;2003;;;verkauft\n")

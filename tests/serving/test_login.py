@@ -14,6 +14,7 @@ from serving.visitor import WORD, Served, Visitor
 from society.desk.forms import new_form
 from society.desk.people import AccountRole
 from society.desk.texts import TEXTS
+from society.desk.words import Words
 from society.serving import passwords
 from society.serving.accounts import A_DAY
 from society.serving.throttle import FREE_BY_ADDRESS, FREE_BY_NAME, LONGEST, SECONDS, Throttle
@@ -119,7 +120,7 @@ def test_guesses_of_own_password(clerk: Visitor) -> None:
     for _ in range(FREE_BY_NAME):
         assert clerk.post("/password", password="x", **new).status_code == 400
     answer = clerk.post("/password", password=WORD, **new)
-    assert answer.status_code == 400 and TEXTS["login wait"][0].format(1) in shown(answer.get_data(as_text=True))
+    assert answer.status_code == 400 and TEXTS["login wait (one)"][0].format(1) in shown(answer.get_data(as_text=True))
 
 
 def test_language_stays(served: Served) -> None:
@@ -176,7 +177,7 @@ def test_guesses_by_name(served: Served) -> None:
         answer = Visitor(served, address="10.0.1.1").log_in("Carl")
         assert answer.status_code == 429
         told = shown(answer.get_data(as_text=True))
-        waited.append(next(s for s in range(1, LONGEST) if TEXTS["login wait"][0].format(s) in told))
+        waited.append(next(s for s in range(1, LONGEST) if Words("en").counted("login wait", s) in told))
         served.clock.now += waited[-1]
         assert Visitor(served, address="10.0.1.1").log_in("Carl", "x").status_code == 401
     assert waited == [1, 2, 4, 8]

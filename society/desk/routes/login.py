@@ -54,7 +54,7 @@ def enter() -> Answer:
     kept_to, to = given.get(KEPT_TO, ""), given.get("to", "")
     found = gate.try_to_log_in(given.get("name", ""), given.get("password", ""))
     if isinstance(found, int):
-        told = words("login wait", found) if found else words("login wrong")
+        told = words.counted("login wait", found) if found else words("login wrong")
         return form([told], kept, kept_to, 429 if found else 401, to)
     gate.begin(found)
     endpoint = form_at(kept_to)
@@ -93,7 +93,7 @@ def change_password() -> Answer:
     assert person
     found = gate.try_to_log_in(person.name, given.get("password", ""))
     if isinstance(found, int):
-        told = words("login wait", found) if found else words("password wrong")
+        told = words.counted("login wait", found) if found else words("password wrong")
         return render_template("password.html", faults=[Sentence(told)]), 400
     try:
         gate.accounts.change_password(person.name, given.get("new", ""), given.get("again", ""))

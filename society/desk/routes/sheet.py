@@ -2,10 +2,13 @@
 then it is taken or left. Nothing is written before that."""
 from __future__ import annotations
 
+from collections.abc import Collection
+
 from flask import Blueprint, abort, flash, redirect, render_template, request, url_for
 from werkzeug.datastructures import FileStorage
 from werkzeug.wrappers import Response
 
+from society.book.book import Book
 from society.book.changes import Option
 from society.book.kinds import Field
 from society.desk.changing import go_on
@@ -70,19 +73,26 @@ def upload_of(token: str) -> Upload:
     return upload
 
 
-def job_of(upload: Upload) -> Job:
-    """The look at a file for the book as it is now."""
+def wrong_in(upload: Upload) -> dict[str, str]:
+    """What was chosen and can't be read so, each field with why."""
+    with the_desk().opened() as book:
+        return wrong_fields(upload.options, book or Book(the_desk().folder, None))
+
+
+def job_of(upload: Upload, wrong: Collection[str]) -> Job:
+    """The look at a file for the book as it is now, without the fields that can't be read."""
     desk = the_desk()
     with desk.opened() as book:
         change = book.change.number if book and book.change else 0
-    chosen = Chosen.of(upload.columns, upload.options)
+    chosen = Chosen.of(upload.columns, upload.options, wrong)
     return desk.jobs.of((LOOKING, upload.token, chosen, change), looked_at, (desk.folder, upload.path, chosen))
 
 
 @page.get("/sheet/<token>")
 def look(token: str) -> Answer:
     upload = upload_of(token)
-    job = job_of(upload)
+    wrong = wrong_in(upload)
+    job = job_of(upload, wrong)
     if job.stage is Stage.UNDER_WAY:
         return waiting("looking", job)
     if job.stage is Stage.FAILED:
@@ -95,18 +105,13 @@ def look(token: str) -> Answer:
     is_read = found.after is not None
     groups = groups_of(found.entries, words, found.totals, found.days)
     return render_template(
-        "look.html", upload=upload, look=found, fields=list(Field), given=upload.options, wrong=told_wrong(upload),
+        "look.html", upload=upload, look=found, fields=list(Field), given=upload.options,
+        wrong={name: sentence_in(sentence, words) for name, sentence in wrong.items()},
         faults=[] if is_read else sentences, guards=sentences if is_read else [],
         groups=groups, has_choices=any(line.choices for group in groups for line in group.lines),
         remembered=[label for one in found.remembered for label in labels_of(one, words)],
         drop_gone=dropped_by(found), solutions=proposed(suggestions_of(found.obstacles), words),
     )  # fmt: skip
-
-
-def told_wrong(upload: Upload) -> dict[str, Sentence]:
-    """What was chosen and can't be read so, by its field: the sheet is looked at without it, and isn't taken."""
-    words = the_words()
-    return {name: sentence_in(sentence, words) for name, sentence in wrong_fields(upload.options).items()}
 
 
 def dropped_by(look: Look) -> Proposed | None:
@@ -144,11 +149,11 @@ def choose(token: str) -> Answer:
 
 @page.post("/sheet/<token>/suggested")
 def take_suggestion(token: str) -> Answer:
-    """Chooses what a finding suggests, and looks anew."""
+    """Chooses what a finding suggests, and looks anew, at the findings."""
     upload, given = upload_of(token), request.form
     options = [Option(name, word) for name, word in zip(given.getlist("option"), given.getlist("word"))]
     choose_suggested(upload, [one for one in options if one.option == COLUMNS or field_of(one) in OPTIONS])
-    return to_look(upload)
+    return redirect(url_for("sheet.look", token=upload.token, _anchor="findings"))
 
 
 @page.post("/sheet/<token>/take")
@@ -160,7 +165,7 @@ def take(token: str) -> Answer:
     to = url_for("sheet.taking", token=token, form=form)
     if not taken_by(form):
         upload = upload_of(token)
-        if wrong_fields(upload.options):
+        if wrong_in(upload):
             return to_look(upload)
         chosen = Chosen.of(upload.columns, upload.options)
         values = (desk.folder, upload.path, chosen, int(looked), form)

@@ -128,6 +128,9 @@ TEXTS = {
         "The mean of all {} pairs that are allowed would be {}.", "Das Mittel aller {} erlaubten Paare wäre {}.",
         "La moyenne des {} couples permis serait {}.",
     ),
+    "mean of all (one)": (
+        "The one pair that is allowed would have {1}.", "Das eine erlaubte Paar hätte {1}.", "Le seul couple permis aurait {1}.",
+    ),
     "unmated REFUSED": (
         "Not mated, since the register refuses a mating with each of the sires:",
         "Nicht angepaart, da das Register jeden der Väter ablehnt:",

@@ -126,6 +126,10 @@ FINDINGS: dict[str, tuple[str, str]] = {
         "der Besitzer {owner} ist vielleicht {meant}: ist „{meant_text}“ gemeint?",
         "le propriétaire {owner} est peut-être {meant} : s'agit-il de « {meant_text} » ?",
     ),
+    "owner meant": (
+        "das Herdbuch hatte keinen Besitzer „{owner}“: ist „{meant}“ gemeint?",
+        "le livre n'avait pas de propriétaire « {owner} » : s'agit-il de « {meant} » ?",
+    ),
     "owner respelt": (
         "die {animals} Tiere von „{before}“ sind jetzt von „{now}“, den das Herdbuch nicht hatte: ist es derselbe, anders "
         "geschrieben?",

@@ -15,6 +15,12 @@ OF_ONE: dict[str, tuple[str, str, str, str]] = {
         "die Mutter {dam} hatte {other}[ (Zeile {line})] {days} Tag vorher, weniger als {limit}",
         "la mère {dam} a eu {other}[ (ligne {line})] {days} jour avant, moins de {limit}",
     ),
+    "young parent": (
+        "days",
+        "",
+        "{role} {parent}[ (Zeile {line})] war bei der Geburt {days} Tag alt, weniger als {limit}",
+        "{role} {parent}[ (ligne {line})] avait {days} jour à la naissance, moins de {limit}",
+    ),
     "castrated sire": (
         "calves",
         "",

@@ -15,6 +15,11 @@ TEXTS = {
         "Es gab zu viele falsche Passwörter. Warten Sie {} Sekunden und versuchen Sie es dann noch einmal.",
         "Il y a eu trop de mots de passe faux. Attendez {} secondes, puis réessayez.",
     ),
+    "login wait (one)": (
+        "There were too many wrong passwords. Wait {} second, then try again.",
+        "Es gab zu viele falsche Passwörter. Warten Sie {} Sekunde und versuchen Sie es dann noch einmal.",
+        "Il y a eu trop de mots de passe faux. Attendez {} seconde, puis réessayez.",
+    ),
     "login over": (
         "You aren't logged in any more. Log in: what you wrote is kept, and nothing was filed yet.",
         "Sie sind nicht mehr angemeldet. Melden Sie sich an: was Sie geschrieben haben, bleibt erhalten, und es wurde "

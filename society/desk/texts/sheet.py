@@ -217,6 +217,7 @@ TEXTS = {
     "what gone": ("Gone", "Nicht mehr da", "Disparus"),
     "what added": ("Added as parents", "Als Eltern hinzugefügt", "Ajoutés comme parents"),
     "and more": ("and {} more", "und {} weitere", "et {} autres"),
+    "and more (one)": ("and {} more", "und {} weitere", "et {} autre"),
     "take or leave": ("Take it or leave it", "Übernehmen oder verwerfen", "Reprendre ou laisser"),
     "take it": ("Take it into the book", "Ins Herdbuch übernehmen", "Reprendre dans le livre"),
     "leave it": ("Leave it", "Verwerfen", "Laisser"),

@@ -1,0 +1,109 @@
+"""How pages change the book: once, one after the other, by the session of the book that is there, and the files beside it
+are written behind each change."""
+from __future__ import annotations
+
+import concurrent.futures
+import contextlib
+import io
+import pathlib
+import sqlite3
+import time
+from collections.abc import Iterator
+
+import pytest
+
+from desk.site import HOST, SECONDS, Site, form_in, shown
+from desk.test_desk_filing import BIRTH, DAM
+from desk.test_desk_sheets import EXAMPLE
+from front_desk.desk import Desk
+from society.book.book_changed import changing
+from society.desk.taking_beside import Taken
+from society.desk.texts import TEXTS
+from society.mistake import Mistake
+
+NEW_ROW = b"Lower Mill,NEW-9,f,2019-01-01,,,\n"
+
+
+def test_two_tabs(site: Site, society_desk: Desk) -> None:
+    """A sheet that is taken in two tabs at once is taken once, and the other tab takes nothing."""
+    address = site.drop("sheet.csv", EXAMPLE + NEW_ROW)
+    forms = [form_in(site.page(address)) for _ in range(2)]
+    browsers = [Site(site.desk, site.app) for _ in forms]
+    tokens = [one.token() for one in browsers]
+    with concurrent.futures.ThreadPoolExecutor(2) as pool:
+        sent = [
+            pool.submit(one.client.post, f"{address}/take", headers={"Host": HOST},
+                        data={"csrf_token": token, "form": form, "change": "1"})
+            for one, token, form in zip(browsers, tokens, forms)
+        ]  # fmt: skip
+    jobs = [site.desk.jobs.found(("taking", form)) for form in forms]
+    assert all(one.result().status_code == 302 for one in sent)
+    taken = []
+    for job in jobs:
+        assert job and job.is_over.wait(SECONDS) and isinstance(job.value, Taken)
+        taken.append(job.value.book_changed)
+    assert sorted(taken) == [False, True]
+    assert [line.split()[0] for line in society_desk.good("history").out.splitlines()] == ["1", "2"]
+    society_desk.good("verify")
+
+
+def test_files_behind_a_sheet(site: Site) -> None:
+    """The files beside the database have what a sheet brought, though nobody asks for them."""
+    address = site.drop("sheet.csv", EXAMPLE + NEW_ROW)
+    site.take(address)
+    until = time.monotonic() + SECONDS
+    while "NEW-9" not in (site.desk.folder / "ids.csv").read_text(encoding="utf-8"):
+        assert time.monotonic() < until
+        time.sleep(0.05)
+
+
+def test_in_turn(site: Site, monkeypatch: pytest.MonkeyPatch) -> None:
+    """Whoever changes the book has the turn until the change is stored, also where it comes to nothing."""
+    turns = list[bool]()
+
+    @contextlib.contextmanager
+    def noted(folder: pathlib.Path) -> Iterator[sqlite3.Connection | None]:
+        turns.append(site.desk.jobs.turn.locked())
+        with changing(folder) as connection:
+            yield connection
+        turns.append(site.desk.jobs.turn.locked())
+
+    monkeypatch.setattr("society.desk.changing.changing", noted)
+    site.post("/file/birth", **BIRTH)
+    assert site.post("/file/exit", id=DAM, day="1999-05-01").headers["Location"] == "/answer/3"
+    assert turns == [True] * 4 and not site.desk.jobs.turn.locked()
+
+
+def test_restored(site: Site, society_desk: Desk, monkeypatch: pytest.MonkeyPatch) -> None:
+    """Only the book that was looked at gives way to a backup, and the session answers for the book of now."""
+    copy = site.get("/book.sqlite").get_data()
+    site.post("/file/exit", id=DAM, day="2024-05-01")
+    data = {"csrf_token": site.token(), "backup": (io.BytesIO(copy), "copy.sqlite")}
+    address = site.client.post("/restore", data=data, headers={"Host": HOST}).headers["Location"]
+    assert 'name="change" value="2"' in site.page(address)
+    assert TEXTS["book changed"][0] in shown(site.page(site.post(address, change="1").headers["Location"]))
+    assert len(society_desk.good("history").out.splitlines()) == 2
+    assert TEXTS["backup restored"][0].format("copy.sqlite") in shown(
+        site.page(site.post(address, change="2").headers["Location"])
+    )
+    # the exit is gone with the book that had it
+    assert TEXTS["accepted"][0] in shown(
+        site.page(site.post("/file/exit", id=DAM, day="2024-05-02").headers["Location"])
+    )
+    society_desk.good("verify")
+
+
+def test_no_path(site: Site, monkeypatch: pytest.MonkeyPatch) -> None:
+    """A mistake that names files of this machine is told with their names alone."""
+    address = site.drop("sheet.csv", EXAMPLE)
+    [upload] = site.desk.uploads.found.values()
+    folders = [site.desk.folder, upload.path.parent, site.desk.uploads.room, site.desk.program.path.parent]
+
+    def wrong(*_: object) -> int:
+        raise Mistake(*[f"{folder}/file-{at} and {folder} are wrong" for at, folder in enumerate(folders)])
+
+    monkeypatch.setattr("society.desk.routes.history.last_that_changed", wrong)
+    page = site.get("/history").get_data(as_text=True)
+    assert all(f"file-{at} and {folder.name} are wrong" in shown(page) for at, folder in enumerate(folders))
+    assert not [folder for folder in folders if str(folder.parent) in page]
+    assert site.get(address).status_code == 200

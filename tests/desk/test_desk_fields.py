@@ -1,0 +1,112 @@
+"""What is said for the reading of a sheet: fields that can't be read, and what holds for later sheets; and how the look at
+it and the change say how much it is."""
+from __future__ import annotations
+
+import datetime
+import io
+import re
+
+import openpyxl
+import pytest
+
+from desk.looks import PAIR, TITLES, Says, calves, look_at
+from desk.site import Site, shown
+from desk.test_desk_sheets import EXAMPLE
+from front_desk.desk import Desk
+from society.pages.languages import LANGUAGES
+
+
+@pytest.mark.parametrize("language", LANGUAGES)
+def test_wrong_country(empty_site: Site, language: str) -> None:
+    """It is told beside its field, what would change is shown without it, and it isn't taken before it is mended."""
+    site, words = empty_site, Says(language)
+    site.get(f"/language/{language}")
+    address, page = look_at(site, TITLES + PAIR, breed="sku", country="DE")
+    field = re.search(r'<input id="country"[^>]*>\s*<strong class="is-wrong" id="country-wrong">.*?</strong>', page)
+    assert field and 'aria-invalid="true"' in field[0] and "country-wrong" in field[0] and "DE" in shown(field[0])
+    assert words("mend first") in shown(page) and words.counted("would be", 3) in shown(page)
+    assert f"{address}/take" not in page and words("wrong how") in shown(page)
+    site.post(f"{address}/take", change="0")
+    assert site.desk.folder.exists() is False
+    site.post(f"{address}/columns", breed="sku", country="deu")
+    site.take(address)
+    # settings have what the numbers begin with, and tell what is wrong beside its field
+    page = site.page("/settings")
+    assert re.search(r'name="breed"[^>]*value="SKU"', page) and re.search(r'name="country"[^>]*value="DEU"', page)
+    page = site.post("/settings", country="DE").get_data(as_text=True)
+    assert re.search(r'<input id="country"[^>]*aria-invalid="true"[^>]*>\s*<strong class="is-wrong"', page)
+
+
+@pytest.mark.parametrize("language, day", [("en", "2199-03-05"), ("de", "05.03.2199"), ("fr", "05/03/2199")])
+def test_days_of_a_workbook(empty_site: Site, language: str, day: str) -> None:
+    """A day of an .xlsx file, which has no way of its own to be written, is written as the page writes days."""
+    workbook, file = openpyxl.Workbook(), io.BytesIO()
+    for row in ["Tag", "Geschlecht", "geb", "Vater", "Mutter"], ["a", "m", datetime.date(2199, 3, 5), "", ""]:
+        workbook.active.append(row)
+    workbook.save(file)
+    empty_site.get(f"/language/{language}")
+    page = shown(empty_site.page(empty_site.drop("herd.xlsx", file.getvalue())))
+    # among the first rows, and where it is told that it isn't over yet
+    assert page.count(day) >= 2 and (day == "2199-03-05" or "2199-03-05" not in page)
+
+
+@pytest.mark.parametrize("language", LANGUAGES)
+def test_unknown_of_earlier_sheets(empty_site: Site, language: str) -> None:
+    """Settings have the words for unknown parents that sheets were read with; they hold on."""
+    site, words = empty_site, Says(language)
+    site.get(f"/language/{language}")
+    assert words("unknown said", "") not in shown(site.page("/settings"))
+    address, _ = look_at(site, TITLES + PAIR + "019;Uli;m;2003-03-01;fremd;extern;Huber\n", unknown="fremd,extern")
+    site.take(address)
+    assert words("unknown said", "fremd,extern") in shown(site.page("/settings"))
+
+
+@pytest.mark.parametrize("field, text", [
+    ("day", "morgen"), ("youngest", "x"), ("apart", "-1"), ("sexes", "Zibbe"), ("owner", "Meier"),
+])  # fmt: skip
+def test_wrong_fields(empty_site: Site, field: str, text: str) -> None:
+    _, page = look_at(empty_site, TITLES + PAIR, **{field: text})
+    assert f'<strong class="is-wrong" id="{field}-wrong">' in page
+    assert "The book would have 3 animals." in shown(page) and "/take" not in page
+
+
+def test_owner_who_is_not_there(site: Site, society_desk: Desk) -> None:
+    """Who is no owner of the book can't be written otherwise: that is told beside the field, and what would change is
+    shown without it; one who is can."""
+    address = site.drop("sheet.csv", EXAMPLE.replace(b"Oak Lodge", b"Oak Lodges"))
+    site.post(f"{address}/columns", owner="Oak Lodge=Oak Lodges;Nobody=X")
+    page = site.page(address)
+    field = re.search(r'<strong class="is-wrong" id="owner-wrong">.*?</strong>', page)
+    assert field and "the book has no owner 'Nobody'" in shown(field[0])
+    assert "The book would have 502 animals." in shown(page) and f"{address}/take" not in page
+    site.post(f"{address}/take", change="1")
+    assert len(society_desk.good("history").out.splitlines()) == 1
+    site.post(f"{address}/columns", owner="Oak Lodge=Oak Lodges")
+    page = site.take(address)
+    assert "Oak Lodges" in shown(page)
+    assert "transfer" not in "\n".join(society_desk.commands())
+
+
+def test_findings_come_first_on_a_telephone(empty_site: Site) -> None:
+    """What is found stands above the lists of columns there."""
+    _, page = look_at(empty_site, TITLES + PAIR)
+    assert page.index('<form class="reading"') < page.index('<div class="outcome">')
+    css = empty_site.get("/static/desk.css").get_data(as_text=True)
+    narrow = css[css.index("@media (max-width: 40rem)") : css.index("@page")]
+    assert ".sheet .reading { order: 1; }" in narrow
+
+
+@pytest.mark.parametrize(("language", "told"), [
+    ("en", "15 animals: 14 new, 1 added as a parent, 1 left out, 1 inferred"),
+    ("de", "15 Tiere: 14 neu, 1 als Elternteil hinzugefügt, 1 weggelassen, 1 erschlossen"),
+    ("fr", "15 animaux : 14 nouveaux, 1 ajouté comme parent, 1 omis, 1 déduit"),
+])  # fmt: skip
+def test_counts_of_a_change(empty_site: Site, language: str, told: str) -> None:
+    """All animals stand first, and what they are made up of behind them."""
+    site = empty_site
+    rows = calves(10) + "200;;w;2015-01-01;900;002;Huber\n001;;;;;;\n"
+    address, page = look_at(site, TITLES + PAIR + rows)
+    assert "Animals with a row 14 Parents without a row, added 1" in shown(page)
+    site.take(address)
+    site.get(f"/language/{language}")
+    assert told in shown(site.page("/history/1")).replace("  ", " ")
