@@ -3,16 +3,18 @@ from __future__ import annotations
 
 import dataclasses
 import datetime
+import pathlib
 import sqlite3
 
 import pytest
 
-from society.book.changes import Made
+from society.book.book import Book
+from society.book.changes import Made, Told
 from society.book.coefficients import few_descendants, kept_lines, write_coefficients
 from society.book.commands import birth, leave, record_after, replay, transfer
-from society.book.history import all_changes, changed_one_by_one, write_change
+from society.book.history import all_changes, changed_one_by_one, told_by, write_change
 from society.book.journal import NO_JOURNAL, Step, alike
-from society.book.kinds import ChangeKind
+from society.book.kinds import ChangeKind, Standing
 from society.book.known import Known
 from society.book.schema import MIGRATIONS
 from society.book.state import ANIMALS, bring_back, write_rows
@@ -71,7 +73,8 @@ def test_coefficients_are_kept_as_the_program_writes_them(connection: sqlite3.Co
 def test_few_descendants(connection: sqlite3.Connection, monkeypatch: pytest.MonkeyPatch) -> None:
     """By sires and by dams, each once, as the book is now; none where they are too many."""
     sire, dam, son, daughter, calf, other = (f"HOLGBR{sex}{at:012}" for at, sex in enumerate("MFMFMF"))
-    parents = {sire: ("", ""), dam: ("", ""), son: (sire, dam), daughter: ("", dam), calf: (son, daughter), other: ("", "")}
+    parents = {one: ("", "") for one in (sire, dam, other)}
+    parents |= {son: (sire, dam), daughter: ("", dam), calf: (son, daughter)}
     records = replay(birth(number, BORN, *both, 1, False) for number, both in parents.items())
     rows = animal_rows({number: Known(number, number) for number in parents}, records)
     write_rows(connection, ANIMALS, 1, {}, rows)
@@ -82,3 +85,27 @@ def test_few_descendants(connection: sqlite3.Connection, monkeypatch: pytest.Mon
     assert few_descendants(connection, dam) == [] and sorted(few_descendants(connection, sire)) == every[sire]
     bring_back(connection, 2, 0)
     assert few_descendants(connection, sire) == [sire]
+
+
+def test_former_numbers(connection: sqlite3.Connection, tmp_path: pathlib.Path) -> None:
+    """Whoever comes back has the last number, or that with which it was dropped."""
+    first, male, other, dropped = (f"{breed}{sex}{at:012}" for breed, sex, at in (
+        ("HOLGBR", "F", 1), ("HOLGBR", "M", 1), ("HOLGBR", "M", 2), ("SKUGBR", "M", 2)))  # fmt: skip
+    records = replay(birth(number, BORN, "", "", 1, False) for number in (first, male, other))
+    before, after = (animal_rows({one.id: one for one in known}, records) for known in (
+        (Known(first, "a"), Known(other, "b")), (Known(male, "a"), Known(dropped, "b", standing=Standing.DROPPED))
+    ))  # fmt: skip
+    write_rows(connection, ANIMALS, 1, {}, before)
+    write_rows(connection, ANIMALS, 2, before, after)
+    book = Book(tmp_path, connection)
+    assert (book.number_before("a"), book.number_before("b"), book.number_before("c")) == (first, dropped, "")
+    assert book.former_numbers() == {}
+    bring_back(connection, 3, 0)
+    assert book.former_numbers() == {"a": male, "b": dropped} and book.number_before("a") == male
+
+
+def test_what_is_told_keeps_its_order(connection: sqlite3.Connection) -> None:
+    told = tuple(Told("kind", "part", line, id, (("b", "1"), ("a", "2"))) for line, id in ((7, "b"), (0, ""), (3, "a")))
+    for number in 1, 2:
+        write_change(connection, number, number, NO_JOURNAL, Made(ChangeKind.TAKE, told=told[: number + 1]))
+    assert told_by(connection, 1) == [*told[:2]] and told_by(connection, 2) == [*told]

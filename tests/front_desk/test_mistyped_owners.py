@@ -17,12 +17,12 @@ from society.taking.respelt_owners import differ_by_one, tell_mistyped_owners
 @pytest.mark.parametrize(("one", "other", "is_alike"), [
     ("Huber", "Hubber", True), ("HUBER", "hubr", True), ("Huber", "Hufer", True), ("Huber", "Hubre", True),
     ("Xhuber", "Huber", True), ("Huber", "Huberr", True), ("Huber", "Huber", False), ("Huber", "Hufar", False),
-    ("Huber", "Hubberr", False), ("Huber", "Hreub", False), ("Meier Hof", "Meier-Hof", False), ("Hof 2", "Hof 3", False),
-    ("Hof 12", "Hof 21", False), ("Hof2", "Hof3", False), ("A. Huber", "B. Huber", False), ("Hof B", "Hof C", False),
-    ("Löwe", "Lowe", False),
+    ("Huber", "Hubberr", False), ("Huber", "Hreub", False), ("Meier Hof", "Meier-Hof", False), ("Löwe", "Lowe", False),
+    ("Hof 2", "Hof 3", False), ("Hof 12", "Hof 21", False), ("Hof2", "Hof3", False), ("A. Huber", "B. Huber", False),
+    ("Hof B", "Hof C", False),
 ])  # fmt: skip
 def test_differ_by_one(one: str, other: str, is_alike: bool) -> None:
-    """A letter more, less or otherwise, or two that are swapped; digits, signs and letters that stand alone tell apart."""
+    """A letter more, less or otherwise, or two that are swapped; digits, signs and letters alone tell apart."""
     assert differ_by_one(one, other) == differ_by_one(other, one) == is_alike
 
 

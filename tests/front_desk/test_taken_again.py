@@ -1,13 +1,21 @@
 """What a book remembers of how a sheet is read, and what its report has."""
 from __future__ import annotations
 
+import pathlib
+from types import SimpleNamespace
+from typing import cast
+
 import pytest
 
 from front_desk.desk import Desk
 from society.book.book import Book
 from society.book.book_read import reading
+from society.book.kinds import Remembered
 from society.book.search import find
+from society.book.state import Meaning
 from society.mistake import Mistake
+from society.taking.remembering import remember
+from society.taking.wishes import Wishes
 
 
 def test_remembered(desk: Desk) -> None:
@@ -53,3 +61,14 @@ def test_many_lines(desk: Desk) -> None:
         assert find(book, "EVA").id == "5"
         with pytest.raises(Mistake, match="4, 5"):
             find(book, "eva")
+
+
+def test_words_are_known_or_unknown_as_is_said_last(tmp_path: pathlib.Path) -> None:
+    """A word that is said again stands last, and what is no option of a sheet's reading stays."""
+    unknown, known, owner = Remembered.UNKNOWN, Remembered.KNOWN, Meaning(Remembered.OWNER, "Meier", "Meyer")
+    before = [Meaning(unknown, "fremd,X"), Meaning(unknown, "?"), Meaning(known, "Y"), owner]
+    book = cast(Book, SimpleNamespace(remembered=before))
+    words = remember(book, Wishes(tmp_path, known=["x"], unknown=["Y"]))
+    assert (words[unknown], words[known]) == (["fremd", "?", "Y"], ["x"]) and owner in book.remembered
+    words = remember(book, Wishes(tmp_path, unknown=["fremd"]))
+    assert (words[unknown], words[known]) == (["?", "Y", "fremd"], ["x"]) and owner in book.remembered
