@@ -18,7 +18,6 @@ from society.taking.stored_findings import entry_of
 
 # what is counted of a change, in this order behind its animals; what may be wrong the change itself shows
 COUNTED = ("new", What.ADDED, What.CHANGED, What.GONE, What.LEFT_OUT, What.INFERRED)
-ALL_COUNTED = (*COUNTED, "animals", What.LOOK)
 
 
 class Filed(NamedTuple):
@@ -57,8 +56,7 @@ def line_of(connection: sqlite3.Connection, change: Change, words: Words) -> Cha
 def counts_of(change: Change, words: Words) -> str:
     """All animals, and behind them how many are new and what became of how many others."""
     counts = change.counts
-    known = [what for what in COUNTED if counts.get(what)] + [what for what in counts if what not in ALL_COUNTED]
-    parts = [words.counted(f"counted {what}", counts[what]) for what in known if counts[what]]
+    parts = [words.counted(f"counted {what}", counts[what]) for what in COUNTED if counts.get(what)]
     if not counts.get("animals"):
         return ", ".join(parts)
     animals = words.counted("counted animals", counts["animals"])

@@ -174,4 +174,4 @@ def tell_lost(columns: Columns, before: Mapping[str, str], likely: LikelyColumns
     """The last sheet had a column that this one lacks, as where it has another title now."""
     for name, title in before.items():
         if title and name not in columns.found and name not in NEEDED:
-            columns.notes.append(ColumnLost(Field(name), title, likely.of_lost(Field(name))))
+            columns.notes.append(ColumnLost(Field(name), title, likely.of_lost(Field(name), title)))

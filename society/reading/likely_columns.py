@@ -3,6 +3,7 @@ from __future__ import annotations
 
 from typing import TYPE_CHECKING, Container
 
+from society.alike import closest
 from society.book.kinds import Field
 from society.reading.column_findings import LikelyColumn
 from society.reading.days import Unreadable, read_span
@@ -63,8 +64,9 @@ class LikelyColumns:
         ]
         return 2 * sum(cell in known for _, cell in cells) > len(cells) and all(id != cell for id, cell in cells)
 
-    def of_lost(self, field: Field) -> str:
-        """The title of the column that may have a field which the last sheet had, or nothing."""
+    def of_lost(self, field: Field, before: str) -> str:
+        """The title of the column that may have a field which the last sheet had under another one, or nothing: as its
+        cells tell, or where they tell nothing, as it is called."""
         tells = {
             Field.SEX: lambda cell: sex_word(cell) in KNOWN_SEXES,
             Field.EXIT: lambda cell: has_word(cell, KNOWN_EXITS | KNOWN_STAYS) or is_day(cell),
@@ -77,7 +79,8 @@ class LikelyColumns:
                 return self.columns.title(at)
             if not tells and any(title in plain(self.columns.title(at)) for title in usual):
                 return self.columns.title(at)
-        return ""
+        near = [] if tells else closest(before, [self.columns.title(at) for at in self.free], 1)
+        return near[0] if near else ""
 
 
 def is_day(text: str) -> bool:

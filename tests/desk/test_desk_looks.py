@@ -118,6 +118,17 @@ def test_births_near_one_another(empty_site: Site) -> None:
     assert 'name="apart" type="text" value="60"' in page
 
 
+def test_back_to_the_findings(empty_site: Site, monkeypatch: pytest.MonkeyPatch) -> None:
+    """Whoever presses a button waits on a page that asks again by its address, since one with a place in it wouldn't, and
+    comes back to what is found."""
+    address, _ = look_at(empty_site, TITLES + PAIR)
+    monkeypatch.setattr("society.desk.jobs.SOON", 0)
+    to = empty_site.post(f"{address}/suggested", option="--youngest", word="300").headers["Location"]
+    assert "#" not in to and f'content="1; url={to}"' in empty_site.get(to).get_data(as_text=True)
+    assert '<div id="findings">' in empty_site.page(to)
+    assert empty_site.get(to).headers["Location"] == f"{address}#findings"
+
+
 def test_one_birth_near_another(empty_site: Site) -> None:
     _, page = look_at(empty_site, TITLES + PAIR + "501;;w;2003-01-01;001;002;\n502;;w;2003-03-01;001;002;\n")
     assert buttons_of(page) == ["That can be: report only what is below 59 days"]

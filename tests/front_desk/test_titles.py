@@ -136,6 +136,9 @@ def test_column_that_is_lost(desk: Desk) -> None:
         assert [one.partition("--columns ")[2] for one in done.commands()] == [
             "sex=Nature", "sex=", "'owner=Owner or breeder'", "owner=",
         ]  # fmt: skip
+    # a title with a wrong letter, which nothing else tells of
+    misspelt = desk.take(now.replace("Owner or breeder", "ownre"))
+    assert [one.partition("--columns ")[2] for one in misspelt.commands()][2:] == ["owner=ownre", "owner="]
     for words in ("--columns", "owner="), ():
         assert "for owner is found" not in desk.take(now, *words).out
     done = desk.typed(done.commands()[2])

@@ -37,6 +37,8 @@ OPTIONS = (
     "worksheet", "drop_gone", "month_first", "day_first", "anyway",
 )  # fmt: skip
 MOST_LETTERS = 500
+# the place of a look's page at which they stand
+FINDINGS = "findings"
 
 
 @page.get("/sheet", endpoint="page")
@@ -99,6 +101,9 @@ def look(token: str) -> Answer:
         the_desk().jobs.forget(job.key)
         return render_template("look.html", upload=upload, look=None, faults=on_page(job.failed.sentences)), 400
     assert isinstance(job.value, Look)
+    if request.args.get("at") == FINDINGS:
+        # while it waits a page has no place: with one it wouldn't ask again
+        return redirect(url_for("sheet.look", token=token, _anchor=FINDINGS))
     found = job.value
     words = the_words()
     sentences = [*told_of(found), *without_paths(sentence_of(one, words) for one in found.obstacles)]
@@ -153,7 +158,7 @@ def take_suggestion(token: str) -> Answer:
     upload, given = upload_of(token), request.form
     options = [Option(name, word) for name, word in zip(given.getlist("option"), given.getlist("word"))]
     choose_suggested(upload, [one for one in options if one.option == COLUMNS or field_of(one) in OPTIONS])
-    return redirect(url_for("sheet.look", token=upload.token, _anchor="findings"))
+    return redirect(url_for("sheet.look", token=upload.token, at=FINDINGS))
 
 
 @page.post("/sheet/<token>/take")

@@ -15,7 +15,7 @@ COMMANDS = {
     6: ("die Mutter ist nicht weiblich", "la mère n'est pas femelle"),
     7: ("der Vater ist nicht mindestens einen Tag älter", "le père n'a pas au moins un jour de plus"),
     8: ("die Mutter ist nicht mindestens einen Tag älter", "la mère n'a pas au moins un jour de plus"),
-    9: ("die Mutter ging an einem Tag vor der Geburt ab", "la mère est sortie un jour avant la naissance"),
+    9: ("die Mutter ging an einem Tag vor der Geburt ab", "la mère est sortie avant le jour de la naissance"),
     10: ("ein Weg über Eltern wäre länger als 60 Schritte", "un chemin de parents dépasserait 60 pas"),
     11: ("es ist nicht im Herdbuch", "il n'est pas dans le livre"),
     12: ("es ist schon abgegangen", "il est déjà sorti"),

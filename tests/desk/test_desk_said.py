@@ -1,0 +1,126 @@
+"""How pages say what the book has: an animal's facts, the options and counts of a change, and what somebody wrote into a
+field."""
+from __future__ import annotations
+
+import datetime
+import pathlib
+import sqlite3
+
+import pytest
+
+from society.book.book import NO_OWNER, Book
+from society.book.changes import Change, Option
+from society.book.kinds import ChangeKind
+from society.book.rows import Row
+from society.book.schema import FIRST, SECOND
+from society.desk.change_lines import counts_of, id_in_journal, what_of
+from society.desk.shown_facts import facts_said
+from society.desk.shown_options import Given, given_of
+from society.desk.words import Words
+from society.desk.wrong_fields import cleaned, owners_of, wrong_fields
+
+DAY = datetime.datetime(2024, 3, 1, tzinfo=datetime.timezone.utc)
+EMBRYO = Row(
+    "E-7", "HOLGBRF000000000007", "Else", "e-7", "else", "gone", "period", "2001-02", "2001-02-30", "period", "2009", None,
+    None, "dam", 0, "Leihbock", "Oma", "name exit", "given", "2001-02-15", "HOLGBRM000000000001", "HOLGBRF000000000002",
+    1, 5, "2003-04-05", None, "2009-07-01",
+)  # fmt: skip
+FACTS = {
+    "standing": "hat keine Zeile mehr", "number": EMBRYO.number, "name": "Else",
+    "birth day": "15.02.2001 (erschlossen)", "sire": "V-1", "dam": "HOLGBRF000000000002", "owner": "Huber",
+    "owner since": "05.04.2003", "exit": "01.07.2009 (erschlossen)", "stored embryo": "ja",
+    "basis of the birth day": "aus Monat oder Jahr: 2001-02", "basis of the sex": "da es Mutter ist",
+    "sire in the sheet": "Leihbock", "dam in the sheet": "Oma", "filed by hand": "Name, Abgang",
+}  # fmt: skip
+
+
+def change_of(kind: ChangeKind, options: tuple[Option, ...] = (), **values: object) -> Change:
+    made = Change(7, kind, DAY, "me", 1, 3, None, options)
+    for name, value in values.items():
+        object.__setattr__(made, name, value)
+    return made
+
+
+def test_facts() -> None:
+    """Each fact is of its own field, in the page's language; one that isn't there is empty."""
+    words, names, owners = Words("de"), {"HOLGBRM000000000001": "V-1"}, {5: "Huber", NO_OWNER: ""}
+    assert facts_said(EMBRYO, names, owners, words) == FACTS
+    plain = EMBRYO._replace(
+        birth_source="given", birth_period=None, birth_no_such_day=None, sex_source="given", embryo=0, herd=NO_OWNER,
+        sire=None, dam=None, exit_source="given", exit_period=None, departed=None, by_hand="", written_sire="",
+    )  # fmt: skip
+    said = facts_said(plain, names, owners, words)
+    empty = {name for name, text in said.items() if not text}
+    assert empty == {"sire", "dam", "owner", "exit", "stored embryo", "basis of the birth day", "basis of the sex",
+                     "sire in the sheet", "filed by hand"}  # fmt: skip
+    assert said["birth day"] == "15.02.2001"
+    invented = EMBRYO._replace(birth_source="invented", birth_period=None, birth_no_such_day=None)
+    assert facts_said(invented, names, owners, words)["basis of the birth day"] == "erfunden"
+
+
+def test_options() -> None:
+    """A value that stands for something is said in words: a sex, an unknown parent, and a field without a column."""
+    words = Words("fr")
+    birth = change_of(ChangeKind.BIRTH, (Option("--day", "2024-03-01"), Option("--sex", "m"), Option("--sire", "SIR1"),
+                                         Option("--dam", "Inconnue"), Option("--owner", "nn"), Option("--breed", "ABC")))  # fmt: skip
+    assert given_of(birth, words) == [
+        Given("Date de naissance", "01/03/2024"), Given("Sexe", "mâle"), Given("Père", "SIR1"), Given("Mère", "inconnu"),
+        Given("Propriétaire", "nn"), Given("Race dans les numéros", "ABC"),
+    ]  # fmt: skip
+    take = change_of(ChangeKind.TAKE, (Option("--columns", 'sire=,"dam=M, x"'), Option("--no-animal", "Total"),
+                                       Option("--columns", "nothing of that"), Option("--anyway")))  # fmt: skip
+    said = given_of(take, words)
+    assert said[:3] == [
+        Given("Père", words("no column")), Given("Mère", "M, x"), Given("Lignes qui ne sont pas des animaux", "Total"),
+    ]  # fmt: skip
+    assert said[3].value == "nothing of that" and said[4] == Given(words("option anyway"))
+
+
+def test_counts() -> None:
+    """All animals come first, then what is counted in one order, and nothing that there is none of."""
+    counts = {"gone": 2, "animals": 9, "left out": 1, "changed": 0, "new": 1_000, "to look at": 4}
+    take = change_of(ChangeKind.TAKE, counts=counts)
+    assert counts_of(take, Words("de")) == "9 Tiere: 1.000 neu, 2 nicht mehr da, 1 weggelassen"
+    assert counts_of(change_of(ChangeKind.TAKE, counts={"animals": 1}), Words("en")) == "1 animal"
+    assert counts_of(change_of(ChangeKind.TAKE, counts={"gone": 1}), Words("fr")) == "1 disparu"
+
+
+def test_what() -> None:
+    words = Words("en")
+    undone = [what_of(change_of(ChangeKind.UNDO, undone_to=to), words) for to in (0, 3)]
+    assert undone == [words("change to empty"), words("change undo", 3)] and undone[0] != words("change undo", 0)
+
+
+def test_animal_of_a_command() -> None:
+    """That of the last command of the change, by the id that it has now."""
+    with sqlite3.connect(":memory:") as connection:
+        connection.executescript(FIRST + SECOND)
+        connection.execute("PRAGMA foreign_keys = OFF")
+        command = "INSERT INTO command VALUES (1, ?, 'parents', ?, NULL, NULL, NULL, NULL, NULL, 0, 0)"
+        for place, number in enumerate(("HOLGBRF000000000009", EMBRYO.number, "HOLGBRF000000000008"), 2):
+            connection.execute(command, (place, number))
+        names = ", ".join(EMBRYO._fields)
+        for since, until, id in (1, 4, "earlier"), (4, None, "E-7"):
+            values = (since, until, *EMBRYO._replace(id=id))
+            connection.execute(f"INSERT INTO animal (since, until, {names}) VALUES ({', '.join('?' * len(values))})", values)
+        assert id_in_journal(connection, change_of(ChangeKind.PARENTS)) == "E-7"
+        assert id_in_journal(connection, change_of(ChangeKind.PARENTS, length=2)) == ""
+
+
+@pytest.mark.parametrize(("name", "text", "read"), [
+    ("breed", " sku ", "SKU"), ("country", "deu", "DEU"), ("country", "de", "de"), ("country", "dé1", "dé1"),
+    ("unknown", " nnn ", "nnn"),
+])  # fmt: skip
+def test_cleaned(name: str, text: str, read: str) -> None:
+    """Three letters of a code are written in capitals, and blanks around a text are none of it."""
+    assert cleaned(name, text) == read
+
+
+def test_wrong() -> None:
+    """Each field that can't be read is told, and no other; owners stand between semicolons."""
+    book = Book(pathlib.Path("none"), None)
+    wrong = {"breed": "x", "country": "x1", "day": "x", "youngest": "-1", "apart": "x", "sexes": "x", "owner": "x"}
+    assert wrong_fields(wrong, book).keys() == wrong.keys()
+    right = {"breed": "ABC", "country": "ABC", "day": "2001-03-01", "youngest": "1", "apart": "0", "sexes": "x=f"}
+    assert wrong_fields(right | {"unknown": "-", "owner": ""}, book) == {}
+    assert owners_of(" A=B ;; C, D=E") == ["A=B", "C, D=E"]
