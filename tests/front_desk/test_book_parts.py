@@ -5,6 +5,8 @@ import dataclasses
 import datetime
 import pathlib
 import sqlite3
+from types import SimpleNamespace
+from typing import cast
 
 import pytest
 
@@ -14,11 +16,14 @@ from society.book.coefficients import few_descendants, kept_lines, write_coeffic
 from society.book.commands import birth, leave, record_after, replay, transfer
 from society.book.history import all_changes, changed_one_by_one, told_by, write_change
 from society.book.journal import NO_JOURNAL, Step, alike
-from society.book.kinds import ChangeKind, Standing
+from society.book.kinds import ChangeKind, Field, Standing
 from society.book.known import Known
 from society.book.schema import MIGRATIONS
-from society.book.state import ANIMALS, bring_back, write_rows
+from society.book.state import ANIMALS, CELL_FIELDS, bring_back, write_rows
 from society.book.writing import animal_rows
+from society.reading.animal import Animal
+from society.taking.next_book import NextBook
+from society.taking.saving import cell_rows
 
 NUMBER = "HOLGBRF000000000001"
 BORN, GIVEN, LEFT = (datetime.date(year, 1, 2) for year in (2001, 2003, 2005))
@@ -109,3 +114,14 @@ def test_what_is_told_keeps_its_order(connection: sqlite3.Connection) -> None:
     for number in 1, 2:
         write_change(connection, number, number, NO_JOURNAL, Made(ChangeKind.TAKE, told=told[: number + 1]))
     assert told_by(connection, 1) == [*told[:2]] and told_by(connection, 2) == [*told]
+
+
+def test_last_cells() -> None:
+    """A row gives an animal its cells; those of a column that the sheet lacks stay, and so do those without a row."""
+    before = {(id,): (id, *(f"{field} of {id}" for field in CELL_FIELDS)) for id in "ab"}
+    rows = Animal("a", 2, cells={Field.NAME: "A", Field.OWNER: ""}), Animal("c", 3, cells={Field.NAME: "C"})
+    animals = {one.id: one for one in (*rows, Animal("b", cells={Field.NAME: "B"}))}
+    cells = cell_rows(cast(NextBook, SimpleNamespace(book=SimpleNamespace(cells=before), animals=animals)))
+    changed = {Field.NAME: "A", Field.OWNER: ""}
+    assert cells["a",] == ("a", *(changed.get(field, f"{field} of a") for field in CELL_FIELDS))
+    assert cells["b",] == before["b",] and cells["c",] == ("c", "C", *[None] * (len(CELL_FIELDS) - 1))
