@@ -55,6 +55,8 @@ def begun(driver: str, browser: str, tries: int = TRIES) -> webdriver.Chrome:
     for word in WORDS:
         options.add_argument(word)
     options.binary_location = browser
+    # the driver is asked itself
+    options.ignore_local_proxy_environment_variables()
     try:
         return webdriver.Chrome(service=service, options=options)
     except WebDriverException:
