@@ -10,7 +10,8 @@ from typing import cast
 
 import pytest
 
-from society.book.book import Book
+from society.book.book import NO_OWNER, Book
+from society.book.by_hand import herd_of, transferred, with_parents
 from society.book.changes import Made, Told
 from society.book.coefficients import few_descendants, kept_lines, write_coefficients
 from society.book.commands import birth, leave, record_after, replay, transfer
@@ -21,6 +22,7 @@ from society.book.known import Known
 from society.book.schema import MIGRATIONS
 from society.book.state import ANIMALS, CELL_FIELDS, bring_back, write_rows
 from society.book.writing import animal_rows
+from society.mistake import Mistake
 from society.reading.animal import Animal
 from society.taking.next_book import NextBook
 from society.taking.saving import cell_rows
@@ -125,3 +127,19 @@ def test_last_cells() -> None:
     changed = {Field.NAME: "A", Field.OWNER: ""}
     assert cells["a",] == ("a", *(changed.get(field, f"{field} of a") for field in CELL_FIELDS))
     assert cells["b",] == before["b",] and cells["c",] == ("c", "C", *[None] * (len(CELL_FIELDS) - 1))
+
+
+def test_parents_and_owners_by_hand() -> None:
+    """What is filed by hand is so though it was so before, and takes what a sheet wrote with it; a new owner has a herd
+    behind all others."""
+    records = {NUMBER: record_after(None, birth(NUMBER, BORN, "", "", 1, False))}
+    book = cast(Book, SimpleNamespace(records=records, remembered=[], owners={"Nord": 2, "Süd": 5}))
+    known = Known(NUMBER, "a", written_sire="Bob", written_dam="Eva")
+    of_sire, of_dam = with_parents(book, known, "", None), with_parents(book, known, None, "")
+    assert of_sire.known == known._replace(written_sire="", by_hand=frozenset({Field.SIRE})) and not of_sire.findings
+    assert of_dam.known == known._replace(written_dam="", by_hand=frozenset({Field.DAM})) and not of_dam.findings
+    with pytest.raises(Mistake, match="the book has no owner 'Nort'"):
+        transferred(book, known, GIVEN, "Süd", "Nort")
+    assert (herd_of(book, "West"), herd_of(book, "Süd"), herd_of(book, "")) == (
+        (6, {"West": 6}), (5, {}), (NO_OWNER, {})
+    )  # fmt: skip
