@@ -105,5 +105,5 @@ def test_no_path(site: Site, monkeypatch: pytest.MonkeyPatch) -> None:
     monkeypatch.setattr("society.desk.routes.history.last_that_changed", wrong)
     page = site.get("/history").get_data(as_text=True)
     assert all(f"file-{at} and {folder.name} are wrong" in shown(page) for at, folder in enumerate(folders))
-    assert not [folder for folder in folders if str(folder.parent) in page]
+    assert not [folder for folder in folders if str(folder.parent) in page or f"{folder.name}/" in shown(page)]
     assert site.get(address).status_code == 200

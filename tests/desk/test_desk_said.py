@@ -83,6 +83,8 @@ def test_counts() -> None:
     assert counts_of(take, Words("de")) == "9 Tiere: 1.000 neu, 2 nicht mehr da, 1 weggelassen"
     assert counts_of(change_of(ChangeKind.TAKE, counts={"animals": 1}), Words("en")) == "1 animal"
     assert counts_of(change_of(ChangeKind.TAKE, counts={"gone": 1}), Words("fr")) == "1 disparu"
+    # as a folder of an earlier version was taken over
+    assert counts_of(change_of(ChangeKind.TAKE, counts={"animals": 9, "commands": 12}), Words("de")) == "9 Tiere"
 
 
 def test_what() -> None:

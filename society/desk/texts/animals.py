@@ -129,7 +129,8 @@ TEXTS = {
         "La moyenne des {} couples permis serait {}.",
     ),
     "mean of all (one)": (
-        "The one pair that is allowed would have {1}.", "Das eine erlaubte Paar hätte {1}.", "Le seul couple permis aurait {1}.",
+        "The one pair that is allowed would have {1}.", "Das eine erlaubte Paar hätte {1}.",
+        "Le seul couple permis aurait {1}.",
     ),
     "unmated REFUSED": (
         "Not mated, since the register refuses a mating with each of the sires:",

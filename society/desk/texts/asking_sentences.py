@@ -97,7 +97,7 @@ SENTENCES: dict[Sentence, tuple[str, str, str]] = {
         "fragen Sie auch nach abgegangenen.", "demandez aussi ceux qui sont sortis.",
     ),
     Mating.NAME_IN_FILE: (
-        "take a sheet that has some", "übernehmen Sie eine Tabelle, die welche hat.", "reprenez un tableau qui en a.",
+        "take a sheet that has some", "übernehmen Sie eine Tabelle, die welche hat.", "importez un tableau qui en a.",
     ),
     Mating.NONE_SO_OLD: (
         "none is so old: ask for fewer days",

@@ -72,7 +72,7 @@ SENTENCES: dict[Sentence, tuple[str, str, str]] = {
     BookFault.NO_BOOK: (
         "there is no book any more: take a sheet first",
         "Es gibt kein Herdbuch: übernehmen Sie zuerst eine Tabelle.",
-        "Il n'y a pas de livre : reprenez d'abord un tableau.",
+        "Il n'y a pas de livre : importez d'abord un tableau.",
     ),
     BookFault.ONLY_SHEET: (
         "The page of sheets takes it.",

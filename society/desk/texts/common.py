@@ -8,7 +8,7 @@ TEXTS = {
     "language": ("Language", "Sprache", "Langue"),
     "start": ("Start", "Start", "Accueil"),
     "animals": ("Animals", "Tiere", "Animaux"),
-    "sheet": ("Take a sheet", "Tabelle übernehmen", "Reprendre un tableau"),
+    "sheet": ("Take a sheet", "Tabelle übernehmen", "Importer un tableau"),
     "filing": ("File a command", "Vorgang melden", "Déclarer"),
     "matings": ("Matings", "Anpaarungen", "Accouplements"),
     "breed": ("The breed", "Die Rasse", "La race"),
@@ -41,7 +41,7 @@ TEXTS = {
         "Un tableau avec une ligne par animal devient le livre : il faut la boucle, la date de naissance, le père et la "
         "mère. Vous voyez le résultat avant que rien ne soit écrit.",
     ),
-    "take first sheet": ("Take your first sheet", "Erste Tabelle übernehmen", "Reprendre un premier tableau"),
+    "take first sheet": ("Take your first sheet", "Erste Tabelle übernehmen", "Importer un premier tableau"),
     "example": ("An example to play with", "Ein Beispiel zum Ausprobieren", "Un exemple pour essayer"),
     "example how": (
         "The book of an invented society with 500 goats. Undo makes it empty again.",
@@ -82,7 +82,7 @@ TEXTS = {
     ),
     "look again": ("Look again now", "Jetzt nachsehen", "Regarder maintenant"),
     "wait looking": ("The sheet is looked at", "Die Tabelle wird angesehen", "Le tableau est examiné"),
-    "wait taking": ("The sheet is taken", "Die Tabelle wird übernommen", "Le tableau est repris"),
+    "wait taking": ("The sheet is taken", "Die Tabelle wird übernommen", "Le tableau est en cours d'importation"),
     "wait mating": (
         "The register is asked for each sire", "Das Register wird nach jedem Vater gefragt",
         "Le registre est interrogé pour chaque père",

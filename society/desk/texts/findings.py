@@ -116,7 +116,7 @@ FINDINGS: dict[str, tuple[str, str]] = {
     ),
     "id alone": (
         "ist diese Zeile ein Tier? Sie hat nur eine Ohrmarke, und kein Tier hat es als Elterntier. Sie wird so übernommen",
-        "cette ligne est-elle un animal ? Elle n'a qu'une boucle, et aucun animal ne l'a pour parent. Elle est reprise ainsi",
+        "cette ligne est-elle un animal ? Elle n'a qu'une boucle, et aucun animal ne l'a pour parent. Elle est importée ainsi",
     ),
     "no animal": (
         "die Zeile ist weggelassen: eine mit „{word}“ ist kein Tier, wie gesagt",
@@ -200,7 +200,7 @@ FINDINGS: dict[str, tuple[str, str]] = {
     "parents swapped": (
         "mit vertauschten Eltern übernommen[ (Vater {sire})][ (Mutter {dam})], denn {both}[, das Paare mit {joined_to} verbinden,] "
         "ist[ in Zeile {sire_line}] Vater und[ in Zeile {dam_line}] Mutter",
-        "repris avec les parents échangés[ (père {sire})][ (mère {dam})], car {both}[, que des couples joignent à {joined_to},] est "
+        "importé avec les parents échangés[ (père {sire})][ (mère {dam})], car {both}[, que des couples joignent à {joined_to},] est "
         "père[ à la ligne {sire_line}] et mère[ à la ligne {dam_line}]",
     ),
 }  # fmt: skip

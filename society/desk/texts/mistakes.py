@@ -55,7 +55,7 @@ TEXTS = {
         "A fault of the desk itself: nothing is lost, and the window in which the desk was opened tells what it was.",
         "Ein Fehler des Programms selbst: nichts ist verloren, und das Fenster, in dem es gestartet wurde, sagt, was es "
         "war.",
-        "Une faute du programme lui-même : rien n'est perdu, et la fenêtre où il a été ouvert dit ce que c'était.",
+        "Une erreur du programme lui-même : rien n'est perdu, et la fenêtre où il a été ouvert dit ce que c'était.",
     ),
     "refused other": ("This can't be answered.", "Das kann nicht beantwortet werden.", "Impossible de répondre à cela."),
     "refused 404": ("There is no such page.", "Diese Seite gibt es nicht.", "Cette page n'existe pas."),
@@ -89,6 +89,6 @@ TEXTS = {
         "This file isn't here any more: it was taken or left, or its hour is over. Drop it again.",
         "Diese Datei ist nicht mehr da: sie wurde übernommen oder verworfen, oder ihre Stunde ist um. Legen Sie sie noch "
         "einmal ab.",
-        "Ce fichier n'est plus là : il a été repris ou laissé, ou son heure est passée. Déposez-le de nouveau.",
+        "Ce fichier n'est plus là : il a été importé ou abandonné, ou son heure est passée. Déposez-le de nouveau.",
     ),
 }  # fmt: skip

@@ -63,7 +63,7 @@ TEXTS = {
         "restores backups, and changes settings and accounts.",
         "Die Einsicht liest alles. Die Erfassung meldet auch Vorgänge und übernimmt Tabellen. Die Verwaltung holt "
         "außerdem frühere Stände und Kopien zurück und ändert Einstellungen und Konten.",
-        "La consultation lit tout. La saisie déclare aussi et reprend des tableaux. L'administration rétablit en plus "
+        "La consultation lit tout. La saisie déclare aussi et importe des tableaux. L'administration rétablit en plus "
         "des états antérieurs et des copies, et change les réglages et les comptes.",
     ),
     "role": ("Role", "Rolle", "Rôle"),

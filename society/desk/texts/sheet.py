@@ -8,7 +8,7 @@ TEXTS = {
         "Legen Sie Ihre Tabelle hier ab, als CSV oder .xlsx: die ganze Liste, wie sie jetzt ist. Sie sehen, wie sie gelesen "
         "wird und was sie ändern würde; dann übernehmen oder verwerfen Sie sie.",
         "Déposez votre tableau ici, en CSV ou .xlsx : la liste entière, telle qu'elle est. Vous voyez comment il est lu et "
-        "ce qu'il changerait ; puis vous le reprenez ou le laissez.",
+        "ce qu'il changerait ; puis vous l'importez ou l'abandonnez.",
     ),
     "drop here": ("The sheet's file", "Datei der Tabelle", "Fichier du tableau"),
     "look at it": ("Look at it", "Ansehen", "Examiner"),
@@ -154,7 +154,7 @@ TEXTS = {
     ),
     "leave out line": ("Leave out line {}", "Zeile {} weglassen", "Omettre la ligne {}"),
     "take line": (
-        "It is an animal: take line {}", "Es ist ein Tier: Zeile {} übernehmen", "C'est un animal : reprendre la ligne {}",
+        "It is an animal: take line {}", "Es ist ein Tier: Zeile {} übernehmen", "C'est un animal : importer la ligne {}",
     ),
     "drop these": (
         "Drop these from the book, but for ancestors of others", "Diese aus dem Herdbuch streichen, außer Ahnen von anderen",
@@ -167,11 +167,11 @@ TEXTS = {
     "option anyway": (
         "It is the right sheet: take it though it looks like another one",
         "Es ist die richtige Tabelle: übernehmen, obwohl sie wie eine andere aussieht",
-        "C'est le bon tableau : le reprendre bien qu'il ressemble à un autre",
+        "C'est le bon tableau : l'importer bien qu'il ressemble à un autre",
     ),
     "what would change": ("What would change", "Was sich ändern würde", "Ce qui changerait"),
     "guarded": (
-        "It isn't taken so:", "So wird sie nicht übernommen:", "Il n'est pas repris ainsi :",
+        "It isn't taken so:", "So wird sie nicht übernommen:", "Il n'est pas importé ainsi :",
     ),
     "guarded how": (
         "Say above what is right, and look anew.", "Sagen Sie oben, was stimmt, und sehen Sie neu nach.",
@@ -184,7 +184,7 @@ TEXTS = {
     ),
     "wrong how": (
         "It can be taken once what is marked is mended.", "Sie kann übernommen werden, sobald das Markierte berichtigt ist.",
-        "Il peut être repris dès que ce qui est marqué est corrigé.",
+        "Il peut être importé dès que ce qui est marqué est corrigé.",
     ),
     "rows of sheet": ("Rows of the sheet", "Zeilen der Tabelle", "Lignes du tableau"),
     "rows left out": ("of these left out", "davon weggelassen", "dont omises"),
@@ -218,17 +218,17 @@ TEXTS = {
     "what added": ("Added as parents", "Als Eltern hinzugefügt", "Ajoutés comme parents"),
     "and more": ("and {} more", "und {} weitere", "et {} autres"),
     "and more (one)": ("and {} more", "und {} weitere", "et {} autre"),
-    "take or leave": ("Take it or leave it", "Übernehmen oder verwerfen", "Reprendre ou laisser"),
-    "take it": ("Take it into the book", "Ins Herdbuch übernehmen", "Reprendre dans le livre"),
-    "leave it": ("Leave it", "Verwerfen", "Laisser"),
+    "take or leave": ("Take it or leave it", "Übernehmen oder verwerfen", "Importer ou abandonner"),
+    "take it": ("Take it into the book", "Ins Herdbuch übernehmen", "Importer dans le livre"),
+    "leave it": ("Leave it", "Verwerfen", "Abandonner"),
     "book changed": (
         "Somebody changed the book meanwhile. This is what is there now.",
         "Das Herdbuch wurde inzwischen geändert. Das ist der Stand von jetzt.",
         "Le livre a été modifié entre-temps. Voici ce qui est là maintenant.",
     ),
-    "sheet taken": ("{} is taken.", "{} ist übernommen.", "{} est repris."),
+    "sheet taken": ("{} is taken.", "{} ist übernommen.", "{} est importé."),
     "sheet left": (
         "{} is left, and nothing is changed.", "{} ist verworfen, und nichts ist geändert.",
-        "{} est laissé, et rien n'est modifié.",
+        "{} est abandonné, et rien n'est modifié.",
     ),
 }  # fmt: skip

@@ -155,16 +155,16 @@ FINDINGS: dict[str, tuple[str, str]] = {
     ),
     "strictly nothing": (
         "mit --strict wird nichts übernommen, denn etwas würde weggelassen",
-        "avec --strict rien n'est repris, car quelque chose serait omis",
+        "avec --strict rien n'est importé, car quelque chose serait omis",
     ),
     "links lost": (
         "nichts ist übernommen, denn das ändert Koeffizienten (Eltern, die wegfallen: {links})",
-        "rien n'est repris, car cela change des coefficients (parents perdus : {links})",
+        "rien n'est importé, car cela change des coefficients (parents perdus : {links})",
     ),
     "sires and dams": (
         "{animals} Tiere sind Vater und Mutter: {told}. Nichts ist übernommen, denn im Herdbuch ist jedes Tier männlich oder "
         "weiblich",
-        "{animals} animaux sont père et mère : {told}. Rien n'est repris, car dans le livre chaque animal est mâle ou femelle",
+        "{animals} animaux sont père et mère : {told}. Rien n'est importé, car dans le livre chaque animal est mâle ou femelle",
     ),
     "parents alike": (
         "{parents} Eltern haben keine Zeile, und ein Tier mit Zeile unterscheidet sich nur in Großschreibung, Leerzeichen oder "
@@ -178,7 +178,7 @@ FINDINGS: dict[str, tuple[str, str]] = {
         "des {parents} parents {found} sont dans la colonne « {title} », et {found_in_ids} dans « {ids} », où sont lus les "
         "numéros : des fondateurs à leur place changent des coefficients",
     ),
-    "no row taken": ("keine Zeile kann übernommen werden", "aucune ligne ne peut être reprise"),
+    "no row taken": ("keine Zeile kann übernommen werden", "aucune ligne ne peut être importée"),
 }  # fmt: skip
 # in English what the front desk says of it in a terminal, said for a page
 ENGLISH: dict[str, str] = {

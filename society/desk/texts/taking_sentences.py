@@ -10,7 +10,7 @@ SENTENCES: dict[Sentence, tuple[str, str, str]] = {
     SheetFault.ODS: (
         "",
         "{path} ist eine .ods-Datei: speichern Sie die Tabelle als CSV oder .xlsx, und übernehmen Sie diese.",
-        "{path} est un fichier .ods : enregistrez le tableau en CSV ou .xlsx, et reprenez celui-ci.",
+        "{path} est un fichier .ods : enregistrez le tableau en CSV ou .xlsx, et importez celui-ci.",
     ),
     SheetFault.NO_WORKSHEETS: (
         "{path} is no .xlsx file, and has no worksheets: leave the field of the worksheet empty",
@@ -30,7 +30,7 @@ SENTENCES: dict[Sentence, tuple[str, str, str]] = {
     SheetFault.TOO_MANY_ROWS: (
         "",
         "{path} hat {rows} Zeilen, und höchstens {most} werden übernommen: lassen Sie die ältesten weg.",
-        "{path} a {rows} lignes, et {most} au plus sont reprises : omettez les plus anciennes.",
+        "{path} a {rows} lignes, et {most} au plus sont importées : omettez les plus anciennes.",
     ),
     SheetFault.LONG_CELL: (
         "",
@@ -67,24 +67,24 @@ SENTENCES: dict[Sentence, tuple[str, str, str]] = {
     SheetFault.NO_WORKBOOK: (
         "{path} can't be read as an .xlsx file: save the sheet as CSV, and take that",
         "{path} ist nicht als .xlsx-Datei lesbar: speichern Sie die Tabelle als CSV, und übernehmen Sie diese.",
-        "{path} n'est pas lisible comme fichier .xlsx : enregistrez le tableau en CSV, et reprenez celui-ci.",
+        "{path} n'est pas lisible comme fichier .xlsx : enregistrez le tableau en CSV, et importez celui-ci.",
     ),
     SheetFault.UNPACKED: (
         "",
         "{path} würde entpackt {size} MB groß, und mehr als {most} MB werden nicht gelesen: speichern Sie das Blatt allein als "
         "CSV, und übernehmen Sie dieses.",
-        "{path} deviendrait {size} Mo, et pas plus de {most} Mo sont lus : enregistrez la feuille seule en CSV, et reprenez "
+        "{path} deviendrait {size} Mo, et pas plus de {most} Mo sont lus : enregistrez la feuille seule en CSV, et importez "
         "celle-ci.",
     ),
     SheetFault.OTHER_KIND: (
         "",
         "{path} ist {what}: speichern Sie die Tabelle als CSV oder .xlsx, und übernehmen Sie diese.",
-        "{path} est {what} : enregistrez le tableau en CSV ou .xlsx, et reprenez celui-ci.",
+        "{path} est {what} : enregistrez le tableau en CSV ou .xlsx, et importez celui-ci.",
     ),
     SheetFault.NO_TEXT: (
         "",
         "{path} ist kein Text in UTF-8 oder Windows-1252: speichern Sie die Tabelle als CSV in UTF-8, und übernehmen Sie diese.",
-        "{path} n'est pas un texte en UTF-8 ou Windows-1252 : enregistrez le tableau en CSV en UTF-8, et reprenez celui-ci.",
+        "{path} n'est pas un texte en UTF-8 ou Windows-1252 : enregistrez le tableau en CSV en UTF-8, et importez celui-ci.",
     ),
     SheetFault.COLUMN_OPTION: (
         "a column is named wrongly: '{part}'", "Eine Spalte ist falsch benannt: „{part}“.", "Une colonne est mal nommée : « {part} ».",
@@ -115,7 +115,7 @@ SENTENCES: dict[Sentence, tuple[str, str, str]] = {
         "owners: the book has '{name}' too, as another owner: undo the taking that brought it, and then say this again",
         "Besitzer: das Herdbuch hat auch „{name}“, als anderen Besitzer: machen Sie die Übernahme rückgängig, die ihn brachte, und "
         "sagen Sie dies dann noch einmal.",
-        "Propriétaires : le livre a aussi « {name} », un autre propriétaire : annulez la reprise qui l'a apporté, puis redites-le.",
+        "Propriétaires : le livre a aussi « {name} », un autre propriétaire : annulez l'importation qui l'a apporté, puis redites-le.",
     ),
     TakingFault.REFUSED_ON: (
         "",
@@ -130,7 +130,7 @@ SENTENCES: dict[Sentence, tuple[str, str, str]] = {
     TakingFault.NOTHING_TAKEN: (
         "",
         "Nichts ist übernommen (abgelehnt: {count}): berichtigen Sie diese Zeilen, und übernehmen Sie die Tabelle dann.",
-        "Rien n'est repris (refusés : {count}) : corrigez ces lignes, puis reprenez le tableau.",
+        "Rien n'est importé (refusés : {count}) : corrigez ces lignes, puis importez de nouveau le tableau.",
     ),
     TakingFault.PARENT_REFUSED: ("", "{where}{refusal} (Ablehnung {number}).", "{where}{refusal} (refus {number})."),
     TakingFault.SHEET_TOO_LARGE: (
