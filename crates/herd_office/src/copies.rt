@@ -1,14 +1,14 @@
 //! The writer of the readers' copies, as the office uses it.
-ghost use Rattle.std.specs.Prelude.{◌≡◌, ◌<◌, [], ◌∷◌, ◌++◌, length, Some, IfErr, IfOk};
+ghost use Rattle.std.specs.Prelude.{◌≡◌, ◌<◌, [], ◌∷◌, length, Some, IfErr, IfOk};
 ghost use Rattle.left_right.specs.Sides.{view};
-ghost use Rattle.herd_office.specs.Copies.{IsTold, office_of};
+ghost use Rattle.herd_office.specs.Copies.{IsTold, absorbed, office_of};
 ghost use Rattle.herd_office.specs.Shelves.{AreOf, after, pending, published};
 
 use crate::faults::OpenFault;
 use crate::history::Past;
 use crate::shown::{CopyUpdate, Ours, Publishes, Shown, View};
 use core::mem;
-use herd_register::Step;
+use herd_register::Change;
 use left_right::reader::Reader;
 use left_right::writer::Writer;
 use std::alloc::Global;
@@ -83,12 +83,12 @@ pub fn publish<R: Wait>(copies: Copies, rt: &R) -> (Copies, ())
     (copies, ())
 }
 
-/// Publishes the step that is pending, with the history that has it.
-pub fn show<R: Wait>(rt: &R, copies: &mut Copies, step: &Step, past: Past)
-    requires pending { pending copies.old ≡ CopyUpdate.Filed step.now ∷ [] }
-    requires shown { AreOf (published copies.old) (published copies.old).copybook.journal past.limits past.seen.book }
-    requires room { length (published copies.old).copybook.journal < past.limits.steps }
-    requires log { past.seen.log ≡ (published copies.old).copybook.journal ++ step.now ∷ [] }
+/// Publishes the change that is pending, with the history that has its step.
+pub fn show<R: Wait>(rt: &R, copies: &mut Copies, change: &Change, past: Past)
+    requires pending { pending copies.old ≡ CopyUpdate.Filed change.now ∷ [] }
+    requires shown { AreOf (absorbed (published copies.old) (CopyUpdate.Filed change.now)) past.seen.log past.limits
+        past.seen.book }
+    requires later { length (published copies.old).past.seen.log < length past.seen.log }
     ensures shown { AreOf (published copies.new) past.seen.log past.limits past.seen.book }
     ensures pending { pending copies.new ≡ [] }
 {

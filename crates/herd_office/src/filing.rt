@@ -2,6 +2,8 @@
 ghost use Rattle.std.specs.Prelude.{◌≡◌, ◌+◌, ◌<◌, ◌↔◌, ◌≢◌, [], ◌∷◌, ◌++◌, length, IfOk, IfErr, IsSome, OnErr};
 ghost use mathlib.Core.List.{IsPrefix};
 ghost use Rattle.herd_register.specs.Run.{IsLegal, step_of};
+ghost use Rattle.herd_register.specs.Change.{changed_by};
+ghost use Rattle.herd_register.specs.Register.{register_book};
 ghost use Rattle.herd_register.specs.declared.limits.TheConstants.{MOST_STEPS};
 ghost use Rattle.herd_office.specs.Filing.{answer_after};
 ghost use Rattle.herd_office.specs.Shelves.{pending};
@@ -12,7 +14,7 @@ use crate::desk::{Desk, Filed};
 use crate::inside::Inside;
 use crate::name::OfficeName;
 use crate::shown::CopyUpdate;
-use herd_register::{Command, FileFault, Register, Step};
+use herd_register::{Change, Command, FileFault, Register, Step};
 use std::alloc::Allocator;
 use std::sync::Wait;
 
@@ -67,9 +69,9 @@ fn file_claimed<N: OfficeName, W: Wait, R: Wait + Drop, A: Allocator + Copy>(
         copies,
     } = inside;
     let steps = register.journal().len();
-    let step = file_in(register, &mut copies.writer, desk.number, &command)?;
+    let (step, change) = file_in(register, &mut copies.writer, desk.number, &command)?;
     keeper.add(&step);
-    show(rt, &mut copies.writer, &step, keeper.history.past());
+    show(rt, &mut copies.writer, &change, keeper.history.past());
     desk.answer(ledger, keeper.history.again());
     Ok(Filed {
         serial: steps as u32 + 1,
@@ -78,19 +80,21 @@ fn file_claimed<N: OfficeName, W: Wait, R: Wait + Drop, A: Allocator + Copy>(
     })
 }
 
-// Files a command in the register, and appends its step for the copies; or does neither.
+// Files a command in the register, and appends what it made of the records for the copies; or does neither.
 fn file_in<A: Allocator + Copy>(
     register: &mut Register<A>,
     copies: &mut Copies,
     desk: u16,
     command: &Command,
-) -> Result<Step, FileFault>
+) -> Result<(Step, Change), FileFault>
     requires { pending copies.old ≡ [] }
-    ensures step { IfOk result (λ step. step ≡ step_of desk command.now step.reply) }
+    ensures step { IfOk result (λ r. r.0 ≡ step_of desk command.now r.0.reply) }
     ensures reply { IfOk result
-        (λ step. step.reply ≡ answer_after register.old.limits register.old.journal command.now) }
-    ensures stored { IfOk result (λ step. register.new.journal ≡ register.old.journal ++ step ∷ []) }
-    ensures pending { IfOk result (λ step. pending copies.new ≡ CopyUpdate.Filed step ∷ []) }
+        (λ r. r.0.reply ≡ answer_after register.old.limits register.old.journal command.now) }
+    ensures stored { IfOk result (λ r. register.new.journal ≡ register.old.journal ++ r.0 ∷ []) }
+    ensures change { IfOk result (λ r. changed_by register.old.limits.animals (register_book register.old) r.1
+        ≡ register_book register.new) }
+    ensures pending { IfOk result (λ r. pending copies.new ≡ CopyUpdate.Filed r.1 ∷ []) }
     ensures legal { IfOk result (λ _. IsLegal register.new.limits register.new.journal) }
     ensures limits { register.new.limits ≡ register.old.limits }
     ensures shown { copies.new.desk ≡ copies.old.desk }
@@ -105,9 +109,10 @@ fn file_in<A: Allocator + Copy>(
         desk,
         reply,
     };
-    if copies.append(CopyUpdate::of_step(&step)).is_err() {
+    let change = register.last_change();
+    if copies.append(CopyUpdate::of_change(&change)).is_err() {
         register.withdraw();
         return Err(FileFault::Memory);
     }
-    Ok(step)
+    Ok((step, change))
 }

@@ -18,8 +18,8 @@ use std::sync::ledger::{Book, Share};
 
 /// What lies under the lock: the register, the ledger of the desks' calls, the history, and the readers' copies.
 ///
-/// The register is legal, the total is the length of its journal, the published list is that journal, and nothing is
-/// pending.
+/// The register is legal, the total is the length of its journal, the published records are those of that journal, and
+/// nothing is pending.
 #[derive(Drop)]
 pub struct Inside<N: OfficeName, R: Wait + Drop, A: Allocator = Global> {
     pub(crate) register: Register<A>,

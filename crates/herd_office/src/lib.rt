@@ -12,12 +12,12 @@
 //! # What lies under the lock
 //!
 //! `Inside` has the register, the total of answered calls, the keeper of the history, and the writer of the readers'
-//! copies. Whoever gets the lock finds that the total is the length of the journal, that the list published last is the
-//! journal, and that nothing is pending. One event of the office is one call of `file_on` under the lock: the journal's
-//! end is asked, the step that follows is claimed, the register files the command, the step is appended for the copies,
-//! added to the history and published, and the call is counted. What may be refused comes before the history grows:
-//! where the append of the step is refused, the step is withdrawn. Only the append of the grown history comes after,
-//! and it has its room (no clause says so).
+//! copies. Whoever gets the lock finds that the total is the length of the journal, that the records published last are
+//! those of the journal, and that nothing is pending. One event of the office is one call of `file_on` under the lock:
+//! the journal's end is asked, the step that follows is claimed, the register files the command, what the step made of
+//! the records is appended for the copies, the step is added to the history, both are published, and the call is
+//! counted. What may be refused comes before the history grows: where the append of the change is refused, the step is
+//! withdrawn. Only the append of the grown history comes after, and it has its room (no clause says so).
 //!
 //! # One history
 //!
@@ -29,8 +29,9 @@
 //!
 //! # Two copies
 //!
-//! Readers take one of two copies of the register's records and journal, which `left_right` keeps, with the history
-//! that was told with it. A copy whose history is as long as its journal has that journal; an inspector reads no other.
+//! Readers take one of two copies of the register's records, which `left_right` keeps, with the history that was told
+//! with it. A copy whose history has as many steps as it has taken over has the records of that history's commands; an
+//! inspector reads no other.
 //! The rule of the copies ties each seat to the office. An inspector reads twice: for the number of records, by
 //! which it makes room while it reads nothing, and then to copy them out. It leaves, and sorts its own copy.
 //!

@@ -1,5 +1,4 @@
-pub mod CopybookFacts
+pub mod ChangeFacts
 pub mod FaultFacts
-pub mod RecordFacts
 pub mod RegisterFacts
 pub mod RunLemmas

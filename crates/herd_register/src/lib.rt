@@ -2,7 +2,8 @@
 //!
 //! `Register::file` answers a command: accepted, or the first refusal that holds. Book and replies are always those of
 //! the journal's commands, filed one after the other into an empty book. `Register::withdraw` takes the last step back.
-//! A `Copybook` takes the steps over and knows the same book, in a room that is made at once.
+//! `Register::last_change` tells what that step made of the records. A `Copybook` takes such changes over, and so has
+//! the same records, in a room that is made at once.
 //!
 //!     let mut register = Register::new(alloc, limits);
 //!     let reply = register.file(desk, command)?;
@@ -12,8 +13,8 @@
 //! some.
 #![tactic(auto)]
 
+mod change;
 mod command;
-mod copied_records;
 mod copybook;
 mod file_fault;
 mod filing;
@@ -22,6 +23,7 @@ mod register;
 mod reply;
 mod step;
 
+pub use change::Change;
 pub use command::Command;
 pub use copybook::Copybook;
 pub use file_fault::FileFault;

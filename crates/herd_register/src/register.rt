@@ -1,10 +1,13 @@
 ghost use Rattle.std.specs.Option.{option_copied};
-ghost use Rattle.std.specs.Prelude.{◌≡◌, ◌≢◌, ◌<◌, ◌≤◌, ◌↔◌, IsFalse, IsTrue, IfOk, OnErr, OnOk, length};
+ghost use Rattle.std.specs.Prelude.{◌≡◌, ◌≢◌, ◌<◌, ◌≤◌, ◌↔◌, ◌++◌, ◌∷◌, [], IsFalse, IsTrue, IfOk, List, OnErr, OnOk, length};
 ghost use Rattle.herd_register.specs.declared.limits.TheConstants.{MOST_STEPS};
 ghost use Rattle.herd_register.specs.declared.reply.Refusal.{Refusal};
+ghost use Rattle.herd_register.specs.declared.step.Step.{Step};
+ghost use Rattle.herd_register.specs.Change.{changed_by};
 ghost use Rattle.herd_register.specs.Register.{register_book, new_register, step_at, with_step, without_last_step};
-ghost use Rattle.herd_register.specs.Run.{IsLegal, answer, next, step_of};
+ghost use Rattle.herd_register.specs.Run.{IsLegal, answer, commands_of, next, run_book, step_of};
 
+use crate::change::Change;
 use crate::command::Command;
 use crate::file_fault::FileFault;
 use crate::limits::Limits;
@@ -102,6 +105,21 @@ impl<A: Allocator> Register<A> {
         ensures { option_copied result ≡ step_at self.now.journal serial }
     {
         self.journal.get((serial as usize).checked_sub(1)?)
+    }
+
+    /// What the last step made of the records, which were those of the steps before it.
+    pub fn last_change(&self) -> Change
+        ensures { (earlier : List Step) (last : Step) → self.now.journal ≡ earlier ++ last ∷ []
+            → changed_by self.now.limits.animals (run_book self.now.limits (commands_of earlier)) result
+            ≡ register_book self.now }
+    {
+        let [.., last] = self.journal.as_slice() else {
+            return Change::Nothing;
+        };
+        match last.reply {
+            Reply::Accepted => last.command.change_made(&self.pedigree),
+            Reply::Refused(_) => Change::Nothing,
+        }
     }
 
     /// The book.

@@ -1,6 +1,7 @@
 -- What an inspector is asked, and the text that answers it.
-use Rattle.std.specs.Prelude.{◌≡◌, ◌⊎◌, ◌≤◌, ℕ, List, [], codes, drop, length, if◌then◌else◌, Option, Some, None, false}
+use Rattle.std.specs.Prelude.{◌≡◌, ◌≢◌, ◌⊎◌, ◌<◌, ◌≤◌, ℕ, List, [], codes, drop, length, if◌then◌else◌, Option, Some, None, false}
 use Rattle.std.specs.Str.{bytes_eq}
+use Rattle.herd_animal.specs.AnimalNumber.{IsAnimalNumber}
 use Rattle.herd_frozen.specs.rules.Book.{is_there}
 use Rattle.herd_frozen.specs.freezing.Frozen.{book_of}
 use Rattle.herd_frozen.specs.declared.TheConstants.{DEPTH_LIMIT}
@@ -53,21 +54,47 @@ IsAskedIn fields (Coefficient number) =
     (word_in fields ≡ Some word.Coefficient) × (length fields ≡ 5) × (field 4 fields ≡ number)
 IsAskedIn fields Seen = (word_in fields ≡ Some word.Seen) × (length fields ≡ 4)
 
+-- a question of this kind has another number of fields
+abbrev pub IsMiscounted : Option Word → ℕ → Type 0
+IsMiscounted (Some word.Inbreeding) count = count ≢ 4
+IsMiscounted (Some word.Inverse) count = count ≢ 4
+IsMiscounted (Some word.Certificate) count = count ≢ 5
+IsMiscounted (Some word.Mating) count = count < 6
+IsMiscounted (Some word.Relationships) count = count < 5
+IsMiscounted (Some word.Coefficient) count = count ≢ 5
+IsMiscounted (Some word.Seen) count = count ≢ 4
+IsMiscounted None count = ⊥
+
+-- some field from this place on is no animal's number
+abbrev pub HasNoNumber : Fields → ℕ → Type 0
+HasNoNumber fields place =
+    (at : ℕ) × (place ≤ at) × (at < length fields) × (IsAnimalNumber (field at fields) → ⊥)
+
+-- an animal's number is none, in a question of this kind
+abbrev pub IsMisnumbered : Option Word → Fields → Type 0
+IsMisnumbered (Some word.Certificate) fields = HasNoNumber fields 4
+IsMisnumbered (Some word.Coefficient) fields = HasNoNumber fields 4
+IsMisnumbered (Some word.Relationships) fields = HasNoNumber fields 4
+IsMisnumbered other fields = ⊥
+
 -- why the question in a record can't be read
 abbrev pub CanBeUnread : Fields → WhyNot → Type 0
 CanBeUnread fields fault.Question = word_in fields ≡ None
-CanBeUnread fields (fault.Fields cause.Fields) = Unit {0}
-CanBeUnread fields (fault.Fields cause.Animal) = Unit {0}
-CanBeUnread fields (fault.Fields cause.Dam) = word_in fields ≡ Some word.Mating
-CanBeUnread fields (fault.Fields cause.Sire) = word_in fields ≡ Some word.Mating
+CanBeUnread fields (fault.Fields cause.Fields) = IsMiscounted (word_in fields) (length fields)
+CanBeUnread fields (fault.Fields cause.Animal) = IsMisnumbered (word_in fields) fields
+CanBeUnread fields (fault.Fields cause.Dam) =
+    (word_in fields ≡ Some word.Mating) × (IsAnimalNumber (field 4 fields) → ⊥)
+CanBeUnread fields (fault.Fields cause.Sire) = (word_in fields ≡ Some word.Mating) × HasNoNumber fields 5
 CanBeUnread fields fault.Memory = Unit {0}
 CanBeUnread fields other = ⊥
 
--- a number is none, in a field of this cause; or there are too few or too many fields, or no memory
-abbrev pub IsNumberFault : LineCause → WhyNot → Type 0
-IsNumberFault at fault.Memory = Unit {0}
-IsNumberFault at (fault.Fields told) = (told ≡ at) ⊎ (told ≡ cause.Fields)
-IsNumberFault at other = ⊥
+-- why numbers from this place on can't be read, where the fields may be miscounted: one is none, in a field of this
+-- cause; or they are, or there is no memory
+abbrev pub IsNumberFault : LineCause → Fields → ℕ → Type 0 → WhyNot → Type 0
+IsNumberFault at fields place Miscounted fault.Memory = Unit {0}
+IsNumberFault at fields place Miscounted (fault.Fields told) =
+    ((told ≡ at) × HasNoNumber fields place) ⊎ ((told ≡ cause.Fields) × Miscounted)
+IsNumberFault at fields place Miscounted other = ⊥
 
 -- the text that answers a question from frozen rows
 abbrev pub text_of : Question → List Row → List ℕ

@@ -69,8 +69,8 @@ impl<N: SessionName> Clerk<N> {
         Ok(())
     }
 
-    // Files what the desk is asked, and writes the reply, or why there is none. A reply may wait where the clerk goes on
-    // with another task.
+    // Files what the desk is asked, and writes the reply, or why there is none. A reply may wait where the clerk goes
+    // on with another task.
     fn answer<H: Wait, R: Wait + Drop, W: Write>(
         &mut self,
         rt: &H,

@@ -6,20 +6,20 @@
 //! # What follows a request
 //!
 //! No clause follows a value through a queue or a lock, so what is to be known stands on types. A task in a queue
-//! (`DeskTask`, `InspectorTask`) knows that a record of the input asks for it; a `Clerk` takes only tasks for its desk, in
-//! the order of the records, and knows that it filed just their commands; an `Answer` knows the history and the book that
-//! it is made of. The `Output` under its lock knows that the writer has answers alone, each of a beginning of the longest
-//! history told, but for those that wait. `SessionName` names what was there before: the records to be read, and what
-//! the writer held.
+//! (`DeskTask`, `InspectorTask`) knows that a record of the input asks for it; a `Clerk` takes only tasks for its desk,
+//! in the order of the records, and knows that it filed just their commands; an `Answer` knows the history and the book
+//! that it is made of. The `Output` under its lock knows that the writer has answers alone, each of a beginning of the
+//! longest history told, but for those that wait. `SessionName` names what was there before: the records to be read,
+//! and what the writer held.
 //!
 //! # Who waits for whom
 //!
 //! - The reading thread waits for its input, and for the writer's lock where it tells a fault. Where many tasks wait in
 //!   a queue it gives the thread that works them off a little time.
-//! - A clerk waits for its queue, from which it takes all that wait, in the office for other clerks, and for the writer. Where another task waits already,
-//!   its reply is written with the next one's.
-//! - An inspector waits for its queue, for the lock of the longest history told, under which histories are only compared,
-//!   and for the writer's lock.
+//! - A clerk waits for its queue, from which it takes all that wait, in the office for other clerks, and for the
+//!   writer. Where another task waits already, its reply is written with the next one's.
+//! - An inspector waits for its queue, for the lock of the longest history told, under which histories are only
+//!   compared, and for the writer's lock.
 //!
 //! # Where it stands
 //!

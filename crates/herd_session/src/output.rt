@@ -29,7 +29,8 @@ pub(crate) struct Output<N: SessionName, W: Write> {
     /// The longest history that an answer was made of.
     pub(crate) told: Slip<N>,
     pub(crate) has_failed: bool,
-    pub ghost answers: { ∥ HasAnswers N.limits N.records told.history has_failed N.before (W.contents writer) waiting.items ∥₁ },
+    pub ghost answers: { ∥ HasAnswers N.limits N.records told.history has_failed N.before (W.contents writer)
+        waiting.items ∥₁ },
 }
 
 impl<N: SessionName, W: Write> Output<N, W> {

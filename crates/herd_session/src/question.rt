@@ -1,5 +1,6 @@
 //! What an inspector is asked.
-ghost use Rattle.std.specs.Prelude.{◌≡◌, ◌<◌, IfErr, IfOk, Some, drop, length};
+ghost use Rattle.std.specs.Prelude.{◌≡◌, ◌≢◌, ◌<◌, ◌≤◌, IfErr, IfOk, Some, drop, length};
+ghost use Rattle.herd_animal.specs.AnimalNumber.{IsAnimalNumber};
 ghost use Rattle.csv.specs.Records.{fields_of};
 ghost use Rattle.herd_report.specs.reading.Grammar.{field};
 ghost use Rattle.herd_session.specs.Questions.{CanBeUnread, IsAskedIn, IsNumberFault, word_in};
@@ -59,6 +60,7 @@ fn bare(row: &ByteRecord, question: Question) -> Result<Question, Fault>
     ensures same { IfOk result (λ r. r ≡ question) }
     ensures length { IfOk result (λ _. length (fields_of row.now) ≡ 4) }
     ensures fault { IfErr result (λ f. f ≡ Fault.Fields LineCause.Fields) }
+    ensures miscounted { IfErr result (λ _. length (fields_of row.now) ≢ 4) }
 {
     if row.len() != 4 {
         return Err(Fault::Fields(LineCause::Fields));
@@ -70,7 +72,8 @@ fn bare(row: &ByteRecord, question: Question) -> Result<Question, Fault>
 fn only_number(row: &ByteRecord) -> Result<AnimalNumber, Fault>
     ensures number { IfOk result (λ number. field 4 (fields_of row.now) ≡ number) }
     ensures length { IfOk result (λ _. length (fields_of row.now) ≡ 5) }
-    ensures fault { IfErr result (IsNumberFault LineCause.Animal) }
+    ensures fault { IfErr result
+        (IsNumberFault LineCause.Animal (fields_of row.now) 4 (length (fields_of row.now) ≢ 5)) }
 {
     if row.len() != 5 {
         return Err(Fault::Fields(LineCause::Fields));
@@ -101,7 +104,7 @@ fn numbers_from(
 ) -> Result<Vec<AnimalNumber>, Fault>
     ensures numbers { IfOk result (λ numbers. drop place (fields_of row.now) ≡ numbers.items) }
     ensures some { IfOk result (λ _. place < length (fields_of row.now)) }
-    ensures fault { IfErr result (IsNumberFault cause) }
+    ensures fault { IfErr result (IsNumberFault cause (fields_of row.now) place (length (fields_of row.now) ≤ place)) }
 {
     if row.len() <= place {
         return Err(Fault::Fields(LineCause::Fields));
@@ -118,6 +121,7 @@ fn numbers_from(
 fn number(text: &[u8], cause: LineCause) -> Result<AnimalNumber, Fault>
     ensures number { IfOk result (λ number. text.now ≡ number) }
     ensures fault { IfErr result (λ fault. fault ≡ Fault.Fields cause) }
+    ensures none { IfErr result (λ _. IsAnimalNumber text.now → ⊥) }
 {
     AnimalNumber::parse(text).or(Err(Fault::Fields(cause)))
 }

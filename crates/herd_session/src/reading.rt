@@ -24,7 +24,8 @@ pub(crate) struct Reading<N: OfficeName> {
     pub(crate) of: Slip<N>,
     frozen: Frozen<Global>,
     coefficients: Coefficients<Global>,
-    pub ghost book: { ∥ IsFrozenFrom DEPTH_LIMIT MOST_ANIMALS (run_book N.limits (commands_of of.history)) frozen ∥₁ },
+    pub ghost book: { ∥ IsFrozenFrom DEPTH_LIMIT MOST_ANIMALS (run_book N.limits (commands_of of.history))
+        frozen ∥₁ },
     pub ghost known: { AreCoefficients DEPTH_LIMIT frozen coefficients },
 }
 
