@@ -62,9 +62,11 @@ def is_empty(connection: sqlite3.Connection) -> bool:
 
 def version_of(connection: sqlite3.Connection, path: pathlib.Path) -> int:
     """The version of its tables, 0 where there are none; a mistake where this isn't a herd book, or a newer one."""
+    # it is looked at first: another may make the book meanwhile, whose tables come with both of these
+    has_no_tables = is_empty(connection)
     application = connection.execute("PRAGMA application_id").fetchone()[0]
     version = int(connection.execute("PRAGMA user_version").fetchone()[0])
-    if is_empty(connection) and application in (0, APPLICATION):
+    if has_no_tables and application in (0, APPLICATION):
         return 0
     if application != APPLICATION or version < 1:
         raise Mistake(BookFault.OTHER_PROGRAM.said(path=path))

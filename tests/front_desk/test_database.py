@@ -83,6 +83,25 @@ def test_database_of_another_program(flock_desk: Desk) -> None:
         flock_desk.wrong("is a database of another program, not a herd book", *words)
 
 
+def test_a_book_that_comes_meanwhile(tmp_path: pathlib.Path) -> None:
+    """Another makes it between two looks at the file: so it isn't there yet, or it is, and no other program's."""
+    path, made = tmp_path / "book.sqlite", list[bool]()
+
+    class WhileAnotherMakesIt(sqlite3.Connection):
+        def execute(self, statement: str, *values: Any) -> sqlite3.Cursor:
+            done = super().execute(statement, *values)
+            if not made:
+                made.append(True)
+                with book_changed.creating(tmp_path) as other:
+                    other.execute("COMMIT")
+            return done
+
+    with contextlib.closing(sqlite3.connect(path, isolation_level=None)) as connection:
+        connection.execute("PRAGMA journal_mode = WAL")
+    with contextlib.closing(sqlite3.connect(path, isolation_level=None, factory=WhileAnotherMakesIt)) as connection:
+        assert [database.version_of(connection, path) for _ in range(2)] == [0, schema.VERSION]
+
+
 TAKE = ["take", "sheet.csv"]
 
 
