@@ -10,7 +10,7 @@ import pytest
 from desk.site import Site
 from front_desk.desk import Desk
 from society.book.book import Book
-from society.desk.ancestors_alone import BOTH_KNOWN, lines_alone
+from society.desk.ancestors_alone import BOTH_KNOWN, Expected, lines_alone
 from society.desk.office import Office
 from society.herdbook import Herdbook
 
@@ -39,6 +39,21 @@ def test_as_of_the_whole_book(site: Site) -> None:
     assert known == {True, False} and len(inbred) > 90
 
 
+def test_as_it_is_now(site: Site) -> None:
+    """What an ancestor was before a correction or its exit counts no more, and an embryo may be born behind its dam's."""
+    for kind, fields in (
+        ("parents", {"id": DAM, "sire": SIRE, "dam": ""}),
+        ("exit", {"id": DAM, "day": "2024-05-01"}),
+        ("birth", {"id": "NEW-1", "sex": "F", "day": "2024-06-01", "sire": SIRE, "dam": DAM, "embryo": "1"}),
+    ):
+        assert site.post(f"/file/{kind}", **fields).status_code == 302
+    with site.desk.opened() as book:
+        assert book
+        numbers = [book.known[id].number for id in (DAM, "NEW-1")]
+        for some in [numbers[0]], [numbers[1]], numbers:
+            assert lines_alone(Herdbook(), book, some) == [kept(book)[number] for number in some]
+
+
 class Refusing(Herdbook):
     """A program that refuses the first birth."""
 
@@ -52,6 +67,18 @@ def test_refused(site: Site) -> None:
         assert book
         known = book.known[DAM].number
         assert lines_alone(Herdbook(), book, [known]) and not lines_alone(Refusing(), book, [known])
+
+
+def test_last_expected(site: Site, monkeypatch: pytest.MonkeyPatch) -> None:
+    """Of more calves than are kept the first goes."""
+    monkeypatch.setattr("society.desk.ancestors_alone.MOST_CALVES", 1)
+    expected = Expected()
+    with site.desk.opened() as book:
+        assert book
+        dams = [book.known[id].number for id in (DAM, "GK-16/433c")]
+        for dam in dams:
+            expected.ask(Herdbook(), book, book.known[SIRE].number, dam, datetime.date(2024, 3, 1))
+        assert [dam for _, dam in expected.kept] == dams[1:]
 
 
 def test_births(site: Site, society_desk: Desk, monkeypatch: pytest.MonkeyPatch) -> None:

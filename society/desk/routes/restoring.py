@@ -6,13 +6,12 @@ from flask import Blueprint, abort, flash, redirect, render_template, request, u
 from werkzeug.wrappers import Response
 
 from society.book.backup import change_now
-from society.desk.changing import go_on
-from society.desk.desk import Answer, Desk, the_desk
+from society.desk.desk import Answer, the_desk
 from society.desk.finding_words import Sentence
 from society.desk.jobs import TAKING, Job, Stage
 from society.desk.people import the_name
-from society.desk.kept import NO_MARK
 from society.desk.restoring_beside import Backup, looked_into, restored
+from society.desk.routes.sheet import is_taken
 from society.desk.shown_mistakes import on_page
 from society.desk.taking_beside import LOOKING, Taken
 from society.desk.uploads import Upload
@@ -67,20 +66,13 @@ def not_done(job: Job) -> Answer:
 
 @page.post("/restore/<token>")
 def bring_back(token: str) -> Answer:
-    """Restores it, if the book is the one that was looked at."""
+    """Restores it, if the book is the one that was looked at. The session sees by itself that the book is another one."""
     upload, desk, looked = upload_of(token), the_desk(), request.form.get("change", "")
     if not looked.isdecimal() or len(looked) > 9:
         abort(400)
     values = (desk.folder, upload.path, int(looked))
-    desk.jobs.of((TAKING, token), restored, values, lambda value: is_restored(desk, value))
+    desk.jobs.of((TAKING, token), restored, values, lambda value: is_taken(desk, value))
     return redirect(url_for("restoring.under_way", token=token))
-
-
-def is_restored(desk: Desk, value: object) -> None:
-    """The session has another journal then."""
-    if isinstance(value, Taken) and value.mark != NO_MARK:
-        desk.program.forget(desk.program.session)
-        go_on(desk, value.mark)
 
 
 @page.get("/restore/<token>/under-way")
