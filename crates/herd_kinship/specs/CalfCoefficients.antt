@@ -1,12 +1,14 @@
 -- The calves of some sires and of known dams, each by its rank with a numerator, and what is kept from one sire to the
 -- next while they are listed.
 use Rattle.std.specs.Prelude.{◌≡◌, ◌≢◌, ℕ, ◌*◌, ◌/◌, ◌≤◌, ◌⊎◌, ◌++◌, All, AllPairs, Any, List, length, slice_index, vec_capacity}
+use Rattle.herd_frozen.specs.declared.TheConstants.{DEPTH_LIMIT}
 use Rattle.herd_frozen.specs.declared.freezing.frozen.Row.{Row}
 use Rattle.herd_kinship.specs.CalfLinks.{IsCalf}
 use Rattle.herd_kinship.specs.Columns.{at_parent}
 use Rattle.herd_kinship.specs.Pending.{mark}
 use Rattle.herd_kinship.specs.Ranks.{dam_rank}
 use Rattle.herd_kinship.specs.Tracing.{IsIdle}
+use Rattle.herd_kinship.specs.Variances.{AreVariances}
 use Rattle.herd_kinship.specs.declared.calves.CalfCoefficient.{CalfCoefficient}
 use Rattle.herd_kinship.specs.declared.mates.Mates.{Mates}
 
@@ -51,10 +53,11 @@ pub record HasWritten (f : ℕ → ℕ) (calves : List CalfCoefficient) (old new
   pub kept : Keeps f old new
   pub written : AreWritten f new calves
 
--- there is room for so many animals, nobody is marked, and nobody is traced
-pub record IsReady {A : Type 0} (animals : ℕ) (mates : Mates A) : Type 0 where
-  pub room : animals ≤ 64 * length mates.marked.chunks.items
+-- there is room for the animals of a frozen book, nobody is marked, nobody is traced, and variances are the book's
+pub record IsReady {A : Type 0} (rows : List Row) (mates : Mates A) : Type 0 where
+  pub room : length rows ≤ 64 * length mates.marked.chunks.items
   pub unmarked : (distance : ℕ) → mark mates.marked.chunks.items distance ≡ 0
-  pub idle : IsIdle animals mates.tracing
-  pub space : animals ≤ vec_capacity mates.collected
-  pub each : length mates.column.items ≡ animals
+  pub idle : IsIdle (length rows) mates.tracing
+  pub variances : AreVariances DEPTH_LIMIT rows mates.variances.kept.items
+  pub space : length rows ≤ vec_capacity mates.collected
+  pub each : length mates.column.items ≡ length rows

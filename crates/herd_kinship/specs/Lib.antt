@@ -7,6 +7,7 @@ pub mod Laws
 pub mod Coefficients
 pub mod Ranks
 pub mod Pending
+pub mod Variances
 pub mod Tracing
 pub mod Fraction
 pub mod Mating

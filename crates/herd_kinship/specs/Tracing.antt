@@ -5,9 +5,7 @@ use Rattle.std.specs.List.{range_with_len}
 use Rattle.herd_frozen.specs.declared.freezing.frozen.Row.{Row}
 use Rattle.herd_frozen.specs.declared.TheConstants.{MOST_ANIMALS}
 use Rattle.herd_frozen.specs.freezing.Frozen.{IsFrozen, depth_at}
-use Rattle.herd_kinship.specs.FrozenAncestry.{ancestry_of, number_of_row}
 use Rattle.herd_kinship.specs.Shares.{share}
-use Rattle.herd_kinship.specs.Table.{mendelian}
 use Rattle.herd_kinship.specs.declared.tracing.Met.{Met}
 use Rattle.herd_kinship.specs.declared.tracing.Tracing.{Tracing}
 use Rattle.herd_kinship.specs.Pending.{mark, Marks}
@@ -62,13 +60,11 @@ pub record IsNext (l : ℕ) (rows : List Row) (x border y own : ℕ) : Type 0 wh
   pub share_is : IsShareOf rows x y own
   pub between : (j : ℕ) → y < j → j < border → share (ranked rows) l (Some x) j ≡ 0
 
--- what is told of an ancestor of x that is met, beside its share: the depths, and its Mendelian sampling variance, in
--- unit 2^-2l
-pub record IsMetAs (l : ℕ) (rows : List Row) (x : ℕ) (met : Met) : Type 0 where
+-- what is told of an ancestor of x that is met, beside its share
+pub record IsMetAs (rows : List Row) (x : ℕ) (met : Met) : Type 0 where
   pub within : met.rank < length rows
   pub depth : met.depth ≡ depth_at rows met.rank
   pub steps : met.steps ≡ depth_at rows x - depth_at rows met.rank
-  pub variance : met.variance ≡ mendelian (ancestry_of rows) l (number_of_row rows met.rank)
 
 -- the distance is that of a rank below the border, and a share is kept there
 pub record IsPendingAt (x border : ℕ) (shares : List ℕ) (distance : ℕ) : Type 0 where

@@ -80,9 +80,9 @@ fn write_calves_of<F: Allocator, C: Allocator, A: Allocator>(
 ) -> Result<(), AllocError>
     requires sire { sire < length frozen.now }
     requires calves { AreCalvesOf frozen.now calves.now }
-    requires ready { IsReady (length frozen.now) mates.old }
+    requires ready { IsReady frozen.now mates.old }
     requires known { KnowsReached DEPTH_LIMIT frozen.now (IsBefore sire) known.old }
-    ensures ready { IfOk result (λ _. IsReady (length frozen.now) mates.new) }
+    ensures ready { IfOk result (λ _. IsReady frozen.now mates.new) }
     ensures known { IfOk result (λ _. KnowsReached DEPTH_LIMIT frozen.now (IsBefore (sire + 1)) known.new) }
 {
     list.clear();
@@ -101,7 +101,7 @@ fn write_by_sires<F: Allocator, A: Allocator + Clone>(
     ensures { IfOk result (λ _. KnowsReached DEPTH_LIMIT frozen.now (IsBefore (length frozen.now)) known.new) }
 {
     let calves = Calves::of(alloc.clone()?, frozen)?;
-    let mut mates = Mates::with_room(alloc.clone()?, frozen.len())?;
+    let mut mates = Mates::with_room(alloc.clone()?, frozen)?;
     let mut list = Vec::new(alloc);
     for sire in 0..frozen.len() {
         write_calves_of(frozen, &calves, &mut mates, &mut list, sire, known)?;

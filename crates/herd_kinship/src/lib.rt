@@ -21,7 +21,7 @@
 //! | A, coefficients, Mendelian sampling variances | `Ancestry`, `Table`, `Coefficients` | | `ancestry` |
 //! | shares, A = T D T', the laws | `Shares`, `InverseRows`, `Laws` | `laws` | `ancestry`, `laws` |
 //! | a frozen book as an ancestry | `FrozenAncestry`, `Ranks` | | `books` |
-//! | columns of A | `Columns` | `columns` | `sires` |
+//! | columns of A | `Columns`, `Variances` | `columns`, `variances` | `sires` |
 //! | sire by sire | `CalfCoefficients` | `coefficients`, `mates` | `sires` |
 //! | a sire's calves, and their coefficients | `CalfLinks`, `CalfCoefficients` | `calves` | `sires` |
 //! | animal by animal | `Tracing`, `Pending` | `tracing`, `pending` | `tracing`, `numbers` |
@@ -55,6 +55,7 @@ mod numerators;
 mod pending;
 mod relationships;
 mod tracing;
+mod variances;
 
 pub use calves::{CalfCoefficient, Calves, write_calves};
 pub use coefficients::{Coefficients, coefficients_plain};

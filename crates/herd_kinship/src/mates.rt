@@ -11,6 +11,7 @@ use crate::calves::{CalfCoefficient, Calves, SireCalves};
 use crate::columns::{collect, mark_parent, relate, with_parent};
 use crate::pending::Pending;
 use crate::tracing::Tracing;
+use crate::variances::Variances;
 use herd_frozen::Frozen;
 use std::alloc::{AllocError, Allocator};
 
@@ -20,6 +21,7 @@ use std::alloc::{AllocError, Allocator};
 pub struct Mates<A: Allocator> {
     marked: Pending<A>,
     tracing: Tracing<A>,
+    variances: Variances<A>,
     // From the youngest to the oldest.
     collected: Vec<u32, A>,
     // By ranks. What stands at a rank that isn't collected doesn't count.
@@ -27,14 +29,16 @@ pub struct Mates<A: Allocator> {
 }
 
 impl<A: Allocator + Clone> Mates<A> {
-    /// Of no sire yet, with room for so many animals: 28 bytes and two bits for each, the bits in words of 64. The only
-    /// error is a growth of memory that is refused.
-    pub fn with_room(alloc: A, animals: u32) -> Result<Mates<A>, AllocError>
-        ensures { IfOk result (IsReady animals) }
+    /// Of no sire yet, for the animals of a frozen book: 44 bytes and two bits for each, the bits in words of 64. The
+    /// only error is a growth of memory that is refused.
+    pub fn with_room<F: Allocator>(alloc: A, frozen: &Frozen<F>) -> Result<Mates<A>, AllocError>
+        ensures { IfOk result (IsReady frozen.now) }
     {
+        let animals = frozen.len();
         Ok(Mates {
             marked: Pending::with_room(alloc.clone()?, animals)?,
             tracing: Tracing::with_room(alloc.clone()?, animals)?,
+            variances: Variances::of(alloc.clone()?, frozen)?,
             column: vec![in alloc.clone()?; 0u128; animals as usize]?,
             collected: Vec::with_capacity(alloc, animals as usize)?,
         })
@@ -51,11 +55,11 @@ impl<A: Allocator> Mates<A> {
         known: &[u128],
         sire: u32,
     )
-        requires ready { IsReady (length frozen.now) self.old }
+        requires ready { IsReady frozen.now self.old }
         requires calves { calves ≡ calves_of_sire frozen.now sire }
         requires known { KnowsAncestors DEPTH_LIMIT frozen.now known.now sire }
         requires sire { sire < length frozen.now }
-        ensures ready { IsReady (length frozen.now) self.new }
+        ensures ready { IsReady frozen.now self.new }
         ensures halves { (calf : ℕ) → IsCalf frozen.now sire calf
             → at_parent self.new.column.items (dam_rank frozen.now calf) / 2
             ≡ coefficient_at DEPTH_LIMIT frozen.now calf }
@@ -71,6 +75,7 @@ impl<A: Allocator> Mates<A> {
         );
         relate(
             &mut self.tracing,
+            &mut self.variances,
             frozen,
             known,
             sire,
@@ -92,11 +97,11 @@ impl<A: Allocator> Mates<A> {
         sire: u32,
         list: &mut Vec<CalfCoefficient, L>,
     ) -> Result<(), AllocError>
-        requires ready { IsReady (length frozen.now) self.old }
+        requires ready { IsReady frozen.now self.old }
         requires calves { AreCalvesOf frozen.now calves.now }
         requires known { KnowsAncestors DEPTH_LIMIT frozen.now known.now sire }
         requires sire { sire < length frozen.now }
-        ensures ready { IsReady (length frozen.now) self.new }
+        ensures ready { IsReady frozen.now self.new }
         ensures calves { IfOk result (λ _. GoesOnWith frozen.now (λ s. s ≡ sire)
             (coefficient_at DEPTH_LIMIT frozen.now) list.old.items list.new.items) }
         ensures err { OnErr result (list.new.items ≡ list.old.items) }

@@ -42,8 +42,10 @@ impl<A: Allocator> Pending<A> {
         self.chunks[distance / 64] |= 1 << (distance % 64);
     }
 
-    /// Takes the nearest distance out.
-    pub fn take_nearest(&mut self) -> Option<usize>
+    /// Takes the nearest distance out. None is farther than this one, and no chunk behind its own is looked at.
+    pub fn take_nearest(&mut self, farthest: u32) -> Option<usize>
+        requires room { farthest < 64 * length self.old.chunks.items }
+        requires near { (distance : ℕ) → mark self.old.chunks.items distance ≡ 1 → distance ≤ farthest }
         ensures found { IfSome result (λ distance. mark self.old.chunks.items distance ≡ 1) }
         ensures nearest { IfSome result
             (λ distance. (nearer : ℕ) → nearer < distance → mark self.old.chunks.items nearer ≡ 0) }
@@ -52,7 +54,8 @@ impl<A: Allocator> Pending<A> {
         ensures empty { IfNone result ((distance : ℕ) → mark self.old.chunks.items distance ≡ 0) }
         ensures same { IfNone result (self.new.chunks.items ≡ self.old.chunks.items) }
     {
-        while self.first < self.chunks.len() {
+        let last = farthest as usize / 64;
+        while self.first <= last {
             let chunk = self.chunks[self.first];
             if chunk > 0 {
                 let (lowest, rest) = without_lowest(chunk);

@@ -6,6 +6,7 @@ ghost use Rattle.herd_kinship.specs.Columns.{AreRelationships};
 use crate::coefficients::Coefficients;
 use crate::columns::{pass_to, write_parts};
 use crate::tracing::Tracing;
+use crate::variances::Variances;
 use herd_frozen::Frozen;
 use std::alloc::{AllocError, Allocator};
 use std::marker::Model;
@@ -39,8 +40,16 @@ impl<A: Allocator + Clone> Relationships<A> {
         ensures { IfOk result (AreRelationships DEPTH_LIMIT frozen.now rank) }
     {
         let mut column = vec![in alloc.clone()?; 0u128; frozen.len() as usize]?;
-        let mut tracing = Tracing::with_room(alloc, frozen.len())?;
-        write_parts(&mut tracing, frozen, coefficients.list(), rank, &mut column);
+        let mut tracing = Tracing::with_room(alloc.clone()?, frozen.len())?;
+        let mut variances = Variances::of(alloc, frozen)?;
+        write_parts(
+            &mut tracing,
+            &mut variances,
+            frozen,
+            coefficients.list(),
+            rank,
+            &mut column,
+        );
         for j in 0..frozen.len() {
             pass_to(&mut column, frozen.parents(j), j);
         }

@@ -22,8 +22,6 @@ pub struct Met {
     pub depth: u8,
     /// By how many steps the traced animal is deeper.
     pub steps: u8,
-    /// Its Mendelian sampling variance in units of 2^-120.
-    pub variance: u128,
     pub share: u64,
 }
 
@@ -75,22 +73,21 @@ impl<A: Allocator> Tracing<A> {
     }
 
     /// Meets the next ancestor, and passes its share on to its parents.
-    pub fn meet_next<F: Allocator>(&mut self, frozen: &Frozen<F>, known: &[u128]) -> Option<Met>
-        requires tracing { IsUnderWay DEPTH_LIMIT frozen.now self.old }
-        requires known { KnowsAncestors DEPTH_LIMIT frozen.now known.now self.old.rank }
+    pub fn meet_next<F: Allocator>(&mut self, frozen: &Frozen<F>) -> Option<Met>
+        requires { IsUnderWay DEPTH_LIMIT frozen.now self.old }
         ensures same { self.new.rank ≡ self.old.rank }
         ensures shares { length self.new.shares.items ≡ length self.old.shares.items }
         ensures marks { length self.new.pending.chunks.items ≡ length self.old.pending.chunks.items }
         ensures tracing { IsUnderWay DEPTH_LIMIT frozen.now self.new }
         ensures next { IfSome result
             (λ met. IsNext DEPTH_LIMIT frozen.now self.old.rank self.old.border met.rank met.share) }
-        ensures met { IfSome result (IsMetAs DEPTH_LIMIT frozen.now self.old.rank) }
+        ensures met { IfSome result (IsMetAs frozen.now self.old.rank) }
         ensures border { IfSome result (λ met. self.new.border ≡ met.rank) }
         ensures ended { IfNone result (self.new.border ≡ 0) }
         ensures all { IfNone result
             ((j : ℕ) → j < self.old.border → share (ranked frozen.now) DEPTH_LIMIT (Some self.old.rank) j ≡ 0) }
     {
-        let Some(distance) = self.pending.take_nearest() else {
+        let Some(distance) = self.pending.take_nearest(self.rank) else {
             self.border = 0;
             return None;
         };
@@ -101,7 +98,6 @@ impl<A: Allocator> Tracing<A> {
             rank,
             depth: parents.depth,
             steps: self.depth - parents.depth,
-            variance: variance_by(known, parents),
             share,
         };
         self.shares[distance] = 0;
@@ -148,8 +144,8 @@ fn quarter(known: &[u128], parent: Option<u32>) -> u128
     }
 }
 
-/// The whole less a quarter of each parent's relationship with itself.
-pub fn variance_by(known: &[u128], parents: Parents) -> u128
+// The whole less a quarter of each parent's relationship with itself.
+fn variance_by(known: &[u128], parents: Parents) -> u128
     requires sire { ForSome parents.sire (IsKnownParent DEPTH_LIMIT known.now) }
     requires dam { ForSome parents.dam (IsKnownParent DEPTH_LIMIT known.now) }
     ensures { result ≡ 2 ^ (2 * DEPTH_LIMIT) - quarter_of DEPTH_LIMIT known.now parents.sire
@@ -206,8 +202,9 @@ pub fn trace<F: Allocator, A: Allocator + Clone>(
     let mut tracing = Tracing::with_room(alloc, rank + 1)?;
     tracing.start(frozen, rank);
     let mut sum = 0;
-    while let Some(met) = tracing.meet_next(frozen, known) {
-        sum += term(met.variance, 2 * met.steps, met.share, met.share);
+    while let Some(met) = tracing.meet_next(frozen) {
+        let variance = mendelian(frozen, known, met.rank);
+        sum += term(variance, 2 * met.steps, met.share, met.share);
     }
     Ok(sum)
 }

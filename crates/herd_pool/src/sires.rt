@@ -53,7 +53,6 @@ impl<F: Allocator, A: Allocator> SireLevel<'_, '_, F, A> {
 }
 
 impl<F: Allocator + Sync, A: Allocator + Copy + Send + Sync> Work<A> for SireLevel<'_, '_, F, A> {
-    ghost use Rattle.std.specs.Prelude.{length};
     ghost use Rattle.herd_frozen.specs.declared.TheConstants.{DEPTH_LIMIT};
     ghost use Rattle.herd_kinship.specs.CalfCoefficients.{IsReady};
     ghost use Rattle.herd_pool.specs.Sires.{HasCalvesOf, KnowsCalvesBelow};
@@ -66,13 +65,13 @@ impl<F: Allocator + Sync, A: Allocator + Copy + Send + Sync> Work<A> for SireLev
     ghost knows = { λ sires. KnowsCalvesBelow DEPTH_LIMIT sires.level.frozen.now sires.calves.now sires.known.now
         sires.level.depth };
 
-    ghost is_ready = { λ sires mates. IsReady (length sires.level.frozen.now) mates };
+    ghost is_ready = { λ sires mates. IsReady sires.level.frozen.now mates };
 
     ghost is_computed = { λ sires block. HasCalvesOf DEPTH_LIMIT sires.level.frozen.now sires.level.depth
         sires.level.block block.number block.output.items };
 
     fn scratch(&self, alloc: A) -> Result<Mates<A>, AllocError> {
-        Mates::with_room(alloc, self.level.frozen.len())
+        Mates::with_room(alloc, self.level.frozen)
     }
 
     fn compute(

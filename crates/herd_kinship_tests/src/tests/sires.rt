@@ -21,7 +21,7 @@ fn append_calves(
     requires sire { sire < length frozen.now }
 {
     let coefficients = coefficients_plain(alloc, frozen)?;
-    let mut mates = Mates::with_room(alloc, frozen.len())?;
+    let mut mates = Mates::with_room(alloc, frozen)?;
     mates.append_calves(frozen, calves, coefficients.list(), sire, list)
 }
 

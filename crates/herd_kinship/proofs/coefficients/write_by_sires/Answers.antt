@@ -6,7 +6,7 @@ use Rattle.herd_kinship.proofs.coefficients.write_by_sires.Goals as goal
 
 pub loop-sire-init : goal.loop-sire-init
 loop-sire-init g c = record {
-  ready = rw (← c.len.ensures.value) c.in_ok-mates.ensures;
+  ready = c.in_ok-mates.ensures;
   known = c.requires;
 }
 

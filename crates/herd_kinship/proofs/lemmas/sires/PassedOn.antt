@@ -9,7 +9,9 @@ use Rattle.herd_kinship.proofs.lemmas.Lists.{contains-at}
 use Rattle.herd_kinship.specs.Ancestry.{IsParentIn}
 use Rattle.herd_kinship.specs.Columns.{at_parent, related, inherited, passed_to, CanPassTo, HasAll, IsCollection}
 use Rattle.herd_kinship.specs.Ranks.{AreParentsAt, sire_rank, dam_rank, ranked}
+use Rattle.herd_kinship.specs.FrozenAncestry.{ancestry_of, number_of_row}
 use Rattle.herd_kinship.specs.Shares.{share}
+use Rattle.herd_kinship.specs.Table.{mendelian}
 use Rattle.herd_kinship.specs.Tracing.{IsMetAs, IsNext}
 use Rattle.herd_kinship.specs.declared.tracing.Met.{Met}
 use Rattle.herd_kinship.proofs.lemmas.tracing.Brought.{later_none}
@@ -54,20 +56,21 @@ pub record IsPassing (l : ℕ) (rows : List Row) (s : ℕ) (column : List ℕ) (
   pub value : passed_to column parents j ≡ related l rows s (Some j)
 
 -- what a tracing's step writes for the ancestor that is met
-pub record IsPart (l : ℕ) (rows : List Row) (s : ℕ) (met : Met) : Type 0 where
+pub record IsPart (l : ℕ) (rows : List Row) (s variance : ℕ) (met : Met) : Type 0 where
   pub shift : met.steps < 128
-  pub fits : met.variance / 2 ^ met.steps * (met.share * 1) < 2 ^ 128
-  pub value : met.variance / 2 ^ met.steps * (met.share * 1) ≡ inherited l rows s met.rank
+  pub fits : variance / 2 ^ met.steps * (met.share * 1) < 2 ^ 128
+  pub value : variance / 2 ^ met.steps * (met.share * 1) ≡ inherited l rows s met.rank
 
 module _ (l most : ℕ) (rows : List Row) (f : IsFrozen l most rows) (s : ℕ) (ls : s < length rows) where
-  pub part-is : (b : ℕ) (met : Met) → l < 128 → 2 ^ suc (2 * l) < 2 ^ 128 → IsNext l rows s b met.rank met.share → IsMetAs l rows s met → IsPart l rows s met
-  part-is b met small room next is =
+  pub part-is : (b variance : ℕ) (met : Met) → l < 128 → 2 ^ suc (2 * l) < 2 ^ 128 → IsNext l rows s b met.rank met.share → IsMetAs rows s met →
+      variance ≡ mendelian (ancestry_of rows) l (number_of_row rows met.rank) → IsPart l rows s variance met
+  part-is b variance met small room next is of_met =
       let limit = depth-at_most l most rows f s ls in
       let below = inherited-bound l most rows f s ls met.rank is.within in
       let steps = is.steps in
       let one : met.share * 1 ≡ met.share = omega arith in
-      let value : met.variance / 2 ^ met.steps * (met.share * 1) ≡ inherited l rows s met.rank =
-      rw (is.steps, one) (inherited-term l most rows f s ls met.rank met.share met.variance is.within next.share_is is.variance) in
+      let value : variance / 2 ^ met.steps * (met.share * 1) ≡ inherited l rows s met.rank =
+      rw (is.steps, one) (inherited-term l most rows f s ls met.rank met.share variance is.within next.share_is of_met) in
       record {
         shift = omega (arith, steps, limit);
         fits = rw value (omega (arith, below, room));

@@ -68,7 +68,7 @@ module _ (l most : ℕ) (rows : List Row) (f : IsFrozen l most rows) where
   }
 
   -- those of the ancestors that a tracing meets
-  known-next : (known : List ℕ) (x b y own : ℕ) → x < length rows → KnowsAncestors l rows known x → IsNext l rows x b y own → KnowsAncestors l rows known y
+  pub known-next : (known : List ℕ) (x b y own : ℕ) → x < length rows → KnowsAncestors l rows known x → IsNext l rows x b y own → KnowsAncestors l rows known y
   known-next known x b y own lx k next =
       ⊎_elim
       (λ (z : share (ranked rows) (depth_at rows x - depth_at rows y) (Some x) y ≡ 0).
@@ -143,12 +143,6 @@ module _ (l most : ℕ) (rows : List Row) (f : IsFrozen l most rows) where
         dam = rw at.same (dam-known known x at.row lx k at.there);
         variance = rw at.same (mendelian-row known x at.row lx k at.there);
       }
-
-  -- and of those of the ancestor that a tracing meets
-  pub parents-known_next : (known : List ℕ) (x b y own : ℕ) (parents : Parents) → x < length rows → KnowsAncestors l rows known x → IsNext l rows x b y own → AreParentsAt rows y parents →
-      AreKnownParents l rows known y parents
-  parents-known_next known x b y own parents lx k next at =
-      parents-known known y parents (parents-within rows y parents at) (known-next known x b y own lx k next) at
 
   -- the Mendelian sampling variance of a rank is that of its number
   pub mendelian-rank : (x : ℕ) → x < length rows → mendelian (ranked rows) l x ≡ mendelian (ancestry_of rows) l (number_of_row rows x)

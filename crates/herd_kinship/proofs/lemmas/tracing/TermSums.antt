@@ -8,6 +8,7 @@ use Rattle.std.proofs.lemmas.List.Sums.{sum_by-le-sum_by}
 use Rattle.herd_frozen.specs.declared.freezing.frozen.Row.{Row}
 use Rattle.herd_frozen.specs.freezing.Frozen.{IsFrozen, depth_at}
 use Rattle.herd_kinship.specs.Coefficients.{own_relationship}
+use Rattle.herd_kinship.specs.FrozenAncestry.{ancestry_of, number_of_row}
 use Rattle.herd_kinship.specs.Table.{entry, mendelian}
 use Rattle.herd_kinship.specs.Shares.{share, shared}
 use Rattle.herd_kinship.specs.Ranks.{sire_rank, dam_rank, ranked}
@@ -34,11 +35,11 @@ abbrev pub IsSummed : ℕ → List Row → ℕ → ℕ → ℕ → Type 0
 IsSummed l rows x border sum = 2 ^ (2 * l) * sum ≡ done (length rows) (term_of l rows x) border
 
 -- what is added for an ancestor of x that is met
-pub record IsAdded (l : ℕ) (rows : List Row) (x sum : ℕ) (met : Met) : Type 0 where
+pub record IsAdded (l : ℕ) (rows : List Row) (x sum variance : ℕ) (met : Met) : Type 0 where
   pub shift : 2 * met.steps < 128
-  pub fits : met.variance / 2 ^ (2 * met.steps) * (met.share * met.share) < 2 ^ 128
-  pub sum_fits : sum + met.variance / 2 ^ (2 * met.steps) * (met.share * met.share) < 2 ^ 128
-  pub summed : IsSummed l rows x met.rank (sum + met.variance / 2 ^ (2 * met.steps) * (met.share * met.share))
+  pub fits : variance / 2 ^ (2 * met.steps) * (met.share * met.share) < 2 ^ 128
+  pub sum_fits : sum + variance / 2 ^ (2 * met.steps) * (met.share * met.share) < 2 ^ 128
+  pub summed : IsSummed l rows x met.rank (sum + variance / 2 ^ (2 * met.steps) * (met.share * met.share))
 
 module _ (l most : ℕ) (rows : List Row) (f : IsFrozen l most rows) (x : ℕ) (lx : x < length rows) where
   -- a later animal is no ancestor
@@ -86,19 +87,20 @@ module _ (l most : ℕ) (rows : List Row) (f : IsFrozen l most rows) (x : ℕ) (
       (cases_lt sum (2 ^ suc (2 * l)))
 
   -- the term of the next ancestor is added
-  pub added : (b sum : ℕ) (met : Met) → 2 * l < 128 → 2 ^ suc (2 * l) < 2 ^ 128 → IsNext l rows x b met.rank met.share → IsMetAs l rows x met → IsSummed l rows x b sum → IsAdded l rows x sum met
-  added b sum met small room next is so_far =
+  pub added : (b sum variance : ℕ) (met : Met) → 2 * l < 128 → 2 ^ suc (2 * l) < 2 ^ 128 → IsNext l rows x b met.rank met.share → IsMetAs rows x met →
+      variance ≡ mendelian (ancestry_of rows) l (number_of_row rows met.rank) → IsSummed l rows x b sum → IsAdded l rows x sum variance met
+  added b sum variance met small room next is of_met so_far =
       let j : ℕ = met.rank in
       let own : ℕ = met.share in
       let apart = is.steps in
       let limit = depth-at_most l most rows f x lx in
       let steps : 2 * met.steps ≡ depth_at rows x + depth_at rows x - 2 * depth_at rows j = omega (arith, apart) in
-      let term : met.variance / 2 ^ (2 * met.steps) * (own * own)
+      let term : variance / 2 ^ (2 * met.steps) * (own * own)
       ≡ own * own * (mendelian (ranked rows) l j / 2 ^ (depth_at rows x + depth_at rows x - 2 * depth_at rows j)) =
-      rw (steps, is.variance, ← mendelian-rank l most rows f j is.within) (omega arith) in
-      let summed : IsSummed l rows x j (sum + met.variance / 2 ^ (2 * met.steps) * (own * own)) =
+      rw (steps, of_met, ← mendelian-rank l most rows f j is.within) (omega arith) in
+      let summed : IsSummed l rows x j (sum + variance / 2 ^ (2 * met.steps) * (own * own)) =
       rw term (summed-next b j own sum is.within next so_far) in
-      let below = summed-bound j (sum + met.variance / 2 ^ (2 * met.steps) * (own * own)) summed in
+      let below = summed-bound j (sum + variance / 2 ^ (2 * met.steps) * (own * own)) summed in
       record {
         shift = omega (arith, apart, limit);
         fits = omega (arith, below, room);

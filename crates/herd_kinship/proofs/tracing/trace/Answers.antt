@@ -1,17 +1,14 @@
--- `trace`: what `start` and `term` require, its loop, that nothing overflows, and its clauses `value` and `unknown`.
+-- `trace`: what `start`, `mendelian` and `term` require, its loop, that nothing overflows, and its clauses `value` and `unknown`.
 use Rattle.std.proofs.Common.{◌≡◌, ℕ, lit<, false, is_some, true, Some, arith, sym, ◌∙◌}
 use Rattle.herd_frozen.specs.declared.TheConstants.{DEPTH_LIMIT, MOST_ANIMALS}
 use Rattle.herd_kinship.proofs.lemmas.books.FrozenFacts.{frozen-few}
 use Rattle.herd_kinship.proofs.lemmas.Lists.{if-none, if-some}
 use Rattle.herd_kinship.proofs.lemmas.sires.CalfFacts.{calf-pair, pair-known}
-use Rattle.herd_kinship.proofs.lemmas.tracing.KnownFacts.{entry-one_unknown}
+use Rattle.herd_kinship.proofs.lemmas.tracing.KnownFacts.{entry-one_unknown, known-next}
 use Rattle.herd_kinship.proofs.lemmas.tracing.TermSums.{IsAdded, added, summed-start, summed-end}
 use Rattle.herd_kinship.proofs.tracing.trace.Given.{Over}
-use Rattle.herd_kinship.proofs.tracing.trace.Goals.{In-Some}
+use Rattle.herd_kinship.proofs.tracing.trace.Goals.{After-mendelian-variance}
 use Rattle.herd_kinship.proofs.tracing.trace.Goals as goal
-
-pub meet_next-requires-clause-known : goal.meet_next-requires-clause-known
-meet_next-requires-clause-known g c = rw c.loop-met.invariant.same c.requires.known
 
 pub loop-met-init : goal.loop-met-init
 loop-met-init g c =
@@ -22,25 +19,31 @@ loop-met-init g c =
       summed = rw (c.start.ensures.rank, c.start.ensures.border) start;
     }
 
+pub mendelian-variance-requires-clause-known : goal.mendelian-variance-requires-clause-known
+mendelian-variance-requires-clause-known g c =
+    let is = c.loop-met.invariant.tracing.ancestors.tracing in
+    known-next DEPTH_LIMIT MOST_ANIMALS c.args.frozen.now is.book c.args.known.now c.loop-met.tracing.rank c.loop-met.tracing.border c.in-Some.met.rank c.in-Some.met.share is.rank
+    (rw c.loop-met.invariant.same c.requires.known) c.in-Some.ensures.next
+
 -- what is added for the ancestor that is met
-met : (g : Over) (c : In-Some g) → IsAdded DEPTH_LIMIT c.args.frozen.now c.loop-met.tracing.rank c.loop-met.sum c.in-Some.met
+met : (g : Over) (c : After-mendelian-variance g) → IsAdded DEPTH_LIMIT c.args.frozen.now c.loop-met.tracing.rank c.loop-met.sum c.mendelian-variance.result c.in-Some.met
 met g c =
     let is = c.loop-met.invariant.tracing.ancestors.tracing in
-    added DEPTH_LIMIT MOST_ANIMALS c.args.frozen.now is.book c.loop-met.tracing.rank is.rank c.loop-met.tracing.border c.loop-met.sum c.in-Some.met
-    (lit< tt) (lit< tt) c.in-Some.ensures.next c.in-Some.ensures.met c.loop-met.invariant.summed
+    added DEPTH_LIMIT MOST_ANIMALS c.args.frozen.now is.book c.loop-met.tracing.rank is.rank c.loop-met.tracing.border c.loop-met.sum c.mendelian-variance.result c.in-Some.met
+    (lit< tt) (lit< tt) c.in-Some.ensures.next c.in-Some.ensures.met c.mendelian-variance.ensures.value c.loop-met.invariant.summed
 
 pub overflow_mul-met : goal.overflow_mul-met
-overflow_mul-met g c = let fits = (met g (goal.at.overflow_mul-met g c).In-Some).shift in omega (arith, fits)
+overflow_mul-met g c = let fits = (met g (goal.at.overflow_mul-met g c).After-mendelian-variance).shift in omega (arith, fits)
 
 pub term-sum-requires-clause-shift : goal.term-sum-requires-clause-shift
-term-sum-requires-clause-shift g c = (met g (goal.at.term-sum-requires-clause-shift g c).In-Some).shift
+term-sum-requires-clause-shift g c = (met g (goal.at.term-sum-requires-clause-shift g c).After-mendelian-variance).shift
 
 pub term-sum-requires-clause-fits : goal.term-sum-requires-clause-fits
-term-sum-requires-clause-fits g c = (met g (goal.at.term-sum-requires-clause-fits g c).In-Some).fits
+term-sum-requires-clause-fits g c = (met g (goal.at.term-sum-requires-clause-fits g c).After-mendelian-variance).fits
 
 pub overflow_add-sum : goal.overflow_add-sum
 overflow_add-sum g c =
-    let fits = (met g (goal.at.overflow_add-sum g c).In-Some).sum_fits in
+    let fits = (met g (goal.at.overflow_add-sum g c).After-mendelian-variance).sum_fits in
     rw c.term-sum.ensures (omega (arith, fits))
 
 pub loop-met-preserved : goal.loop-met-preserved
@@ -49,7 +52,7 @@ loop-met-preserved g c =
     record {
       same = rank ∙ c.loop-met.invariant.same;
       tracing = c.meet_next.ensures.tracing;
-      summed = rw (rank, c.in-Some.ensures.border, c.term-sum.ensures) (met g (goal.at.loop-met-preserved g c).In-Some).summed;
+      summed = rw (rank, c.in-Some.ensures.border, c.term-sum.ensures) (met g (goal.at.loop-met-preserved g c).After-mendelian-variance).summed;
     }
 
 pub returns-clause-value : goal.returns-clause-value

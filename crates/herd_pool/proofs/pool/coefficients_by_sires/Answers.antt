@@ -26,7 +26,7 @@ loop-depth-init g c =
         reached = rw (items, all)
             (reached-start DEPTH_LIMIT MOST_ANIMALS rows c.len.ensures.frozen (IsLessDeep rows 0) (λ s low. omega (arith, low)) (replicate (length rows) 0) (length-replicate (length rows) 0) (λ x lx. get_or-replicate (length rows) x 0 0 lx));
       };
-      idle = subst (All (IsReady (length rows))) (sym c.new-idle.ensures.items) (All-nil (IsReady (length rows)));
+      idle = subst (All (IsReady rows)) (sym c.new-idle.ensures.items) (All-nil (IsReady rows));
     }
 
 pub write_calves_of-requires : goal.write_calves_of-requires

@@ -1,4 +1,3 @@
-use Rattle.std.proofs.Common.{length}
 use Rattle.std.specs.List.{All}
 use Rattle.herd_frozen.specs.declared.TheConstants.{DEPTH_LIMIT}
 use Rattle.herd_kinship.specs.CalfCoefficients.{IsReady}
@@ -8,5 +7,5 @@ use Rattle.herd_pool.proofs.pool.coefficients_by_sires.Given as goal
 abbrev pub invariant-loop-depth : goal.invariant-loop-depth
 invariant-loop-depth g l = record {
   known : KnowsCalvesBelow DEPTH_LIMIT l.frozen l.calves l.known.items l.depth;
-  idle : All (IsReady (length l.frozen)) l.idle.items;
+  idle : All (IsReady l.frozen) l.idle.items;
 }

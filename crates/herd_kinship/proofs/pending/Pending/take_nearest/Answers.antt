@@ -1,19 +1,13 @@
--- `Pending::take_nearest`: that nothing overflows and its clauses `found`, `nearest` and `taken`.
-use Rattle.std.proofs.Common.{ℕ, List, ◌+◌, ◌*◌, ◌<◌, length, set, arith, subst}
+-- `Pending::take_nearest`: its clauses `found`, `nearest`, `taken` and `empty`.
+use Rattle.std.proofs.Common.{ℕ, List, ◌+◌, ◌*◌, ◌/◌, ◌%◌, ◌<◌, ◌≤◌, ◌≡◌, ⊎_elim, length, get_or, set, arith, ap, subst}
+use Rattle.std.proofs.lemmas.Bool.{cases_lt}
+use Rattle.std.proofs.lemmas.Nat.Bits.{bit_at-lt}
+use Rattle.herd_kinship.specs.Pending.{mark}
 use Rattle.std.proofs.lemmas.List.{get_or_read}
 use Rattle.herd_kinship.proofs.lemmas.numbers.PendingFacts.{IsNearest, nearest-cleared}
 use Rattle.herd_kinship.proofs.pending.Pending.take_nearest.Given.{Over}
 use Rattle.herd_kinship.proofs.pending.Pending.take_nearest.Goals.{After-without_lowest-lowest}
 use Rattle.herd_kinship.proofs.pending.Pending.take_nearest.Goals as goal
-
--- there are few chunks, so that a distance is a number of the machine
-pub overflow_mul-result : goal.overflow_mul-result
-overflow_mul-result g c = let few = c.loop-self.self.few_chunks in let test = c.loop-self-test.true in let len = c.len.ensures in omega arith
-
-pub overflow_add-result : goal.overflow_add-result
-overflow_add-result g c =
-    let few = c.loop-self.self.few_chunks in let test = c.loop-self-test.true in let len = c.len.ensures in
-    let small = c.without_lowest-lowest.ensures.small in omega arith
 
 -- what is found is the nearest distance of the set as it was, which the search has left as it is
 nearest : (g : Over) (c : After-without_lowest-lowest g) →
@@ -24,7 +18,7 @@ nearest g c =
     let first : ℕ = c.loop-self.self.first in
     let rest : ℕ = c.without_lowest-lowest.result.1 in
     let k : ℕ = c.without_lowest-lowest.result.0 in
-    let within : first < length chunks = (let test = c.loop-self-test.true in let len = c.len.ensures in omega arith) in
+    let within : first < length chunks = (let test = c.loop-self-test.true in let same = ap length c.loop-self.invariant in let room = c.requires.room in omega arith) in
     subst (λ old. IsNearest old (set chunks first rest) (64 * first + k)) c.loop-self.invariant
     (nearest-cleared chunks first c.index-chunk.result.now rest k within (get_or_read chunks first c.index-chunk.result.now within c.index-chunk.ensures 0)
     c.without_lowest-lowest.ensures c.loop-self.self.none_before)
@@ -37,3 +31,16 @@ returns-then-chunk-gt0-clause-nearest g c = (nearest g (goal.at.returns-then-chu
 
 pub returns-then-chunk-gt0-clause-taken : goal.returns-then-chunk-gt0-clause-taken
 returns-then-chunk-gt0-clause-taken g c = (nearest g (goal.at.returns-then-chunk-gt0-clause-taken g c).After-without_lowest-lowest).taken
+
+-- behind the chunk of the farthest distance there is no bit
+pub returns-clause-empty : goal.returns-clause-empty
+returns-clause-empty g c = λ distance.
+    let chunks = c.args.self.now.chunks.items in
+    let end = c.loop-self-test.false in
+    ⊎_elim
+    (λ (before : distance < 64 * c.loop-self.self.first). subst (λ xs. mark xs distance ≡ 0) c.loop-self.invariant (c.loop-self.self.none_before distance before))
+    (λ (behind : 64 * c.loop-self.self.first ≤ distance).
+    let bit = bit_at-lt (get_or chunks (distance / 64) 0) (distance % 64) in
+    ⊎_elim (λ (none : mark chunks distance < 1). omega (arith, none)) (λ (one : 1 ≤ mark chunks distance). let far = c.requires.near distance (omega (arith, one, bit)) in absurd (omega (arith, far, behind, end)))
+    (cases_lt (mark chunks distance) 1))
+    (cases_lt distance (64 * c.loop-self.self.first))

@@ -1,11 +1,10 @@
--- `Tracing::meet_next`: what `variance_by` and `give` require and its clauses `tracing`, `all`, `shares`, `next` and `met`.
+-- `Tracing::meet_next`: what `give` requires and its clauses `tracing`, `all`, `shares`, `next` and `met`.
 use Rattle.std.proofs.Common.{◌≡◌, ℕ, ◌-◌, length, set, arith, refl, sym, ◌∙◌, ap, subst}
 use Rattle.std.proofs.lemmas.List.{get_or_read, length-set}
-use Rattle.herd_frozen.specs.declared.TheConstants.{DEPTH_LIMIT, MOST_ANIMALS}
+use Rattle.herd_frozen.specs.declared.TheConstants.{DEPTH_LIMIT}
 use Rattle.herd_frozen.specs.freezing.Frozen.{depth_at}
 use Rattle.herd_kinship.specs.Tracing.{given, GivesMark}
 use Rattle.herd_kinship.proofs.lemmas.books.ParentsFacts.{parents-depth, parents-within}
-use Rattle.herd_kinship.proofs.lemmas.tracing.KnownFacts.{AreKnownParents, parents-known_next}
 use Rattle.herd_kinship.proofs.lemmas.tracing.TracingFacts.{length-given}
 use Rattle.herd_kinship.proofs.lemmas.tracing.UnderWayFacts.{IsMet, none-left, taken-met, under_way-end}
 use Rattle.herd_kinship.proofs.tracing.Tracing.meet_next.Given.{Over}
@@ -14,16 +13,16 @@ use Rattle.herd_kinship.proofs.tracing.Tracing.meet_next.Goals as goal
 
 pub returns-in_default-clause-tracing : goal.returns-in_default-clause-tracing
 returns-in_default-clause-tracing g c = record {
-  depth = c.requires.tracing.depth;
+  depth = c.requires.depth;
   ancestors = rw c.in_default.ensures.same
       (under_way-end DEPTH_LIMIT c.args.frozen.now c.args.self.now.rank c.args.self.now.border c.args.self.now.shares.items c.args.self.now.pending.chunks.items
-      c.requires.tracing.ancestors c.in_default.ensures.empty);
+      c.requires.ancestors c.in_default.ensures.empty);
 }
 
 pub returns-in_default-clause-all : goal.returns-in_default-clause-all
 returns-in_default-clause-all g c =
     none-left DEPTH_LIMIT c.args.frozen.now c.args.self.now.rank c.args.self.now.border c.args.self.now.shares.items c.args.self.now.pending.chunks.items
-    c.requires.tracing.ancestors c.in_default.ensures.empty
+    c.requires.ancestors c.in_default.ensures.empty
 
 -- what is met at the distance that is taken
 met : (g : Over) (c : After-index-share g) →
@@ -33,32 +32,18 @@ met g c =
     let d : ℕ = c.in-Some.distance in
     let shares = c.args.self.now.shares.items in
     let chunks = c.args.self.now.pending.chunks.items in
-    let near = (c.requires.tracing.ancestors.marks.pending d c.in-Some.ensures.found).near in
-    let long = c.requires.tracing.ancestors.tracing.long in
-    taken-met DEPTH_LIMIT c.args.frozen.now c.args.self.now.rank c.args.self.now.border shares chunks c.requires.tracing.ancestors c.take_nearest.new.self.chunks.items d c.index-share.result.now
+    let near = (c.requires.ancestors.marks.pending d c.in-Some.ensures.found).near in
+    let long = c.requires.ancestors.tracing.long in
+    taken-met DEPTH_LIMIT c.args.frozen.now c.args.self.now.rank c.args.self.now.border shares chunks c.requires.ancestors c.take_nearest.new.self.chunks.items d c.index-share.result.now
     (record {
       distance = record { found = c.in-Some.ensures.found; nearest = c.in-Some.ensures.nearest; taken = c.in-Some.ensures.taken };
       own_is = get_or_read shares d c.index-share.result.now (omega (arith, near, long)) c.index-share.ensures 0;
     })
     c.parents-parents.result c.parents-parents.ensures.parents
 
--- its parents are known
-known : (g : Over) (c : After-index-share g) →
-    AreKnownParents DEPTH_LIMIT c.args.frozen.now c.args.known.now (c.args.self.now.rank - c.in-Some.distance) c.parents-parents.result
-known g c =
-    let is = c.requires.tracing.ancestors.tracing in
-    parents-known_next DEPTH_LIMIT MOST_ANIMALS c.args.frozen.now is.book c.args.known.now c.args.self.now.rank c.args.self.now.border (c.args.self.now.rank - c.in-Some.distance) c.index-share.result.now c.parents-parents.result
-    is.rank c.requires.known (met g c).next c.parents-parents.ensures.parents
-
-pub variance_by-requires-clause-sire : goal.variance_by-requires-clause-sire
-variance_by-requires-clause-sire g c = (known g (goal.at.variance_by-requires-clause-sire g c).After-index-share).sire
-
-pub variance_by-requires-clause-dam : goal.variance_by-requires-clause-dam
-variance_by-requires-clause-dam g c = (known g (goal.at.variance_by-requires-clause-dam g c).After-index-share).dam
-
 pub overflow_sub-met : goal.overflow_sub-met
 overflow_sub-met g c =
-    let mine = c.requires.tracing.depth in
+    let mine = c.requires.depth in
     let its = parents-depth c.args.frozen.now (c.args.self.now.rank - c.in-Some.distance) c.parents-parents.result c.parents-parents.ensures.parents in
     let less = (met g (goal.at.overflow_sub-met g c).After-index-share).next.share_is.less_deep in
     omega (arith, mine, its, less)
@@ -104,7 +89,7 @@ returns-clause-tracing g c =
     let all : c.give-2.new.self.shares.items ≡ given rows x (given rows x (set shares d 0) (x - d) own parents.sire) (x - d) own parents.dam =
     c.give-2.ensures.shares ∙ rw (c.give.ensures.shares, c.give.ensures.rank) refl in
     record {
-      depth = c.give-2.ensures.depth ∙ (c.give.ensures.depth ∙ (c.requires.tracing.depth ∙ ap (depth_at rows) (sym rank)));
+      depth = c.give-2.ensures.depth ∙ (c.give.ensures.depth ∙ (c.requires.depth ∙ ap (depth_at rows) (sym rank)));
       ancestors = rw (rank, border, all) ((met g (goal.at.returns-clause-tracing g c).After-index-share).under_way first last c.give.ensures.marks second);
     }
 
@@ -119,6 +104,5 @@ returns-clause-met g c =
     record {
       within = parents-within rows y c.parents-parents.result at;
       depth = sym (parents-depth rows y c.parents-parents.result at);
-      steps = let mine = c.requires.tracing.depth in let its = parents-depth rows y c.parents-parents.result at in omega (arith, mine, its);
-      variance = c.variance_by.ensures ∙ (known g (goal.at.returns-clause-met g c).After-index-share).variance;
+      steps = let mine = c.requires.depth in let its = parents-depth rows y c.parents-parents.result at in omega (arith, mine, its);
     }

@@ -1,4 +1,4 @@
-use Rattle.std.proofs.Common.{◌≡◌, length}
+use Rattle.std.proofs.Common.{◌≡◌}
 use Rattle.herd_frozen.specs.freezing.Frozen.{level_of}
 use Rattle.herd_frozen.specs.declared.TheConstants.{DEPTH_LIMIT}
 use Rattle.herd_kinship.specs.CalfCoefficients.{IsReady}
@@ -9,6 +9,6 @@ use Rattle.herd_pool.proofs.sires.SireLevelWork.compute.Given as goal
 abbrev pub invariant-loop-sire : goal.invariant-loop-sire
 invariant-loop-sire g l = record {
   ranks : l.sire-items ≡ block_of l.self.level.block l.number (level_of l.self.level.depth l.self.level.frozen.now);
-  ready : IsReady (length l.self.level.frozen.now) l.mates;
+  ready : IsReady l.self.level.frozen.now l.mates;
   calves : AreCalvesAmong DEPTH_LIMIT l.self.level.frozen.now l.sire-items l.sire-index l.output.items;
 }
