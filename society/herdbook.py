@@ -10,7 +10,7 @@ import signal
 import subprocess
 import sys
 from collections.abc import Sequence
-from typing import TYPE_CHECKING
+from typing import TYPE_CHECKING, BinaryIO
 
 from society.book.beside import Beside
 from society.book.commands import Command, lines_of, text_of
@@ -85,9 +85,10 @@ class Herdbook:
 
     def run(self, words: list[str], book: bytes) -> str:
         """What it writes of a command file."""
-        running = self.start(words, subprocess.PIPE, subprocess.PIPE, MOST_BYTES, MOST_SECONDS)
+        with self.given(words, book) as file:
+            running = self.start(words, file.fileno(), subprocess.PIPE, MOST_BYTES, MOST_SECONDS)
         try:
-            out, err = running.communicate(book, MOST_SECONDS)
+            out, err = running.communicate(timeout=MOST_SECONDS)
         except subprocess.TimeoutExpired:
             running.kill()
             running.communicate()
@@ -96,6 +97,18 @@ class Herdbook:
             raise self.took_too_long(words)
         self.ended(running.returncode, err, words)
         return out.decode()
+
+    def given(self, words: list[str], book: bytes) -> BinaryIO:
+        """A command file in memory. Through a pipe it would go in small pieces, each of which waits for Python."""
+        file = open(os.memfd_create("commands"), "w+b")
+        try:
+            file.write(book)
+            file.seek(0)
+            return file
+        except OSError as error:
+            file.raw.close()
+            told = error.strerror or str(error)
+            raise Mistake(ProgramFault.CANT_DO.said(word=words[0], told=told, hint=": nothing is changed")) from None
 
     def took_too_long(self, words: list[str]) -> Mistake:
         return Mistake(ProgramFault.TOO_LONG.said(word=words[0], minutes=MOST_SECONDS // 60, path=self.path))

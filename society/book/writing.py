@@ -21,10 +21,12 @@ from society.herdbook import Herdbook
 
 @dataclass(frozen=True)
 class Filed:
-    """The commands of a change. They go on from the journal, or from as many of its commands as a new edition keeps."""
+    """The commands of a change. They go on from the journal, or from as many of its commands as a new edition keeps.
+    `text` is the command file after them, where it was made before."""
 
     steps: list[Step]
     keeps: int | None = None
+    text: bytes = b""
 
 
 @dataclass(frozen=True)
@@ -72,7 +74,7 @@ def write_within(
     number, moment = next_number(connection), now()
     journal = written_journal(connection, book.journal, filed)
     write_change(connection, number, moment, journal, made)
-    computes = not (state.keeps_coefficients or state.born or state.corrected)
+    computes = state.coefficients is None and not (state.keeps_coefficients or state.born or state.corrected)
     coefficients = program.beside(["inbreeding"], Book(book.folder, connection)) if computes else None
     connection.executemany("INSERT INTO owner (name, herd) VALUES (?, ?)", state.new_owners.items())
     write_rows(connection, ANIMALS, number, state.animals.before, state.animals.after)

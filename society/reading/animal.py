@@ -2,7 +2,8 @@
 from __future__ import annotations
 
 import datetime
-from collections.abc import Collection, Iterable
+import operator
+from collections.abc import Collection
 from dataclasses import dataclass, field
 
 from society.book.inferred import GIVEN_BIRTH, GIVEN_EXIT, BirthBasis, ExitBasis, OwnerDay, SexSource
@@ -76,17 +77,20 @@ class Animal:
         return Where.LINE.said(line=self.line, id=self.id) if self.line else Where.ANIMAL.said(id=self.id)
 
 
+SIRE_OF, DAM_OF = operator.attrgetter("sire"), operator.attrgetter("dam")
 # a calf, the role of a parent of its, and that parent
 Link = tuple[Animal, Role, str]
 
 
-def links_outside(calves: Iterable[Animal], ids: Collection[str]) -> list[Link]:
+def links_outside(calves: Collection[Animal], ids: Collection[str]) -> list[Link]:
     """The known parents that aren't among some ids. Few are outside of most sheets."""
+    parents = {*map(SIRE_OF, calves), *map(DAM_OF, calves)} - {""}
+    outside = {parent for parent in parents if parent not in ids}
     found: list[Link] = []
-    for calf in calves:
-        if calf.sire and calf.sire not in ids:
+    for calf in calves if outside else ():
+        if calf.sire in outside:
             found.append((calf, SIRE, calf.sire))
-        if calf.dam and calf.dam not in ids:
+        if calf.dam in outside:
             found.append((calf, DAM, calf.dam))
     return found
 

@@ -42,12 +42,12 @@ class NoAnimals:
 
 
 def tell_odd_rows(animals: dict[str, Animal], rows: list[Row], report: Report) -> None:
-    without_day = {animal.line for animal in animals.values() if not animal.cells.get(Field.BIRTH)}
-    cells = {row.line: row.cells for row in rows if row.line in without_day}
+    without_day = {animal.line: animal for animal in animals.values() if not animal.cells.get(Field.BIRTH)}
+    cells = {row.line: row.cells for row in rows if row.line in without_day} if without_day else {}
     sums = {one.id: word for one in animals.values() if (word := sum_of(one, cells.get(one.line, [])))}
     for id, word in sums.items():
         report.add(animals[id].line, id, LikeASum(word))
-    alone = [one for one in animals.values() if not any(map(one.cells.get, SAYS))]
+    alone = [one for one in without_day.values() if not any(map(one.cells.get, SAYS))]
     # a list of ids is no sheet with odd rows
     if not alone or 2 * len(alone) > len(animals):
         return

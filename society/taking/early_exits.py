@@ -16,11 +16,12 @@ SEVERAL = 2
 
 
 def leave_out_early_exits(next_book: NextBook) -> None:
+    left = {id: animal for id, animal in next_book.animals.items() if animal.left}
     calves = collections.defaultdict[str, list[Animal]](list)
-    for animal in next_book.animals.values():
-        if animal.dam and not animal.embryo:
+    for animal in next_book.animals.values() if left else ():
+        if animal.dam in left and not animal.embryo:
             calves[animal.dam].append(animal)
-    for dam in next_book.animals.values():
+    for dam in left.values():
         if dam.left is None or dam.id not in calves:
             continue
         record = next_book.record(dam.id)

@@ -8,7 +8,7 @@ from society.book.book import Book
 from society.book.kinds import Standing
 from society.book.known import Known
 from society.book.role import Role
-from society.reading.animal import Animal
+from society.reading.animal import Animal, links_outside
 from society.reading.columns import Columns
 from society.reading.ids import nearly
 
@@ -149,9 +149,12 @@ class Guards:
 
     def parents(self) -> Guard | None:
         """Most parents have neither a row nor a place in the book."""
-        links = [parent for row in self.rows.values() for _, parent in row.parents()]
-        lost = [parent for parent in links if parent not in self.rows and parent not in self.book.known]
-        if len(set(lost)) < FEW_PARENTS or 2 * len(lost) <= len(links):
+        outside = links_outside(self.rows.values(), self.rows)
+        lost = [parent for *_, parent in outside if parent not in self.book.known]
+        if len(set(lost)) < FEW_PARENTS:
+            return None
+        links = [parent for row in self.rows.values() for parent in row.parent_ids()]
+        if 2 * len(lost) <= len(links):
             return None
         words = sum(not any(map(str.isdigit, parent)) for parent in lost)
         ids = sum(any(map(str.isdigit, id)) for id in self.rows)

@@ -49,7 +49,7 @@ class Looks:
 
     def tell_births(self, book: Book) -> None:
         """Birth days that are years from those of the book."""
-        for animal in self.animals.values():
+        for animal in self.animals.values() if book.known else ():
             known = book.known.get(animal.id) if animal.line and animal.has_day() else None
             if known and not known.birth.is_inferred:
                 before = book.records[known.number].born

@@ -17,8 +17,8 @@ LOOKED_AT = ("name", "owner", "exit")
 
 
 def tell_withdrawn_exits(next_book: NextBook) -> None:
-    book = next_book.book
-    living = [animal for animal in next_book.animals.values() if not animal.left and not animal.exit_basis.is_inferred]
+    book, animals = next_book.book, next_book.animals.values() if next_book.book.known else ()
+    living = [animal for animal in animals if not animal.left and not animal.exit_basis.is_inferred]
     withdrawn = [animal for animal in living if (known := book.known.get(animal.id)) and book.has_left(known)]
     if len(withdrawn) >= SEVERAL:
         first = tuple(RowOf(animal.id, animal.line) for animal in withdrawn[:FIRST])
@@ -28,6 +28,8 @@ def tell_withdrawn_exits(next_book: NextBook) -> None:
 def tell_most_changed(next_book: NextBook) -> None:
     """What most rows of animals that the book has have otherwise; an exit that is taken back is told by itself."""
     report, known = next_book.report, next_book.book.known
+    if not known:
+        return
     both = sum(animal.line > 0 and animal.id in known for animal in next_book.animals.values())
     changed = [one.finding for one in report.entries if one.line and isinstance(one.finding, ValueChanged)]
     counts = collections.Counter(one.name for one in changed if one.name != "exit" or one.after)

@@ -64,7 +64,7 @@ class Names:
 
     def add_parents(self) -> None:
         """A founder for each parent without a row."""
-        links = self.links_without_row()
+        links = self.without_row
         calves = collections.Counter(parent for _, _, parent in links)
         are_few = len(calves.keys() - self.animals.keys()) <= FEW
         for animal, role, parent in links:
@@ -75,7 +75,8 @@ class Names:
             one = self.animals[parent]
             one.named_in = one.named_in or animal.line
 
-    def links_without_row(self) -> list[Link]:
+    @functools.cached_property
+    def without_row(self) -> list[Link]:
         """The parents without a row, each with its calf."""
         with_row = {id for id, animal in self.animals.items() if animal.line}
         return links_outside(self.animals.values(), with_row)
@@ -85,7 +86,7 @@ class Names:
         and a dam, or, in a sheet, a text without a digit."""
         calves = collections.defaultdict[str, dict[Role, int]](lambda: {Role.SIRE: 0, Role.DAM: 0})
         children = collections.defaultdict[str, set[str]](set)
-        for calf, role, parent in self.links_without_row():
+        for calf, role, parent in self.without_row:
             calves[parent][role] += 1
             children[parent].add(calf.id)
         told = []

@@ -21,7 +21,7 @@ SHORT = 4
 def tell_respelt_owners(next_book: NextBook, owners_before: set[str]) -> None:
     """`owners_before` are those that the book had before this taking."""
     taken = collections.defaultdict[str, collections.Counter[str]](collections.Counter)
-    for animal in next_book.animals.values():
+    for animal in next_book.animals.values() if next_book.book.known else ():
         record = next_book.record(animal.id)
         if record and animal.line and (before := next_book.book.owner_of(record.herd)):
             taken[before][animal.owner] += 1

@@ -6,6 +6,7 @@ import pathlib
 from collections.abc import Callable
 from dataclasses import dataclass
 
+from society.book.beside import Beside
 from society.book.book import Book
 from society.book.book_changed import Overtaken
 from society.book.changes import Change, Made, Source
@@ -76,6 +77,7 @@ def prepared_of(
 ) -> Prepared:
     """What is to be written. Nothing is yet."""
     book, report = next_book.book, next_book.report
+    coefficients = begin_coefficients(book, program, filed)
     herds = (
         set() if book.connection is None else {herd for (herd,) in book.connection.execute("SELECT herd FROM owner")}
     )
@@ -97,13 +99,21 @@ def prepared_of(
         Rows(book.cells, cell_rows(next_book)),
         book.remembered,
         {owner: herd for owner, herd in book.owners.items() if herd not in herds},
-        coefficients=program.lines(["inbreeding"], text_after(book, filed)),
+        coefficients=coefficients.value(),
     )
     return Prepared(book.change, filed, state, made)
 
 
+def begin_coefficients(book: Book, program: Herdbook, filed: Filed) -> Beside[list[str]]:
+    """The program begins to compute those after the commands."""
+    text = text_after(book, filed)
+    return Beside(lambda: program.lines(["inbreeding"], text))
+
+
 def text_after(book: Book, filed: Filed) -> bytes:
     """The command file after the commands."""
+    if filed.text:
+        return filed.text
     commands = [step.command for step in filed.steps]
     if not book.journal.length:
         return text_of(commands)

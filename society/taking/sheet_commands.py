@@ -37,8 +37,10 @@ class Filing:
         a mistake where a birth is."""
         while True:
             more = self.more()
-            if more is not None and not self.refused_behind(program, more):
-                return Filed(accepted(more))
+            if more is not None:
+                text = self.text_behind(more)
+                if not self.refused_behind(program, text, len(more)):
+                    return Filed(accepted(more), text=text)
             commands = self.anew()
             refused = program.file(commands)
             if not refused:
@@ -64,14 +66,19 @@ class Filing:
         if sentences:
             raise Mistake(*sentences, TakingFault.NOTHING_TAKEN.said(count=len(sentences)))
 
-    def refused_behind(self, program: Herdbook, more: list[Command]) -> bool:
-        """Is any command refused behind the journal?"""
+    def text_behind(self, more: list[Command]) -> bytes:
+        """The journal with commands behind it, as a command file."""
+        return self.book.command_file() + lines_of(more) if self.book.journal.length else text_of(more)
+
+    def refused_behind(self, program: Herdbook, text: bytes, count: int) -> bool:
+        """Is any of so many commands behind the journal refused?"""
         length = self.book.journal.length
-        text = self.book.command_file() + lines_of(more) if length else text_of(more)
-        return any(place >= length for place in program.file_text(text, length + len(more)))
+        return any(place >= length for place in program.file_text(text, length + count))
 
     def more(self) -> list[Command] | None:
         """The commands that the book lacks, or none where what stands in it has to be corrected."""
+        if not self.book.known:
+            return self.anew()
         if self.book.known.keys() - self.next_book.animals.keys():
             return None
         births, corrections, transfers, exits = [], [], [], []
@@ -108,12 +115,12 @@ class Filing:
 
     def tell_changes(self) -> None:
         report = self.next_book.report
-        for animal in self.next_book.animals.values():
+        for animal in self.next_book.animals.values() if self.book.known else ():
             record, known = self.next_book.record(animal.id), self.book.known.get(animal.id)
             if record and known:
                 for found in self.changes(animal, record, known):
                     report.add(animal.line, animal.id, found)
-            elif self.book.known and animal.line:
+            elif animal.line:
                 report.add(animal.line, animal.id, NewAnimal(animal.number))
 
     def changes(self, animal: Animal, record: Record, known: Known) -> list[ValueChanged]:
