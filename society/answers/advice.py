@@ -4,7 +4,7 @@ from __future__ import annotations
 from collections.abc import Sequence
 from typing import NamedTuple
 
-from society.answers.candidates import Candidate, Candidates, all_candidates, all_numbers, named_candidates
+from society.answers.candidates import Candidate, Candidates, all_candidates, named_candidates, rows_of_all
 from society.answers.list_columns import LIST_COLUMNS, USUAL
 from society.answers.table import Table
 from society.book.asking_sentences import Mating
@@ -33,22 +33,31 @@ class Advice(NamedTuple):
     sires: Candidates
 
 
+class Shown(NamedTuple):
+    """What is shown of sires whatever the dam is, in columns, and their places in the order of their ids."""
+
+    cells: list[list[str]]
+    by_id: list[int]
+
+
 def advise(book: Book, program: Herdbook, dam: Known, named: Sequence[Known], also_left: bool) -> Advice:
     """Advice on sires that are named, or else on all living males, or on those that left too. What is told of them is
-    read while the program computes."""
-    numbers = [known.number for known in named] or all_numbers(book, Role.SIRE, also_left)
+    made while the program computes."""
+    rows = [] if named else rows_of_all(book, Role.SIRE, also_left)
     # each is asked for once
-    begun = begin_matings(book, program, dam, list(dict.fromkeys(numbers)))
-    sires = named_candidates(book, Role.SIRE, named) if named else all_candidates(book, Role.SIRE, also_left)
+    numbers = [*dict.fromkeys(known.number for known in named)] or [number for number, *_ in rows]
+    begun = begin_matings(book, program, dam, numbers)
+    sires = named_candidates(book, Role.SIRE, named) if named else all_candidates(book, Role.SIRE, also_left, rows)
     sires.needed((Mating.NAME_ONE if also_left else Mating.NAME_ONE_OR_LEFT).said())
-    return advice_of(dam, sires, answers_of(begun))
+    shown = shown_of(sires.animals)
+    return advice_of(dam, sires, answers_of(begun), shown)
 
 
-def advice_of(dam: Known, sires: Candidates, answers: Sequence[Answer]) -> Advice:
+def advice_of(dam: Known, sires: Candidates, answers: Sequence[Answer], shown: Shown | None = None) -> Advice:
     """What is told of the program's answers on sires, in their order."""
     found = [answer for answer in answers if isinstance(answer, Coefficient)]
     if len(found) == len(answers):
-        return Advice(advice_table(sires.animals, found), [], sires)
+        return Advice(advice_table(shown or shown_of(sires.animals), found), [], sires)
     of_dam = [answer for answer in answers if isinstance(answer, MatingFault) and answer.is_of_dam()]
     if of_dam:
         raise Mistake(Mating.NOT_A_DAM.said(dam=dam.id, **why(of_dam[0])))
@@ -57,7 +66,7 @@ def advice_of(dam: Known, sires: Candidates, answers: Sequence[Answer]) -> Advic
         Mating.REFUSED.said(sire=sire.id, **why(answer)) for sire, answer in both if isinstance(answer, MatingFault)
     ]
     mated = [sire for sire, answer in both if isinstance(answer, Coefficient)]
-    return Advice(advice_table(mated, found), told, sires)
+    return Advice(advice_table(shown_of(mated), found), told, sires)
 
 
 def by_mating(book: Book, program: Herdbook, dam: Known, sires: Candidates) -> list[Answer]:
@@ -75,12 +84,12 @@ def begin_matings(book: Book, program: Herdbook, dam: Known, numbers: Sequence[s
 
 def answers_of(begun: Sequence[Beside[list[str]]]) -> list[Answer]:
     """What the program says of them, in their order."""
-    found: list[Answer] = []
-    for lines in begun:
-        for line in lines.value():
-            _, answer, more = line.split(",")
-            found.append(MatingFault(int(more)) if answer == "refused" else made(Coefficient, (answer, more)))
-    return found
+    cells = ",".join(line for lines in begun for line in lines.value()).split(",")
+    # of three cells each, which are the sire, the coefficient and its percentage, or `refused` and the fault
+    return [
+        MatingFault(int(answer[1])) if answer[0] == "refused" else made(Coefficient, answer)
+        for answer in zip(cells[1::3], cells[2::3])
+    ]
 
 
 def by_relationship(book: Book, program: Herdbook, dam: Known, sires: Candidates) -> list[Answer]:
@@ -90,20 +99,18 @@ def by_relationship(book: Book, program: Herdbook, dam: Known, sires: Candidates
     return [pairs.coefficients.get((dam.number, number), MatingFault.PATH_TOO_LONG) for number in sires.numbers]
 
 
-def advice_table(sires: Sequence[Candidate], coefficients: Sequence[Coefficient]) -> Table:
-    """The sires, each with the coefficient that its offspring would have, the least first."""
-    ids, fractions = [sire.id for sire in sires], [one.fraction for one in coefficients]
-    units = units_of(fractions)
+def shown_of(sires: Sequence[Candidate]) -> Shown:
+    ids = [sire.id for sire in sires]
+    cells = [ids, [sire.name for sire in sires], [sire.number for sire in sires], [sire.birth for sire in sires]]
     # no two have the same id
-    order = [place for *_, place in sorted(zip(units, ids, range(len(units))))]
-    cells = [
-        ids,
-        [sire.name for sire in sires],
-        [sire.number for sire in sires],
-        [sire.birth for sire in sires],
-        fractions,
-        decimals_of_units(units),
-        [one.percent for one in coefficients],
-    ]
+    return Shown(cells, sorted(range(len(ids)), key=ids.__getitem__))
+
+
+def advice_table(shown: Shown, coefficients: Sequence[Coefficient]) -> Table:
+    """The sires, each with the coefficient that its offspring would have, the least first."""
+    fractions = [one.fraction for one in coefficients]
+    units = units_of(fractions)
+    cells = [*shown.cells, fractions, decimals_of_units(units), [one.percent for one in coefficients]]
     titles = [(LIST_COLUMNS[column].title, LIST_COLUMNS[column].kind) for column in USUAL]
-    return Table(titles, cells, order)
+    # of the same coefficient they stay in the order of their ids
+    return Table(titles, cells, sorted(shown.by_id, key=units.__getitem__))

@@ -4,7 +4,7 @@ from __future__ import annotations
 import json
 from collections.abc import Sequence
 from dataclasses import dataclass
-from typing import NamedTuple
+from typing import Any, NamedTuple
 
 from society.answers.choice import HAS_LEFT, LISTED
 from society.answers.list_columns import BIRTH_OF, birth_of
@@ -26,6 +26,10 @@ OF_SEX = "substr(number, 7, 1) = ?"
 OF_CANDIDATE = ("number", "id", "name", *BIRTH_OF)
 WITH_YEAR = (BirthSource.GIVEN.value, BirthSource.PERIOD.value)
 OTHERS = {Role.SIRE: "female", Role.DAM: "male"}
+
+
+# what a book has in the columns OF_CANDIDATE
+CandidateRow = tuple[Any, ...]
 
 
 class Candidate(NamedTuple):
@@ -89,34 +93,40 @@ def candidates_of(book: Book, role: Role, named: Sequence[Known] | None) -> Cand
 def named_candidates(book: Book, role: Role, named: Sequence[Known]) -> Candidates:
     """In the order in which they are named, whatever they are."""
     numbers = list(dict.fromkeys(known.number for known in named))
-    found = candidates_where(book, ["number IN (SELECT value FROM json_each(?))"], [json.dumps(numbers)])
-    by_number = {one.number: one for one in found}
+    rows = selected(book, OF_CANDIDATE, ["number IN (SELECT value FROM json_each(?))"], [json.dumps(numbers)])
+    by_number = {one.number: one for one in candidates_of_rows(rows)}
     return Candidates(role, [by_number[number] for number in numbers])
 
 
-def all_candidates(book: Book, role: Role, also_left: bool = False) -> Candidates:
-    """The living ones that have a row and aren't castrated, in age order; or those that left too."""
-    may = ALSO_LEFT if also_left else MAY_BE_MATED
+def all_candidates(
+    book: Book, role: Role, also_left: bool = False, rows: Sequence[CandidateRow] | None = None
+) -> Candidates:
+    """The living ones that have a row and aren't castrated, in age order; or those that left too. `rows` are their rows,
+    where these were read before."""
     castrated, without_row, left = [], [], 0
-    for id, is_listed, has_left in selected(book, ("id", LISTED, HAS_LEFT), [OF_SEX, f"NOT ({may})"], [role.sex]):
+    others = [OF_SEX, f"NOT ({may_be_mated(also_left)})"]
+    for id, is_listed, has_left in selected(book, ("id", LISTED, HAS_LEFT), others, [role.sex]):
         if not is_listed:
             without_row.append(id)
         elif has_left and not also_left:
             left += 1
         else:
             castrated.append(id)
-    return Candidates(role, candidates_where(book, [OF_SEX, may], [role.sex]), castrated, sorted(without_row), left)
+    found = candidates_of_rows(rows_of_all(book, role, also_left) if rows is None else rows)
+    return Candidates(role, found, castrated, sorted(without_row), left)
 
 
-def all_numbers(book: Book, role: Role, also_left: bool = False) -> list[str]:
-    """The numbers of the same, in the same order, which are had sooner."""
-    conditions = [OF_SEX, ALSO_LEFT if also_left else MAY_BE_MATED]
-    return [number for (number,) in selected(book, ("number",), conditions, [role.sex])]
+def may_be_mated(also_left: bool) -> str:
+    return ALSO_LEFT if also_left else MAY_BE_MATED
 
 
-def candidates_where(book: Book, conditions: Sequence[str], values: Sequence[object]) -> list[Candidate]:
-    """The animals for which all conditions hold, in age order."""
+def rows_of_all(book: Book, role: Role, also_left: bool = False) -> list[CandidateRow]:
+    """The rows of the same, in the same order, which are had sooner."""
+    return selected(book, OF_CANDIDATE, [OF_SEX, may_be_mated(also_left)], [role.sex])
+
+
+def candidates_of_rows(rows: Sequence[CandidateRow]) -> list[Candidate]:
     return [
         made(Candidate, (number, id, name, born, birth_of(born, source, period, no_such_day), source in WITH_YEAR))
-        for number, id, name, born, source, period, no_such_day in selected(book, OF_CANDIDATE, conditions, values)
+        for number, id, name, born, source, period, no_such_day in rows
     ]

@@ -10,13 +10,14 @@ from society.refusals import Refusal
 
 # how a command names no parent, or an unknown one
 UNKNOWN: dict[str, None] = {"": None, "0": None}
-# a command as the command file has it
+# a command as the command file has it; `printf` writes nothing of nothing
 TEXT = """
-    printf(
-        '%s,%s,%s,%s,%s,%s,%s,%s', kind, animal, ifnull(day, ''), iif(kind IN ('birth', 'parents'), ifnull(sire, '0'), ''),
-        iif(kind IN ('birth', 'parents'), ifnull(dam, '0'), ''), ifnull(giver, ''), ifnull(taker, ''),
-        iif(embryo, '1', '')
-    )
+    CASE kind WHEN 'birth' THEN printf(
+        'birth,%s,%s,%s,%s,,%s,%s', animal, day, ifnull(sire, '0'), ifnull(dam, '0'), taker, iif(embryo, '1', '')
+    ) ELSE printf(
+        '%s,%s,%s,%s,%s,%s,%s,', kind, animal, day, iif(kind = 'parents', ifnull(sire, '0'), ''),
+        iif(kind = 'parents', ifnull(dam, '0'), ''), giver, taker
+    ) END
 """
 WITHIN = "FROM command WHERE edition = ? AND place BETWEEN ? AND ? ORDER BY place"
 
