@@ -2,6 +2,7 @@
 from __future__ import annotations
 
 import contextlib
+import io
 import os
 import pathlib
 import resource
@@ -10,7 +11,7 @@ import signal
 import subprocess
 import sys
 from collections.abc import Sequence
-from typing import TYPE_CHECKING, BinaryIO
+from typing import TYPE_CHECKING
 
 from society.book.beside import Beside
 from society.book.commands import Command, lines_of, text_of
@@ -31,6 +32,11 @@ SAY = "say where it is, as export HERDBOOK=/home/me/herdbook"
 MOST_BYTES, MOST_SECONDS = 4 << 30, 1200
 # so many numbers of animals may stand in one call: a command line has an end
 MOST_NUMBERS = os.sysconf("SC_ARG_MAX") // 40
+
+
+def in_memory() -> io.FileIO:
+    """A file without a name, in memory."""
+    return io.FileIO(os.memfd_create("herdbook"), "w+")
 
 
 def limit(process: subprocess.Popen[bytes], most_bytes: int, most_seconds: int | None) -> None:
@@ -71,10 +77,10 @@ class Herdbook:
 
     def start(
         self, words: list[str], given: int, errors: int | None, most_bytes: int = MOST_BYTES,
-        most_seconds: int | None = MOST_SECONDS,
+        most_seconds: int | None = MOST_SECONDS, answers: int = subprocess.PIPE,
     ) -> subprocess.Popen[bytes]:  # fmt: skip
         try:
-            process = subprocess.Popen([str(self.path), *words], stdin=given, stdout=subprocess.PIPE, stderr=errors)
+            process = subprocess.Popen([str(self.path), *words], stdin=given, stdout=answers, stderr=errors)
             if words != ["--version"]:
                 limit(process, most_bytes, most_seconds)
             return process
@@ -85,28 +91,29 @@ class Herdbook:
 
     def run(self, words: list[str], book: bytes) -> str:
         """What it writes of a command file."""
-        with self.given(words, book) as file:
-            running = self.start(words, file.fileno(), subprocess.PIPE, MOST_BYTES, MOST_SECONDS)
-        try:
-            out, err = running.communicate(timeout=MOST_SECONDS)
-        except subprocess.TimeoutExpired:
-            running.kill()
-            running.communicate()
-            raise self.took_too_long(words) from None
-        if running.returncode == -signal.SIGXCPU:
-            raise self.took_too_long(words)
-        self.ended(running.returncode, err, words)
-        return out.decode()
+        # through pipes much of it would go in small pieces, each of which waits until Python has time
+        with in_memory() as given, in_memory() as answers:
+            self.give(words, given, book)
+            running = self.start(words, given.fileno(), subprocess.PIPE, answers=answers.fileno())
+            try:
+                _, err = running.communicate(timeout=MOST_SECONDS)
+            except subprocess.TimeoutExpired:
+                running.kill()
+                running.communicate()
+                raise self.took_too_long(words) from None
+            if running.returncode == -signal.SIGXCPU:
+                raise self.took_too_long(words)
+            self.ended(running.returncode, err, words)
+            answers.seek(0)
+            return answers.read().decode()
 
-    def given(self, words: list[str], book: bytes) -> BinaryIO:
-        """A command file in memory. Through a pipe it would go in small pieces, each of which waits for Python."""
-        file = open(os.memfd_create("commands"), "w+b")
+    def give(self, words: list[str], file: io.FileIO, book: bytes) -> None:
+        """Writes a command file into one that the program reads."""
         try:
-            file.write(book)
+            while book := book[file.write(book) :]:
+                pass
             file.seek(0)
-            return file
         except OSError as error:
-            file.raw.close()
             told = error.strerror or str(error)
             raise Mistake(ProgramFault.CANT_DO.said(word=words[0], told=told, hint=": nothing is changed")) from None
 
