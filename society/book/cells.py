@@ -1,13 +1,13 @@
 """What stands in cells and on a terminal: never a formula, nor a character that does something."""
 from __future__ import annotations
 
+import operator
 import re
 from typing import Sequence, TypeGuard
 
 # how spreadsheets know a formula, also in the wide letters of East Asia
 FORMULA = frozenset("=+-@\t\r＝＋－＠")
-# how a cell begins that may be one, in a text that has the end of a line before each cell
-MAY_BEGIN = re.compile(f"\n[{re.escape(''.join(FORMULA))}]")
+FIRST_LETTER = operator.itemgetter(slice(1))
 # an apostrophe before a cell says that it is text
 TEXT = "'"
 # characters of control but tabs and ends of lines, halves of characters, and marks that turn the direction of what
@@ -21,9 +21,8 @@ def for_spreadsheets(cell: str) -> str:
 
 
 def column_for_spreadsheets(cells: Sequence[object]) -> Sequence[object]:
-    """The same of a column, whose cells may be numbers too. Few columns have a cell that would be one: they are looked
-    at as one text."""
-    if are_texts(cells) and not MAY_BEGIN.search("\n".join(("", *cells))):
+    """The same of a column, whose cells may be numbers too. Few columns have a cell that would be one."""
+    if are_texts(cells) and FORMULA.isdisjoint({*map(FIRST_LETTER, cells)}):
         return cells
     return [for_spreadsheets(cell) if isinstance(cell, str) else cell for cell in cells]
 

@@ -5,6 +5,7 @@ from __future__ import annotations
 import contextlib
 import fcntl
 import functools
+import json
 import os
 import pathlib
 import sqlite3
@@ -17,7 +18,7 @@ from society.book.changes import Change
 from society.book.database import connect, path_of
 from society.book.files import put, table
 from society.book.history import told_by
-from society.book.inferred import SexSource
+from society.book.inferred import GIVEN_BIRTH, GIVEN_EXIT, BirthSource, ExitSource, SexSource
 from society.book.old_words import STANDINGS
 from society.book.rows import birth_basis, exit_basis
 from society.book.state import ALL_ROWS, NOW
@@ -31,10 +32,17 @@ SEMICOLONS = "--semicolons"
 # so long it waits till it looks again whether somebody else still writes them, in seconds
 A_MOMENT = 0.05
 STANDING_WORDS = {standing.value: word for standing, word in STANDINGS.items()}
-# the columns that say what a birth day, a sex and an exit come from
-BASES = (
-    "birth_source, birth_period, birth_no_such_day, sex_source, exit_source, exit_period, exit_no_such_day, exit_text"
-)
+# the columns that say what a birth day, a sex and an exit come from, as one text; nothing where the sheet gives all
+BASES = f"""
+    iif(
+        birth_source = '{BirthSource.GIVEN.value}' AND sex_source = '{SexSource.GIVEN.value}'
+        AND exit_source = '{ExitSource.GIVEN.value}', NULL,
+        json_array(
+            birth_source, birth_period, birth_no_such_day, sex_source, exit_source, exit_period, exit_no_such_day,
+            exit_text
+        )
+    )
+"""
 
 
 def are_fresh(folder: pathlib.Path, change: Change) -> bool:
@@ -98,8 +106,8 @@ def ids_text(book: Book, change: Change) -> bytes:
     if not columns:
         return table(ID_TITLES, [])
     keep(columns)
-    numbers, ids, names, standings, *bases = columns
-    words = zip(*map(words_of, *bases))
+    numbers, ids, names, standings, bases = columns
+    words = zip(*map(words_of, bases))
     # by their digits; SQLite would put the whole rows in order
     digits = [number[7:] + number for number in numbers]
     return table(
@@ -110,10 +118,11 @@ def ids_text(book: Book, change: Change) -> bytes:
 
 
 @functools.lru_cache(4096)
-def words_of(
-    birth: str, period: str | None, no_day: str | None, sex: str, exit: str, *parts: str | None
-) -> tuple[str, str, str]:
+def words_of(bases: str | None) -> tuple[str, str, str]:
     """What a birth day, an exit and a sex come from. The same stands for most animals."""
+    if bases is None:
+        return GIVEN_BIRTH.words(), GIVEN_EXIT.words(), SexSource.GIVEN.words()
+    birth, period, no_day, sex, exit, *parts = json.loads(bases)
     return birth_basis(birth, period, no_day).words(), exit_basis(exit, *parts).words(), SexSource(sex).words()
 
 

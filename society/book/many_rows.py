@@ -26,9 +26,15 @@ def insert_many(
     given = [at for at, mark in enumerate(marks) if mark == GIVEN]
     left = iter(whole if len(given) == len(marks) else map(operator.itemgetter(*given), whole))
     row = f"({', '.join([*map(str, first), *marks])})"
+    # one text for most statements, by which SQLite's is found at once
+    together = statement_of(into, row, TOGETHER)
     while some := list(itertools.islice(left, TOGETHER)):
         values = list(itertools.chain.from_iterable(some))
-        connection.execute(f"INSERT INTO {into} VALUES {', '.join([row] * len(some))}", values)
+        connection.execute(together if len(some) == TOGETHER else statement_of(into, row, len(some)), values)
+
+
+def statement_of(into: str, row: str, rows: int) -> str:
+    return f"INSERT INTO {into} VALUES {', '.join([row] * rows)}"
 
 
 def marks_of(rows: Sequence[Sequence[object]]) -> list[str]:

@@ -19,20 +19,20 @@ FROM_OFFSPRING, FROM_PARENTS = BirthBasis(BirthSource.OFFSPRING), BirthBasis(Bir
 def find_days(next_book: NextBook) -> None:
     """Birth days of all animals, of which none is its own ancestor any more."""
     book, animals, report = next_book.book, next_book.animals, next_book.report
-    order = cut_cycles(animals, report, next_book.has_in_book)
+    undated = cut_cycles(animals, report, next_book.has_in_book)
     inferred = [(id, known) for id, known in book.known.items() if known.birth.is_inferred]
     kept = {id: (book.records[known.number].born.toordinal(), known.birth) for id, known in inferred}
-    Days(animals, order, kept).infer(report)
+    Days(animals, undated, kept).infer(report)
 
 
 class Days:
     """Infers the days that the sheet doesn't give. Days are counted here, as `date.toordinal` counts them."""
 
-    def __init__(self, animals: dict[str, Animal], order: list[str], kept: dict[str, tuple[int, BirthBasis]]) -> None:
-        """`order` has parents before their offspring."""
+    def __init__(self, animals: dict[str, Animal], undated: list[str], kept: dict[str, tuple[int, BirthBasis]]) -> None:
+        """`undated` are those without a day, parents before their offspring."""
         self.animals = animals
-        # those without a day, and the offspring of each
-        self.undated = [id for id in order if not animals[id].has_day()]
+        self.undated = undated
+        # the offspring of each
         self.calves = offspring_of(animals, self.undated)
         # no day that is inferred is after it
         self.today = datetime.date.today().toordinal()

@@ -21,14 +21,21 @@ def in_no_book(calf: str, parent: str) -> bool:
 
 def cut_cycles(animals: dict[str, Animal], report: Report, in_book: InBook = in_no_book) -> list[str]:
     """Leaves out one parent of each animal that would be its own ancestor: of a cycle a link that the book doesn't
-    have, one whose days can't be, or else that of the latest row. Answers all animals, parents before their
-    offspring."""
+    have, one whose days can't be, or else that of the latest row. Answers the animals without a day, parents before
+    their offspring."""
+    undated = {id: animal for id, animal in animals.items() if not animal.has_day()}
     if are_older(animals):
-        return by_age(animals)
+        return by_age(undated)
     order = in_order(parents_of_all(animals))
-    if len(order) == len(animals):
-        return order
     left = animals.keys() - order
+    if left:
+        cut_all(animals, left, report, in_book)
+        order = in_order(parents_of_all(animals))
+    return [id for id in order if id in undated]
+
+
+def cut_all(animals: dict[str, Animal], left: set[str], report: Report, in_book: InBook) -> None:
+    """Cuts the cycles of those left, which no order reached."""
     while left:
         cycle = find_cycle(animals, left)
         calf, role, parent = faulty_link(animals, cycle, in_book)
@@ -36,18 +43,21 @@ def cut_cycles(animals: dict[str, Animal], report: Report, in_book: InBook = in_
         animals[calf].set_parent(role, "")
         report.add(animals[calf].line, calf, OwnAncestor(role, parent, path))
         left -= set(in_order(parents_of_all({id: animals[id] for id in left})))
-    return in_order(parents_of_all(animals))
 
 
 def are_older(animals: dict[str, Animal]) -> bool:
     """Is each parent older than its calf by the days of both? Then none is its own ancestor."""
     last = {id: animal.birth.last for id, animal in animals.items()}
     last[""] = datetime.date.min
-    return all(max(last[calf.sire], last[calf.dam]) < calf.birth.first for calf in animals.values())
+    for calf in animals.values():
+        first = calf.birth.first
+        if last[calf.sire] >= first or last[calf.dam] >= first:
+            return False
+    return True
 
 
 def by_age(animals: dict[str, Animal]) -> list[str]:
-    """Animals with parents that are older: the founders in their order, and behind them the others by age."""
+    """Animals whose parents are older: the founders in their order, and behind them the others by age."""
     founders = [id for id, animal in animals.items() if not animal.sire and not animal.dam]
     born = {id: animal.birth.first for id, animal in animals.items() if animal.sire or animal.dam}
     return founders + sorted(born, key=born.__getitem__)

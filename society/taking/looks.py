@@ -10,8 +10,7 @@ from dataclasses import dataclass
 
 from society.book.book import Book
 from society.book.kinds import Field
-from society.book.role import Role
-from society.reading.animal import Animal
+from society.reading.animal import DAM, SIRE, Animal
 
 from society.taking.look_findings import (
     BirthsTooNear, CastratedSire, ManyOldAsLiving, OldAsLiving, SireLeftLongBefore, YoungParent,
@@ -68,13 +67,15 @@ class Looks:
     def look_at_parents(self, calf: Animal) -> None:
         if not calf.has_day():
             return
-        for role, id in calf.parents():
+        for role, id in (SIRE, calf.sire), (DAM, calf.dam):
+            if not id:
+                continue
             parent = self.animals[id]
             if calf.born - parent.born < self.youngest and parent.has_day():
                 days = (calf.born - parent.born).days
                 found = YoungParent(role, id, parent.line, days, self.limits.youngest)
                 self.report.add(calf.line, calf.id, found)
-            if role is Role.SIRE and parent.left and calf.born > parent.left + datetime.timedelta(YEAR):
+            if role is SIRE and parent.left and calf.born > parent.left + datetime.timedelta(YEAR):
                 left = SireLeftLongBefore(id, parent.line, parent.left, calf.born)
                 self.report.add(calf.line, calf.id, left)
 
