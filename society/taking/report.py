@@ -49,13 +49,15 @@ class Finding:
     what: ClassVar[What]
     part: ClassVar[Part | None] = None
     harm: ClassVar[Harm] = Harm.NONE
+    kind_name: ClassVar[str]
 
     def __init_subclass__(cls) -> None:
-        KINDS[cls.kind()] = cls
+        cls.kind_name = kind_of(cls)
+        KINDS[cls.kind_name] = cls
 
     @classmethod
     def kind(cls) -> str:
-        return kind_of(cls)
+        return cls.kind_name
 
     def words(self) -> str:
         raise NotImplementedError
