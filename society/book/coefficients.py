@@ -9,7 +9,7 @@ from typing import TYPE_CHECKING, Iterable, Mapping, NamedTuple
 from society.book.book import Book
 from society.book.lazy import Lazy
 from society.book.many_rows import insert_many
-from society.decimals import UNIT, decimal_of_text, number_of, rounded
+from society.decimals import UNIT, decimal_of, decimal_of_text, number_of, rounded
 
 if TYPE_CHECKING:
     from fractions import Fraction
@@ -62,7 +62,7 @@ def decimals_of_units(units: Iterable[int]) -> list[str]:
     """So many units each, at least none, rounded as the others are, in a fraction of the time."""
     scaled = [(2 * UNIT * one + (1 << UNIT_BITS)) >> (UNIT_BITS + 1) for one in units]
     # with a 1 in front each part below 1 has all its digits
-    return [f"{one // UNIT}.{str(UNIT + one % UNIT)[1:]}".rstrip("0").rstrip(".") if one else "0" for one in scaled]
+    return [f"0.{str(UNIT + one)[1:]}".rstrip("0") if 0 < one < UNIT else decimal_of(one, UNIT) for one in scaled]
 
 
 def of_calf(relationship: str) -> Coefficient:

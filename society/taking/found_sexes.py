@@ -5,6 +5,7 @@ import collections
 
 from society.book.inferred import SexSource
 from society.book.role import Role
+from society.reading.animal import DAM_OF, SIRE_OF
 from society.taking.animal_findings import SexInferred, SexNotKnown
 from society.taking.next_book import NextBook
 
@@ -12,8 +13,8 @@ from society.taking.next_book import NextBook
 def leave_out_unread_sexes(next_book: NextBook) -> None:
     """The row of an animal whose sex can't be read is left out, where neither the book nor any offspring says it."""
     animals, roles = next_book.animals, next_book.roles
-    sires = collections.Counter(animal.sire for animal in animals.values() if animal.sire)
-    dams = collections.Counter(animal.dam for animal in animals.values() if animal.dam)
+    sires, dams = (collections.Counter(map(parent_of, animals.values())) for parent_of in (SIRE_OF, DAM_OF))
+    del sires[""], dams[""]
     roles |= dict.fromkeys(sires, Role.SIRE) | dict.fromkeys(dams, Role.DAM)
     for parent in sires.keys() & dams.keys():
         roles[parent] = role_of_both(next_book, parent, sires[parent], dams[parent])

@@ -56,10 +56,11 @@ class NextBook:
     def births_text(self, animals: list[Animal]) -> bytes:
         """The births of animals in the first herd, as records of a command file."""
         numbers = {"": "0", **{id: animal.number for id, animal in self.animals.items()}}
-        return "".join(
+        births = [
             f"birth,{one.number},{day_text(one.born)},{numbers[one.sire]},{numbers[one.dam]},,1,{'1' * one.embryo}\n"
             for one in animals
-        ).encode()
+        ]
+        return "".join(births).encode()
 
     def parents_of(self, animal: Animal) -> Command:
         return parents(animal.number, self.number_of(animal.sire), self.number_of(animal.dam))
