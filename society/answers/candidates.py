@@ -101,8 +101,8 @@ def named_candidates(book: Book, role: Role, named: Sequence[Known]) -> Candidat
 def all_candidates(
     book: Book, role: Role, also_left: bool = False, rows: Sequence[CandidateRow] | None = None
 ) -> Candidates:
-    """The living ones that have a row and aren't castrated, in age order; or those that left too. `rows` are their rows,
-    where these were read before."""
+    """The living ones that have a row and aren't castrated, in age order; or those that left too. `rows` are those of
+    `rows_of_all`, where they were read before."""
     castrated, without_row, left = [], [], 0
     others = [OF_SEX, f"NOT ({may_be_mated(also_left)})"]
     for id, is_listed, has_left in selected(book, ("id", LISTED, HAS_LEFT), others, [role.sex]):
@@ -121,7 +121,7 @@ def may_be_mated(also_left: bool) -> str:
 
 
 def rows_of_all(book: Book, role: Role, also_left: bool = False) -> list[CandidateRow]:
-    """The rows of the same, in the same order, which are had sooner."""
+    """What the book has of the same, in the same order, which is had sooner."""
     return selected(book, OF_CANDIDATE, [OF_SEX, may_be_mated(also_left)], [role.sex])
 
 
