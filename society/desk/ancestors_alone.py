@@ -20,7 +20,8 @@ from society.mistake import Mistake
 LARGE = 5_000
 # of more animals it is quicker to ask for all
 MOST = 30_000
-# each animal as it stands in the book now, by the births of a command file, in age order
+# each animal as it stands in the book now, by the births of a command file, in age order; no dam leaves there, and an
+# embryo is as others are
 BIRTHS = """
     WITH RECURSIVE one (number) AS (
         SELECT value FROM json_each(:numbers)
@@ -28,7 +29,7 @@ BIRTHS = """
         FROM one CROSS JOIN animal USING (number) CROSS JOIN (SELECT 0 AS side UNION ALL SELECT 1)
         WHERE until IS NULL AND iif(side = 0, sire, dam) IS NOT NULL AND {goes_on}
     )
-    SELECT 'birth,' || number || ',' || born || ',' || {sire} || ',' || {dam} || ',,' || herd || iif(embryo, ',1', ',')
+    SELECT 'birth,' || number || ',' || born || ',' || {sire} || ',' || {dam} || ',,' || herd || ','
     FROM one CROSS JOIN animal USING (number) WHERE until IS NULL ORDER BY born, number
 """
 WITH_ALL = BIRTHS.format(goes_on="true", sire="ifnull(sire, '0')", dam="ifnull(dam, '0')")

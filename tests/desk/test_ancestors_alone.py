@@ -33,6 +33,8 @@ def test_as_of_the_whole_book(site: Site) -> None:
         inbred = [number for number, line in lines.items() if not line.endswith(",0,0.00")]
         some = [[number] for number in chosen.sample(inbred, 25) + chosen.sample(sorted(lines), 15)]
         some += [chosen.sample(sorted(lines), 6), sorted(lines)[:40]]
+        founder = next(one for one in sorted(lines) if not book.connection.execute(BOTH_KNOWN, (one,)).fetchone()[0])
+        some.append([founder, inbred[-1]])
         for numbers in some:
             assert lines_alone(program, book, numbers) == [lines[number] for number in numbers]
         known = {bool(book.connection.execute(BOTH_KNOWN, one).fetchone()[0]) for one in some[:40]}
