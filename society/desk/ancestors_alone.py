@@ -20,8 +20,8 @@ from society.mistake import Mistake
 LARGE = 5_000
 # of more animals it is quicker to ask for all
 MOST = 30_000
-# each animal as it stands in the book now, by the births of a command file, in age order; no dam leaves there, and an
-# embryo is as others are
+# each animal as it stands in the book now, by the births of a command file, in age order
+# (no dam leaves there, so that an embryo is as others are)
 BIRTHS = """
     WITH RECURSIVE one (number) AS (
         SELECT value FROM json_each(:numbers)
