@@ -217,6 +217,7 @@ def test_settings(site: Site, society_desk: Desk) -> None:
     breed and country."""
     assert re.search(r'name="breed"[^>]* value="HOL"', site.page("/settings"))
     assert '<html lang="fr">' in site.get("/settings", {"Accept-Language": "en;q=0.8, de;q=0, it, FR-ch"}).get_data(as_text=True)
+    assert '<html lang="en">' in site.get("/settings", {"Accept-Language": "it, de;q=0"}).get_data(as_text=True)
     society_desk.good("birth", "NEW-1", "--sex", "f", "--day", "2024-03-01", "--breed", "ABC", "--country", "DEU")
     assert re.search(r'name="breed"[^>]* value="ABC"', site.page("/settings"))
     site.post(
