@@ -20,7 +20,7 @@ from selenium.webdriver.remote.webelement import WebElement
 from selenium.webdriver.support.ui import WebDriverWait
 
 # so long something may take
-SECONDS = 90
+SECONDS = 180
 # how Chromium is begun, and how often: at load it may not answer its driver in time
 WORDS = ("--headless=new", "--no-sandbox", "--disable-dev-shm-usage", "--window-size=1280,1000")
 TRIES = 2

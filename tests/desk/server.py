@@ -15,7 +15,7 @@ import pytest
 
 from front_desk.desk import TOP
 
-SECONDS = 90
+SECONDS = 300
 # ports that the system gives to nobody who asks for any
 PORTS = range(20_000, 32_000)
 RUNNING: list[subprocess.Popen[str]] = []
@@ -56,6 +56,7 @@ class Running:
         assert self.process.stdout
         self.said = self.process.stdout.readline()
         late.cancel()
+        assert self.said, f"nothing is printed after {SECONDS} seconds: {self.process.poll()} {self.logged()}"
 
     def end(self, how: signal.Signals) -> str:
         """What it printed last; it ends well."""
