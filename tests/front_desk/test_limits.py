@@ -79,15 +79,15 @@ def test_too_long(text: str, tmp_path: pathlib.Path, monkeypatch: pytest.MonkeyP
     monkeypatch.setattr(herdbook, "MOST_SECONDS", 2)
     begun, start = list[subprocess.Popen[bytes]](), herdbook.Herdbook.start
 
-    def kept(*values: Any) -> subprocess.Popen[bytes]:
-        begun.append(start(*values))
+    def kept(*values: Any, **named: Any) -> subprocess.Popen[bytes]:
+        begun.append(start(*values, **named))
         return begun[-1]
 
     monkeypatch.setattr(herdbook.Herdbook, "start", kept)
     with pytest.raises(Mistake, match="was ended, since it wasn't done after 0 minutes: .* Nothing is changed"):
         herdbook.Herdbook().run(["file"], b"")
     (process,) = begun
-    assert process.returncode is not None and process.stdout and process.stdout.closed
+    assert process.returncode is not None and process.stderr and process.stderr.closed
 
 
 def test_no_end_of_work(tmp_path: pathlib.Path, monkeypatch: pytest.MonkeyPatch) -> None:
