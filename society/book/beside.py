@@ -29,9 +29,12 @@ class Beside(Generic[Value]):
         except BaseException as error:  # raised where the value is asked for
             self.error = error
 
+    def wait(self) -> None:
+        self.thread.join()
+
     def value(self) -> Value:
         """It is waited for; what went wrong is raised here."""
-        self.thread.join()
+        self.wait()
         if self.error:
             raise self.error
         return self.found[0]

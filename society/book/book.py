@@ -56,11 +56,19 @@ class Book:
     def journal(self) -> Journal:
         return Journal(self.change.edition, self.change.length) if self.change else NO_JOURNAL
 
-    def read_journal_beside(self) -> None:
-        """Begins to read the journal, for whoever needs it later and does something else before. Nothing that isn't
-        committed may be in it."""
-        if self.connection is not None:
-            self.beside = command_file_beside(self.connection, self.journal)
+    @contextlib.contextmanager
+    def journal_read_beside(self) -> Iterator[None]:
+        """The journal is read beside what is done within, for whoever needs it there later. Nothing that isn't committed
+        may be in it."""
+        if self.connection is None:
+            yield
+            return
+        self.beside = command_file_beside(self.connection, self.journal)
+        try:
+            yield
+        finally:
+            # a process that ended before the other connection is closed would leave files beside the book
+            self.beside.wait()
 
     @functools.cached_property
     def journal_text(self) -> bytes:

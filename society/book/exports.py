@@ -92,10 +92,10 @@ def write_exports(book: Book) -> None:
     change = book.change
     if change is None or are_fresh(book.folder, change):
         return
-    book.read_journal_beside()
-    put(book.folder / IDS, ids_text(book, change), change.moment)
-    put(book.folder / REPORT, report_text(book, change), change.moment)
-    put(book.folder / COMMANDS, book.command_file(), change.moment)
+    with book.journal_read_beside():
+        put(book.folder / IDS, ids_text(book, change), change.moment)
+        put(book.folder / REPORT, report_text(book, change), change.moment)
+        put(book.folder / COMMANDS, book.command_file(), change.moment)
 
 
 def ids_text(book: Book, change: Change) -> bytes:

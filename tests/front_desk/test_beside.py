@@ -4,6 +4,7 @@ from __future__ import annotations
 import pathlib
 import sqlite3
 import threading
+import time
 
 import pytest
 
@@ -11,6 +12,8 @@ from front_desk.desk import Desk
 from society.book.beside import Beside
 from society.book.book import Book
 from society.book.book_read import reading
+from society.book.journal import Journal
+from society.mistake import Mistake
 
 
 def test_the_value_is_waited_for() -> None:
@@ -46,8 +49,8 @@ def test_a_journal_that_is_read_beside_is_that_of_its_moment(mrode_desk: Desk) -
         text = Book(book.folder, connection).command_file()
         mrode_desk.good("birth", "new", "--sex", "f", "--day", "2020-01-01")
         mrode_desk.good("undo", "--to", "0")
-        book.read_journal_beside()
-        assert book.beside is not None and book.beside.value() == text
+        with book.journal_read_beside():
+            assert book.beside is not None and book.beside.value() == text
         assert book.command_file() == text and Book(book.folder, connection).change == book.change
 
 
@@ -60,5 +63,23 @@ def test_a_journal_is_read_though_it_can_not_be_read_beside(
     monkeypatch.setattr("society.book.beside.connect", closed)
     with reading(mrode_desk.room / "book") as connection:
         book = Book(mrode_desk.room / "book", connection)
-        book.read_journal_beside()
-        assert book.command_file() == Book(book.folder, connection).command_file()
+        with book.journal_read_beside():
+            assert book.command_file() == Book(book.folder, connection).command_file()
+
+
+def test_nothing_is_left_beside_a_book_where_a_call_is_mistaken(
+    mrode_desk: Desk, monkeypatch: pytest.MonkeyPatch
+) -> None:
+    """The other connection is closed before the call ends, however long it reads."""
+    ended = list[bool]()
+
+    def late(connection: sqlite3.Connection, journal: Journal) -> bytes:
+        time.sleep(0.2)
+        ended.append(True)
+        return b""
+
+    monkeypatch.setattr("society.book.beside.command_file", late)
+    with reading(mrode_desk.room / "book") as connection, pytest.raises(Mistake, match="mistaken"):
+        with Book(mrode_desk.room / "book", connection).journal_read_beside():
+            raise Mistake("mistaken")
+    assert ended

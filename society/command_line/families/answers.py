@@ -90,9 +90,9 @@ def do_mating(asked: argparse.Namespace, book: Book, program: Herdbook) -> None:
         raise Mistake("--matrix is for many dams: name a file by --dams")
     if asked.sires and (asked.all or asked.left):
         raise Mistake("mating takes sires that are named, or all of them, not both: leave out --all and --left")
-    book.read_journal_beside()
-    dam, sires = find(book, asked.dam), [find(book, sire) for sire in asked.sires]
-    advice = advise(book, program, dam, sires, asked.left)
+    with book.journal_read_beside():
+        dam, sires = find(book, asked.dam), [find(book, sire) for sire in asked.sires]
+        advice = advise(book, program, dam, sires, asked.left)
     is_the_only_one()
     keep(advice)
     give_table(asked, book, advice.table)
