@@ -17,7 +17,7 @@ use Rattle.herd_register.specs.declared.reply.Reply.TheVariants.{Accepted, Refus
 use Rattle.herd_register.specs.declared.step.Step.{Step}
 use Rattle.herd_register.specs.Limits.{Limits}
 use Rattle.herd_register.specs.Run as run
-use Rattle.herd_register.specs.Run.{answer, commands_of, fault, IsLegal, newborn, next, run_book}
+use Rattle.herd_register.specs.Run.{answer, commands_of, fault, IsLegal, next, run_book}
 use Rattle.herd_register.proofs.RunLemmas.{answer-refused, IsLegal-front, next-accepted, next-answered, run_book-append}
 
 -- the record of a number that was changed, set in its place

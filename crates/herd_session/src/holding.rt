@@ -27,8 +27,9 @@ use std::thread::{Scope, Threads};
 /// animals there are.
 ///
 /// Each desk and each inspector has a thread and a queue, and is asked by the requests that name it. Answers are
-/// written one at a time, each whole and flushed. Where the input ends by a fault all requests before it are answered.
-/// Once a write has failed nothing more is written; that is told at the next request or at the end of the input.
+/// written one at a time, each whole, and flushed; a reply may wait for the next one of its desk where that was asked
+/// already. Where the input ends by a fault all requests before it are answered. Once a write has failed nothing more
+/// is written; that is told at the next request or at the end of the input.
 pub fn session<H: Threads + Wait + Sync, I: Read + Drop, W: Write + Send + Drop>(
     rt: &H,
     alloc: Global,

@@ -1,22 +1,17 @@
 -- What is left of a turn, and what falls to all desks together.
-use Rattle.std.proofs.Common.{◌≡◌, ◌∙◌, ℕ, zero, suc, ◌+◌, ◌-◌, ◌≤◌, ◌<◌, ◌==◌, true, false, List, [], ◌∷◌, ◌++◌, All, ap, append_assoc, arith, drop, filter, length, map, set, slice_get, Some, refl, subst, sym}
+use Rattle.std.proofs.Common.{◌≡◌, ◌∙◌, ℕ, zero, suc, ◌+◌, ◌-◌, ◌≤◌, ◌==◌, false, List, [], ◌∷◌, ◌++◌, All, ap, append_assoc, arith, drop, length, map, set, slice_get, Some, refl, subst, sym}
 use Rattle.std.specs.List.{range_with_len, sum_by}
 use Rattle.std.proofs.lemmas.Bool.Decides.{nat_tests}
 use Rattle.std.proofs.lemmas.Grind.{common_steps}
-use Rattle.std.proofs.lemmas.List.Elements.{All-cons, All-nil, filter-append}
-use Rattle.std.proofs.lemmas.List.Sums.{length-filter, sum_by-cons}
-use mathlib.Core.List.{IsPrefix}
+use Rattle.std.proofs.lemmas.List.Elements.{All-cons, All-nil}
+use Rattle.std.proofs.lemmas.List.Sums.{sum_by-cons}
 use Rattle.herd_register.specs.declared.command.Command.{Command}
-use Rattle.herd_register.specs.declared.reply.Reply.{Reply}
 use Rattle.herd_register.specs.declared.step.Step.{Step}
-use Rattle.herd_register.specs.Run.{step_of}
 use Rattle.herd_office.specs.Beginnings.{BeginsWithAll}
-use Rattle.herd_office.specs.Filing.{EndsWith}
 use Rattle.herd_office.specs.Histories.{of_desk}
 use Rattle.herd_office.specs.Opening.{AreFresh}
 use Rattle.herd_office.specs.declared.desk.Desk.{Desk}
 use Rattle.herd_office.specs.declared.name.OfficeName as office_name
-use Rattle.herd_office.proofs.Stored.{of_desk_append, of_desk_one}
 pub use Rattle.herd_session.proofs.FiledFacts.{filed_more, filed_none, shown}
 use Rattle.herdbook.specs.Deal.{HasBegun, HasFiled, commands_at, dealt, dealt_first, every}
 use Rattle.herdbook.specs.Summary.{count_of}

@@ -1,5 +1,4 @@
 //! Offices that are closed too soon, and an inspector that outlives its office.
-ghost use Rattle.std.specs.Prelude.{◌≡◌};
 ghost use Rattle.herd_office.specs.Parts.{AreNamed};
 
 use super::filing::{Handed, closed, file_accepted, founder, frozen_length, limits, not_closed};

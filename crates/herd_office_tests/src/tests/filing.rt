@@ -7,7 +7,7 @@ use herd_animal::{Day, Herd};
 use herd_fixtures::{Birth, Name, UNKNOWN, herd_of};
 use herd_office::*;
 use herd_register::{Command, FileFault, Limits, Register, Reply};
-use std::alloc::{Allocator, Global};
+use std::alloc::Allocator;
 use std::process::Abort;
 use std::sync::Wait;
 use std::test::Fail;

@@ -1,5 +1,4 @@
 //! Offices whose memory is refused: each call is made again until it is granted what it asks for.
-ghost use Rattle.std.specs.Prelude.{◌≡◌};
 ghost use Rattle.herd_office.specs.Parts.{AreNamed};
 
 use super::filing::{closed, founder, frozen_length, limits};

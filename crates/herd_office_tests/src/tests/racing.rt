@@ -1,5 +1,4 @@
 //! Desks that file at once, each on a thread of its own: all threads are started alike and wait for one another.
-ghost use Rattle.std.specs.Prelude.{◌≡◌, ◌≤◌};
 ghost use Rattle.herd_office.specs.Parts.{AreNamed};
 ghost use Rattle.herd_office.specs.declared.limits.TheConstants.{MOST_DESKS};
 

@@ -1,5 +1,4 @@
 //! What inspectors see.
-ghost use Rattle.std.specs.Prelude.{◌≡◌};
 ghost use Rattle.herd_office.specs.Parts.{AreNamed};
 
 use super::filing::{closed, file_accepted, file_one, founder, frozen_length, limits};
