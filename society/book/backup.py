@@ -24,6 +24,7 @@ from society.book.database import (
     primary,
     told,
     version_of,
+    with_unfinished,
 )
 from society.book.files import cant_be_written, put, source_of, sync_folder
 from society.book.history import last_change, next_number, now, write_change
@@ -201,7 +202,7 @@ def keep_old(folder: pathlib.Path) -> None:
             return
     except (sqlite3.Error, Mistake):
         # a damaged one is kept as it is
-        for one in companions(path)[:2]:
+        for one in with_unfinished(path):
             if one.exists():
                 put(old / one.name.replace(path.name, name), one.read_bytes())
 

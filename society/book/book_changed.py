@@ -64,7 +64,7 @@ def creating(folder: pathlib.Path) -> Iterator[sqlite3.Connection]:
     try:
         with contextlib.closing(connect(path, "rwc")) as connection:
             version_of(connection, path)
-            begin_to_change(connection)
+            begin(connection)
             if version_of(connection, path):
                 raise BookCame
             migrate(connection, 0)
@@ -103,13 +103,24 @@ def make_folder(folder: pathlib.Path) -> bool:
 
 def begin_to_change(connection: sqlite3.Connection) -> None:
     """Waits until nobody else changes the book."""
-    if connection.execute("PRAGMA journal_mode").fetchone()[0] != "wal":
+    if not is_write_ahead(connection):
         set_write_ahead(connection)
-    connection.execute("PRAGMA synchronous = FULL")
+    begin(connection)
+
+
+def begin(connection: sqlite3.Connection) -> None:
+    """The same of a book that nobody reads yet: it is written into its file once, and not beside it before. Where that
+    doesn't end, what is there of it is cut off again."""
+    # a change is on the disk where it is made, and so is that nothing of it is to be taken back
+    connection.execute("PRAGMA synchronous = EXTRA")
     # else what a large sheet changes is written again and again while it is changed
     connection.execute(f"PRAGMA cache_size = {-MOST_KILOBYTES}")
     connection.execute("PRAGMA wal_autocheckpoint = 0")
     connection.execute("BEGIN IMMEDIATE")
+
+
+def is_write_ahead(connection: sqlite3.Connection) -> bool:
+    return bool(connection.execute("PRAGMA journal_mode").fetchone()[0] == "wal")
 
 
 def set_write_ahead(connection: sqlite3.Connection) -> None:
@@ -138,7 +149,10 @@ def commit(connection: sqlite3.Connection, folder: pathlib.Path, change: int, ti
             raise told(error, path) from None
         return
     with contextlib.suppress(sqlite3.Error):
-        checkpoint(connection)
+        if is_write_ahead(connection):
+            checkpoint(connection)
+        else:
+            set_write_ahead(connection)
 
 
 def checkpoint(connection: sqlite3.Connection) -> None:

@@ -7,7 +7,7 @@ import sqlite3
 import time
 from typing import Iterator
 
-from society.book.database import CLOSED, TRIES, companions, connect, path_of, primary, told, version_of
+from society.book.database import CLOSED, TRIES, connect, path_of, primary, told, version_of, with_unfinished
 from society.book.sentences import BookFault
 from society.mistake import Mistake
 
@@ -65,7 +65,7 @@ def copy_of(path: pathlib.Path, room: pathlib.Path) -> pathlib.Path:
     for _ in range(TRIES):
         before = marks(path)
         try:
-            for one in companions(path)[:2]:
+            for one in with_unfinished(path):
                 target = room / one.name
                 target.unlink(missing_ok=True)
                 if one.exists():
@@ -81,7 +81,7 @@ def copy_of(path: pathlib.Path, room: pathlib.Path) -> pathlib.Path:
 def marks(path: pathlib.Path) -> list[tuple[int, int, int] | None]:
     """By which it is seen whether a file, or what isn't in it yet, was changed."""
     found: list[tuple[int, int, int] | None] = []
-    for one in companions(path)[:2]:
+    for one in with_unfinished(path):
         try:
             stat = one.stat()
             found.append((stat.st_ino, stat.st_size, stat.st_mtime_ns))

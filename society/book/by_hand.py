@@ -156,7 +156,7 @@ def file(book: Book, program: Herdbook, one: ByHand) -> tuple[Change, Refusal | 
     state = State(rows, new_owners=new_owners, keeps_coefficients=keeps, born=born, corrected=corrected)
     made = Made(one.kind, options=one.options, told=told_by(one, findings), form=one.form)
     made = replace(made, counts=(("refused", 1),) if refusal else (("filed", 1),))
-    return write(book, program, Filed([Step(one.command, refusal or 0)]), state, made), refusal
+    return write(book, program, Filed([Step(one.command, refusal or 0)]), lambda: state, made), refusal
 
 
 def told_by(one: ByHand, findings: tuple[Finding, ...]) -> tuple[Told, ...]:

@@ -31,6 +31,12 @@ def companions(path: pathlib.Path) -> tuple[pathlib.Path, ...]:
     return tuple(path.with_name(path.name + suffix) for suffix in ("", "-wal", "-shm", "-journal"))
 
 
+def with_unfinished(path: pathlib.Path) -> tuple[pathlib.Path, ...]:
+    """The file, and those beside it that have what isn't in it yet, or how much of it was there before a change that
+    hasn't ended."""
+    return tuple(path.with_name(path.name + suffix) for suffix in ("", "-wal", "-journal"))
+
+
 def primary(error: sqlite3.Error) -> int:
     """The kind of an error, without its details; 0 where it has none."""
     try:

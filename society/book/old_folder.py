@@ -98,7 +98,7 @@ def write_old(book: Book, program: Herdbook, old: OldBook, text: bytes) -> None:
     made = replace(made, counts=(("animals", len(in_book)), ("commands", len(old.commands))))
     rows = Rows({}, animal_rows(old.known, replay(old.commands)))
     state = State(rows, remembered=old.remembered, new_owners=old.owners)
-    write(book, program, Filed([Step(command) for command in old.commands]), state, made)
+    write(book, program, Filed([Step(command) for command in old.commands]), lambda: state, made)
 
 
 def read(folder: pathlib.Path, program: Herdbook) -> OldBook:

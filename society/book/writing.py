@@ -4,6 +4,7 @@ from __future__ import annotations
 import signal
 import sqlite3
 import threading
+from collections.abc import Callable
 from dataclasses import dataclass, field
 
 from society.book.book import Book
@@ -60,20 +61,23 @@ def animal_rows(known: dict[str, Known], records: dict[str, Record]) -> dict[Val
     return {(id,): row_of(one, records.get(one.number)) for id, one in known.items()}
 
 
-def write(book: Book, program: Herdbook, filed: Filed, state: State, made: Made) -> Change:
-    """Makes a change, after which the book can't be used any more. A book that isn't there yet is made."""
+def write(book: Book, program: Herdbook, filed: Filed, find_state: Callable[[], State], made: Made) -> Change:
+    """Makes a change, after which the book can't be used any more. A book that isn't there yet is made. The state is
+    asked for when the journal is written."""
     if book.connection is not None:
-        return write_within(book, book.connection, program, filed, state, made)
+        return write_within(book, book.connection, program, filed, find_state, made)
     with creating(book.folder) as connection:
-        return write_within(book, connection, program, filed, state, made)
+        return write_within(book, connection, program, filed, find_state, made)
 
 
 def write_within(
-    book: Book, connection: sqlite3.Connection, program: Herdbook, filed: Filed, state: State, made: Made
-) -> Change:
+    book: Book, connection: sqlite3.Connection, program: Herdbook, filed: Filed, find_state: Callable[[], State],
+    made: Made,
+) -> Change:  # fmt: skip
     number, moment = next_number(connection), now()
     journal = written_journal(connection, book.journal, filed)
     write_change(connection, number, moment, journal, made)
+    state = find_state()
     computes = state.coefficients is None and not (state.keeps_coefficients or state.born or state.corrected)
     coefficients = program.beside(["inbreeding"], Book(book.folder, connection)) if computes else None
     connection.executemany("INSERT INTO owner (name, herd) VALUES (?, ?)", state.new_owners.items())

@@ -38,9 +38,8 @@ class AnimalCells:
         sire = "" if self.unknown.is_one(sire) else sire
         dam = "" if self.unknown.is_one(dam) else dam
         animal = Animal(id, line, name, sire=sire, dam=dam, owner=owner, cells=cells)
-        for text in id, name, owner, sire, dam:
-            if not text.isascii():
-                self.letters.look(line, text)
+        if not f"{id}{name}{owner}{sire}{dam}".isascii():
+            self.look_at_letters(animal)
         self.read_sex(animal, sex)
         if birth:
             animal.birth = self.span(animal, Field.BIRTH, birth, self.days.day(Field.BIRTH, birth)) or ANY_DAY
@@ -51,6 +50,11 @@ class AnimalCells:
         if embryo:
             animal.embryo = self.is_embryo(animal, embryo)
         return animal
+
+    def look_at_letters(self, animal: Animal) -> None:
+        for text in animal.id, animal.name, animal.owner, animal.sire, animal.dam:
+            if not text.isascii():
+                self.letters.look(animal.line, text)
 
     def leave_out(self, animal: Animal, name: str, text: str, found: Finding) -> None:
         """A cell that can't be read."""

@@ -14,7 +14,7 @@ from society.reading.days import is_span
 from society.reading.encodings import Letters, decoded_twice
 from society.reading.id_column import IdColumn
 from society.reading.likely_columns import LikelyColumns
-from society.reading.sheet import Sheet, column_of
+from society.reading.sheet import Sheet
 
 from society.reading.titles import (
     KNOWN_DOUBTFUL, KNOWN_PAIRS, KNOWN_TITLES, NEEDED, TITLES,
@@ -36,7 +36,7 @@ class Columns:
     notes: list[SheetFinding] = field(default_factory=list)
 
     def cells(self, at: int) -> list[str]:
-        return column_of(self.sheet.rows, at)
+        return self.sheet.column(at)
 
     def title(self, at: int) -> str:
         return self.sheet.titles[at]

@@ -18,10 +18,11 @@ class ErrorValues:
 
     def __init__(self, sheet: Sheet, columns: dict[str, int]) -> None:
         self.sheet, self.columns = sheet, columns
+        rows = sheet.rows if may_have(sheet.together) else []
         self.found = [
             (line, at, text)
-            for line, cells in sheet.rows
-            if may_have(cells)
+            for line, cells in rows
+            if may_have("\t".join(cells))
             for at, text in enumerate(cells)
             if is_error_value(text)
         ]
@@ -64,7 +65,6 @@ class ErrorValues:
         return faults
 
 
-def may_have(cells: list[str]) -> bool:
-    """Can one of the cells show an error value? Few rows have a sign of one."""
-    joined = "\t".join(cells)
-    return "#" in joined or "Err" in joined
+def may_have(cells: str) -> bool:
+    """Can one of the cells of a text show an error value? Few sheets and few rows have a sign of one."""
+    return "#" in cells or "Err" in cells

@@ -44,7 +44,8 @@ class NoAnimals:
 def tell_odd_rows(animals: dict[str, Animal], rows: list[Row], report: Report) -> None:
     without_day = {animal.line: animal for animal in animals.values() if not animal.cells.get(Field.BIRTH)}
     cells = {row.line: row.cells for row in rows if row.line in without_day} if without_day else {}
-    sums = {one.id: word for one in animals.values() if (word := sum_of(one, cells.get(one.line, [])))}
+    likely = [one for one in animals.values() if may_be_sum(one.id) or one.line in cells]
+    sums = {one.id: word for one in likely if (word := sum_of(one, cells.get(one.line, [])))}
     for id, word in sums.items():
         report.add(animals[id].line, id, LikeASum(word))
     alone = [one for one in without_day.values() if not any(map(one.cells.get, SAYS))]
@@ -55,6 +56,11 @@ def tell_odd_rows(animals: dict[str, Animal], rows: list[Row], report: Report) -
     for animal in alone:
         if animal.id not in sums and nearly(animal.id) not in parents:
             report.add(animal.line, animal.id, IdAlone(animal.id))
+
+
+def may_be_sum(id: str) -> bool:
+    """Can it begin with a word that sums up? None ends with a digit, as most ids of one word do."""
+    return not id[-1].isdigit() or " " in id
 
 
 def sum_of(animal: Animal, cells: list[str]) -> str:

@@ -2,11 +2,13 @@
 from __future__ import annotations
 
 import csv
+import functools
 import io
 import itertools
 import operator
 import pathlib
 import unicodedata
+from dataclasses import dataclass, field
 from typing import Callable, NamedTuple
 
 from society.book.named import made
@@ -34,7 +36,8 @@ class Row(NamedTuple):
     cells: list[str]
 
 
-class Sheet(NamedTuple):
+@dataclass(frozen=True)
+class Sheet:
     """The row of titles with its line, the rows below it, how the file was read, in words, and what keeps it from
     being taken."""
 
@@ -43,6 +46,19 @@ class Sheet(NamedTuple):
     rows: list[Row]
     how: str
     faults: list[SheetFinding]
+    # the columns that were asked for, by their places
+    kept: dict[int, list[str]] = field(default_factory=dict)
+
+    def column(self, at: int) -> list[str]:
+        """The cells of a column; a row that ends before it has an empty one."""
+        if at not in self.kept:
+            self.kept[at] = column_of(self.rows, at)
+        return self.kept[at]
+
+    @functools.cached_property
+    def together(self) -> str:
+        """The cells of all rows as one text: that none of them has a sign is seen there at once."""
+        return "\t".join(itertools.chain.from_iterable(cells for _, cells in self.rows))
 
 
 def column_of(rows: list[Row], at: int) -> list[str]:
@@ -143,12 +159,22 @@ def is_clean(text: str, separator: str) -> bool:
 
 
 def read_records(text: str, separator: str) -> list[Row]:
+    if not is_clean(text, separator):
+        return cleaned_records(text, separator)
+    reader = csv.reader(io.StringIO(text, newline=""), delimiter=separator, strict=True)
+    try:
+        # without quotes each line is a row
+        return [made(Row, (line, cells)) for line, cells in enumerate(reader, 1) if any(cells)]
+    except csv.Error:
+        raise Mistake(SheetFault.OPEN_QUOTE.said(line=reader.line_num)) from None
+
+
+def cleaned_records(text: str, separator: str) -> list[Row]:
     reader = csv.reader(io.StringIO(text, newline=""), delimiter=separator, strict=True)
     rows, begins, cleaned = [], 1, Cleaned()
-    has_clean_cells = is_clean(text, separator)
     try:
         for cells in reader:
-            texts = cells if has_clean_cells else list(map(cleaned.__getitem__, cells))
+            texts = list(map(cleaned.__getitem__, cells))
             if any(texts):
                 rows.append(made(Row, (begins, texts)))
             begins = reader.line_num + 1

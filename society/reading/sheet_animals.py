@@ -17,7 +17,7 @@ from society.reading.odd_rows import NoAnimals, tell_odd_rows
 from society.reading.order import Order
 from society.reading.same_ids import SameIds
 from society.reading.sexes import Sexes
-from society.reading.sheet import Sheet, column_of
+from society.reading.sheet import Sheet
 from society.reading.sheet_findings import CutNumber, FormulaCell, Place
 from society.reading.unknown import UnknownParents
 from society.reading.unread import Unread
@@ -28,6 +28,8 @@ from society.taking.used_tags import tell_used_again
 # how a spreadsheet shows a long number that it has cut, and a formula in place of its value, each with a sign that it has
 CUT, PLUS = re.compile(r"\d[.,]?\d*E\+\d+", re.IGNORECASE), "+"
 FORMULA, EQUALS = re.compile(r"=.+", re.DOTALL), "="
+
+CELLS_OF = operator.attrgetter("cells")
 
 
 def chooser(places: list[int]) -> Callable[[list[str]], Sequence[str]]:
@@ -72,7 +74,7 @@ class Rows:
         at = self.columns.get(name)
         if at is None:
             return [""] * len(self.sheet.rows)
-        texts = column_of(self.sheet.rows, at)
+        texts = self.sheet.column(at)
         return [self.value(text) for text in texts] if self.errors.found else texts
 
     def value(self, text: str) -> str:
@@ -91,6 +93,7 @@ class Rows:
         # animals of other years that have the id of another one
         others: list[Animal] = []
         titles, usual = len(self.sheet.titles), self.usual_length()
+        may_be_none = bool(self.no_animals)
         id_title = self.sheet.titles[self.columns[Field.ID]]
         for line, cells in self.sheet.rows:
             said = self.said(cells)
@@ -101,7 +104,7 @@ class Rows:
                 self.report.add(line, id, NoId(id))
             elif id == id_title and cells[:titles] == self.sheet.titles:
                 self.report.add(line, "", TitlesAgain())
-            elif self.no_animals and (word := self.no_animal(id, cells, said)):
+            elif may_be_none and (word := self.no_animal(id, cells, said)):
                 self.report.add(line, id, NoAnimal(word))
             elif id not in found:
                 found[id] = self.cells.animal(line, id, said)
@@ -123,7 +126,7 @@ class Rows:
 
     def usual_length(self) -> int:
         """How many cells a row may have. Many sheets have empty ones at the end of all rows."""
-        lengths = collections.Counter(len(cells) for _, cells in self.sheet.rows)
+        lengths = collections.Counter(map(len, map(CELLS_OF, self.sheet.rows)))
         common = [length for length, count in lengths.items() if 2 * count > len(self.sheet.rows)]
         return max([len(self.sheet.titles), *common])
 
@@ -173,7 +176,8 @@ class Rows:
         return found + [FormulaCell(*cell, len(formulas)) for cell in formulas[:1]]
 
     def cells_like(self, pattern: re.Pattern[str], sign: str, columns: list[int]) -> list[tuple[int, str]]:
-        """The cells of some columns that a pattern fits, each with its line. Few rows have the sign of one."""
-        rows = [row for row in self.sheet.rows if sign in "\t".join(row.cells)]
+        """The cells of some columns that a pattern fits, each with its line. Few sheets and few rows have the sign of one."""
+        rows = self.sheet.rows if sign in self.sheet.together else []
+        rows = [row for row in rows if sign in "\t".join(row.cells)]
         places = [(line, cells[at]) for line, cells in rows for at in columns if at < len(cells)]
         return [(line, text) for line, text in places if pattern.fullmatch(text)]

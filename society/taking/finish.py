@@ -63,7 +63,12 @@ def file(next_book: NextBook, program: Herdbook, wishes: Wishes, about: About) -
     book, report = next_book.book, next_book.report
     give_numbers(next_book, wishes.breed, wishes.country)
     leave_out_early_exits(next_book)
-    leave_out_faulty_parents(next_book, program)
+    filing = Filing(next_book, OwnerDays(book, report, wishes.day))
+    owners_before = set(book.owners)
+    # a new book of which nothing is refused has no faulty parents
+    filed = None if book.journal.length else filing.appended(program)
+    if filed is None:
+        leave_out_faulty_parents(next_book, program)
     if next_book.is_pedigree and not wishes.leave_out:
         refuse_lost_links(report)
     if about.understood:
@@ -73,9 +78,7 @@ def file(next_book: NextBook, program: Herdbook, wishes: Wishes, about: About) -
         looks.tell_births(book)
         looks.tell("exit" in next_book.given)
     before = len(book.records)
-    owners_before = set(book.owners)
-    filing = Filing(next_book, OwnerDays(book, report, wishes.day))
-    filed = filing.filed(program)
+    filed = filed or filing.filed(program)
     tell_respelt_owners(next_book, owners_before)
     tell_owners_alike(next_book)
     tell_mistyped_owners(next_book, owners_before)

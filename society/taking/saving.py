@@ -37,7 +37,7 @@ class Prepared:
 
     before: Change | None
     filed: Filed
-    state: State
+    state: Callable[[], State]
     made: Made
 
 
@@ -94,14 +94,27 @@ def prepared_of(
         tuple(told_of(entry) for entry in report.in_order()),
         form=wishes.form,
     )
-    state = State(
-        changed_animals(book, known_after(next_book), records_after(book, filed)),
-        Rows(book.cells, cell_rows(next_book)),
-        book.remembered,
-        {owner: herd for owner, herd in book.owners.items() if herd not in herds},
-        coefficients=coefficients.value(),
-    )
-    return Prepared(book.change, filed, state, made)
+    new_owners = {owner: herd for owner, herd in book.owners.items() if herd not in herds}
+
+    def find_state() -> State:
+        return State(
+            changed_animals(book, known_after(next_book), records_after(book, filed)),
+            Rows(book.cells, cell_rows(next_book)),
+            book.remembered,
+            new_owners,
+            coefficients=coefficients.value(),
+        )
+
+    return Prepared(book.change, filed, before_others_wait(book, find_state), made)
+
+
+def before_others_wait(book: Book, find: Callable[[], State]) -> Callable[[], State]:
+    """The state after a change is found out before the change begins, for which others wait. For a book that isn't there
+    yet nobody waits: it is found out beside the writing of its journal."""
+    if book.connection is None:
+        return Beside(find).value
+    state = find()
+    return lambda: state
 
 
 def begin_coefficients(book: Book, program: Herdbook, filed: Filed) -> Beside[list[str]]:

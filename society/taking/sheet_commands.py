@@ -36,11 +36,8 @@ class Filing:
         """The commands, none of which is refused: an exit or a transfer that is refused is left out before, and told;
         a mistake where a birth is."""
         while True:
-            more = self.more()
-            if more is not None:
-                text = self.text_behind(more)
-                if not self.refused_behind(program, text, len(more)):
-                    return Filed(accepted(more), text=text)
+            if appended := self.appended(program):
+                return appended
             commands = self.anew()
             refused = program.file(commands)
             if not refused:
@@ -48,6 +45,14 @@ class Filing:
                 keeps = alike(self.book.steps, steps)
                 return Filed(steps[keeps:], keeps)
             self.leave_out(commands, refused)
+
+    def appended(self, program: Herdbook) -> Filed | None:
+        """The commands that the book lacks, where that is enough and none is refused."""
+        more = self.more()
+        if more is None:
+            return None
+        text = self.text_behind(more)
+        return None if self.refused_behind(program, text, len(more)) else Filed(accepted(more), text=text)
 
     def leave_out(self, commands: list[Command], refused: dict[int, Refusal]) -> None:
         by_number = {animal.number: animal for animal in self.next_book.animals.values()}

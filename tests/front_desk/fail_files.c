@@ -1,13 +1,15 @@
 /* Loaded before the C library by LD_PRELOAD: lets calls on files fail, so that a test sees what a program makes of it.
  *
- * FAIL names the call: write, sync or rename (a link that puts a file in its place counts too). FAIL_NTH is the number
- * of the first call that fails, counted from 1; FAIL_LAST that of the last, and without it one fails. FAIL_MET is a file
- * that is made when one fails. Only calls on ordinary files count, and none on the standard streams.
+ * FAIL names the call: write, sync, rename (a link that puts a file in its place counts too) or unlink. FAIL_NTH is the
+ * number of the first call that fails, counted from 1; FAIL_LAST that of the last, and without it one fails. FAIL_MET is
+ * a file that is made when one fails. With FAIL_KILLS the process is killed there. Only calls on ordinary files count,
+ * and none on the standard streams.
  */
 #define _GNU_SOURCE
 #include <dlfcn.h>
 #include <errno.h>
 #include <fcntl.h>
+#include <signal.h>
 #include <stdlib.h>
 #include <string.h>
 #include <sys/stat.h>
@@ -29,6 +31,8 @@ static int fails(const char *call)
         if (file >= 0)
             syscall(SYS_close, file);
     }
+    if (getenv("FAIL_KILLS"))
+        kill(getpid(), SIGKILL);
     return 1;
 }
 
@@ -87,4 +91,11 @@ int renameat(int from_folder, const char *from, int to_folder, const char *to)
     if (fails("rename"))
         return errno = EACCES, -1;
     return NEXT(int (*)(int, const char *, int, const char *), "renameat")(from_folder, from, to_folder, to);
+}
+
+int unlink(const char *path)
+{
+    if (fails("unlink"))
+        return errno = EACCES, -1;
+    return NEXT(int (*)(const char *), "unlink")(path);
 }

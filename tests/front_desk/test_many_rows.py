@@ -7,7 +7,7 @@ import sqlite3
 
 import pytest
 
-from society.book.many_rows import MANY, indexes_behind, insert_many, marks_of
+from society.book.many_rows import MANY, TOGETHER, indexes_behind, insert_many, marks_of
 
 # what a column may have in all rows
 VALUES: tuple[object, ...] = (None, 0, -7, 1 << 40, "", "given", "it's", "?", "Löwe", "a\nb", "long" * 30, 2.5)
@@ -21,7 +21,7 @@ def written(rows: list[tuple[object, ...]], first: tuple[int, ...] = ()) -> list
     return connection.execute("SELECT * FROM one ORDER BY rowid").fetchall()
 
 
-@pytest.mark.parametrize("count", [1, 49, 51, MANY, MANY + 1])
+@pytest.mark.parametrize("count", [1, TOGETHER - 1, TOGETHER + 1, MANY, MANY + 1])
 def test_rows_are_written_as_they_are(count: int) -> None:
     rows = [(at, *VALUES, str(at)) for at in range(count)]
     assert written(rows) == rows

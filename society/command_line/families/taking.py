@@ -5,6 +5,7 @@ import argparse
 import datetime
 import gc
 import pathlib
+import sys
 from typing import TYPE_CHECKING
 
 from society.book.book_changed import anew_where_a_book_came
@@ -131,6 +132,8 @@ def do_take(asked: argparse.Namespace) -> None:
     # what a taking makes of a large sheet is needed to its end, and nothing of it goes round: to look for what isn't
     # needed any more would find nothing, again and again
     gc.disable()
+    # what writes the book waits for Python between two statements, while something else is done beside
+    sys.setswitchinterval(0.0005)
     is_the_only_one()
     for note in anew_where_a_book_came(lambda: taken(asked, wishes)):
         tell(note)
