@@ -110,7 +110,7 @@ def first_herds(commands: Iterable[Command]) -> dict[str, int]:
 
 def lines_of(commands: Iterable[Command]) -> bytes:
     """The records of a command file."""
-    return "".join(",".join(fields) + "\n" for fields in commands).encode()
+    return "\n".join([*map(",".join, commands), ""]).encode()
 
 
 def text_of(commands: Iterable[Command]) -> bytes:

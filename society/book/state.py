@@ -67,7 +67,7 @@ def write_rows(
 ) -> None:
     """Makes of rows that held before a change those that hold after it. What stays as it is isn't touched."""
     ended = ((change, *key) for key, row in before.items() if after.get(key) != row)
-    begun = [row for key, row in after.items() if before.get(key) != row]
+    begun = [row for key, row in after.items() if before.get(key) != row] if before else [*after.values()]
     # in the order of its keys a table is written quickest
     begun.sort(key=operator.itemgetter(*range(table.keys)))
     names = [name.strip() for name in table.columns.split(",")]

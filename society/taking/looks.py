@@ -5,7 +5,6 @@ from __future__ import annotations
 import collections
 import datetime
 import operator
-import statistics
 from dataclasses import dataclass
 
 from society.book.book import Book
@@ -105,6 +104,9 @@ class Looks:
             self.report.add(animal.line, sire, found)
 
     def look_at_living(self) -> None:
+        # a taking of a sheet without exits would wait for it
+        import statistics
+
         living = [one for one in self.animals.values() if one.line and not one.left and not one.exit_basis.is_inferred]
         dated = [one for one in living if one.has_day()]
         if len(dated) < FEW:

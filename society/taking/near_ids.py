@@ -2,6 +2,7 @@
 from __future__ import annotations
 
 import collections
+import functools
 
 from society.book.book import Book
 from society.reading.animal import Animal, links_outside
@@ -19,10 +20,16 @@ class NearIds:
     def __init__(self, rows: dict[str, Animal], animals: dict[str, Animal], book: Book) -> None:
         self.rows, self.animals = rows, animals
         self.with_row = rows.keys() | {id for id, known in book.known.items() if known.standing.had_row()}
-        self.near: collections.defaultdict[str, list[str]] = collections.defaultdict(list)
-        ids = [*self.with_row & animals.keys()]
-        for id, near in zip(ids, nearly_all(ids)):
-            self.near[near].append(id)
+        self.ids = [*self.with_row & animals.keys()]
+        self.nearly = nearly_all(self.ids)
+
+    @functools.cached_property
+    def near(self) -> dict[str, list[str]]:
+        """The ids by what they have but for these."""
+        near: collections.defaultdict[str, list[str]] = collections.defaultdict(list)
+        for id, one in zip(self.ids, self.nearly):
+            near[one].append(id)
+        return near
 
     def find_parents(self, report: Report) -> None:
         """A parent that is no id, but differs so from just one, is that animal where it can be it."""
@@ -33,7 +40,9 @@ class NearIds:
                 report.add(calf.line, calf.id, FoundByNearId(role, text, near[0]))
 
     def tell_alike(self, report: Report) -> None:
-        """Rows whose ids differ only so."""
+        """Rows whose ids differ only so. Most sheets have none."""
+        if len({*self.nearly}) == len(self.nearly):
+            return
         alike = [sorted(ids, key=self.line_and_id) for ids in self.near.values() if len(ids) > 1]
         for first_id, *others in sorted(alike, key=lambda ids: self.line_and_id(ids[0])):
             for id in others:

@@ -20,6 +20,7 @@ def give_numbers(next_book: NextBook, breed: str, country: str) -> None:
             animal.number = (breed or number[:3]) + (country or number[3:6]) + animal.sex + number[7:]
     first = next(iter((numbers or former).values()), BREED + COUNTRY)
     new = [animal for animal in animals.values() if not animal.number]
+    begin = (breed or first[:3]) + (country or first[3:6])
     new.sort(key=operator.attrgetter("born", "id"))
     for digits, animal in enumerate(new, book.greatest_digits() + 1):
-        animal.number = f"{breed or first[:3]}{country or first[3:6]}{animal.sex}{digits:012}"
+        animal.number = f"{begin}{animal.sex}{digits:012}"

@@ -11,6 +11,7 @@ from society.book.commands import Command, Record, first_herds, transfer, transf
 from society.book.inferred import OwnerDay
 from society.book.journal import accepted_commands
 from society.book.kinds import Field
+from society.book.named import made
 from society.reading.animal import Animal
 from society.reading.days import DayFault
 from society.reading.cell_findings import DayLeftOut
@@ -102,8 +103,8 @@ class OwnerDays:
     def of_new(self, animal: Animal) -> Owners:
         """A new animal has its owner from its birth on, but where the sheet says since when."""
         herd = self.herd_of(animal.owner)
-        if herd == NO_OWNER or not self.is_day(animal) or animal.since is None or animal.since.first <= animal.born:
-            return Owners(herd, [], 0, False)
+        if animal.since is None or herd == NO_OWNER or not self.is_day(animal) or animal.since.first <= animal.born:
+            return made(Owners, (herd, [], 0, False))
         only = [transfer(animal.number, animal.since.first, NO_OWNER, herd)]
         return Owners(NO_OWNER, self.in_order(animal, only), 0, False)
 

@@ -140,6 +140,8 @@ def text_after(book: Book, filed: Filed) -> bytes:
 def changed_animals(book: Book, known: dict[str, Known], records: dict[str, Record]) -> Rows:
     """The rows of the animals that aren't as they were: before, where they were in the book once, and after."""
     known_before = {**book.known, **book.dropped}
+    if not known_before:
+        return Rows({}, animal_rows(known, records))
     changed = {
         id: one
         for id, one in known.items()

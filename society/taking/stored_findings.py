@@ -66,7 +66,12 @@ def texts_of(name: str, value: object) -> Iterator[tuple[str, str]]:
     elif dataclasses.is_dataclass(value):
         kind: Any = type(value)
         for part in parts_of(kind):
-            yield from texts_of(within(name, part), getattr(value, part))
+            one = getattr(value, part)
+            # most parts are one of these
+            if type(one) is str or type(one) is int:
+                yield within(name, part), str(one)
+            else:
+                yield from texts_of(within(name, part), one)
     elif isinstance(value, tuple):
         for place, one in enumerate(value):
             yield from texts_of(within(name, str(place)), one)
