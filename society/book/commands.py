@@ -12,7 +12,7 @@ from society.book.role import Role
 from society.mistake import Mistake, counted
 
 # the same days stand in many commands and rows
-day_text = functools.lru_cache(maxsize=50_000)(datetime.date.isoformat)
+day_text = functools.cache(datetime.date.isoformat)
 COLUMNS = ["kind", "animal", "day", "sire", "dam", "from", "to", "embryo"]
 
 

@@ -77,7 +77,6 @@ def file(next_book: NextBook, program: Herdbook, wishes: Wishes, about: About) -
         looks = Looks(next_book.animals, about.limits, report)
         looks.tell_births(book)
         looks.tell("exit" in next_book.given)
-    before = len(book.records)
     filed = filed or filing.filed(program)
     tell_respelt_owners(next_book, owners_before)
     tell_owners_alike(next_book)
@@ -87,18 +86,23 @@ def file(next_book: NextBook, program: Herdbook, wishes: Wishes, about: About) -
         refuse_left_out(next_book, wishes)
     filing.tell_changes()
     tell_most_changed(next_book)
-    with_row = [animal for animal in next_book.animals.values() if animal.line]
-    new = sum(animal.id not in book.known for animal in with_row)
-    added = sum(not animal.line and animal.id not in book.known for animal in next_book.animals.values())
-    is_first = not before and not next_book.is_pedigree and not (wishes.breed and wishes.country)
-    begin = (wishes.breed or BREED) + (wishes.country or COUNTRY)
-    after = BookAfter(
-        len(next_book.animals), new, about.invented, bool(before and filed.keeps is not None), begin * is_first,
-        wishes.drop_gone, len(with_row), added,
-    )  # fmt: skip
+    after = book_after(next_book, filed, wishes, about)
     return filed, Outcome(
         book.folder, about.call.after(), about.understood, tuple(about.read), tuple(next_book.obstacles), report, after
     )
+
+
+def book_after(next_book: NextBook, filed: Filed, wishes: Wishes, about: About) -> BookAfter:
+    book, animals = next_book.book, next_book.animals.values()
+    with_row = [animal for animal in animals if animal.line]
+    new = sum(animal.id not in book.known for animal in with_row)
+    added = sum(not animal.line and animal.id not in book.known for animal in animals)
+    is_first = not book.records and not next_book.is_pedigree and not (wishes.breed and wishes.country)
+    begin = (wishes.breed or BREED) + (wishes.country or COUNTRY)
+    return BookAfter(
+        len(animals), new, about.invented, bool(book.records) and filed.keeps is not None, begin * is_first,
+        wishes.drop_gone, len(with_row), added,
+    )  # fmt: skip
 
 
 def refuse_left_out(next_book: NextBook, wishes: Wishes) -> None:

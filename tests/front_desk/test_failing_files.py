@@ -80,8 +80,10 @@ def test_a_taking_is_killed_at_each_call(taken_flock: Desk, failing: str, tmp_pa
     for nth in range(1, MOST_CALLS):
         desk = desk_for(taken_flock, tmp_path / str(nth), True)
         met, path = desk.room / "met", desk.room / "book/book.sqlite"
-        killed = dict(FAIL=call, FAIL_NTH=str(nth), FAIL_MET=str(met), FAIL_KILLS="yes", LD_PRELOAD=failing)
-        done = run(desk, "take", "grown.csv", **killed)
+        done = run(
+            desk, "take", "grown.csv", FAIL=call, FAIL_NTH=str(nth), FAIL_MET=str(met), FAIL_KILLS="yes",
+            LD_PRELOAD=failing,
+        )  # fmt: skip
         if not met.exists():
             assert done.status == 0 and made[-1] == 1 and (made[0] == 0 or call == "rename")
             return
