@@ -11,7 +11,7 @@ from society.book.named import made
 from society.book.role import Role
 from society.mistake import Mistake, counted
 
-# the same days stand in many commands and rows
+# the same days stand in many commands and rows, and books have days of 300 years alone
 day_text = functools.cache(datetime.date.isoformat)
 COLUMNS = ["kind", "animal", "day", "sire", "dam", "from", "to", "embryo"]
 
