@@ -1,17 +1,10 @@
-"""The build of the first call: build.py, which proves the program's crates side by side, with a stand-in for rt.
-
-The repository's Python and crates.txt are copied to a folder in which each crate has one short source. The stand-in
-proves nothing: it notes when a crate begins and ends, and leaves a library or a program as rt does.
-"""
+"""The build of the first call: build.py, which proves the program's crates side by side, with a stand-in for rt."""
 from __future__ import annotations
 
-import contextlib
 import itertools
 import os
 import pathlib
-import shutil
 import signal
-import subprocess
 import sys
 import time
 import unittest.mock
@@ -19,145 +12,29 @@ from collections.abc import Callable, Iterator
 
 import pytest
 
-from building.crates import TOP, closure, lines_of, named
 from building.machine import Machine
+from copied_repository import BELOW, CRATES, PROGRAM, SECONDS, Repository, ended
 from counting import Counts, counts_of
 
-PROGRAM = "herdbook"
-LINES = lines_of(TOP / "crates.txt")
-CRATES = closure(LINES, PROGRAM)
-BELOW = {name: named(LINES[name]) & CRATES for name in CRATES}
-SECONDS = 180
+# what changes what the program was built of
+CHANGES: dict[str, Callable[[Repository], object]] = {
+    "a source is changed": lambda here: here.write("crates/herd_kinship/src/lib.rt", "// another crate\n"),
+    "a source is added": lambda here: here.write("crates/herd_pool/specs/More.antt", "// a definition\n"),
+    "a source is removed": lambda here: (here.top / "crates/herd_pool/specs/More.antt").unlink(),
+    "a line of crates.txt is changed": lambda here: here.change_line("herd_report"),
+    "it isn't known what it was built of": lambda here: (here.top / f"crates/{PROGRAM}/out/{PROGRAM}.built").unlink(),
+}
 
-# What stands in for rt. The file NAME.seconds says how long a crate takes, and with NAME.fails it isn't proved.
-STAND_IN = """#!/usr/bin/env python3
-import os, pathlib, sys, time
-notes, name = pathlib.Path(os.environ["NOTES"]), pathlib.Path.cwd().name
-def note(what):
-    with open(notes / "log", "a", encoding="utf-8") as log:
-        log.write(f"{what} {name}\\n")
-note("begin")
-(notes / f"{os.getpid()}.run").touch()
-for line in pathlib.Path("../../crates.txt").read_text(encoding="utf-8").splitlines():
-    other = line.split(":")[0].split()[0]
-    if other != name and not (pathlib.Path("..") / other / "out/rlib" / f"{other}.rlib").exists():
-        note(f"lacks {other}")
-seconds = notes / f"{name}.seconds"
-time.sleep(float(seconds.read_text(encoding="utf-8")) if seconds.exists() else 0.05)
-if (notes / f"{name}.fails").exists():
-    sys.exit("a contract isn't met")
-if sys.argv[1] == "run":
-    pathlib.Path("out").mkdir(exist_ok=True)
-    pathlib.Path("out", name).write_text('#!/bin/sh\\necho "$@"\\n', encoding="utf-8")
-    pathlib.Path("out", name).chmod(0o755)
-else:
-    pathlib.Path("out/rlib", f"{name}.rlib").mkdir(parents=True, exist_ok=True)
-note("end")
-print("logic=proved")
-"""
-
-
-# The machine that the copy takes this one for.
-FOUR_PROCESSORS = """
-os.sched_getaffinity = lambda process: range(4)
-free_memory = lambda: 24 * 10**9
-"""
-
-
-class Repository:
-    """A copy of the repository with short sources, and the stand-in before it on the path."""
-
-    def __init__(self, room: pathlib.Path) -> None:
-        self.top, self.notes, self.rooms = room / "repository", room / "notes", room / "rooms"
-        self.no_python = room / "no python"
-        for folder in (self.notes, self.rooms, room / "bin", self.no_python):
-            folder.mkdir(parents=True)
-        (self.no_python / "python3").write_text("#!/bin/sh\nexit 99\n", encoding="utf-8")
-        (self.no_python / "python3").chmod(0o755)
-        shutil.copytree(TOP / "building", self.top / "building", ignore=shutil.ignore_patterns("__pycache__"))
-        with open(self.top / "building/machine.py", "a", encoding="utf-8") as machine:
-            machine.write(FOUR_PROCESSORS)
-        for file in ("build.py", "crates.txt", "herdbook"):
-            shutil.copy(TOP / file, self.top / file)
-        for name in CRATES:
-            source = self.top / "crates" / name / "src" / ("main.rt" if name == PROGRAM else "lib.rt")
-            source.parent.mkdir(parents=True)
-            source.write_text("// a crate\n", encoding="utf-8")
-        (room / "bin/rt").write_text(STAND_IN, encoding="utf-8")
-        (room / "bin/rt").chmod(0o755)
-        path = f"{room / 'bin'}:{os.environ['PATH']}"
-        self.env = {**os.environ, "PATH": path, "NOTES": str(self.notes), "TMPDIR": str(self.rooms)}
-
-    def begin(self, *words: str) -> subprocess.Popen[str]:
-        return subprocess.Popen(
-            words,
-            env=self.env,
-            stdout=subprocess.PIPE,
-            stderr=subprocess.PIPE,
-            text=True,
-            start_new_session=True,
-            preexec_fn=heeds_signals,
-        )
-
-    def begin_program(self) -> subprocess.Popen[str]:
-        return self.begin(str(self.top / "herdbook"), "is", "built")
-
-    def call(self) -> tuple[int, str, str]:
-        """The status of a call, and what it wrote."""
-        return ended(self.begin_program())
-
-    def call_without_python(self) -> tuple[int, str, str]:
-        """The same, where a call of Python ends with a fault."""
-        env, self.env = self.env, {**self.env, "PATH": f"{self.no_python}:{self.env['PATH']}"}
-        try:
-            return self.call()
-        finally:
-            self.env = env
-
-    def write(self, name: str, text: str) -> None:
-        (self.top / name).parent.mkdir(parents=True, exist_ok=True)
-        (self.top / name).write_text(text, encoding="utf-8")
-
-    def add_line(self, line: str) -> None:
-        with open(self.top / "crates.txt", "a", encoding="utf-8") as lines:
-            lines.write(f"{line}\n")
-
-    def change_line(self, name: str) -> None:
-        """Lets a crate stand on one more of the kit's."""
-        text = (self.top / "crates.txt").read_text(encoding="utf-8")
-        self.write("crates.txt", text.replace(LINES[name], f"{LINES[name]} anyhow"))
-
-    def noted(self) -> list[tuple[str, str]]:
-        """What the stand-in noted since the last look: `begin`, `end` or what was missing, and the crate."""
-        log = self.notes / "log"
-        lines = log.read_text(encoding="utf-8").splitlines() if log.exists() else []
-        log.unlink(missing_ok=True)
-        return [(what, name) for what, _, name in (line.rpartition(" ") for line in lines)]
-
-    def kept(self) -> set[str]:
-        """The crates whose libraries are kept."""
-        return {name for name in CRATES if (self.top / "crates" / name / "out/rlib").exists()}
-
-    def under_way(self) -> bool:
-        """Whether a run of the stand-in is under way."""
-        return any(pathlib.Path("/proc", it.stem).exists() for it in self.notes.glob("*.run"))
-
-
-def heeds_signals() -> None:
-    """Has a new process end by each signal, also where this one was told to ignore it."""
-    for it in (signal.SIGINT, signal.SIGTERM, signal.SIGHUP):
-        signal.signal(it, signal.SIG_DFL)
-
-
-def ended(call: subprocess.Popen[str]) -> tuple[int, str, str]:
-    """The status of a call, and what it wrote. One that takes too long is killed."""
-    try:
-        out, err = call.communicate(timeout=SECONDS)
-    except subprocess.TimeoutExpired:
-        with contextlib.suppress(ProcessLookupError):
-            os.killpg(call.pid, signal.SIGKILL)
-        raise
-    return call.returncode, out, err
+# processors, free memory in GB; runs at once, processes of the first, of one beside it
+SHARES = [
+    (1, 60, 1, 1, 1),
+    (2, 24, 2, 2, 1),
+    (4, 24, 2, 4, 2),
+    (4, 8, 2, 2, 1),
+    (4, 4, 1, 2, 1),
+    (4, 2, 1, 1, 1),
+    (16, 60, 8, 4, 2),
+]
 
 
 def in_order(noted: list[tuple[str, str]]) -> bool:
@@ -184,27 +61,6 @@ def wait_until(is_so: Callable[[], bool]) -> None:
 def tells(err: str, *ends: str) -> bool:
     """Whether lines of standard error end so."""
     return all(any(line.endswith(end) for line in err.splitlines()) for end in ends)
-
-
-# what changes what the program was built of
-CHANGES: dict[str, Callable[[Repository], object]] = {
-    "a source is changed": lambda here: here.write("crates/herd_kinship/src/lib.rt", "// another crate\n"),
-    "a source is added": lambda here: here.write("crates/herd_pool/specs/More.antt", "// a definition\n"),
-    "a source is removed": lambda here: (here.top / "crates/herd_pool/specs/More.antt").unlink(),
-    "a line of crates.txt is changed": lambda here: here.change_line("herd_report"),
-    "it isn't known what it was built of": lambda here: (here.top / f"crates/{PROGRAM}/out/{PROGRAM}.built").unlink(),
-}
-
-# processors, free memory in GB; runs at once, processes of the first, of one beside it
-SHARES = [
-    (1, 60, 1, 1, 1),
-    (2, 24, 2, 2, 1),
-    (4, 24, 2, 4, 2),
-    (4, 8, 2, 2, 1),
-    (4, 4, 1, 2, 1),
-    (4, 2, 1, 1, 1),
-    (16, 60, 8, 4, 2),
-]
 
 
 class TestFirstCall:

@@ -12,7 +12,6 @@ import pytest
 from desk.site import HOST, shown
 from serving.visitor import WORD, Served, Visitor
 from society.desk.forms import new_form
-from society.desk.people import AccountRole
 from society.desk.texts import TEXTS
 from society.desk.words import Words
 from society.serving import passwords
@@ -210,59 +209,3 @@ def test_throttle_ends() -> None:
     for at in range(30_000):
         throttle.begin(f"name {at}", f"10.{at >> 16}.{at >> 8 & 255}.{at & 255}")
     assert len(throttle.guesses) <= 20_000
-
-
-def test_log(served: Served) -> None:
-    """The log has who asked for what, from where, and what was refused; it has no password, no token, and no text that
-    somebody wrote."""
-    visitor = Visitor(served, address="10.0.0.9")
-    visitor.log_in("Carl", "my secret guess")
-    visitor.log_in("my secret in the wrong field", "x")
-    visitor.log_in("Carl")
-    address = visitor.drop("sheet.csv", b"id,birth\nA,2001-01-01\n")
-    visitor.get(address)
-    visitor.post("/file/exit", id="no such animal", day="2001-01-01")
-    visitor.get("/history/0/undo")
-    visitor.get("/animals?words=looked-for\r\nforged line")
-    with visitor.client.session_transaction(base_url=f"http://{HOST}") as session:
-        tokens = [str(value) for value in session.values()]
-    log = served.log.getvalue()
-    lines = log.splitlines()
-    assert any(
-        line.endswith("10.0.0.9 - POST /login 401 refused login as Carl") or "refused login as Carl" in line
-        for line in lines
-    )
-    assert any("refused login of an unknown name" in line for line in lines)
-    assert any("10.0.0.9 Carl (clerk) POST /login 302" in line for line in lines)
-    assert any("Carl (clerk) GET /sheet/<token> 200" in line for line in lines)
-    assert any("Carl (clerk) GET /history/<number>/undo 403" in line and "refused role" in line for line in lines)
-    for secret in ("my secret", WORD, "looked-for", "forged", "no such animal", address.rpartition("/")[2], *tokens):
-        assert secret == "True" or secret not in log, secret
-
-
-def test_faults(
-    served: Served, clerk: Visitor, monkeypatch: pytest.MonkeyPatch, caplog: pytest.LogCaptureFixture
-) -> None:
-    """A fault's text and trace stand neither on the page nor in the log."""
-
-    def fail(_: object) -> None:
-        raise ValueError("what somebody wrote")
-
-    monkeypatch.setattr("society.desk.routes.history.last_that_changed", fail)
-    answer = clerk.get("/history")
-    assert answer.status_code == 500 and "somebody wrote" not in answer.get_data(as_text=True)
-    assert "Traceback" not in caplog.text and "somebody wrote" not in caplog.text
-    assert "ValueError at" in caplog.text and "history.py:" in caplog.text
-
-
-def test_file(served: Served) -> None:
-    """The file of accounts is its owner's alone, has no password and no token, and no role that there isn't."""
-    Visitor(served, "Carl")
-    path = served.gate.accounts.path
-    assert path.stat().st_mode & 0o777 == 0o600
-    with Visitor(served, "Kim").client.session_transaction(base_url=f"http://{HOST}") as session:
-        token = session["login"]
-    # cookies are signed with its key
-    assert served.app.config["SECRET_KEY"] == served.gate.accounts.key()
-    assert WORD.encode() not in path.read_bytes() and token.encode() not in path.read_bytes()
-    assert [(one.name, one.role) for one in served.gate.accounts.all()][1] == ("Clara", AccountRole.CLERK)
