@@ -32,10 +32,10 @@ SECONDS = 120
 class Site:
     """The application with a browser that came by the link."""
 
-    def __init__(self, desk: Desk, app: Flask) -> None:
+    def __init__(self, desk: Desk, app: Flask, secret: str = SECRET) -> None:
         self.desk, self.app = desk, app
         self.client = app.test_client()
-        self.get(f"/enter/{SECRET}")
+        self.get(f"/enter/{secret}")
 
     def get(self, path: str, headers: dict[str, str] | None = None) -> TestResponse:
         return self.client.get(path, headers={"Host": HOST} | (headers or {}))
@@ -95,12 +95,14 @@ def shown(text: str) -> str:
 
 
 @contextmanager
-def site_of(folder: pathlib.Path, program: str, room: pathlib.Path, read_only: bool = False) -> Iterator[Site]:
+def site_of(
+    folder: pathlib.Path, program: str, room: pathlib.Path, read_only: bool = False, secret: str = SECRET
+) -> Iterator[Site]:
     os.environ["HERDBOOK"] = program
     room.mkdir(mode=0o700)
     desk = Desk(folder, Office(), read_only, Uploads(room), Jobs(), Exports(folder))
     try:
-        yield Site(desk, desk_app(desk, LinkGate(SECRET, PORT, read_only)))
+        yield Site(desk, desk_app(desk, LinkGate(secret, PORT, read_only)), secret)
     finally:
         # a change of this process may have it ignored, and whoever is started later would ignore it too
         signal.signal(signal.SIGINT, signal.default_int_handler)
