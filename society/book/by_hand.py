@@ -10,13 +10,15 @@ from society.book.changes import Change, Made, Option, Told
 from society.book.commands import Command, Record, birth, leave, parents, record_after, transfer
 from society.book.inferred import GIVEN_EXIT
 from society.book.journal import Step
-from society.book.kinds import ChangeKind, Field, Standing
+from society.book.kinds import ChangeKind, Field, Remembered, Standing
 from society.book.known import BREED, COUNTRY, Known
 from society.book.rows import row_of
+from society.book.search import find
 from society.book.state import select_rows
 from society.book.writing import Filed, Rows, State, write
 from society.herdbook import Herdbook
 from society.mistake import Mistake
+from society.reading.unknown import UnknownParents
 from society.refusals import Refusal
 from society.taking.animal_findings import CommandRefused, NewAnimal, ValueChanged
 from society.taking.new_owners import new_owner
@@ -74,6 +76,17 @@ def born(book: Book, calf: Calf) -> ByHand:
         NewAnimal(number), *young_parents(book, calf.day, calf.sire, calf.dam), *new_owner(book, calf.owner)
     )  # fmt: skip
     return ByHand(ChangeKind.BIRTH, command, known, findings, new_owners)
+
+
+def parent_named(book: Book, word: str, may_be_file: bool = True) -> Known | None:
+    """The animal that is named as a parent; none where none is, or by a text that a sheet of the book has for an unknown
+    one."""
+    said = {
+        kind: [one.word for one in book.remembered if one.what is kind]
+        for kind in (Remembered.UNKNOWN, Remembered.KNOWN)
+    }
+    unknown = UnknownParents(said[Remembered.UNKNOWN], said[Remembered.KNOWN])
+    return None if " ".join(word.split()) in unknown else find(book, word, may_be_file)
 
 
 def number_for(book: Book, calf: Calf) -> str:

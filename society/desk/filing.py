@@ -6,7 +6,7 @@ from collections.abc import Callable, Mapping
 from dataclasses import dataclass, replace
 
 from society.book.book import Book
-from society.book.by_hand import ByHand, Calf, born, departed, file, transferred, with_parents
+from society.book.by_hand import ByHand, Calf, born, departed, file, parent_named, transferred, with_parents
 from society.book.changes import Change, Option
 from society.book.kinds import ChangeKind
 from society.book.known import Known
@@ -15,7 +15,6 @@ from society.desk.desk import Desk
 from society.desk.forms import change_once, made_by, token_with
 from society.desk.sentences import DeskFault
 from society.mistake import Mistake
-from society.reading.unknown import unknown_words
 
 # the kinds of commands with the fields of their forms, which the history has as options but for the animal
 FIELDS: dict[ChangeKind, tuple[str, ...]] = {
@@ -56,8 +55,7 @@ class Form:
 
     def parent(self, book: Book, role: str) -> Known | None:
         """The animal that is named; none where none is, or a word for an unknown one."""
-        word = self.text(role)
-        return None if word.casefold() in unknown_words([]) or not word else find(book, word, may_be_file=False)
+        return parent_named(book, self.text(role), may_be_file=False)
 
     def named(self, book: Book) -> None:
         """A mistake where no animal of the book is named as it has to be."""

@@ -31,6 +31,7 @@ COMMANDS = [
     ("exit", {"id": DAM, "day": "2024-05-01"}, ["exit", DAM, "--day", "2024-05-01"]),
     ("transfer", {"id": DAM, "day": "2024-05-01", "to": "New  owner"}, ["transfer", DAM, "--day", "2024-05-01", "--to", "New owner"]),
     ("parents", {"id": DAM, "sire": SIRE, "dam": ""}, ["parents", DAM, "--sire", SIRE, "--dam", "0"]),
+    ("parents", {"id": DAM, "sire": " k. A. ", "dam": "NN"}, ["parents", DAM, "--sire", "0", "--dam", "0"]),
     ("birth", BIRTH | {"dam": "unknown", "embryo": "1"}, [*["0" if word == DAM else word for word in BIRTH_WORDS], "--embryo"]),
     # refused
     ("birth", BIRTH | {"sire": DAM}, [DAM if word == SIRE else word for word in BIRTH_WORDS]),

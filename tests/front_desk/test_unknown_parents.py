@@ -36,6 +36,18 @@ def test_usual_words(desk: Desk) -> None:
     }
 
 
+def test_single_commands(desk: Desk) -> None:
+    """They have the same words as the book's sheets: the usual ones and those that it remembers."""
+    sheet = "s;M;2001-01-01;;\nNN;F;2001-01-01;;\nc;F;2004-01-01;s;NN\n"
+    desk.take(TITLES + sheet, "--known", "NN", "--unknown", "extern")
+    for at, word in enumerate(["", "n.n.", "k. A.", "-9", "Not recorded", "Extern", "#REF!"]):
+        desk.good("birth", f"a{at}", "--sex", "f", "--day", "2005-01-01", f"--sire={word}", "--dam", "NN")
+        assert desk.parents()[f"a{at}"] == ("", "NN"), word
+    desk.good("parents", "c", "--sire", "n.b.")
+    assert desk.parents()["c"] == ("", "NN")
+    desk.wrong("the book has no animal 'x'", "parents", "c", "--dam", "x")
+
+
 def test_error_values(desk: Desk) -> None:
     """They are empty in any cell, and told; what the book has stays."""
     rows = "s;M;2001-01-01;;\n" + "".join(f"a{at};F;2004-01-01;s;\n" for at, _ in enumerate(ERRORS))

@@ -6,7 +6,7 @@ from dataclasses import replace
 from typing import Callable
 
 from society.book.book import Book
-from society.book.by_hand import ByHand, Calf, born, departed, file, transferred, with_parents
+from society.book.by_hand import ByHand, Calf, born, departed, file, parent_named, transferred, with_parents
 from society.book.changes import Option
 from society.book.kinds import ChangeKind
 from society.book.known import Known
@@ -17,7 +17,6 @@ from society.command_line.output import tell
 from society.command_line.parser import Parser, Words
 from society.herdbook import Herdbook
 from society.mistake import Mistake
-from society.reading.unknown import unknown_words
 from society.taking.report import What
 
 # the command that somebody wishes, given the book
@@ -96,7 +95,7 @@ def options_of(asked: argparse.Namespace) -> tuple[Option, ...]:
 
 def parent(book: Book, word: str | None) -> Known | None:
     """The animal that is named; none where none is, or a word for an unknown one."""
-    return None if word is None or word.casefold() in unknown_words([]) else find(book, word)
+    return None if word is None else parent_named(book, word)
 
 
 def squeezed(text: str) -> str:
