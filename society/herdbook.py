@@ -2,6 +2,8 @@
 from __future__ import annotations
 
 import contextlib
+import fcntl
+import functools
 import io
 import os
 import pathlib
@@ -10,7 +12,7 @@ import shlex
 import signal
 import subprocess
 import sys
-from collections.abc import Sequence
+from collections.abc import Iterable, Sequence
 from typing import TYPE_CHECKING
 
 from society.book.beside import Beside
@@ -32,11 +34,35 @@ SAY = "say where it is, as export HERDBOOK=/home/me/herdbook"
 MOST_BYTES, MOST_SECONDS = 4 << 30, 1200
 # so many numbers of animals may stand in one call: a command line has an end
 MOST_NUMBERS = os.sysconf("SC_ARG_MAX") // 40
+# so much a pipe may hold, if the system allows it
+PIPE_BYTES = 1 << 20
 
 
 def in_memory() -> io.FileIO:
     """A file without a name, in memory."""
     return io.FileIO(os.memfd_create("herdbook"), "w+")
+
+
+def write_all(file: io.FileIO, text: bytes) -> None:
+    left = memoryview(text)
+    while left:
+        left = left[file.write(left) :]
+
+
+def give(file: io.FileIO, pieces: Iterable[bytes]) -> None:
+    """Writes pieces into a pipe, and closes it."""
+    with file:
+        with contextlib.suppress(OSError):
+            # else each piece is parted into small ones
+            fcntl.fcntl(file, fcntl.F_SETPIPE_SZ, PIPE_BYTES)
+        for piece in pieces:
+            write_all(file, piece)
+
+
+def text_in(file: io.FileIO) -> str:
+    """All that was written into a file in memory."""
+    file.seek(0)
+    return file.read().decode()
 
 
 def limit(process: subprocess.Popen[bytes], most_bytes: int, most_seconds: int | None) -> None:
@@ -93,29 +119,43 @@ class Herdbook:
         """What it writes of a command file."""
         # through pipes much of it would go in small pieces, each of which waits until Python has time
         with in_memory() as given, in_memory() as answers:
-            self.give(words, given, book)
-            running = self.start(words, given.fileno(), subprocess.PIPE, answers=answers.fileno())
             try:
-                _, err = running.communicate(timeout=MOST_SECONDS)
-            except subprocess.TimeoutExpired:
-                running.kill()
-                running.communicate()
-                raise self.took_too_long(words) from None
-            if running.returncode == -signal.SIGXCPU:
-                raise self.took_too_long(words)
-            self.ended(running.returncode, err, words)
-            answers.seek(0)
-            return answers.read().decode()
+                write_all(given, book)
+                given.seek(0)
+            except OSError as error:
+                told = error.strerror or str(error)
+                raise Mistake(ProgramFault.CANT_DO.said(word=words[0], told=told, hint=": nothing is changed")) from None
+            running = self.start(words, given.fileno(), subprocess.PIPE, answers=answers.fileno())
+            self.ended(running, self.waited_for(running, words), words)
+            return text_in(answers)
 
-    def give(self, words: list[str], file: io.FileIO, book: bytes) -> None:
-        """Writes a command file into one that the program reads."""
+    def run_meanwhile(self, words: list[str], pieces: Iterable[bytes]) -> str:
+        """The same, while the pieces of the command file are still found. What goes wrong with these is raised, and not
+        what the program says of those that it got."""
+        with in_memory() as answers:
+            reads, writes = os.pipe()
+            with io.FileIO(reads):
+                giving = Beside(lambda: give(io.FileIO(writes, "w"), pieces))
+                running = self.start(words, reads, subprocess.PIPE, answers=answers.fileno())
+            err = self.waited_for(running, words)
+            # where it read no further its status says why
+            with contextlib.suppress(BrokenPipeError):
+                giving.value()
+            self.ended(running, err, words)
+            giving.value()
+            return text_in(answers)
+
+    def waited_for(self, running: subprocess.Popen[bytes], words: list[str]) -> bytes:
+        """What it told beside its answers, once it has ended."""
         try:
-            while book := book[file.write(book) :]:
-                pass
-            file.seek(0)
-        except OSError as error:
-            told = error.strerror or str(error)
-            raise Mistake(ProgramFault.CANT_DO.said(word=words[0], told=told, hint=": nothing is changed")) from None
+            _, err = running.communicate(timeout=MOST_SECONDS)
+        except subprocess.TimeoutExpired:
+            running.kill()
+            running.communicate()
+            raise self.took_too_long(words) from None
+        if running.returncode == -signal.SIGXCPU:
+            raise self.took_too_long(words)
+        return err
 
     def took_too_long(self, words: list[str]) -> Mistake:
         return Mistake(ProgramFault.TOO_LONG.said(word=words[0], minutes=MOST_SECONDS // 60, path=self.path))
@@ -124,7 +164,8 @@ class Herdbook:
         """The lines that it writes of a command file."""
         return self.run(words, book).splitlines()
 
-    def ended(self, status: int, err: bytes, words: list[str]) -> None:
+    def ended(self, running: subprocess.Popen[bytes], err: bytes, words: list[str]) -> None:
+        status = running.returncode
         if status:
             told = err.decode(errors="replace").strip().removeprefix("herdbook: ") or f"it ended with status {status}"
             hint = ". Somebody has changed the command file: restore it" if told.startswith("record ") else ""
@@ -149,10 +190,22 @@ class Herdbook:
         """The lines that it writes of a book's journal."""
         return self.lines(words, book.command_file())
 
-    def beside(self, words: list[str], book: Book) -> Beside[list[str]]:
-        """The same, while something else is done. The journal is read before."""
-        text = book.command_file()
-        return Beside(lambda: self.lines(words, text))
+    def beside(self, words: list[str], book: Book) -> Beside[str]:
+        """The text that it writes of a book's journal, while something else is done, and while the journal is read if that
+        is read beside; else it is read before. Where it couldn't be read beside, that is raised, and to ask again
+        helps."""
+        pieces = book.beside
+        if pieces is not None and not pieces.has_failed:
+            return Beside(functools.partial(self.run_meanwhile, words, pieces))
+        return Beside(functools.partial(self.run, words, book.command_file()))
+
+    def begin_matings(self, dam: str, sires: Sequence[str], book: Book) -> list[Beside[str]]:
+        """It begins to compute a mating of a dam with each of the sires, by their numbers: a text for some of them after
+        the other."""
+        return [
+            self.beside(["mating", "--dam", dam, *sires[first : first + MOST_NUMBERS]], book)
+            for first in range(0, len(sires), MOST_NUMBERS)
+        ]
 
     def coefficients(self, numbers: Sequence[str], book: Book) -> list[str]:
         """The lines of a few animals among those of all coefficients; none where it would be as much work as all of

@@ -2,15 +2,21 @@
 from __future__ import annotations
 
 import contextlib
+import functools
+import itertools
 import pathlib
 import sqlite3
 import threading
-from typing import Callable, Generic, TypeVar
+from collections.abc import Callable, Iterable, Iterator, Sequence
+from typing import Generic, TypeVar
 
 from society.book.database import connect
-from society.book.journal import Journal, command_file
+from society.book.commands import HEADER
+from society.book.journal import Journal, in_pieces, parts_of, piece_of
 
 Value = TypeVar("Value")
+# so many read a journal at once
+READERS = 2
 
 
 class Beside(Generic[Value]):
@@ -40,14 +46,66 @@ class Beside(Generic[Value]):
         return self.found[0]
 
 
-def command_file_beside(connection: sqlite3.Connection, journal: Journal) -> Beside[bytes]:
-    """A journal as a command file, by a connection of its own to the same file. What is committed of a journal stays as
-    it is, whatever is changed meanwhile; so the other connection reads the same."""
-    path = pathlib.Path(connection.execute("PRAGMA database_list").fetchone()[2])
+# finds pieces at the next ones of some places, each with its place
+Finder = Callable[[Iterator[int]], Iterable[tuple[int, bytes]]]
 
-    def read() -> bytes:
+
+class Pieces:
+    """The pieces of a text, which other threads find one by one, for whoever goes through them meanwhile. Each finder
+    answers the pieces at some places, as many as it comes to before the others do."""
+
+    def __init__(self, head: bytes, count: int, finders: Sequence[Finder]) -> None:
+        self.head, self.count = head, count
+        self.found: dict[int, bytes] = {}
+        self.has_failed = False
+        self.more = threading.Condition()
+        # the next place is taken at once, whichever thread asks
+        self.places = iter(range(count))
+        self.finding = [Beside(functools.partial(self.gather, find)) for find in finders]
+
+    def gather(self, find: Finder) -> None:
+        try:
+            for at, piece in find(self.places):
+                with self.more:
+                    self.found[at] = piece
+                    self.more.notify_all()
+        except BaseException:
+            with self.more:
+                self.has_failed = True
+                self.more.notify_all()
+            raise
+
+    def __iter__(self) -> Iterator[bytes]:
+        """The head, and each piece as soon as it is found; where one isn't, what went wrong is raised."""
+        return itertools.chain([self.head], map(self.piece, range(self.count)))
+
+    def piece(self, at: int) -> bytes:
+        with self.more:
+            self.more.wait_for(lambda: at in self.found or self.has_failed)
+        if self.has_failed:
+            for one in self.finding:
+                one.value()
+        return self.found[at]
+
+    def wait(self) -> None:
+        for one in self.finding:
+            one.wait()
+
+    def value(self) -> bytes:
+        """The whole text."""
+        return b"".join(self)
+
+
+def command_file_beside(connection: sqlite3.Connection, journal: Journal) -> Pieces:
+    """A journal as a command file, by connections of their own to the same file. What is committed of a journal stays as
+    it is, whatever is changed meanwhile; so the other connections read the same."""
+    path = pathlib.Path(connection.execute("PRAGMA database_list").fetchone()[2])
+    parts = in_pieces(parts_of(connection, journal))
+
+    def read(places: Iterator[int]) -> Iterator[tuple[int, bytes]]:
         with contextlib.closing(connect(path, "rw")) as other:
             other.execute("PRAGMA query_only = ON")
-            return command_file(other, journal)
+            for at in places:
+                yield at, piece_of(other, parts[at])
 
-    return Beside(read)
+    return Pieces(HEADER, len(parts), [read] * READERS)

@@ -5,9 +5,10 @@ import contextlib
 import functools
 import pathlib
 import sqlite3
+import sys
 from typing import Iterable, Iterator, Mapping
 
-from society.book.beside import Beside, command_file_beside
+from society.book.beside import Pieces, command_file_beside
 from society.book.changes import Change
 from society.book.commands import Record
 from society.book.database import path_of
@@ -20,6 +21,8 @@ from society.book.rows import Row, known_of, record_of
 from society.book.state import ALL_ROWS, CELLS, NOW, Meaning, Values, read_remembered, rows_now, select_rows
 
 NO_OWNER = 99_999_999
+# so long what is done meanwhile keeps the journal from being read on, in seconds
+SECONDS_IN_TURN = 0.0005
 # animals of the book, in place of those that were dropped from it
 IN_BOOK = "standing <> 'dropped'"
 
@@ -35,7 +38,7 @@ class Book:
         # what is told behind an answer
         self.notes: list[str] = []
         # the journal, where it is read beside other work
-        self.beside: Beside[bytes] | None = None
+        self.beside: Pieces | None = None
         # by an animal's id
         self.known: Mapping[str, Known] = Lazy(self.read_known, self.read_all_known)
         # by its number
@@ -63,10 +66,12 @@ class Book:
         if self.connection is None:
             yield
             return
-        self.beside = command_file_beside(self.connection, self.journal)
+        self.beside, in_turn = command_file_beside(self.connection, self.journal), sys.getswitchinterval()
+        sys.setswitchinterval(min(in_turn, SECONDS_IN_TURN))
         try:
             yield
         finally:
+            sys.setswitchinterval(in_turn)
             # a process that ended before the other connection is closed would leave files beside the book
             self.beside.wait()
 

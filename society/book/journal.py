@@ -4,7 +4,7 @@ from __future__ import annotations
 import sqlite3
 from typing import Collection, Iterable, Iterator, NamedTuple
 
-from society.book.commands import COLUMNS, Command
+from society.book.commands import HEADER, Command
 from society.book.many_rows import insert_many
 from society.refusals import Refusal
 
@@ -20,6 +20,8 @@ TEXT = """
     ) END
 """
 WITHIN = "FROM command WHERE edition = ? AND place BETWEEN ? AND ? ORDER BY place"
+# so many commands are read at once
+IN_A_PIECE = 4_000
 
 
 class Step(NamedTuple):
@@ -73,11 +75,31 @@ def parts_of(connection: sqlite3.Connection, journal: Journal) -> list[Part]:
 
 
 def command_file(connection: sqlite3.Connection, journal: Journal) -> bytes:
-    """The journal as a command file. The database puts the lines of a part together, in the order that it has within."""
+    """The journal as a command file."""
+    return b"".join(pieces_of(connection, journal))
+
+
+def pieces_of(connection: sqlite3.Connection, journal: Journal) -> Iterator[bytes]:
+    """The same piece by piece."""
+    yield HEADER
+    yield from (piece_of(connection, part) for part in in_pieces(parts_of(connection, journal)))
+
+
+def piece_of(connection: sqlite3.Connection, part: Part) -> bytes:
+    """The lines of a part. The database puts them together, in the order that it has within."""
     together = f"SELECT group_concat(line, char(10)) FROM (SELECT {TEXT} AS line {WITHIN})"
-    found = [connection.execute(together, part).fetchone()[0] for part in parts_of(connection, journal)]
+    found = connection.execute(together, part).fetchone()[0]
     # a part of a damaged book may have none
-    return "\n".join([",".join(COLUMNS), *filter(None, found), ""]).encode()
+    return f"{found}\n".encode() if found else b""
+
+
+def in_pieces(parts: Iterable[Part]) -> list[Part]:
+    """Parts of which each has no more commands than a piece."""
+    return [
+        Part(edition, at, min(at + IN_A_PIECE - 1, last))
+        for edition, first, last in parts
+        for at in range(first, last + 1, IN_A_PIECE)
+    ]
 
 
 def refusals_of(connection: sqlite3.Connection, journal: Journal) -> dict[int, Refusal]:

@@ -88,7 +88,7 @@ def write_within(
         before = rows_now(connection, REMEMBERED)
         write_rows(connection, REMEMBERED, number, before, remembered_rows(state.remembered))
     if coefficients:
-        write_coefficients(connection, coefficients.value())
+        write_coefficients(connection, coefficients.value().splitlines())
         return end(book, connection, number, moment)
     if state.keeps_coefficients:
         return end(book, connection, number, moment)

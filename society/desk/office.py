@@ -52,10 +52,10 @@ class Office(Herdbook):
             return self.asked([word for word in words if word != "--dam"], book)
         return super().ask(words, book)
 
-    def beside(self, words: list[str], book: Book) -> Beside[list[str]]:
+    def beside(self, words: list[str], book: Book) -> Beside[str]:
         """At once, as the session knows the book."""
-        lines = self.ask(words, book)
-        return Beside(lambda: lines)
+        text = "".join(f"{line}\n" for line in self.ask(words, book))
+        return Beside(lambda: text)
 
     def coefficients(self, numbers: Sequence[str], book: Book) -> list[str]:
         if numbers and book.journal.length > LARGE:

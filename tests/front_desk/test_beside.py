@@ -5,15 +5,32 @@ import pathlib
 import sqlite3
 import threading
 import time
+from collections.abc import Callable, Iterator
 
 import pytest
 
 from front_desk.desk import Desk
-from society.book.beside import Beside
+from society.book.beside import Beside, Pieces
 from society.book.book import Book
 from society.book.book_read import reading
-from society.book.journal import Journal
+from society.book.journal import Part
+from society.herdbook import Herdbook
 from society.mistake import Mistake
+
+# the program that a script stands for
+Program = Callable[[str], Herdbook]
+
+
+@pytest.fixture
+def herdbook(tmp_path: pathlib.Path, monkeypatch: pytest.MonkeyPatch) -> Program:
+    def made(script: str) -> Herdbook:
+        path = tmp_path / "herdbook"
+        path.write_text(script, encoding="utf-8")
+        path.chmod(0o755)
+        monkeypatch.setenv("HERDBOOK", str(path))
+        return Herdbook()
+
+    return made
 
 
 def test_the_value_is_waited_for() -> None:
@@ -54,6 +71,76 @@ def test_a_journal_that_is_read_beside_is_that_of_its_moment(mrode_desk: Desk) -
         assert book.command_file() == text and Book(book.folder, connection).change == book.change
 
 
+def test_pieces_are_had_in_their_order() -> None:
+    """Those who find them come to them in any order, and each is had before later ones are found."""
+    first_is_had = threading.Event()
+
+    def find(places: Iterator[int]) -> Iterator[tuple[int, bytes]]:
+        for at in places:
+            if at:
+                assert first_is_had.wait(20)
+                time.sleep(0.01 * (5 - at))
+            yield at, b"%d" % at
+
+    pieces = Pieces(b"head", 5, [find] * 3)
+    found = iter(pieces)
+    assert next(found) == b"head" and next(found) == b"0"
+    first_is_had.set()
+    assert [*found] == [b"1", b"2", b"3", b"4"] and pieces.value() == b"head01234"
+
+
+@pytest.mark.parametrize("place", [0, 2])
+def test_where_a_piece_is_not_found_nothing_is_had_as_the_whole(place: int) -> None:
+    def find(places: Iterator[int]) -> Iterator[tuple[int, bytes]]:
+        for at in places:
+            if at == place:
+                raise sqlite3.OperationalError("disk I/O error")
+            yield at, b"x"
+
+    pieces = Pieces(b"", 3, [find] * 2)
+    pieces.wait()
+    for _ in range(2):
+        with pytest.raises(sqlite3.OperationalError, match="disk"):
+            pieces.value()
+
+
+@pytest.mark.parametrize("text", ["", "one\ntwo\n", "x" * 3_000_000], ids=["empty", "lines", "long"])
+def test_a_program_reads_pieces_as_they_are_found(text: str, herdbook: Program) -> None:
+    """It gets all of them, and answers once it has the last one."""
+    may_end, half = threading.Event(), len(text) // 2
+
+    def find(places: Iterator[int]) -> Iterator[tuple[int, bytes]]:
+        for at in places:
+            assert not at or may_end.wait(20)
+            yield at, (text[half:] if at else text[:half]).encode()
+
+    answer = Beside(lambda: herdbook("#!/bin/sh\ncat\n").run_meanwhile([], Pieces(b"", 2, [find])))
+    answer.thread.join(0.1)
+    assert answer.thread.is_alive()
+    may_end.set()
+    assert answer.value() == text
+
+
+@pytest.mark.parametrize(
+    ("script", "told"),
+    [("echo early", "Broken pipe"), ("echo 'herdbook: no memory' >&2; exit 1", "no memory"), ("kill -9 $$", "status -9")],
+)
+def test_a_program_that_reads_no_further(script: str, told: str, herdbook: Program) -> None:
+    """What it answered before it had read all is no answer."""
+    pieces = Pieces(b"", 1, [lambda places: ((at, b"x" * 3_000_000) for at in places)])
+    with pytest.raises((Mistake, BrokenPipeError), match=told):
+        herdbook(f"#!/bin/sh\n{script}\n").run_meanwhile(["mating"], pieces)
+
+
+def test_no_answer_is_had_of_a_journal_that_is_read_in_part(herdbook: Program) -> None:
+    def find(places: Iterator[int]) -> Iterator[tuple[int, bytes]]:
+        yield next(places), b"one\n"
+        raise sqlite3.OperationalError("disk I/O error")
+
+    with pytest.raises(sqlite3.OperationalError, match="disk"):
+        herdbook("#!/bin/sh\ncat\n").run_meanwhile(["mating"], Pieces(b"", 2, [find]))
+
+
 def test_a_journal_is_read_though_it_can_not_be_read_beside(
     mrode_desk: Desk, monkeypatch: pytest.MonkeyPatch
 ) -> None:
@@ -73,12 +160,12 @@ def test_nothing_is_left_beside_a_book_where_a_call_is_mistaken(
     """The other connection is closed before the call ends, however long it reads."""
     ended = list[bool]()
 
-    def late(connection: sqlite3.Connection, journal: Journal) -> bytes:
+    def late(connection: sqlite3.Connection, part: Part) -> bytes:
         time.sleep(0.2)
         ended.append(True)
         return b""
 
-    monkeypatch.setattr("society.book.beside.command_file", late)
+    monkeypatch.setattr("society.book.beside.piece_of", late)
     with reading(mrode_desk.room / "book") as connection, pytest.raises(Mistake, match="mistaken"):
         with Book(mrode_desk.room / "book", connection).journal_read_beside():
             raise Mistake("mistaken")
