@@ -1,13 +1,13 @@
-"""Who may be mated: one rule for advice on a dam, tables of pairs and plans."""
+"""Who may be mated: those that are named, or all that there are, with who was passed over."""
 from __future__ import annotations
 
 import json
 from collections.abc import Sequence
 from dataclasses import dataclass
-from typing import Any, NamedTuple
+from typing import NamedTuple
 
-from society.answers.choice import HAS_LEFT, LISTED
 from society.answers.list_columns import BIRTH_OF, birth_of
+from society.answers.mates_read import MatesRead, Why
 from society.book.asking_sentences import Mating
 from society.book.book import Book
 from society.book.inferred import BirthSource
@@ -19,17 +19,9 @@ from society.mistake import Mistake, number_and_some
 from society.sentence import Count, Said, Some
 
 SEXES = {Role.SIRE: "male", Role.DAM: "female"}
-# those that have a row and aren't castrated, and the living ones of them
-ALSO_LEFT = f"{LISTED} AND castrated = 0"
-MAY_BE_MATED = f"{ALSO_LEFT} AND NOT {HAS_LEFT}"
-OF_SEX = "substr(number, 7, 1) = ?"
 OF_CANDIDATE = ("number", "id", "name", *BIRTH_OF)
 WITH_YEAR = (BirthSource.GIVEN.value, BirthSource.PERIOD.value)
 OTHERS = {Role.SIRE: "female", Role.DAM: "male"}
-
-
-# what a book has in the columns OF_CANDIDATE
-CandidateRow = tuple[Any, ...]
 
 
 class Candidate(NamedTuple):
@@ -94,39 +86,36 @@ def named_candidates(book: Book, role: Role, named: Sequence[Known]) -> Candidat
     """In the order in which they are named, whatever they are."""
     numbers = list(dict.fromkeys(known.number for known in named))
     rows = selected(book, OF_CANDIDATE, ["number IN (SELECT value FROM json_each(?))"], [json.dumps(numbers)])
-    by_number = {one.number: one for one in candidates_of_rows(rows)}
+    by_number = {
+        number: Candidate(number, id, name, born, birth_of(born, *basis), basis[0] in WITH_YEAR)
+        for number, id, name, born, *basis in rows
+    }
     return Candidates(role, [by_number[number] for number in numbers])
 
 
-def all_candidates(
-    book: Book, role: Role, also_left: bool = False, rows: Sequence[CandidateRow] | None = None
-) -> Candidates:
-    """The living ones that have a row and aren't castrated, in age order; or those that left too. `rows` are those of
-    `rows_of_all`, where they were read before."""
-    castrated, without_row, left = [], [], 0
-    others = [OF_SEX, f"NOT ({may_be_mated(also_left)})"]
-    for id, is_listed, has_left in selected(book, ("id", LISTED, HAS_LEFT), others, [role.sex]):
-        if not is_listed:
-            without_row.append(id)
-        elif has_left and not also_left:
-            left += 1
-        else:
-            castrated.append(id)
-    found = candidates_of_rows(rows_of_all(book, role, also_left) if rows is None else rows)
-    return Candidates(role, found, castrated, sorted(without_row), left)
+def all_candidates(book: Book, role: Role, also_left: bool = False) -> Candidates:
+    """The living ones that have a row and aren't castrated, in age order; or those that left too."""
+    read = MatesRead(book, role, also_left)
+    rows = zip(read.numbers, read.ids, read.names, read.births)
+    animals = [candidate(*row) for row in rows]
+    animals.sort(key=lambda one: (one.born, one.number))
+    return passed_over(read, role, animals)
 
 
-def may_be_mated(also_left: bool) -> str:
-    return ALSO_LEFT if also_left else MAY_BE_MATED
+def passed_over(read: MatesRead, role: Role, animals: list[Candidate]) -> Candidates:
+    """These animals, and who was passed over."""
+    castrated, without_row = read.passed_over(Why.CASTRATED), read.passed_over(Why.WITHOUT_ROW)
+    return Candidates(role, animals, castrated, sorted(without_row), read.why.count(Why.LEFT))
 
 
-def rows_of_all(book: Book, role: Role, also_left: bool = False) -> list[CandidateRow]:
-    """What the book has of the same, in the same order, which is had sooner."""
-    return selected(book, OF_CANDIDATE, [OF_SEX, may_be_mated(also_left)], [role.sex])
+def candidate(number: str, id: str, name: str, birth: str) -> Candidate:
+    """That of an animal as it is read. The sheet gives most birth days."""
+    if birth[:1] != "[":
+        return made(Candidate, (number, id, name, birth, birth, True))
+    born, *basis = json.loads(birth)
+    return Candidate(number, id, name, born, birth_of(born, *basis), basis[0] in WITH_YEAR)
 
 
-def candidates_of_rows(rows: Sequence[CandidateRow]) -> list[Candidate]:
-    return [
-        made(Candidate, (number, id, name, born, birth_of(born, source, period, no_such_day), source in WITH_YEAR))
-        for number, id, name, born, source, period, no_such_day in rows
-    ]
+def birth_shown(birth: str) -> str:
+    """A birth that is read, as lists show it."""
+    return birth_of(*json.loads(birth)) if birth[:1] == "[" else birth

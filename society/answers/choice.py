@@ -5,10 +5,10 @@ import datetime
 from dataclasses import dataclass
 
 from society.alike import closest
+from society.answers.mates_read import HAS_LEFT, LISTED
 from society.book.asking_sentences import Naming
 from society.book.book import Book
-from society.book.inferred import BirthSource, ExitSource
-from society.book.kinds import Standing
+from society.book.inferred import BirthSource
 from society.book.rows import Row
 from society.mistake import Mistake
 from society.sentence import AnyOf
@@ -17,8 +17,6 @@ from society.sentence import AnyOf
 MOST_NAMED = 5
 # by birth day, and on the same day by number, as the program orders them
 AGE_ORDER = "ORDER BY born, number"
-LISTED = f"standing IN ('{Standing.ROW.value}', '{Standing.FILED.value}')"
-HAS_LEFT = f"(departed IS NOT NULL OR exit_source = '{ExitSource.UNKNOWN_DAY.value}')"
 # the living animals of the society
 LIVING = f"{LISTED} AND NOT {HAS_LEFT}"
 # of an inferred birth day at least the year has to be known

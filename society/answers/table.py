@@ -2,11 +2,11 @@
 from __future__ import annotations
 
 import enum
-from collections.abc import Iterable, Sequence
+from collections.abc import Iterable, Iterator, Sequence
 from dataclasses import dataclass
 
 from society.book.cells import column_for_spreadsheets, for_spreadsheets
-from society.book.csv_text import csv_text, ordered, texts_of
+from society.book.csv_text import csv_text, joined, ordered, plain_text, texts_of
 
 # what stands in a cell
 Cell = str | int
@@ -24,13 +24,29 @@ class Kind(enum.Enum):
 
 
 @dataclass(frozen=True)
+class Begun:
+    """How the rows of a file begin that has commas: so many of their first columns, written before the others are known;
+    none where a cell needs quotes."""
+
+    columns: int
+    rows: Sequence[str] | None
+
+    @classmethod
+    def of(cls, columns: Sequence[tuple[str, Kind]], cells: Sequence[Sequence[Cell]]) -> Begun:
+        written = [texts_of(written_as(kind, column, False)) for (_, kind), column in zip(columns, cells)]
+        rows = joined(written, ",")
+        return cls(len(columns), None if plain_text(rows, len(columns) - 1, ",") is None else rows)
+
+
+@dataclass(frozen=True)
 class Table:
     """Columns, each with a title and what stands in it, and the cells of each. The rows are in the order of the cells,
-    or in another one of their places."""
+    or in another one of their places. Their beginnings may be written already."""
 
     columns: Sequence[tuple[str, Kind]]
     cells: Sequence[Sequence[Cell]]
     order: Sequence[int] | None = None
+    begun: Begun | None = None
 
     @classmethod
     def of_rows(cls, columns: Sequence[tuple[str, Kind]], rows: Iterable[Sequence[Cell]]) -> Table:
@@ -50,8 +66,23 @@ class Table:
 
     def text(self, semicolons: bool) -> str:
         """With semicolons decimals have a comma, as such spreadsheets want them."""
-        written = (written_as(kind, cells, semicolons) for (_, kind), cells in zip(self.columns, self.cells))
-        return csv_text(map(for_spreadsheets, self.titles), written, ";" if semicolons else ",", self.order)
+        titles = [*map(for_spreadsheets, self.titles)]
+        rows = None if semicolons else self.begun_rows()
+        if rows is not None:
+            return csv_text(titles, [()] * len(titles)) + rows
+        return csv_text(titles, self.written(semicolons), ";" if semicolons else ",", self.order)
+
+    def begun_rows(self) -> str | None:
+        """The rows behind their written beginnings; none where there are no such, or a cell needs quotes."""
+        if self.begun is None or self.begun.rows is None:
+            return None
+        others = map(texts_of, self.written(False, self.begun.columns))
+        return plain_text(joined([self.begun.rows, *others], ","), len(self.columns) - 1, ",", self.order)
+
+    def written(self, semicolons: bool, behind: int = 0) -> Iterator[Sequence[object]]:
+        """The cells of each column behind so many, as they are written."""
+        columns = zip(self.columns[behind:], self.cells[behind:])
+        return (written_as(kind, cells, semicolons) for (_, kind), cells in columns)
 
 
 def written_as(kind: Kind, cells: Sequence[Cell], semicolons: bool) -> Sequence[object]:

@@ -1,6 +1,7 @@
 """What stands in cells and on a terminal: never a formula, nor a character that does something."""
 from __future__ import annotations
 
+import contextlib
 import operator
 import re
 from typing import Sequence, TypeGuard
@@ -13,6 +14,8 @@ TEXT = "'"
 # characters of control but tabs and ends of lines, halves of characters, and marks that turn the direction of what
 # follows
 ACTING = re.compile("[\x00-\x08\x0b-\x1f\x7f-\x9f\ud800-\udfff\u061c\u200e\u200f\u202a-\u202e\u2066-\u2069]")
+# the bytes of ASCII that do nothing
+HARMLESS = bytes(range(0x20, 0x7F)) + b"\t\n"
 
 
 def for_spreadsheets(cell: str) -> str:
@@ -33,9 +36,10 @@ def are_texts(cells: Sequence[object]) -> TypeGuard[Sequence[str]]:
 
 def for_terminals(text: str) -> str:
     """The text with what would do something to a terminal as a name for it; lines may end, and tabs stay."""
-    # what is printable does nothing, and most texts are
-    if text.replace("\n", "").isprintable():
-        return text
+    # what is printable does nothing, and most texts are; that is seen quickest of the bytes that aren't of ASCII
+    with contextlib.suppress(UnicodeEncodeError):
+        if text.encode().translate(None, HARMLESS).decode().isprintable():
+            return text
     return ACTING.sub(lambda found: escape(found[0]), text)
 
 

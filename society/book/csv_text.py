@@ -3,14 +3,15 @@ from __future__ import annotations
 
 import csv
 import io
-from typing import Iterable, Sequence, TypeVar
+from collections.abc import Iterable, Sequence
+from typing import TypeVar
 
 from society.book.cells import are_texts
 
 Value = TypeVar("Value")
 
-# what a cell is quoted for, beside the sign between cells
-QUOTED = ('"', "\n", "\r")
+# what a cell is quoted for, beside the sign between cells and a line's end
+QUOTED = ('"', "\r")
 
 
 def csv_text(
@@ -20,17 +21,31 @@ def csv_text(
     nothing nothing is written.
 
     Cells are quickest gone through in the order in which they were made; so rows are put into another order last."""
+    cells = [*map(texts_of, columns)]
+    above, rows = quoted_rows([[title] for title in titles], delimiter), joined(cells, delimiter)
+    text = plain_text(rows, len(cells) - 1, delimiter, order)
+    return above + (quoted_rows(cells, delimiter, order) if text is None else text)
+
+
+def quoted_rows(columns: Sequence[Sequence[str]], delimiter: str, order: Sequence[int] | None = None) -> str:
+    """The rows of columns, with quotes where a cell needs them."""
     text = io.StringIO()
-    writer = csv.writer(text, delimiter=delimiter, lineterminator="\n")
-    writer.writerow(titles)
-    cells = [*columns]
-    plain = [texts for texts in map(texts_of, cells) if not need_quotes(texts, delimiter)]
-    # a row of one empty cell is quoted too
-    if len(plain) == len(cells) > 1:
-        text.write("\n".join([*ordered(map(delimiter.join, zip(*plain)), order), ""]))
-    else:
-        writer.writerows(ordered(zip(*cells), order))
+    csv.writer(text, delimiter=delimiter, lineterminator="\n").writerows(ordered(zip(*columns), order))
     return text.getvalue()
+
+
+def joined(columns: Sequence[Sequence[str]], delimiter: str) -> list[str]:
+    """The rows of columns, each with the sign between its cells."""
+    return [*map(delimiter.join, zip(*columns))]
+
+
+def plain_text(rows: list[str], between: int, delimiter: str, order: Sequence[int] | None = None) -> str | None:
+    """Rows with so many signs between their cells as one text; none where a cell needs quotes, as that of a row of one
+    empty cell does. A cell with such a sign adds it to those between the cells and behind the rows."""
+    text = "\n".join([*ordered(rows, order), ""])
+    signs = text.count(delimiter), text.count("\n")
+    is_plain = between and signs == (between * len(rows), len(rows)) and not any(sign in text for sign in QUOTED)
+    return text if is_plain else None
 
 
 def ordered(rows: Iterable[Value], order: Sequence[int] | None) -> Iterable[Value]:
@@ -41,9 +56,3 @@ def texts_of(cells: Sequence[object]) -> Sequence[str]:
     if are_texts(cells):
         return cells
     return ["" if cell is None else str(cell) for cell in cells]
-
-
-def need_quotes(cells: Sequence[str], delimiter: str) -> bool:
-    """Does a cell need quotes? They are looked at as one text."""
-    together = "".join(cells)
-    return any(sign in together for sign in (delimiter, *QUOTED))

@@ -1,4 +1,5 @@
-"""Opens the book of a folder, to ask it or to change it."""
+"""Opens the book of a folder, to ask it or to change it. What a call needs besides is imported where it is needed: each
+call would wait for it."""
 from __future__ import annotations
 
 import contextlib
@@ -9,13 +10,10 @@ from society.book.book import Book
 from society.book.book_changed import Overtaken, changing, up_to_date
 from society.book.book_read import reading
 from society.book.changes import Change
-from society.book.exports import are_fresh, refresh
 from society.book.old_names import is_old
 from society.book.sentences import BookFault
-from society.book.verify import verify
 from society.herdbook import Herdbook
 from society.mistake import CALLED, Mistake
-from society.taking.suggestions import Call, Suggestion
 
 # how the names of sheets end
 SHEETS = (".csv", ".xlsx")
@@ -26,7 +24,6 @@ SECONDS_FOR_EXPORTS = 600
 def take_over(folder: pathlib.Path, program: Herdbook) -> None:
     """Makes of a folder of version 0.11 one of this version, where it is one and there is no book yet."""
     if is_old(folder):
-        # every call would wait for it, and hardly one needs it
         from society.book import old_folder
 
         old_folder.take_over(folder, program)
@@ -41,15 +38,19 @@ def opened(folder: pathlib.Path, program: Herdbook) -> Iterator[Book]:
         if connection is None:
             raise no_book(folder)
         book = Book(folder, connection)
-        is_stale = book.change is not None and not are_fresh(folder, book.change)
         yield book
-    if is_stale:
+    # whoever asks waits for less before the answer
+    from society.book.exports import are_fresh, refresh
+
+    if book.change is not None and not are_fresh(folder, book.change):
         # somebody who changes the book writes them too, and in a folder without rights they stay as they are
         refresh(folder, 0)
 
 
 def no_book(folder: pathlib.Path) -> Mistake:
     """With the command that takes the only sheet that is here, if there is one."""
+    from society.taking.suggestions import Call, Suggestion
+
     there = "" if folder.is_absolute() else ", or go to the folder in which you took one"
     sheets = [path for path in pathlib.Path().iterdir() if path.suffix.lower() in SHEETS and path.is_file()]
     if len(sheets) != 1:
@@ -72,6 +73,8 @@ def to_look_at(folder: pathlib.Path, program: Herdbook) -> Iterator[Book]:
 def to_change(folder: pathlib.Path, program: Herdbook) -> Iterator[Book]:
     """The book to be changed, an empty one where there is none. Others who change it are waited for, and then it is
     seen that it is whole."""
+    from society.book.verify import verify
+
     take_over(folder, program)
     with changing(folder) as connection:
         book = Book(folder, connection)
@@ -83,6 +86,8 @@ def to_change(folder: pathlib.Path, program: Herdbook) -> Iterator[Book]:
 def to_prepare(folder: pathlib.Path, program: Herdbook) -> Iterator[Book]:
     """The book as it is now, an empty one where there is none, for a change of it that is prepared while others change
     it. It is seen that it is whole."""
+    from society.book.verify import verify
+
     take_over(folder, program)
     up_to_date(folder)
     with reading(folder) as connection:
@@ -112,5 +117,7 @@ def there_to_change(folder: pathlib.Path, program: Herdbook) -> Iterator[Book]:
 
 def export(folder: pathlib.Path) -> list[str]:
     """Writes the exports after a change; answers why it couldn't, in a sentence."""
+    from society.book.exports import refresh
+
     told = refresh(folder, SECONDS_FOR_EXPORTS)
     return [f"the change is made, but {told}: a later call writes them"] if told else []

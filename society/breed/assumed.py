@@ -6,7 +6,8 @@ from collections.abc import Mapping, Sequence
 from dataclasses import dataclass, replace
 from fractions import Fraction
 
-from society.answers.candidates import MAY_BE_MATED, WITH_YEAR, Candidates, candidates_of
+from society.answers.candidates import WITH_YEAR, Candidates, candidates_of
+from society.answers.mates_read import MAY_BE_MATED
 from society.book.asking_sentences import Mating
 from society.book.book import IN_BOOK, Book
 from society.book.inferred import BirthSource

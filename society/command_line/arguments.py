@@ -109,3 +109,10 @@ def add_choice(word: argparse.ArgumentParser) -> None:
 def add_force(word: argparse.ArgumentParser) -> None:
     """The option for words that write a file."""
     word.add_argument("--force", action="store_true", help="write over a file that is there, if it isn't the book's")
+
+
+def add_output(word: argparse.ArgumentParser) -> None:
+    """The options for words that write a table."""
+    word.add_argument("--semicolons", action="store_true", help="semicolons between cells, and commas in decimals")
+    word.add_argument("--out", type=file, metavar="FILE", help="write to this file, not to the screen")
+    add_force(word)

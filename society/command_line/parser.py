@@ -4,14 +4,16 @@ from __future__ import annotations
 import argparse
 import pathlib
 import re
-from typing import Callable, NoReturn
+from typing import TYPE_CHECKING, Callable, NoReturn
 
-from society.book.book import Book
 from society.book.opening import opened
 from society.command_line.output import tell
 from society.herdbook import Herdbook
 from society.mistake import CALLED, Mistake
-from society.packages import Group, need
+
+if TYPE_CHECKING:
+    from society.book.book import Book
+    from society.packages import Group
 
 ABOUT = """Keeps a society's herd book in a folder: takes its spreadsheet, and writes lists, certificates, mating advice
 and pictures. Every refusal and every coefficient comes from the program herdbook; the front desk around it isn't
@@ -75,6 +77,8 @@ class Words:
 
         def does_with_book(asked: argparse.Namespace) -> None:
             if group:
+                from society.packages import need
+
                 need(group)
             program = Herdbook()
             with opened(asked.book, program) as book:

@@ -11,7 +11,9 @@ from society.book.book import Book
 from society.book.out import write_outs, write_page
 from society.book.role import Role
 from society.breed.bounds import Assume
-from society.command_line.arguments import add_force, birth_days, coefficient, days, file, most
+from society.command_line.arguments import (
+    add_force, add_output, birth_days, coefficient, days, file, most,
+)  # fmt: skip
 from society.command_line.giving import give_table, named_in
 from society.command_line.output import tell
 from society.command_line.parser import Words
@@ -65,9 +67,7 @@ def add_words(words: Words) -> None:
         help="count a sire's mean kinship with the living so much of a coefficient [0]",
     )  # fmt: skip
     plan.add_argument("--table", action="store_true", help="write all pairs with their coefficients")
-    plan.add_argument("--semicolons", action="store_true", help="semicolons between cells, and commas in decimals")
-    plan.add_argument("--out", type=file, metavar="FILE", help="write to this file, not to the screen")
-    add_force(plan)
+    add_output(plan)
 
 
 def add_population(word: argparse.ArgumentParser) -> None:

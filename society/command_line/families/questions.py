@@ -9,9 +9,9 @@ from society.book.book import Book
 from society.book.known import Known
 from society.book.out import write_outs
 from society.book.search import find
-from society.command_line.arguments import add_force, file
+from society.command_line.arguments import add_output
 from society.command_line.giving import give_table, named_in
-from society.command_line.parser import Parser, Words
+from society.command_line.parser import Words
 from society.herdbook import Herdbook
 from society.mistake import Mistake, counted
 
@@ -48,12 +48,6 @@ def add_words(words: Words) -> None:
     )
     for one in look, kinship, export:
         add_output(one)
-
-
-def add_output(word: Parser) -> None:
-    word.add_argument("--semicolons", action="store_true", help="semicolons between cells, and commas in decimals")
-    word.add_argument("--out", type=file, metavar="FILE", help="write to this file, not to the screen")
-    add_force(word)
 
 
 def do_show(asked: argparse.Namespace, book: Book, program: Herdbook) -> None:

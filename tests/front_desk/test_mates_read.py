@@ -1,0 +1,69 @@
+"""Who may be mated, as it is read in columns, is what the rows of the book say."""
+from __future__ import annotations
+
+import pytest
+
+from front_desk.desk import Desk
+from society.answers.candidates import Candidate, Candidates, all_candidates
+from society.answers.choice import HAS_LEFT, LISTED
+from society.answers.list_columns import BIRTH_OF, birth_of
+from society.answers.mates_read import MatesRead, Why
+from society.book.book import Book
+from society.book.book_read import reading
+from society.book.role import Role
+from society.book.selecting import selected
+
+# an ox, one that was sold, one whose exit has no day, one with a year alone, one born on no day that there is, a name with
+# signs, and a parent without a row
+SHEET = """id;name;sex;birth;sire;dam;exit
+a;Max, der Alte;m;2001-02-03;;;
+b;;Ochse;2001-02-03;;;
+c;Löwe;m;2000;;;
+d;'1;m;30.02.2001;;;
+e;e;m;2003-01-01;a;x;2005-01-01
+f;f;m;2003-01-01;a;x;sold
+g;[1];w;2002-01-01;y;;
+h;;Ochse;1999-01-01;;;2005-01-01
+i;;Ochse;2002-01-01;;;
+"""
+
+
+@pytest.mark.parametrize("also_left", [False, True])
+@pytest.mark.parametrize("role", Role)
+def test_as_the_rows(desk: Desk, role: Role, also_left: bool) -> None:
+    desk.take(SHEET)
+    desk.good("birth", "n", "--sex", "m", "--day", "2001-02-02")
+    with reading(desk.room / "book") as connection:
+        book = Book(desk.room / "book", connection)
+        read = MatesRead(book, role, also_left)
+        assert all_candidates(book, role, also_left) == of_rows(book, role, also_left)
+        assert [*zip(read.numbers, read.ids)] == [(book.known[id].number, id) for id in read.ids]
+        found = {why: read.passed_over(why) for why in Why if why}
+    males = role is Role.SIRE
+    assert found[Why.CASTRATED] == (["h", "b", "i"] if also_left else ["b", "i"]) * males
+    assert sorted(found[Why.LEFT]) == ([] if also_left else ["e", "f", "h"]) * males
+    assert found[Why.WITHOUT_ROW] == (["y"] if males else ["x"])
+
+
+def of_rows(book: Book, role: Role, also_left: bool) -> Candidates:
+    """The same by a question that is asked row by row."""
+    wanted = ("number", "id", "name", *BIRTH_OF, LISTED, HAS_LEFT, "castrated")
+    animals, castrated, without_row, left = list[Candidate](), list[str](), list[str](), 0
+    for number, id, name, born, *basis, is_listed, has_left, is_castrated in selected(book, wanted):
+        if number[6] != role.sex:
+            continue
+        if not is_listed:
+            without_row.append(id)
+        elif has_left and not also_left:
+            left += 1
+        elif is_castrated:
+            castrated.append(id)
+        else:
+            shown = birth_of(born, *basis)
+            animals.append(Candidate(number, id, name, born, shown, basis[0] in ("given", "period")))
+    return Candidates(role, animals, castrated, sorted(without_row), left)
+
+
+def test_of_nobody(desk: Desk) -> None:
+    read = MatesRead(Book(desk.room, None), Role.SIRE, False)
+    assert read.numbers == read.ids == read.births == [] and not read.passed_over(Why.LEFT)
