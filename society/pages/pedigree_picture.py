@@ -55,7 +55,8 @@ class Pedigree:
         title = escape(self.language.texts["pedigree of"].format(self.known.id))
         return (
             f'<!DOCTYPE html>\n<html lang="{self.language.name}" xmlns="http://www.w3.org/1999/xhtml">\n<head>\n'
-            f'<meta charset="utf-8"/>\n<title>{title}</title>\n<style>{STYLE}</style>\n</head>\n<body>\n{pages}</body>\n'
+            '<meta charset="utf-8"/>\n<meta name="viewport" content="width=device-width, initial-scale=1"/>\n'
+            f"<title>{title}</title>\n<style>{STYLE}</style>\n</head>\n<body>\n{pages}</body>\n"
             "</html>\n"
         )
 
@@ -135,6 +136,8 @@ body {{ margin: 0; background: #e9ecef; -webkit-print-color-adjust: exact; print
 section {{ width: 277mm; height: 190mm; margin: 8mm auto; background: {PAPER}; }}
 svg {{ display: block; }}
 section > svg {{ width: 100%; height: 100%; }}
+@media screen and (max-width: 277mm) {{ section {{ width: auto; height: auto; margin: 0 0 8mm; overflow-x: auto; }}
+  section > svg {{ width: 277mm; height: 190mm; }} }}
 @media print {{ body {{ background: none; }} section {{ margin: 0; break-after: page; break-inside: avoid; }}
   section:last-child {{ break-after: auto; }} }}
 """

@@ -40,12 +40,13 @@ def text_at(
 
 
 def svg(width: int, height: int, parts: list[str]) -> str:
-    """A picture, which fits on a page where it is printed."""
+    """A picture, which fits on a page where it is printed, and is no wider than a screen."""
     return (
         f'<svg xmlns="http://www.w3.org/2000/svg" viewBox="0 0 {width} {height}" width="{width}" height="{height}" '
         f'font-family="{escape(FONT)}">\n'
         f"<style>@page {{ size: A4 {'landscape' if width > height else 'portrait'}; margin: 10mm; }} "
-        "@media print { svg { width: 100%; height: 100%; } }</style>\n"
+        "@media print { svg { width: 100%; height: 100%; } }\n"
+        f"@media screen and (max-width: {width}px) {{ svg {{ width: 100%; height: auto; }} }}</style>\n"
         f'<rect width="{width}" height="{height}" fill="{PAPER}"/>\n' + "\n".join(parts) + "\n</svg>\n"
     )
 

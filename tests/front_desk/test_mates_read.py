@@ -5,9 +5,8 @@ import pytest
 
 from front_desk.desk import Desk
 from society.answers.candidates import Candidate, Candidates, all_candidates
-from society.answers.choice import HAS_LEFT, LISTED
 from society.answers.list_columns import BIRTH_OF, birth_of
-from society.answers.mates_read import MatesRead, Why
+from society.answers.mates_read import HAS_LEFT, LISTED, MatesRead, Why
 from society.book.book import Book
 from society.book.book_read import reading
 from society.book.role import Role
