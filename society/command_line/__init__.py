@@ -1,4 +1,9 @@
-"""The command line. Its words read the book by several threads."""
-from society.unlocked import without_statistics
+"""The command line. Some of its words read or write the book by several threads; others wait for nothing that these need."""
+import sys
 
-without_statistics()
+SEVERAL = {"mating", "take", "birth", "parents", "transfer", "exit", "undo", "restore", "open", "serve"}
+
+if SEVERAL.intersection(sys.argv[1:2]):
+    from society.unlocked import without_statistics
+
+    without_statistics()

@@ -1,16 +1,22 @@
 """Who may be mated, as it is read in columns, is what the rows of the book say."""
 from __future__ import annotations
 
+import pathlib
+import sqlite3
+
 import pytest
 
 from front_desk.desk import Desk
-from society.answers.candidates import Candidate, Candidates, all_candidates
+from society.answers.advice import Answers, advise_on_all, shown_of, told_of
+from society.answers.candidates import Candidate, Candidates, all_candidates, birth_shown
 from society.answers.list_columns import BIRTH_OF, birth_of
 from society.answers.mates_read import HAS_LEFT, LISTED, MatesRead, Why
 from society.book.book import Book
 from society.book.book_read import reading
 from society.book.role import Role
 from society.book.selecting import selected
+from society.herdbook import Herdbook
+from society.mistake import Mistake
 
 # an ox, one that was sold, one whose exit has no day, one with a year alone, one born on no day that there is, a name with
 # signs, and a parent without a row
@@ -66,3 +72,35 @@ def of_rows(book: Book, role: Role, also_left: bool) -> Candidates:
 def test_of_nobody(desk: Desk) -> None:
     read = MatesRead(Book(desk.room, None), Role.SIRE, False)
     assert read.numbers == read.ids == read.births == [] and not read.passed_over(Why.LEFT)
+
+
+def test_who_is_refused_is_told_in_age_order(desk: Desk) -> None:
+    """Also where they were read in another; so is who is told of, and a fault of the dam is a mistake."""
+    desk.take("id;sex;birth;sire;dam\nz;m;2003-01-01;;\nd;f;1999-01-01;;\nx;m;2002-01-01;;\ny;m;ca. 2000;;\n")
+    with reading(desk.room / "book") as connection:
+        book = Book(desk.room / "book", connection)
+        read, sires = MatesRead(book, Role.SIRE, False), all_candidates(book, Role.SIRE)
+        shown = shown_of(read.ids, read.names, read.numbers, [*map(birth_shown, read.births)])
+        assert read.ids != [one.id for one in sires.animals] and [one.id for one in sires.animals] == ["y", "x", "z"]
+        faults = [{"z": "5", "y": "5"}.get(id, "") for id in read.ids]
+        answers = Answers(["refused" if one else "1/8" for one in faults], [one or "12.50" for one in faults], True)
+        advice = told_of(book.known["d"], sires, answers, shown, read)
+        assert [one.partition(":")[0].split()[-1] for one in advice.refused] == ["y", "z"]
+        assert [row[0] for row in advice.table.rows] == ["x"] and ",1/8,0.125,12.50\n" in advice.table.text(False)
+        with pytest.raises(Mistake, match="d"):
+            told_of(book.known["d"], sires, answers._replace(percents=["4"] * 3), shown, read)
+
+
+def test_advice_where_the_journal_can_not_be_read_beside(mrode_desk: Desk, monkeypatch: pytest.MonkeyPatch) -> None:
+    def closed(path: pathlib.Path, mode: str) -> sqlite3.Connection:
+        raise sqlite3.OperationalError("unable to open database file")
+
+    wanted = mrode_desk.good("mating", "--dam", "2").out
+    monkeypatch.setattr("society.book.beside.connect", closed)
+    monkeypatch.setenv("HERDBOOK", mrode_desk.program)
+    with reading(mrode_desk.room / "book") as connection:
+        book, program = Book(mrode_desk.room / "book", connection), Herdbook()
+        with book.journal_read_beside():
+            read, dam = MatesRead(book, Role.SIRE, False), book.known["2"]
+            begun = program.begin_matings(dam.number, read.numbers, book)
+            assert advise_on_all(book, program, dam, read, begun, False).table.text(False) == wanted
