@@ -8,7 +8,7 @@ import sqlite3
 from typing import Iterable, Iterator, Sequence
 
 # so many rows are written by one statement
-TOGETHER = 200
+TOGETHER = 50
 # so many rows are worth it that a table's indexes are made anew behind them, and that columns are looked at
 MANY = 5_000
 # how a value stands in a statement that is given for each row, and texts, which have so many letters at most

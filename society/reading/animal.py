@@ -28,6 +28,8 @@ class Animal:
     sire: str = ""
     dam: str = ""
     owner: str = ""
+    # its cells as they are written, by their fields
+    cells: dict[str, str] = field(default_factory=dict)
     # since when it has this owner, where the sheet says it
     since: Span | None = None
     left: datetime.date | None = None
@@ -43,8 +45,6 @@ class Animal:
     sex_source: SexSource = SexSource.GIVEN
     # for a parent without a row the line that names it
     named_in: int = 0
-    # its cells as they are written, by their fields
-    cells: dict[str, str] = field(default_factory=dict)
     # the fields whose cells can't be read
     unread: list[str] = field(default_factory=list)
 

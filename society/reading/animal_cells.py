@@ -37,7 +37,7 @@ class AnimalCells:
         name, sex, birth, sire, dam, owner, since, exit, embryo = map(said, CELL_FIELDS, NO_TEXTS)
         sire = "" if self.unknown.is_one(sire) else sire
         dam = "" if self.unknown.is_one(dam) else dam
-        animal = Animal(id, line, name, sire=sire, dam=dam, owner=owner, cells=cells)
+        animal = Animal(id, line, name, "", ANY_DAY, sire, dam, owner, cells)
         if not f"{id}{name}{owner}{sire}{dam}".isascii():
             self.look_at_letters(animal)
         self.read_sex(animal, sex)

@@ -87,16 +87,23 @@ class Rows:
         texts = self.chosen(cells)
         return dict(zip(self.columns, map(self.value, texts) if self.errors.found else texts))
 
+    def said_of(self) -> Callable[[list[str]], dict[str, str]]:
+        """What answers the same, quicker where no row has an error value or ends before a column."""
+        if self.errors.found or min(map(len, map(CELLS_OF, self.sheet.rows)), default=0) < self.width:
+            return self.said
+        columns, chosen = self.columns, self.chosen
+        return lambda cells: dict(zip(columns, chosen(cells)))
+
     def animals(self) -> dict[str, Animal]:
         """The animals by id, in the order of the rows."""
         found: dict[str, Animal] = {}
         # animals of other years that have the id of another one
         others: list[Animal] = []
         titles, usual = len(self.sheet.titles), self.usual_length()
-        may_be_none = bool(self.no_animals)
+        may_be_none, said_of = bool(self.no_animals), self.said_of()
         id_title = self.sheet.titles[self.columns[Field.ID]]
         for line, cells in self.sheet.rows:
-            said = self.said(cells)
+            said = said_of(cells)
             id = said.pop(Field.ID)
             if len(cells) > titles and (len(cells) > usual or any(cells[titles:])):
                 self.report.add(line, id, TooManyCells(len(cells), titles))

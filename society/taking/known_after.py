@@ -1,7 +1,6 @@
 """What is known of each animal after a taking."""
 from __future__ import annotations
 
-from society.book.inferred import OwnerDay
 from society.book.kinds import Standing
 from society.book.known import NO_FIELDS, Known
 from society.book.named import made
@@ -34,7 +33,7 @@ def known_animals(next_book: NextBook) -> dict[str, Known]:
             animal.number,
             id,
             animal.name,
-            standing_of(next_book, animal, before),
+            Standing.ROW if animal.line else standing_of(next_book, animal, before),
             animal.birth_basis,
             animal.exit_basis,
             animal.sex_source,
@@ -42,22 +41,19 @@ def known_animals(next_book: NextBook) -> dict[str, Known]:
             sire,
             dam,
             by_hand,
-            owner_day_of(animal, before),
+            animal.owner_day if animal.line or before is None else before.owner_day,
         )
         kept[id] = made(Known, values)
     return kept
 
 
 def standing_of(next_book: NextBook, animal: Animal, before: Known | None) -> Standing:
-    if animal.line or animal.id in next_book.used_again:
+    """That of an animal without a row."""
+    if animal.id in next_book.used_again:
         return Standing.ROW
     if before and before.standing is Standing.FILED:
         return Standing.FILED
     return Standing.GONE if before and before.standing.had_row() else Standing.PARENT
-
-
-def owner_day_of(animal: Animal, before: Known | None) -> OwnerDay:
-    return animal.owner_day if animal.line or before is None else before.owner_day
 
 
 def written_parents(next_book: NextBook) -> dict[str, tuple[str, str]]:

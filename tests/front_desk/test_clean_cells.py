@@ -7,7 +7,7 @@ import random
 
 import pytest
 
-from society.reading.sheet import is_clean, read_records
+from society.reading.sheet import cleaned_records, is_clean, read_records
 from society.reading.words import clean
 
 PIECES = ("a", "7", "Ö", "ō", "-", ".", "\t", ",", ";", "\n", "\r\n", "\r")
@@ -28,7 +28,10 @@ def test_rows_are_read_as_if_each_cell_were_cleaned(pieces: tuple[str, ...], sep
     draw = random.Random(8)
     for _ in range(2_000):
         text = "".join(draw.choices(pieces, k=draw.randrange(12)))
-        assert [row.cells for row in read_records(text, separator)] == cleaned(text, separator), repr(text)
+        rows = read_records(text, separator)
+        assert [row.cells for row in rows] == cleaned(text, separator), repr(text)
+        # on the same lines, also behind empty ones
+        assert rows == cleaned_records(text, separator), repr(text)
 
 
 def test_most_sheets_need_no_cleaning() -> None:
