@@ -147,3 +147,11 @@ def test_what_may_be_wrong_comes_first(desk: Desk) -> None:
     exits = next(at for at, line in enumerate(lines) if "an exit without a day stands in" in line)
     assert exits > places[-1]
     assert sum(row["what"] == "left out" for row in desk.table("book/report.csv")) == 63
+
+
+def test_rows_that_sum_up_are_told_though_they_have_a_birth_day(desk: Desk) -> None:
+    """By the first word of an id, also where that ends with a number."""
+    rows = "".join(f"{id};F;2001-01-01;;\n" for id in ("a 1", "Summe 2", "Summe", "Total: 30", "Summe2", "b"))
+    told = desk.take("id;sex;birth;sire;dam\n" + rows).told
+    seen = {line.split(": ")[0] for line in told.splitlines() if "is this row an animal" in line}
+    assert seen == {"line 3", "line 4", "line 5"}
