@@ -95,6 +95,9 @@ def prepared_of(
         form=wishes.form,
     )
     new_owners = {owner: herd for owner, herd in book.owners.items() if herd not in herds}
+    if book.connection is None:
+        # where the program fails no book is begun
+        coefficients.value()
 
     def find_state() -> State:
         return State(

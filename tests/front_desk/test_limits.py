@@ -71,6 +71,16 @@ def test_too_much_memory(mrode_desk: Desk) -> None:
     assert mrode_desk.files() == before
 
 
+def test_a_new_book_is_not_begun_where_the_program_fails(desk: Desk, program: str) -> None:
+    """Also where it fails at the coefficients, which it is asked for last."""
+    fails = "import os, sys\nif 'inbreeding' in sys.argv:\n    sys.exit('herdbook: no memory')\n"
+    failing = stand_in(desk.room, f"{fails}os.execv({program!r}, [{program!r}, *sys.argv[1:]])")
+    desk.write("sheet.csv", "id;sex;birth;sire;dam\na;F;2001-01-01;;\n")
+    done = desk.run("take", "sheet.csv", program=failing)
+    assert done.status == 1 and "the program `herdbook inbreeding` can't do it: no memory" in done.err
+    assert not (desk.room / "book").exists()
+
+
 @pytest.mark.parametrize("text", [WAITING, BUSY], ids=["waiting", "busy"])
 def test_too_long(text: str, tmp_path: pathlib.Path, monkeypatch: pytest.MonkeyPatch) -> None:
     """It is ended, and nothing of it stays."""
