@@ -75,17 +75,17 @@ def test_of_nobody(desk: Desk) -> None:
 
 
 def test_who_is_refused_is_told_in_age_order(desk: Desk) -> None:
-    """Also where they were read in another; so is who is told of, and a fault of the dam is a mistake."""
-    desk.take("id;sex;birth;sire;dam\nz;m;2003-01-01;;\nd;f;1999-01-01;;\nx;m;2002-01-01;;\ny;m;ca. 2000;;\n")
+    """Also where they were read in another; a fault of the dam is a mistake."""
+    desk.take("id;sex;birth;sire;dam\na;m;2003-01-01;;\nd;f;1999-01-01;;\nx;m;2002-01-01;;\nz;m;ca. 2000;;\n")
     with reading(desk.room / "book") as connection:
         book = Book(desk.room / "book", connection)
         read, sires = MatesRead(book, Role.SIRE, False), all_candidates(book, Role.SIRE)
         shown = shown_of(read.ids, read.names, read.numbers, [*map(birth_shown, read.births)])
-        assert read.ids != [one.id for one in sires.animals] and [one.id for one in sires.animals] == ["y", "x", "z"]
-        faults = [{"z": "5", "y": "5"}.get(id, "") for id in read.ids]
+        assert read.ids == ["a", "x", "z"] and [one.id for one in sires.animals] == ["z", "x", "a"]
+        faults = [{"a": "5", "z": "5"}.get(id, "") for id in read.ids]
         answers = Answers(["refused" if one else "1/8" for one in faults], [one or "12.50" for one in faults], True)
         advice = told_of(book.known["d"], sires, answers, shown, read)
-        assert [one.partition(":")[0].split()[-1] for one in advice.refused] == ["y", "z"]
+        assert [one.partition(":")[0].split()[-1] for one in advice.refused] == ["z", "a"]
         assert [row[0] for row in advice.table.rows] == ["x"] and ",1/8,0.125,12.50\n" in advice.table.text(False)
         with pytest.raises(Mistake, match="d"):
             told_of(book.known["d"], sires, answers._replace(percents=["4"] * 3), shown, read)
