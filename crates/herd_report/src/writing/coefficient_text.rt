@@ -58,6 +58,8 @@ pub(crate) fn push_coefficient<A: Allocator>(
 }
 
 /// Adds a fraction that is in lowest terms.
+// Inlined: a fraction isn't stored on its way.
+#[inline(always)]
 pub(crate) fn push_fraction<A: Allocator>(
     text: &mut Text<A>,
     fraction: Fraction,
