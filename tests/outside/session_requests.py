@@ -122,6 +122,8 @@ class Requests:
             ("Fields", ("certificate",)),
             ("Fields", ("coefficient", NOBODY, NOBODY)),
             ("Fields", ("mating", NOBODY)),
+            ("Fields", ("mating", "x")),
+            ("Fields", ("certificate", "x", NOBODY)),
             ("Fields", ("relationships",)),
             ("Animal", ("certificate", "x")),
             ("Animal", ("relationships", NOBODY, "x")),
@@ -134,6 +136,7 @@ class Requests:
             ("NoDesk", ("desk", str(self.desks + 1), *birth)),
             ("NoDesk", ("desk", "01", *birth)),
             ("NoInspector", ("inspector", "0", "seen")),
+            ("NoInspector", ("inspector", str(self.inspectors + 1), "seen")),
             ("NoInspector", ("inspector",)),
         ]
         chance = self.draw.random()

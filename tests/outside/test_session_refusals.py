@@ -1,6 +1,7 @@
 """Sessions whose calls are refused, each in turn, and clients that break off."""
 from __future__ import annotations
 
+import contextlib
 import os
 import subprocess
 import time
@@ -31,8 +32,11 @@ class TestSessionRefusals(Refusals):
         """A growth that is refused is told at the start, of a request, or of reading one; nothing is filed twice."""
         refusals: list[dict[str, object]] = [{"REFUSE": "growth"}, {"REFUSE": "growth", "REFUSE_LAST": ALL}]
         for refuse in refusals:
-            refused = self.until_none("growth", WORDS, SMALL, refuse, is_right_without_memory, is_answered)
+            right = Growths()
+            refused = self.until_none("growth", WORDS, SMALL, refuse, right, is_answered)
             self.count(refused, "no growth was refused")
+            # a thread's start takes two growths, and there are four; others may come between
+            self.count(right.unstarted <= 16, f"{right.unstarted} growths are told as want of a thread")
 
     def test_refused_reads(self) -> None:
         def is_told(wanted: Done, done: Done) -> bool:
@@ -55,7 +59,8 @@ class TestSessionRefusals(Refusals):
         self.expect("a byte a write", self.run(one, text), one, text, refuse=every)
 
     def test_refused_threads(self) -> None:
-        for words, threads in (WORDS, 4), (["session"], 8), (["session", "--desks", "16", "--inspectors", "16"], 32):
+        for desks, inspectors in (2, 2), (4, 4), (3, 1), (16, 16):
+            words, threads = ["session", "--desks", str(desks), "--inspectors", str(inspectors)], desks + inspectors
             refused = self.until_none("thread", words, SMALL, {"REFUSE": "thread"}, is_no_thread, is_answered)
             self.count(refused == threads, f"{refused} threads were started: {words}")
 
@@ -99,6 +104,27 @@ class TestSessionRefusals(Refusals):
         told = process.stderr.read()
         self.count(process.wait() == 1 and told == b"herdbook: write fault\n", f"a broken pipe: {told!r}")
 
+    def test_desk_left(self) -> None:
+        """Once its output is closed a session ends at the next request, also to the desk that met it, of an input that
+        doesn't end."""
+        reader, writer = os.pipe()
+        process = subprocess.Popen(
+            [self.program, "session"], stdin=subprocess.PIPE, stdout=writer, stderr=subprocess.DEVNULL
+        )
+        os.close(writer)
+        os.close(reader)
+        assert process.stdin
+        asked = 0
+        while asked < 20_000 and process.poll() is None:
+            with contextlib.suppress(BrokenPipeError):
+                process.stdin.write(SMALL.splitlines(keepends=True)[0].encode() * 50)
+                process.stdin.flush()
+            time.sleep(0.005)
+            asked += 50
+        has_ended = process.poll() is not None
+        process.kill()
+        self.count(has_ended and process.wait() == 1, f"the session goes on after {asked} requests")
+
 
 def is_no_thread(wanted: Done, done: Done) -> bool:
     return done == fault("no thread")
@@ -122,10 +148,23 @@ def is_answered(wanted: Done, done: Done) -> bool:
     return done.status == 0 and not done.err and sorted(tags) == sorted(asked) and is_closed
 
 
+class Growths:
+    """What a session may answer whose nth growth is refused; and how many were told as want of a thread."""
+
+    def __init__(self) -> None:
+        self.unstarted = 0
+
+    def __call__(self, wanted: Done, done: Done) -> bool:
+        self.unstarted += done == fault("no thread")
+        return is_right_without_memory(wanted, done)
+
+
 def is_right_without_memory(wanted: Done, done: Done) -> bool:
     """The session wasn't begun, or a request couldn't be read, or each request has one answer."""
     if done.status == 1:
         is_begun = done.err not in (b"herdbook: no memory\n", b"herdbook: no thread\n")
         is_unread = done.err.startswith(b"herdbook: record ") and done.err.endswith(b": fault 13 Memory\n")
         return is_unread or not is_begun and not done.out
-    return is_answered(wanted, done)
+    faults = {line for line in done.out.decode().splitlines() if ",fault," in line}
+    told = {line for line in faults if line.endswith(",fault,Memory")} | {"w1,fault,NoDesk", "q2,fault,NotRegistered"}
+    return is_answered(wanted, done) and faults <= told

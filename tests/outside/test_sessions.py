@@ -97,6 +97,20 @@ class TestSessions(Checks):
         waited = [places[f"b{at}"] > places[f"q{at}"] for at in range(5)]
         self.count(not all(waited), "each command waited for the list asked before it")
 
+    def test_inspectors_beside_lists(self) -> None:
+        """A question waits for no list of another inspector."""
+        client = Client(self.program, ["--desks", "1", "--inspectors", "2"])
+        for one in range(20_000):
+            client.given.write(f"a,desk,1,birth,{animal('MF'[one % 2], one)},2000-01-01,0,0,,1,\n".encode())
+        client.flush()
+        client.wait_until(lambda: len(client.answers) == 20_000)
+        for at in range(5):
+            client.given.write(f"q{at},inspector,1,inbreeding\ns{at},inspector,2,seen\n".encode())
+        client.end()
+        places = {answer.tag: place for place, answer in reversed([*enumerate(client.answers)])}
+        waited = [places[f"s{at}"] > places[f"q{at}"] for at in range(5)]
+        self.count(not all(waited), "each question waited for the list asked before it")
+
     def test_limits(self) -> None:
         """The journal and the book have their limits."""
         birth = "desk,1,birth,{},2000-01-01,0,0,,1,\n"
