@@ -17,6 +17,8 @@ from society.book.journal import Journal, in_pieces, parts_of, piece_of
 Value = TypeVar("Value")
 # so many read a journal at once
 READERS = 2
+# so long, in seconds, one thread keeps the others waiting that read, write or answer
+SECONDS_IN_TURN = 0.0005
 
 
 class Beside(Generic[Value]):

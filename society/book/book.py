@@ -8,7 +8,7 @@ import sqlite3
 import sys
 from typing import Iterable, Iterator, Mapping
 
-from society.book.beside import Pieces, command_file_beside
+from society.book.beside import SECONDS_IN_TURN, Pieces, command_file_beside
 from society.book.changes import Change
 from society.book.commands import Record
 from society.book.database import path_of
@@ -21,8 +21,6 @@ from society.book.rows import Row, known_of, record_of
 from society.book.state import ALL_ROWS, CELLS, NOW, Meaning, Values, read_remembered, rows_now, select_rows
 
 NO_OWNER = 99_999_999
-# so long what is done meanwhile keeps the journal from being read on, in seconds
-SECONDS_IN_TURN = 0.0005
 # animals of the book, in place of those that were dropped from it
 IN_BOOK = "standing <> 'dropped'"
 

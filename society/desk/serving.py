@@ -19,6 +19,7 @@ from collections.abc import Callable, Iterator
 from flask import Flask
 from waitress import create_server
 
+from society.book.beside import SECONDS_IN_TURN
 from society.book.book_changed import up_to_date
 from society.book.opening import take_over
 from society.desk.app import desk_app
@@ -35,8 +36,6 @@ from society.reading.sheet import MOST_BYTES
 
 ADDRESS = "127.0.0.1"
 THREADS = 8
-# so long one answer keeps the others from going on, in seconds
-SECONDS_IN_TURN = 0.0005
 # so long answers that are under way at the end are waited for
 SECONDS_FOR_ANSWERS = 10
 

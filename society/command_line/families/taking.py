@@ -8,6 +8,7 @@ import pathlib
 import sys
 from typing import TYPE_CHECKING
 
+from society.book.beside import SECONDS_IN_TURN
 from society.book.book_changed import anew_where_a_book_came
 from society.command_line.arguments import day, days, three_letters
 from society.command_line.output import tell
@@ -133,7 +134,7 @@ def do_take(asked: argparse.Namespace) -> None:
     # needed any more would find nothing, again and again
     gc.disable()
     # what writes the book waits for Python between two statements, while something else is done beside
-    sys.setswitchinterval(0.0005)
+    sys.setswitchinterval(SECONDS_IN_TURN)
     is_the_only_one()
     for note in anew_where_a_book_came(lambda: taken(asked, wishes)):
         tell(note)
