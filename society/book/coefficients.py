@@ -3,6 +3,7 @@ from __future__ import annotations
 
 import functools
 import json
+import operator
 import sqlite3
 from typing import TYPE_CHECKING, Iterable, Mapping, NamedTuple
 
@@ -15,6 +16,8 @@ if TYPE_CHECKING:
     from fractions import Fraction
 
 UNIT_BITS = 120
+# a fraction in what stands above, the stroke and what stands below
+PARTS = operator.methodcaller("partition", "/")
 # so many coefficients are asked for one by one: of more it is quicker to ask for all
 MOST_ONE_BY_ONE = 20
 
@@ -55,7 +58,7 @@ def units_in(denominator: str) -> int:
 
 def units_of(fractions: Iterable[str]) -> list[int]:
     """Those of many fractions."""
-    return [int(above) * units_in(below) for above, _, below in [one.partition("/") for one in fractions]]
+    return [int(above) * units_in(below) for above, _, below in map(PARTS, fractions)]
 
 
 def decimals_of_units(units: Iterable[int]) -> list[str]:
