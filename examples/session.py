@@ -1,4 +1,5 @@
 """Asks a session of the herd book the requests of standard input, one after the other, and prints each answer."""
+import os
 import subprocess
 import sys
 
@@ -7,8 +8,8 @@ class Session:
     """A session that answers one request at a time."""
 
     def __init__(self, *words):
-        pipe = subprocess.PIPE
-        self.process = subprocess.Popen(["./herdbook", "session", *words], stdin=pipe, stdout=pipe, text=True)
+        pipe, program = subprocess.PIPE, os.environ.get("HERDBOOK", "./herdbook")
+        self.process = subprocess.Popen([program, "session", *words], stdin=pipe, stdout=pipe, text=True)
         self.asked = 0
 
     def ask(self, request):
