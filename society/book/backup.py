@@ -11,7 +11,7 @@ from typing import Callable
 
 from society.book.backup_sentences import BackupFault
 from society.book.book import Book
-from society.book.book_changed import Overtaken, set_write_ahead
+from society.book.book_changed import Overtaken, set_write_ahead, stop_no_more
 from society.book.book_read import opened_to_read, reading
 from society.book.changes import Change, Made
 from society.book.database import (
@@ -30,7 +30,8 @@ from society.book.files import cant_be_written, put, source_of, sync_folder
 from society.book.history import last_change, next_number, now, write_change
 from society.book.kinds import ChangeKind
 from society.book.last_backup import remember
-from society.book.old_names import OLD
+from society.book.old_folder import alone, are_exports, keep_files
+from society.book.old_names import OLD, is_old
 from society.book.out import check
 from society.book.schema import VERSION
 from society.book.verify import verify
@@ -66,7 +67,8 @@ def restore(
     folder: pathlib.Path, path: pathlib.Path, program: Herdbook, anyway: bool, looked: int | None = None
 ) -> Change:
     """Makes the book of a copy that of a folder. A book that is there goes to the folder `old` before, with all that
-    anybody changed until then. Where its last change isn't the one that somebody looked at, this raises `Overtaken`."""
+    anybody changed until then; so do the files of version 0.11. Where its last change isn't the one that somebody looked
+    at, this raises `Overtaken`."""
     if path_of(folder).exists() and path.exists() and path.samefile(path_of(folder)):
         raise Mistake(f"{path} is the book itself: name a backup")
     with tempfile.TemporaryDirectory(prefix="society-") as room:
@@ -76,7 +78,7 @@ def restore(
         def look() -> None:
             if looked is not None and change_now(folder) not in (None, looked):
                 raise Overtaken
-            if has_file(folder) and not anyway:
+            if (has_file(folder) or has_old_files(folder)) and not anyway:
                 raise Mistake(
                     f"there is a book in the folder {folder}: to restore {path} in its place say --anyway; the one that "
                     f"is there goes to {folder / OLD} then"
@@ -87,7 +89,9 @@ def restore(
             keep_old(folder)
 
         look()
-        put_in_place(folder, copy, keep)
+        # nobody takes the files of version 0.11 over meanwhile
+        with alone(folder) if is_old(folder) else contextlib.nullcontext():
+            put_in_place(folder, copy, keep)
     return change
 
 
@@ -111,6 +115,11 @@ def has_file(folder: pathlib.Path) -> bool:
             return version_of(connection, path) > 0
     except (sqlite3.Error, Mistake):
         return True
+
+
+def has_old_files(folder: pathlib.Path) -> bool:
+    """Is the book that is there one of version 0.11, whose files are the book?"""
+    return is_old(folder) and not has_file(folder) and not are_exports(folder)
 
 
 def prepare(path: pathlib.Path, copy: pathlib.Path, program: Herdbook) -> Change:
@@ -179,11 +188,14 @@ def copy_into(source: sqlite3.Connection, target: sqlite3.Connection, begin: Cal
     """Makes a database what another one is, in one change of it; what is done to begin is done within that."""
     begun: list[int] = []
 
-    def begin_once(status: int, _left: int, _pages: int) -> None:
+    def begin_once(status: int, left: int, _pages: int) -> None:
         # from its first page on nobody else changes it
         if status == sqlite3.SQLITE_OK and not begun:
             begun.append(status)
             begin()
+        # with its last page the change is made
+        if left <= 1:
+            stop_no_more()
 
     source.backup(target, pages=1, progress=begin_once)
 
@@ -191,6 +203,8 @@ def copy_into(source: sqlite3.Connection, target: sqlite3.Connection, begin: Cal
 def keep_old(folder: pathlib.Path) -> None:
     """Copies the files of the book that is there to the folder `old`, where they have names that nothing has."""
     path = path_of(folder)
+    if has_old_files(folder):
+        keep_files(folder)
     if not has_file(folder):
         return
     old = folder / OLD
@@ -215,6 +229,7 @@ def replace_damaged(path: pathlib.Path, copy: pathlib.Path, keep: Callable[[], N
         for one in companions(path)[1:]:
             one.unlink(missing_ok=True)
         sync_folder(path.parent)
+        stop_no_more()
         put(path, copy.read_bytes())
     except OSError as error:
         raise Mistake(f"{path} can't be written ({error.strerror or error}): it is damaged as before") from None

@@ -17,6 +17,7 @@ from society.book.journal import NO_JOURNAL, Journal, Step, command_file, refusa
 from society.book.kinds import Remembered, Standing
 from society.book.known import Known
 from society.book.lazy import Lazy, whole
+from society.book.owner_names import free_name
 from society.book.rows import Row, known_of, record_of
 from society.book.state import ALL_ROWS, CELLS, NOW, Meaning, Values, read_remembered, rows_now, select_rows
 
@@ -33,6 +34,8 @@ class Book:
         self.folder, self.connection = folder, connection
         self.change: Change | None = last_change(connection) if connection else None
         self.names_of_herds: dict[int, str] = {}
+        # how owners were written until now, and are from now on
+        self.renamed: list[tuple[str, str]] = []
         # what is told behind an answer
         self.notes: list[str] = []
         # the journal, where it is read beside other work
@@ -187,12 +190,28 @@ class Book:
     @functools.cached_property
     def owners(self) -> dict[str, int]:
         """The owners' herds, by their names as they are written now."""
-        found = self.connection.execute("SELECT name, herd FROM owner ORDER BY herd") if self.connection else ()
-        owners: dict[str, int] = dict(found)
+        owners = self.owners_came()
         for one in self.remembered:
-            if one.what is Remembered.OWNER and one.word in owners:
-                owners[one.meaning] = owners.pop(one.word)
+            if one.what is not Remembered.OWNER or one.word not in owners:
+                continue
+            herd = owners.pop(one.word)
+            if one.meaning in owners:
+                # what another one is called was lost in an earlier version
+                other = owners.pop(one.meaning)
+                owners[free_name(one.meaning, other, {*owners, one.meaning})] = other
+            owners[one.meaning] = herd
         return owners
+
+    def owners_came(self) -> dict[str, int]:
+        """The owners' herds, by the names by which they came."""
+        found = self.connection.execute("SELECT name, herd FROM owner ORDER BY herd") if self.connection else ()
+        return dict(found)
+
+    def respelt(self, owner: str) -> str:
+        """An owner of a cell of the last sheet, as it is written from now on."""
+        for before, now in self.renamed:
+            owner = now if " ".join(owner.split()) == before else owner
+        return owner
 
     def owner_of(self, herd: int) -> str:
         """The owner's name; a herd that has none stands for itself."""

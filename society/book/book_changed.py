@@ -3,7 +3,9 @@ from __future__ import annotations
 
 import contextlib
 import pathlib
+import signal
 import sqlite3
+import threading
 import time
 from typing import Callable, Iterator, TypeVar
 
@@ -153,6 +155,12 @@ def commit(connection: sqlite3.Connection, folder: pathlib.Path, change: int, ti
             checkpoint(connection)
         else:
             set_write_ahead(connection)
+
+
+def stop_no_more() -> None:
+    """From here on a change is made, and somebody who stops it now would be told something else."""
+    if threading.current_thread() is threading.main_thread():
+        signal.signal(signal.SIGINT, signal.SIG_IGN)
 
 
 def checkpoint(connection: sqlite3.Connection) -> None:

@@ -61,6 +61,8 @@ def copy_of(path: pathlib.Path, room: pathlib.Path) -> pathlib.Path:
     """A copy of a file and of what isn't in it yet, both of one moment, though others may be changing them."""
     import shutil
 
+    # SQLite has what isn't in it yet beside the file itself, and not beside a link to it
+    path = path.resolve()
     copy = room / path.name
     for _ in range(TRIES):
         before = marks(path)

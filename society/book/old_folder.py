@@ -27,6 +27,8 @@ from society.herdbook import Herdbook
 from society.mistake import Mistake
 
 ID_TITLES = ["number", "id", "name", "row", "birth", "exit", "sex"]
+# of those that are written from a database
+EXPORTED = [*ID_TITLES, "change"]
 
 
 @dataclass(frozen=True)
@@ -62,6 +64,15 @@ def alone(folder: pathlib.Path) -> Iterator[None]:
         yield
     finally:
         os.close(descriptor)
+
+
+def are_exports(folder: pathlib.Path) -> bool:
+    """Were the files that are there only written from a database, as those beside one that is lost?"""
+    try:
+        with open(folder / IDS, newline="", encoding="utf-8-sig") as file:
+            return next(csv.reader(file), []) == EXPORTED
+    except (OSError, ValueError, csv.Error):
+        return False
 
 
 def keep_files(folder: pathlib.Path) -> None:

@@ -9,6 +9,7 @@ from society.book.book import Book
 from society.book.database import companions
 from society.book.exports import NAMES
 from society.book.files import cant_be_written, digest_of, put
+from society.book.last_backup import NAME as LAST_BACKUP
 from society.book.old_names import OLD, OLD_NAMES
 from society.mistake import Mistake
 
@@ -69,7 +70,7 @@ def is_there(path: pathlib.Path) -> Mistake:
 def is_of_book(book: Book, path: pathlib.Path) -> bool:
     """Is it, by its name or by a link, one of the book's own files, or one that stays of an earlier version?"""
     folder = book.folder
-    of_book = [*companions(book.path), *(folder / name for name in (*NAMES, *OLD_NAMES))]
+    of_book = [*companions(book.path), *(folder / name for name in (*NAMES, *OLD_NAMES, LAST_BACKUP))]
     of_book += list((folder / OLD).iterdir()) if (folder / OLD).is_dir() else []
     place = path.resolve()
     if place == (folder / OLD).resolve() or (folder / OLD).resolve() in place.parents:

@@ -10,7 +10,7 @@ from collections.abc import Mapping
 
 from society.book.asking_sentences import NotSuch
 from society.book.book import Book
-from society.book.book_changed import changing, checkpoint
+from society.book.book_changed import changing, checkpoint, stop_no_more
 from society.book.opening import no_book
 from society.mistake import Mistake
 
@@ -45,6 +45,7 @@ def change_settings(folder: pathlib.Path, given: Mapping[Setting, str]) -> None:
             "INSERT INTO setting VALUES (?, ?) ON CONFLICT DO UPDATE SET value = excluded.value",
             [(setting.value, text) for setting, text in kept.items()],
         )
+        stop_no_more()
         connection.execute("COMMIT")
         with contextlib.suppress(sqlite3.Error):
             checkpoint(connection)

@@ -1,9 +1,7 @@
 """Writes a change of a book: its commands with their replies, and the state after them."""
 from __future__ import annotations
 
-import signal
 import sqlite3
-import threading
 from collections.abc import Callable
 from dataclasses import dataclass, field
 
@@ -11,12 +9,24 @@ from society.book.book import Book
 from society.book.changes import Change, Made
 from society.book.coefficients import add_coefficient, change_coefficients, few_descendants, write_coefficients
 from society.book.commands import Record
-from society.book.book_changed import commit, creating
+from society.book.book_changed import commit, creating, stop_no_more
 from society.book.history import last_change, next_number, now, write_change
 from society.book.journal import Journal, Step, append, begin_edition
+from society.book.kinds import Remembered
 from society.book.known import Known
+from society.book.owner_names import free_name
 from society.book.rows import row_of
-from society.book.state import ANIMALS, CELLS, REMEMBERED, Meaning, Values, remembered_rows, rows_now, write_rows
+from society.book.state import (
+    ANIMALS,
+    CELLS,
+    REMEMBERED,
+    Meaning,
+    Values,
+    read_remembered,
+    remembered_rows,
+    rows_now,
+    write_rows,
+)
 from society.herdbook import Herdbook
 
 
@@ -80,13 +90,13 @@ def write_within(
     state = find_state()
     computes = state.coefficients is None and not (state.keeps_coefficients or state.born or state.corrected)
     coefficients = program.beside(["inbreeding"], Book(book.folder, connection)) if computes else None
-    connection.executemany("INSERT INTO owner (name, herd) VALUES (?, ?)", state.new_owners.items())
+    remembered = write_owners(connection, state)
     write_rows(connection, ANIMALS, number, state.animals.before, state.animals.after)
     if state.cells is not None:
         write_rows(connection, CELLS, number, state.cells.before, state.cells.after)
-    if state.remembered is not None:
+    if remembered is not None:
         before = rows_now(connection, REMEMBERED)
-        write_rows(connection, REMEMBERED, number, before, remembered_rows(state.remembered))
+        write_rows(connection, REMEMBERED, number, before, remembered_rows(remembered))
     if coefficients:
         write_coefficients(connection, coefficients.value().splitlines())
         return end(book, connection, number, moment)
@@ -98,6 +108,24 @@ def write_within(
     if keeps_most(book, connection, program, state):
         return end(book, connection, number, moment)
     return compute_and_end(book, connection, program, number, moment)
+
+
+def write_owners(connection: sqlite3.Connection, state: State) -> list[Meaning] | None:
+    """Writes the new owners; answers what is to be remembered. The name that an owner had before it was written
+    otherwise stays in the table: another owner who has it now gets a name there that nobody has, and it is remembered
+    how that is written."""
+    remembered = state.remembered
+    others = read_remembered(connection) if remembered is None else remembered
+    there = {name for (name,) in connection.execute("SELECT name FROM owner")}
+    # those that somebody has for a while as they are read one after the other too
+    there |= {name for one in others if one.what is Remembered.OWNER for name in (one.word, one.meaning)}
+    for name, herd in state.new_owners.items():
+        stored = free_name(name, herd, there)
+        if stored != name:
+            remembered = others = [*others, Meaning(Remembered.OWNER, stored, name)]
+        there.add(stored)
+        connection.execute("INSERT INTO owner (name, herd) VALUES (?, ?)", (stored, herd))
+    return remembered
 
 
 def keeps_most(book: Book, connection: sqlite3.Connection, program: Herdbook, state: State) -> bool:
@@ -133,9 +161,3 @@ def end(book: Book, connection: sqlite3.Connection, number: int, moment: int) ->
     stop_no_more()
     commit(connection, book.folder, number, moment)
     return change
-
-
-def stop_no_more() -> None:
-    """From here on a change is made, and somebody who stops it now would be told something else."""
-    if threading.current_thread() is threading.main_thread():
-        signal.signal(signal.SIGINT, signal.SIG_IGN)

@@ -9,6 +9,7 @@ from society.book.role import Role
 from society.book.state import CELL_FIELDS
 from society.reading.animal import Animal
 from society.reading.days import Span
+from society.reading.words import clean
 from society.taking.animal_findings import KeptByHand, KeptFromBook
 from society.taking.next_book import NextBook
 
@@ -67,12 +68,18 @@ class Keeping:
         before = self.book.cells.get((animal.id,))
         cells: dict[Field, object] = dict(zip(CELL_FIELDS, before[1:])) if before else {}
         given = frozenset(one for one in known.by_hand if one in self.given)
-        stays = {one for one in given if (cells.get(one) or "") == animal.cells.get(one, "")}
+        as_before = {one for one in (*known.by_hand, Field.SINCE) if self.is_as_before(one, cells, animal)}
+        stays = given & as_before
         self.next_book.overridden[animal.id] = given - stays
         values = values_of(animal)
         for role in Role:
             if Field(role.value) in stays:
                 animal.set_parent(role, self.next_book.id_of(record.parent(role)))
+        if Field.OWNER in known.by_hand and Field.OWNER not in given - stays:
+            owner = self.book.owner_of(record.herd)
+            # a day of the sheet's owner is none of the one by hand
+            if Field.SINCE in as_before or animal.owner not in ("", owner):
+                animal.since = None
         if Field.OWNER in stays:
             animal.owner = self.book.owner_of(record.herd)
         if Field.EXIT in stays:
@@ -84,6 +91,12 @@ class Keeping:
         for one, value in values_of(animal).items():
             if value != values[one]:
                 self.report.add(animal.line, animal.id, KeptByHand(one, value))
+
+
+    def is_as_before(self, field: Field, cells: dict[Field, object], animal: Animal) -> bool:
+        """Is a cell as in the last sheet, or is its owner only written otherwise now?"""
+        before, now = str(cells.get(field) or ""), animal.cells.get(field, "")
+        return now == before or (field is Field.OWNER and clean(now) == self.book.respelt(before))
 
 
 def values_of(animal: Animal) -> dict[Field, str]:

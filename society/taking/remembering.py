@@ -6,6 +6,7 @@ from dataclasses import replace
 from society.book.book import Book
 from society.book.changes import Option
 from society.book.kinds import Remembered
+from society.book.owner_names import renamings
 from society.book.settings import Setting, settings_of
 from society.book.state import Meaning
 from society.mistake import Mistake
@@ -101,6 +102,7 @@ def rename_owners(book: Book, wishes: Wishes) -> None:
         if now in book.owners:
             free_name(book, word, now)
         rename(book, before, now)
+        book.renamed.append((before, now))
 
 
 def owner_pair(word: str) -> tuple[str, str]:
@@ -122,7 +124,9 @@ def free_name(book: Book, word: str, name: str) -> None:
 def rename(book: Book, before: str, now: str) -> None:
     book.owners[now] = book.owners.pop(before)
     book.names_of_herds = {}
-    book.remembered = [*book.remembered, Meaning(Remembered.OWNER, before, now)]
+    others = [one for one in book.remembered if one.what is not Remembered.OWNER]
+    names = {herd: name for name, herd in book.owners.items()}
+    book.remembered = others + [Meaning(Remembered.OWNER, *one) for one in renamings(book.owners_came(), names)]
 
 
 def names(book: Book) -> str:

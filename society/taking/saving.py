@@ -12,9 +12,9 @@ from society.book.book_changed import Overtaken
 from society.book.changes import Change, Made, Source
 from society.book.commands import Record, lines_of, record_after, replay, text_of
 from society.book.journal import accepted_commands
-from society.book.kinds import ChangeKind
+from society.book.kinds import ChangeKind, Field
 from society.book.known import Known
-from society.book.opening import export, still_to_change, to_change, to_prepare
+from society.book.opening import export, no_book, still_to_change, to_change, to_prepare
 from society.book.state import CELL_FIELDS, Values
 from society.book.writing import Filed, Rows, State, animal_rows, write
 from society.herdbook import Herdbook
@@ -47,13 +47,17 @@ Prepare = Callable[[Book], tuple[Outcome, Prepared | None]]
 
 def take(folder: pathlib.Path, program: Herdbook, prepare: Prepare) -> tuple[Outcome, list[str]]:
     """Takes what is prepared; answers what is to be told besides. Where somebody else changes the book meanwhile it is
-    prepared once more, and then others wait for that."""
+    prepared once more, and then others wait for that. Where the book goes away meanwhile no other is begun."""
+    before: Change | None = None
     with contextlib.suppress(Overtaken):
         with to_prepare(folder, program) as book:
+            before = book.change
             outcome, prepared = prepare(book)
         with still_to_change(folder, book.change) as now:
             return saved(now, program, outcome, prepared, book.notes)
     with to_change(folder, program) as book:
+        if before is not None and book.connection is None:
+            raise no_book(folder)
         outcome, prepared = prepare(book)
         return saved(book, program, outcome, prepared, book.notes)
 
@@ -165,11 +169,20 @@ def records_after(book: Book, filed: Filed) -> dict[str, Record]:
 
 
 def cell_rows(next_book: NextBook) -> dict[Values, Values]:
-    """The last cells of each animal; those of a column that the sheet doesn't have stay."""
-    kept = dict(next_book.book.cells)
+    """The last cells of each animal; those of a column that the sheet doesn't have stay, with owners as they are written
+    from now on."""
+    book = next_book.book
+    kept = {key: respelt(book, row) for key, row in book.cells.items()} if book.renamed else dict(book.cells)
     for id, animal in next_book.animals.items():
         if animal.line:
             before = kept.get((id,))
             said: Callable[[str, object], object] = animal.cells.get
             kept[id,] = (id, *map(said, CELL_FIELDS, before[1:] if before else NOTHING))
     return kept
+
+
+def respelt(book: Book, row: Values) -> Values:
+    """The last cells of an animal with the owner as it is written from now on."""
+    place = 1 + CELL_FIELDS.index(Field.OWNER)
+    owner = row[place]
+    return row if owner is None else (*row[:place], book.respelt(str(owner)), *row[place + 1 :])

@@ -111,3 +111,28 @@ def test_exports_alone(desk: Desk, is_there: bool) -> None:
         desk.write("book/book.sqlite", b"")
     for words in ["list"], ["take", "sheet.csv"], ["birth", "b", "--sex", "m", "--day", "2001-01-01"]:
         desk.wrong("book/book.sqlite, the book, is missing or empty: book/ids.csv was only written from it", *words)
+
+
+@pytest.mark.parametrize("name", [*FILES, "none"])
+def test_restored_in_its_place(old_desk: Desk, name: str) -> None:
+    """A backup takes the place of its book only where that is wished, and then the files stay in `old`, also where one
+    of them is lost."""
+    (old_desk.room / "book" / name).unlink(missing_ok=True)
+    files = {one: text for one, text in FILES.items() if one != name}
+    old_desk.write("other.csv", "id,born,sire,dam\na,2001-01-01,,\n")
+    old_desk.good("take", "other.csv", "--book", "other")
+    old_desk.good("backup", "copy", "--book", "other")
+    old_desk.wrong("to restore copy in its place say --anyway; the one that is there goes to book/old then", "restore", "copy")
+    assert {path.name: path.read_text() for path in (old_desk.room / "book").iterdir()} == files
+    old_desk.good("restore", "copy", "--anyway")
+    assert old_desk.good("list").out.splitlines()[1:] == ["a,,HOLGBRF000000000001,2001-01-01,0,0,0.00"]
+    assert {path.name: path.read_text() for path in (old_desk.room / "book/old").iterdir()} == files
+
+
+def test_exports_give_way(desk: Desk) -> None:
+    """Beside a database that is lost the exports are no book, and a backup is restored in their place."""
+    desk.take("id,born,sire,dam\na,2001-01-01,,\n")
+    desk.good("backup", "copy")
+    (desk.room / "book/book.sqlite").unlink()
+    desk.good("restore", "copy")
+    assert not (desk.room / "book/old").exists()

@@ -25,8 +25,11 @@ def flock_desk(desk: Desk) -> Desk:
 
 
 @pytest.mark.parametrize(
-    "name", ["book/book.sqlite", "book/commands.csv", "book/ids.csv", "book/owners.csv", "book/old/x"]
-)
+    "name",
+    [
+        "book/book.sqlite", "book/commands.csv", "book/ids.csv", "book/owners.csv", "book/old/x", "book/last_backup.csv"
+    ],
+)  # fmt: skip
 def test_never_onto_the_book(flock_desk: Desk, name: str) -> None:
     (flock_desk.room / "book/old").mkdir()
     flock_desk.wrong("is a file of the book, and is never written over", "list", "--out", name, "--force")

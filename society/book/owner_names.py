@@ -1,0 +1,32 @@
+"""How owners are written. The table has the name by which each came; what is remembered says how it is written now, one
+owner after the other, and of each name once."""
+from __future__ import annotations
+
+from collections.abc import Collection, Mapping
+
+
+def free_name(name: str, herd: int, taken: Collection[str]) -> str:
+    """The name, or where it is taken one that tells the herd."""
+    while name in taken:
+        name = f"{name} (herd {herd})"
+    return name
+
+
+def renamings(came: Mapping[str, int], now: Mapping[int, str]) -> list[tuple[str, str]]:
+    """What is to be remembered: for owners by the names by which they came, with their herds, and those by which they
+    are written now, the name before and after of each renaming. None is named as another one is at that moment: where
+    owners have one another's names, one of them has another one for so long."""
+    herds, names = {herd: name for name, herd in came.items()}, dict(came)
+    wanted = {herd: now[herd] for herd, name in herds.items() if now.get(herd, name) != name}
+    found: list[tuple[str, str]] = []
+    while wanted:
+        herd = next((one for one, name in wanted.items() if name not in names), None)
+        if herd is None:
+            herd = next(iter(wanted))
+            name = free_name(herds[herd], herd, [*names, *wanted.values()])
+        else:
+            name = wanted.pop(herd)
+        found.append((herds[herd], name))
+        del names[herds[herd]]
+        names[name], herds[herd] = herd, name
+    return found
