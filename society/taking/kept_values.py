@@ -92,7 +92,6 @@ class Keeping:
             if value != values[one]:
                 self.report.add(animal.line, animal.id, KeptByHand(one, value))
 
-
     def is_as_before(self, field: Field, cells: dict[Field, object], animal: Animal) -> bool:
         """Is a cell as in the last sheet, or is its owner only written otherwise now?"""
         before, now = str(cells.get(field) or ""), animal.cells.get(field, "")

@@ -122,7 +122,9 @@ def test_restored_in_its_place(old_desk: Desk, name: str) -> None:
     old_desk.write("other.csv", "id,born,sire,dam\na,2001-01-01,,\n")
     old_desk.good("take", "other.csv", "--book", "other")
     old_desk.good("backup", "copy", "--book", "other")
-    old_desk.wrong("to restore copy in its place say --anyway; the one that is there goes to book/old then", "restore", "copy")
+    old_desk.wrong(
+        "to restore copy in its place say --anyway; the one that is there goes to book/old then", "restore", "copy"
+    )
     assert {path.name: path.read_text() for path in (old_desk.room / "book").iterdir()} == files
     old_desk.good("restore", "copy", "--anyway")
     assert old_desk.good("list").out.splitlines()[1:] == ["a,,HOLGBRF000000000001,2001-01-01,0,0,0.00"]
