@@ -71,6 +71,18 @@ def test_a_journal_that_is_read_beside_is_that_of_its_moment(mrode_desk: Desk) -
         assert book.command_file() == text and Book(book.folder, connection).change == book.change
 
 
+def test_a_journal_of_many_pieces_is_whole(mrode_desk: Desk, monkeypatch: pytest.MonkeyPatch) -> None:
+    mrode_desk.good("birth", "new", "--sex", "f", "--day", "2020-01-01")
+    with reading(mrode_desk.room / "book") as connection:
+        wanted = Book(mrode_desk.room / "book", connection).command_file()
+        for most in 1, 2, 3, wanted.count(b"\n") - 1:
+            monkeypatch.setattr("society.book.journal.IN_A_PIECE", most)
+            book = Book(mrode_desk.room / "book", connection)
+            with book.journal_read_beside():
+                assert book.beside is not None and book.beside.value() == wanted
+            assert Book(book.folder, connection).command_file() == wanted
+
+
 def test_pieces_are_had_in_their_order() -> None:
     """Those who find them come to them in any order, and each is had before later ones are found."""
     first_is_had = threading.Event()
@@ -87,6 +99,24 @@ def test_pieces_are_had_in_their_order() -> None:
     assert next(found) == b"head" and next(found) == b"0"
     first_is_had.set()
     assert [*found] == [b"1", b"2", b"3", b"4"] and pieces.value() == b"head01234"
+
+
+def test_all_who_find_pieces_are_waited_for() -> None:
+    """Whichever of them ends last."""
+    ended = list[bool]()
+
+    def quick(places: Iterator[int]) -> list[tuple[int, bytes]]:
+        return []
+
+    def slow(places: Iterator[int]) -> list[tuple[int, bytes]]:
+        time.sleep(0.1)
+        ended.append(True)
+        return []
+
+    for finders in [quick, slow], [slow, quick]:
+        ended.clear()
+        Pieces(b"", 0, finders).wait()
+        assert ended
 
 
 @pytest.mark.parametrize("place", [0, 2])
@@ -123,7 +153,16 @@ def test_a_program_reads_pieces_as_they_are_found(text: str, herdbook: Program) 
 
 @pytest.mark.parametrize(
     ("script", "told"),
-    [("echo early", "Broken pipe"), ("echo 'herdbook: no memory' >&2; exit 1", "no memory"), ("kill -9 $$", "status -9")],
+    [
+        ("echo early", "Broken pipe"),
+        ("echo 'herdbook: no memory' >&2; exit 1", r"no memory \(it may use 4 GB of memory\)\. Nothing is changed$"),
+        ("kill -9 $$", r"it: it ended with status -9 \(it may use 4 GB of memory\)\. Nothing is changed$"),
+        ("echo 'herdbook: no luck' >&2; exit 1", "it: no luck$"),
+        (
+            "echo 'herdbook: record 2: no day' >&2; exit 1",
+            r"it: record 2: no day\. Somebody has changed the command file: restore it$",
+        ),
+    ],
 )
 def test_a_program_that_reads_no_further(script: str, told: str, herdbook: Program) -> None:
     """What it answered before it had read all is no answer."""
@@ -132,13 +171,16 @@ def test_a_program_that_reads_no_further(script: str, told: str, herdbook: Progr
         herdbook(f"#!/bin/sh\n{script}\n").run_meanwhile(["mating"], pieces)
 
 
-def test_no_answer_is_had_of_a_journal_that_is_read_in_part(herdbook: Program) -> None:
+@pytest.mark.parametrize("script", ["cat", "cat >/dev/null; echo 'herdbook: record 2: not whole' >&2; exit 1"])
+def test_no_answer_is_had_of_a_journal_that_is_read_in_part(script: str, herdbook: Program) -> None:
+    """Nor is the part that the program got told as wrong."""
+
     def find(places: Iterator[int]) -> Iterator[tuple[int, bytes]]:
         yield next(places), b"one\n"
         raise sqlite3.OperationalError("disk I/O error")
 
     with pytest.raises(sqlite3.OperationalError, match="disk"):
-        herdbook("#!/bin/sh\ncat\n").run_meanwhile(["mating"], Pieces(b"", 2, [find]))
+        herdbook(f"#!/bin/sh\n{script}\n").run_meanwhile(["mating"], Pieces(b"", 2, [find]))
 
 
 def test_a_journal_is_read_though_it_can_not_be_read_beside(

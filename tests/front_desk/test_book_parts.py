@@ -68,7 +68,8 @@ def test_changed_one_by_one(connection: sqlite3.Connection) -> None:
 
 @pytest.mark.parametrize("after", [
     ["A,0,0.00", "C,1/4,25.00", "D,0,0.00"], ["A,1/4,25.00", "B,0,0.00", "D,0,0.00"], ["A,0,0.00", "B,0,0.00"],
-    ["A,0,0.00", "B,0,0.00", "D,0,0.00", "E,1/2,50.00"], ["B,0,0.00", "A,0,0.00", "D,0,0.00"], ["N,0,0.00"], [],
+    ["A,0,0.00", "B,0,0.00", "D,0,0.00", "E,1/2,50.00"], ["A,0,0.00", "B,0,0.00", "C,0,0.00", "D,0,0.00"],
+    ["B,0,0.00", "A,0,0.00", "D,0,0.00"], ["N,0,0.00"], [],
 ])  # fmt: skip
 def test_coefficients_are_kept_as_the_program_writes_them(connection: sqlite3.Connection, after: list[str]) -> None:
     """Of the same animals, or of others as many, more or fewer."""

@@ -4,10 +4,12 @@ from __future__ import annotations
 import csv
 import io
 import random
+import unicodedata
 
 import pytest
 
-from society.book.cells import ACTING, FORMULA, column_for_spreadsheets, escape, for_spreadsheets, for_terminals
+from society.answers.table import Kind, Table
+from society.book.cells import ACTING, column_for_spreadsheets, escape, for_spreadsheets, for_terminals
 from society.book.csv_text import csv_text
 
 # pieces of which cells are drawn
@@ -52,8 +54,13 @@ def test_an_empty_cell_alone_in_its_row_is_no_empty_line() -> None:
     assert csv_text(["x"], [["a", "", "b"]]) == 'x\na\n""\nb\n'
 
 
+def test_a_table_without_rows_has_its_titles() -> None:
+    table = Table.of_rows([("a", Kind.TEXT), ("b", Kind.DECIMAL)], [])
+    assert (len(table), table.rows, table.text(False), table.text(True)) == (0, [], "a,b\n", "a;b\n")
+
+
 def test_each_formula_of_a_column_is_seen() -> None:
-    for sign in FORMULA:
+    for sign in "=+-@\t\r＝＋－＠":
         assert column_for_spreadsheets(["a", f"{sign}1", "b"]) == ["a", f"'{sign}1", "b"]
         assert column_for_spreadsheets([f"{sign}1", 7]) == [f"'{sign}1", 7]
 
@@ -69,3 +76,15 @@ def test_a_terminal_gets_no_character_that_does_something_though_most_are_printa
     for number in [*range(0x300), 0x61C, *range(0x2000, 0x2070), 0xD800, 0xDFFF, 0xFEFF, 0x1F404]:
         text = f"Bertha{chr(number)}\nLöwe"
         assert for_terminals(text) == ACTING.sub(lambda found: escape(found[0]), text)
+    assert for_terminals("\a\x1b[1m\x7f\u061c\u2067\ud800") == r"\x07\x1b[1m\x7f\u061c\u2067\ud800"
+
+
+def test_which_characters_do_something() -> None:
+    """Those of control but tabs and ends of lines, halves of characters, and marks of direction."""
+    marks = {"LRE", "RLE", "PDF", "LRO", "RLO", "LRI", "RLI", "FSI", "PDI"}
+
+    def acts(one: str) -> bool:
+        is_control = unicodedata.category(one) in ("Cc", "Cs") and one not in "\t\n"
+        return is_control or unicodedata.bidirectional(one) in marks or one in "\u061c\u200e\u200f"
+
+    assert not [hex(ord(one)) for one in map(chr, range(0x10000)) if (for_terminals(one) != one) != acts(one)]

@@ -8,7 +8,7 @@ from fractions import Fraction
 import pytest
 
 from society.answers.inverse import scaled
-from society.book.coefficients import of_calf
+from society.book.coefficients import UNIT_BITS, decimals_of_units, of_calf
 from society.decimals import fixed, percent
 from society.decimals import decimal as shown
 
@@ -42,6 +42,14 @@ def test_beside_decimals_of_python(seed: int) -> None:
 def test_calf(relationship: str, coefficient: tuple[str, str]) -> None:
     """Half of the parents' relationship in lowest terms, with the percentage that the program writes."""
     assert of_calf(relationship) == coefficient
+
+
+def test_decimals_of_units() -> None:
+    """Of many they are those of each: halves are rounded away from 0, also up to a whole."""
+    draw, whole = random.Random(9), 1 << UNIT_BITS
+    units = [0, 1, whole // 2**11, 3 * whole // 2**11, whole // 8, whole - 1, whole, whole // (2 * 10**10) + 1]
+    units += [draw.randrange(2 ** draw.randrange(1, UNIT_BITS)) for _ in range(500)]
+    assert decimals_of_units(units) == [shown(Fraction(one, whole)) for one in units]
 
 
 def test_elements_of_the_inverse() -> None:

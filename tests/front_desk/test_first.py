@@ -58,7 +58,7 @@ def test_her_list(her: Secretary, secretary_desk: Desk) -> None:
     text = desk.good("list", "--semicolons").out
     assert text.startswith("id;name;number;")
     assert ";0,25;25,00\n" in text or ";0,125;12,50\n" in text
-    desk.good("list", "--semicolons", "--out", "list.csv")
+    assert desk.good("list", "--semicolons", "--out", "list.csv").out == f"list.csv: {len(rows)} rows\n"
     assert (desk.room / "list.csv").read_bytes() == b"\xef\xbb\xbf" + text.encode()
 
 

@@ -1,6 +1,9 @@
 """The program is always run with a limit of memory and of time, and what it leaves then is told."""
 from __future__ import annotations
 
+import errno
+import io
+import os
 import pathlib
 import signal
 import subprocess
@@ -79,6 +82,16 @@ def test_a_new_book_is_not_begun_where_the_program_fails(desk: Desk, program: st
     done = desk.run("take", "sheet.csv", program=failing)
     assert done.status == 1 and "the program `herdbook inbreeding` can't do it: no memory" in done.err
     assert not (desk.room / "book").exists()
+
+
+def test_no_room_for_a_command_file(tmp_path: pathlib.Path, monkeypatch: pytest.MonkeyPatch) -> None:
+    def full(file: io.FileIO, text: bytes) -> None:
+        raise OSError(errno.ENOSPC, os.strerror(errno.ENOSPC))
+
+    monkeypatch.setenv("HERDBOOK", stand_in(tmp_path, BUSY))
+    monkeypatch.setattr(herdbook, "write_all", full)
+    with pytest.raises(Mistake, match="can't do it: No space left on device: nothing is changed$"):
+        herdbook.Herdbook().run(["file"], b"")
 
 
 @pytest.mark.parametrize("text", [WAITING, BUSY], ids=["waiting", "busy"])

@@ -8,9 +8,10 @@ import pytest
 
 from front_desk.desk import Desk
 from society.answers.advice import Answers, advise_on_all, shown_of, told_of
-from society.answers.candidates import Candidate, Candidates, all_candidates, birth_shown
+from society.answers.candidates import Candidate, Candidates, all_candidates, birth_shown, named_candidates
 from society.answers.list_columns import BIRTH_OF, birth_of
-from society.answers.mates_read import HAS_LEFT, LISTED, MatesRead, Why
+from society.answers.mates_read import HAS_LEFT, LISTED, MAY_BE_MATED, MatesRead, Why
+from society.book.beside import Beside
 from society.book.book import Book
 from society.book.book_read import reading
 from society.book.role import Role
@@ -18,8 +19,9 @@ from society.book.selecting import selected
 from society.herdbook import Herdbook
 from society.mistake import Mistake
 
-# an ox, one that was sold, one whose exit has no day, one with a year alone, one born on no day that there is, a name with
-# signs, and a parent without a row
+# an ox, one that was sold, one whose exit has no day, one with a year alone, one born on no day that there is, one
+# whose birth is inferred from its offspring, a name with signs, and parents without a row, the younger one with the
+# first id
 SHEET = """id;name;sex;birth;sire;dam;exit
 a;Max, der Alte;m;2001-02-03;;;
 b;;Ochse;2001-02-03;;;
@@ -30,24 +32,37 @@ f;f;m;2003-01-01;a;x;sold
 g;[1];w;2002-01-01;y;;
 h;;Ochse;1999-01-01;;;2005-01-01
 i;;Ochse;2002-01-01;;;
+j;;m;;;;
+k;;w;2004-01-01;j;;
+l;;w;1995-01-01;z;;
 """
 
 
 @pytest.mark.parametrize("also_left", [False, True])
 @pytest.mark.parametrize("role", Role)
 def test_as_the_rows(desk: Desk, role: Role, also_left: bool) -> None:
-    desk.take(SHEET)
+    desk.take(f"{SHEET}o;;m;1990-01-01;;;\n")
+    # elder ones that come later have greater numbers; neither who was dropped is read, nor a row that was changed
+    desk.take(f"{SHEET}m;;Ochse;1998-01-01;;;\n", "--drop-gone")
     desk.good("birth", "n", "--sex", "m", "--day", "2001-02-02")
+    desk.good("exit", "a", "--day", "2010-01-01")
     with reading(desk.room / "book") as connection:
         book = Book(desk.room / "book", connection)
         read = MatesRead(book, role, also_left)
-        assert all_candidates(book, role, also_left) == of_rows(book, role, also_left)
+        wanted = of_rows(book, role, also_left)
+        assert all_candidates(book, role, also_left) == wanted
         assert [*zip(read.numbers, read.ids)] == [(book.known[id].number, id) for id in read.ids]
+        by_id, named = {one.id: one for one in wanted.animals}, [book.known[id] for id in read.ids]
+        assert [*map(birth_shown, read.births)] == [by_id[id].birth for id in read.ids]
+        may = {id for id, number in selected(book, ("id", "number"), [MAY_BE_MATED]) if number[6] == role.sex}
+        assert also_left or may == {*by_id}
+        # as they are named, each once
+        assert named_candidates(book, role, named * 2).animals == [by_id[one.id] for one in named]
         found = {why: read.passed_over(why) for why in Why if why}
     males = role is Role.SIRE
-    assert found[Why.CASTRATED] == (["h", "b", "i"] if also_left else ["b", "i"]) * males
-    assert sorted(found[Why.LEFT]) == ([] if also_left else ["e", "f", "h"]) * males
-    assert found[Why.WITHOUT_ROW] == (["y"] if males else ["x"])
+    assert found[Why.CASTRATED] == (["m", "h", "b", "i"] if also_left else ["m", "b", "i"]) * males
+    assert sorted(found[Why.LEFT]) == ([] if also_left else ["a", "e", "f", "h"]) * males
+    assert found[Why.WITHOUT_ROW] == (["z", "y"] if males else ["x"])
 
 
 def of_rows(book: Book, role: Role, also_left: bool) -> Candidates:
@@ -87,6 +102,7 @@ def test_who_is_refused_is_told_in_age_order(desk: Desk) -> None:
         advice = told_of(book.known["d"], sires, answers, shown, read)
         assert [one.partition(":")[0].split()[-1] for one in advice.refused] == ["z", "a"]
         assert [row[0] for row in advice.table.rows] == ["x"] and ",1/8,0.125,12.50\n" in advice.table.text(False)
+        assert advice.table.text(True).endswith(";1/8;0,125;12,50\n")
         with pytest.raises(Mistake, match="d"):
             told_of(book.known["d"], sires, answers._replace(percents=["4"] * 3), shown, read)
 
@@ -94,6 +110,9 @@ def test_who_is_refused_is_told_in_age_order(desk: Desk) -> None:
 def test_advice_where_the_journal_can_not_be_read_beside(mrode_desk: Desk, monkeypatch: pytest.MonkeyPatch) -> None:
     def closed(path: pathlib.Path, mode: str) -> sqlite3.Connection:
         raise sqlite3.OperationalError("unable to open database file")
+
+    def lost() -> str:
+        raise sqlite3.OperationalError("disk I/O error")
 
     wanted = mrode_desk.good("mating", "--dam", "2").out
     monkeypatch.setattr("society.book.beside.connect", closed)
@@ -104,3 +123,20 @@ def test_advice_where_the_journal_can_not_be_read_beside(mrode_desk: Desk, monke
             read, dam = MatesRead(book, Role.SIRE, False), book.known["2"]
             begun = program.begin_matings(dam.number, read.numbers, book)
             assert advise_on_all(book, program, dam, read, begun, False).table.text(False) == wanted
+            # also where that is only seen when the answers are asked for
+            assert advise_on_all(book, program, dam, read, [Beside(lost)], False).table.text(False) == wanted
+
+
+def test_many_sires_are_asked_for_in_parts(mrode_desk: Desk, monkeypatch: pytest.MonkeyPatch) -> None:
+    """Each of them, as where all stand in one call; those of one coefficient are in the order of their ids."""
+    mrode_desk.good("birth", "0", "--sex", "m", "--day", "2020-01-01")
+    wanted = mrode_desk.good("mating", "--dam", "2").out
+    monkeypatch.setenv("HERDBOOK", mrode_desk.program)
+    monkeypatch.setattr("society.herdbook.MOST_NUMBERS", 3)
+    with reading(mrode_desk.room / "book") as connection:
+        book, program = Book(mrode_desk.room / "book", connection), Herdbook()
+        read, dam = MatesRead(book, Role.SIRE, False), book.known["2"]
+        begun = program.begin_matings(dam.number, read.numbers, book)
+        assert read.ids == ["1", "4", "5", "0"] and len(begun) == 2
+        advice = advise_on_all(book, program, dam, read, begun, False)
+    assert [row[0] for row in advice.table.rows] == ["0", "1", "4", "5"] and advice.table.text(False) == wanted

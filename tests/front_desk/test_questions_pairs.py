@@ -20,7 +20,7 @@ from society.book.known import Known
 from society.breed.pedigree import UNKNOWN
 from society.breed.relationships import relationships
 from society.herdbook import Herdbook
-from society.mistake import Mistake
+from society.mistake import MOST_NAMED, Mistake
 
 TITLES = ("id", "sex", "birth", ("sire", "dam"))
 SOME = ["GK-17/472c", "GK-02/119b", "GK-11/332b", "GK-98/005c", "GK-14/391c", "GK-18/487c", "IMP-7 (imported)"]
@@ -102,6 +102,10 @@ def test_kinship_mistakes(society_desk: Desk) -> None:
     society_desk.wrong("wrong.txt: the book has no animal 'nobody'", "kinship", "--among", "wrong.txt")
     society_desk.wrong("wrong.txt: the book has no animal 'GK-17/472x': is", "kinship", "--among", "wrong.txt")
     society_desk.wrong("kinship needs animals", "kinship")
+    for count, more in (MOST_NAMED, []), (MOST_NAMED + 1, ["society: and 1 more"]):
+        society_desk.write("wrong.txt", "".join(f"nobody{at}\n" for at in range(count)))
+        lines = society_desk.run("kinship", "--among", "wrong.txt").err.splitlines()
+        assert all("wrong.txt: " in line for line in lines[:MOST_NAMED]) and lines[MOST_NAMED:] == more
 
 
 def test_matings(society_desk: Desk) -> None:
@@ -159,17 +163,21 @@ def test_who_may_be_mated(desk: Desk) -> None:
         dam,ewe,2001-03-01,,,
         ram,ram,2001-03-01,,,
         wether,Hammel,2001-03-01,,,
+        other wether,Hammel,2001-03-02,,,
         gone,ram,2001-03-01,,,2010-01-01
         calf,ram,2003-03-01,added,dam,
         old,ewe,2001-03-01,,,2010-01-01
     """
     desk.take("\n".join(line.strip() for line in rows.strip().splitlines()))
-    told = ["males without a row in the sheet: 1 (added) aren't listed", "castrated males: 1 (wether) aren't listed"]
+    told = (
+        "males without a row in the sheet: 1 (added) aren't listed: name one, if it lives",
+        "castrated males: 2 (wether, other wether) aren't listed: name one, if its semen is stored",
+    )
     for words, sires in (("mating --dam dam", "id"), ("mating --dams dams.txt", "sire"), ("plan --table", "sire")):
         desk.write("dams.txt", "dam\n")
         done = desk.good(*words.split())
         assert {row[sires] for row in csv.DictReader(io.StringIO(done.out))} == {"ram", "calf"}, words
-        assert all(f"society: {sentence}: name one" in done.err for sentence in told), words
+        assert all(f"society: {sentence}\n" in done.err for sentence in told), words
     assert [row["id"] for row in desk.listed("mating", "--dam", "dam", "wether", "added", "gone")] == [
         "added",
         "gone",
@@ -177,7 +185,25 @@ def test_who_may_be_mated(desk: Desk) -> None:
     ]
     desk.good("exit", "ram", "--day", "2020-01-01")
     desk.good("exit", "calf", "--day", "2020-01-01")
-    told_of_none = "no living male that may be a sire (passed over: 3 left, 1 castrated one, 1 without a row)"
+    told_of_none = "no living male that may be a sire (passed over: 3 left, 2 castrated ones, 1 without a row)"
     desk.wrong(f"{told_of_none}: name one, or ask for those that left too by --left", "mating", "--dam", "dam")
     for word in "mating --dams dams.txt", "plan":
         desk.wrong(f"{told_of_none}: name some in a file, as --sires FILE", *word.split())
+
+
+def test_dams_of_whom_none_is_named(desk: Desk) -> None:
+    """They are taken as sires are, and who is passed over is told; one dam may have sires of a file."""
+    desk.take("id,sex,birth,sire,dam\nbull,m,2001-03-01,,added\ncow,f,2001-03-01,,\nother,f,2001-03-01,,\n")
+    for name in "bull", "cow":
+        desk.write(f"{name}.txt", f"{name}\n")
+    done = desk.good("mating", "--sires", "bull.txt")
+    assert done.out == "dam,sire,coefficient,decimal,percent\ncow,bull,0,0,0.00\nother,bull,0,0,0.00\n"
+    assert done.err == "society: females without a row in the sheet: 1 (added) aren't listed: name one, if it lives\n"
+    done = desk.good("mating", "--dam", "other", "--sires", "bull.txt")
+    assert (done.out, done.err) == ("dam,sire,coefficient,decimal,percent\nother,bull,0,0,0.00\n", "")
+    desk.wrong("bull: no dam can be male: take these out of --dams", "mating", "--dams", "bull.txt")
+    desk.wrong("cow: no sire can be female: take these out of --sires", "mating", "--sires", "cow.txt")
+    for id in "cow", "other":
+        desk.good("exit", id, "--day", "2010-01-01")
+    told = "no living female that may be a dam (passed over: 2 left, 1 without a row)"
+    desk.wrong(f"{told}: name some in a file, as --dams FILE", "mating", "--sires", "bull.txt")
