@@ -14,13 +14,19 @@ from society.book.book import NO_OWNER, Book
 from society.book.by_hand import herd_of, transferred, with_parents
 from society.book.changes import Made, Told
 from society.book.coefficients import few_descendants, kept_lines, write_coefficients
-from society.book.commands import birth, leave, record_after, replay, transfer
+from society.book.commands import Record, birth, leave, record_after, replay, transfer
 from society.book.history import all_changes, changed_one_by_one, told_by, write_change
+from society.book.inferred import (
+    BirthBasis, BirthSource, ExitBasis, ExitSource, OwnerDay, Period, SexSource,
+)  # fmt: skip
 from society.book.journal import NO_JOURNAL, Step, alike
-from society.book.kinds import ChangeKind, Field, Standing
+from society.book.kinds import ChangeKind, Field, Remembered, Standing
 from society.book.known import Known
+from society.book.rows import known_of, record_of, row_of
 from society.book.schema import MIGRATIONS
-from society.book.state import ANIMALS, CELL_FIELDS, bring_back, write_rows
+from society.book.state import (
+    ANIMALS, CELL_FIELDS, REMEMBERED, Meaning, bring_back, read_remembered, remembered_rows, write_rows,
+)  # fmt: skip
 from society.book.writing import animal_rows
 from society.mistake import Mistake
 from society.reading.animal import Animal
@@ -93,6 +99,35 @@ def test_few_descendants(connection: sqlite3.Connection, monkeypatch: pytest.Mon
     assert few_descendants(connection, dam) == [] and sorted(few_descendants(connection, sire)) == every[sire]
     bring_back(connection, 2, 0)
     assert few_descendants(connection, sire) == [sire]
+
+
+@pytest.mark.parametrize("known", [
+    Known(NUMBER, "ẞ 1", "Straße", Standing.GONE, BirthBasis(BirthSource.PERIOD, Period("2001-02", "31.02.2001")),
+          ExitBasis(ExitSource.PERIOD, Period("2005", "15.13.2005")), SexSource.SIRE, True, "Bob", "Eva",
+          frozenset({Field.SIRE, Field.NAME}), OwnerDay.INFERRED),
+    Known(NUMBER, "a", standing=Standing.FILED, birth=BirthBasis(BirthSource.NEAREST),
+          exit=ExitBasis(ExitSource.UNKNOWN_DAY, text="sold"), sex=SexSource.INVENTED),
+    Known(NUMBER, "a"),
+])  # fmt: skip
+def test_what_is_known_of_an_animal_is_had_again_from_its_row(known: Known) -> None:
+    """So is its record; it is looked for by letters without their case, as `ss` for `ß`."""
+    whole = Record(NUMBER, BORN, NUMBER[:-1] + "2", NUMBER[:-1] + "3", True, 4, GIVEN, LEFT, 7)
+    for record in whole, record_after(None, birth(NUMBER, BORN, "", "", 4, False)):
+        row = row_of(known, record)
+        assert known_of(row) == known and record_of(row) == record
+        assert (row.folded_id, row.folded_name) == (known.id.casefold(), known.name.casefold())
+
+
+def test_what_is_remembered_keeps_its_order(connection: sqlite3.Connection) -> None:
+    """Of each kind; a word that is given twice has its last meaning, and what is remembered no more is gone."""
+    first, *others = (Meaning(Remembered.SEXES, word) for word in ("x=m", "a=f", "b=f"))
+    owner, column = Meaning(Remembered.OWNER, "Meier", "Meyer"), Meaning(Remembered.COLUMN, "name", "Ruf")
+    rows = remembered_rows([owner, first, column, *others])
+    write_rows(connection, REMEMBERED, 1, {}, rows)
+    assert read_remembered(connection) == [column, owner, first, *others]
+    again = owner._replace(meaning="Maier")
+    write_rows(connection, REMEMBERED, 2, rows, remembered_rows([*others, owner, again]))
+    assert read_remembered(connection) == [again, *others]
 
 
 def test_former_numbers(connection: sqlite3.Connection, tmp_path: pathlib.Path) -> None:

@@ -6,6 +6,7 @@ import datetime
 import pytest
 
 from front_desk.desk import Desk
+from society.reading.days import DayFault, Span, Unreadable, month_of, read_span, span_within, year_of
 
 TITLES = "id;sex;birth;sire;dam;exit\n"
 
@@ -45,6 +46,37 @@ def test_texts_without_a_day(desk: Desk) -> None:
     rows = "".join(f"a{at};F;{text};;;\n" for at, text in enumerate([*UNREADABLE, *DAYS]))
     done = desk.take(TITLES + rows)
     assert f" {len(UNREADABLE)} left out" in done.last
+
+
+def fault(text: str, month_first: bool = False, legible: bool = True) -> DayFault:
+    """Why a text is no day."""
+    with pytest.raises(Unreadable) as raised:
+        read_span(text, month_first, legible)
+    return raised.value.fault
+
+
+def test_what_a_text_leaves_open() -> None:
+    """Zeros stand for what isn't known, and a day that there isn't is named; days of other centuries are none, however
+    they are written."""
+    assert read_span("00.00.2010") == read_span("2010-00-00") == year_of(2010)
+    for text in "2010-00-15", "15.00.2010", "05.13.2010", "2010-13-05":
+        assert read_span(text) == year_of(2010, text)
+    assert read_span("31.02.2010") == month_of(2010, 2, "31.02.2010")
+    others = "1899-12-31", "31.12.1899", "2200-01-01", "01/01/2200", "1899"
+    assert {fault(text) for text in others} == {DayFault.YEAR}
+    assert read_span("about 2010") == year_of(2010, text="about 2010")
+    assert fault("about 2010", legible=False) is DayFault.NO_DAY
+    assert (fault("05/13/2010"), fault("13/05/2010", month_first=True)) == (DayFault.WRONG_ORDER,) * 2
+
+
+def test_days_within_texts() -> None:
+    """Of several days none is taken, nor the year behind them; one in the other order is told."""
+    day = datetime.date(2010, 5, 13)
+    assert span_within("sold 13/05/2010.") == span_within("sold 05/13/2010", True) == Span(day, day)
+    assert span_within("sold 3.4.2020 or 5.6.2021, in 2022") is span_within("sold for 2010 EUR") is None
+    assert span_within("sold (2010).") == year_of(2010)
+    with pytest.raises(Unreadable, match="'05/13/2010' has the day and the month in the other order"):
+        span_within("sold 05/13/2010")
 
 
 def test_month_first(desk: Desk) -> None:

@@ -1,7 +1,17 @@
 """What is inferred where a sheet doesn't give it."""
 from __future__ import annotations
 
+import datetime
+
 from front_desk.desk import Desk
+from society.book.inferred import BirthBasis, BirthSource
+from society.reading.animal import Animal
+from society.reading.days import read_span, year_of
+from society.taking.animal_findings import BirthDayInferred
+from society.taking.birth_days import Days
+from society.taking.report import Report
+
+NEAREST = BirthBasis(BirthSource.NEAREST)
 
 
 def test_inferred_days(desk: Desk) -> None:
@@ -15,6 +25,7 @@ def test_inferred_days(desk: Desk) -> None:
         squeezed,F,2001,,late
         calves,F,,,
         calf,F,2010-05-06,,calves
+        later,F,2013-01-01,,calves
         parents,F,,month,
         between,F,,,late
         child,M,2002-01-02,,between
@@ -26,6 +37,7 @@ def test_inferred_days(desk: Desk) -> None:
         theirs,F,,month,mate
         early,F,2005,,
         spring,F,2005-03-04,,early
+        alike,F,2001,,year
         """
     )
     born = desk.born()
@@ -33,16 +45,42 @@ def test_inferred_days(desk: Desk) -> None:
         "year": "2001-07-02", "month": "2002-03-16", "squeezed": "2001-12-31", "calves": "2008-05-06",
         "parents": "2004-03-15", "between": "2001-12-31",
         "first": "1900-01-01", "chain1": "1997-01-03", "chain2": "1999-01-03", "mate": "2002-03-16",
-        "theirs": "2004-03-15", "early": "2005-03-03",
+        "theirs": "2004-03-15", "early": "2005-03-03", "alike": "2001-07-03",
     }  # fmt: skip
     assert wanted.items() <= born.items()
-    assert " 12 inferred, 0 left out" in done.last
+    assert " 13 inferred, 0 left out" in done.last
     marks = {row["id"]: row["birth"] for row in desk.table("book/ids.csv") if row["birth"]}
     assert marks.keys() == wanted.keys()
     assert marks["year"] == "from the year 2001"
     assert marks["calves"] == "from its offspring"
     listed = {row["id"]: row["birth"] for row in desk.listed("list")}
     assert all(listed[id] == born[id] + (" (inferred)" if id in wanted else "") for id in born)
+
+
+def found_days(*animals: Animal, kept: dict[str, str] | None = None) -> dict[str, tuple[str, bool]]:
+    """The days that are found for those that have none, of which parents stand before their offspring, and whether
+    each is told as the book's; `kept` are those that were found for the book."""
+    before = {id: (datetime.date.fromisoformat(day).toordinal(), NEAREST) for id, day in (kept or {}).items()}
+    report, undated = Report(), [one.id for one in animals if not one.has_day()]
+    Days({one.id: one for one in animals}, undated, before).infer(report)
+    told = [(one.id, one.finding) for one in report.entries if isinstance(one.finding, BirthDayInferred)]
+    return {id: (str(one.day), one.is_kept) for id, one in told}
+
+
+def test_days_that_cells_and_the_book_leave_open() -> None:
+    """A cell's month or year holds whatever calves and the book say, and so its reason does; a stored embryo may be
+    born behind its dam's exit."""
+    day = datetime.date.fromisoformat
+    calf = Animal("calf", 2, birth=read_span("2004-03-04"), dam="cow")
+    assert found_days(Animal("cow", 3, birth=year_of(2005)), calf) == {"cow": ("2005-01-01", False)}
+    one = Animal("one", 2, birth=year_of(2003))
+    assert found_days(one, kept={"one": "2003-04-05"}) == {"one": ("2003-04-05", False)}
+    assert found_days(one, kept={"one": "2004-04-05"}) == {"one": ("2003-07-02", False)}
+    assert found_days(Animal("one", 2), kept={"one": "2004-04-05"}) == {"one": ("2004-04-05", True)}
+    dam = Animal("dam", 2, birth=read_span("2001-01-01"), left=day("2006-03-04"))
+    later = Animal("later", 4, birth=read_span("2010-01-01"), sire="bull")
+    for embryo, born in (True, "2008-01-02"), (False, "2006-03-04"):
+        assert found_days(dam, Animal("bull", 3, dam="dam", embryo=embryo), later) == {"bull": (born, False)}
 
 
 def test_inferred_days_of_those_that_left(desk: Desk) -> None:

@@ -36,11 +36,13 @@ def test_one_row_that_has_another_value_keeps_it() -> None:
         assert written(rows) == rows
 
 
-def test_rows_that_are_all_the_same_or_have_one_column_are_written() -> None:
+def test_rows_of_which_one_column_or_none_differs_are_written() -> None:
     same: list[tuple[object, ...]] = [("a", None)] * MANY
     assert written(same) == same
     single: list[tuple[object, ...]] = [(None,)] * MANY
     assert written(single) == single
+    one_differs: list[tuple[object, ...]] = [(f"DE {at}", None, "given") for at in range(MANY)]
+    assert written(one_differs) == one_differs
 
 
 def test_what_all_of_many_rows_have_stands_in_the_statement() -> None:

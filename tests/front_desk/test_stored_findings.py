@@ -13,6 +13,7 @@ import pytest
 from society.book.changes import Told
 from society.reading.cell_findings import LikeASum
 from society.taking.report import KINDS, Entry, Finding
+from society.taking.row_findings import IdUsedAgain
 from society.taking.stored_findings import entry_of, modules_of_findings, told_of
 
 for module in modules_of_findings():
@@ -48,6 +49,12 @@ def value_of(kind: Any, is_full: bool) -> Any:
 def test_round_trip(kind: type[Finding], is_full: bool) -> None:
     finding = value_of(kind, is_full)
     entry = Entry(7, "DE 8", finding)
+    assert entry_of(told_of(entry)) == entry
+
+
+def test_more_than_ten_keep_their_order() -> None:
+    day, lines = datetime.date(2012, 3, 4), tuple(range(40, 10, -1))
+    entry = Entry(7, "DE 8", IdUsedAgain(day, "Eva", day, "Ida", lines))
     assert entry_of(told_of(entry)) == entry
 
 

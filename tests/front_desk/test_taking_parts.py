@@ -1,0 +1,180 @@
+"""Parts of a taking by themselves: numbers, the days of owners, what is known of animals, and the commands."""
+from __future__ import annotations
+
+import dataclasses
+import datetime
+from types import SimpleNamespace
+from typing import Any, cast
+
+from society.book.book import Book
+from society.book.commands import birth, record_after, transfer
+from society.book.inferred import BirthBasis, BirthSource, OwnerDay
+from society.book.kinds import CommandKind, Field, Standing
+from society.book.known import Known
+from society.herdbook import Herdbook
+from society.reading.animal import Animal
+from society.reading.days import year_of
+from society.refusals import Refusal
+from society.taking.known_after import known_after, written_parents
+from society.taking.next_book import NextBook
+from society.taking.numbers import give_numbers
+from society.taking.owner_days import OwnerDays
+from society.taking.report import Report
+from society.taking.row_findings import CommandLeftOut, OwnerDayMoved
+from society.taking.sheet_commands import Filing, is_corrected
+
+NUMBER, BORN = "HOLGBRF000000000001", datetime.date(2001, 1, 2)
+
+
+def numbered(book: Book, *born: tuple[str, int], breed: str = "", country: str = "") -> dict[str, str]:
+    """The numbers of animals, each with its id and its birth year, beside a book."""
+    animals = {id: Animal(id, 2, sex="M", born=datetime.date(year, 1, 2)) for id, year in born}
+    give_numbers(cast(NextBook, SimpleNamespace(book=book, animals=animals)), breed, country)
+    return {id: animal.number for id, animal in animals.items()}
+
+
+def test_numbers_of_a_taking() -> None:
+    """Whoever was in the book has the digits that it had, with its sex of today; others follow by birth day and id,
+    with the breed and the country of the book, though nobody is in it any more."""
+    known, dropped = Known("SKUDEUF000000000004", "known"), Known("SKUDEUM000000000002", "dropped")
+
+    def book(former: dict[str, str], *known: Known, dropped: tuple[Known, ...] = ()) -> Book:
+        parts = ({one.id: one for one in some} for some in (known, dropped))
+        found = dict(zip(("known", "dropped"), parts), former_numbers=lambda: former, greatest_digits=lambda: 7)
+        return cast(Book, SimpleNamespace(**found))
+
+    new = ("b", 2001), ("c", 2000), ("a", 2001)
+    digits = {"c": 8, "a": 9, "b": 10}
+    assert numbered(book({}), *new) == {id: f"HOLGBRM{at:012}" for id, at in digits.items()}
+    emptied = {"former": "SKUDEUM000000000005"}
+    assert numbered(book(emptied), *new) == {id: f"SKUDEUM{at:012}" for id, at in digits.items()}
+    back = ("former", 2000), ("dropped", 2000), ("known", 2000)
+    one = book(emptied, known, dropped=(dropped,))
+    assert numbered(one, *back) == {id: f"SKUDEUM{at:012}" for id, at in (("known", 4), ("dropped", 2), ("former", 5))}
+    assert numbered(one, ("known", 2000), ("a", 2001), country="IRL") == {
+        "known": "SKUIRLM000000000004", "a": "SKUIRLM000000000008"
+    }  # fmt: skip
+
+
+def next_book(animal: Animal | None, known: Known | None, *given: str, is_pedigree: bool = False) -> NextBook:
+    """Of one animal, without parents in the book, and the columns that a sheet gives."""
+    records = {NUMBER: record_after(None, birth(NUMBER, BORN, "", "", 1, False))}
+    before = {known.id: known} if known else {}
+    book = SimpleNamespace(known=before, dropped={}, records=records, by_number=dict)
+    return NextBook(cast(Book, book), {animal.id: animal} if animal else {}, {*given}, Report(), is_pedigree)
+
+
+def test_texts_of_parents_after_a_taking() -> None:
+    """The book's stay where no row gives the parent, and where that is still the same; a row's own is kept where the
+    parent is left out or another, but for parents of a pedigree that are swapped."""
+    both, known = ("sire", "dam"), Known(NUMBER, "a", written_sire="Bob", written_dam="Eva")
+
+    def texts(animal: Animal, *given: str, written: tuple[str, str] = ("", ""), is_pedigree: bool = False) -> object:
+        one = next_book(animal, known, *given, is_pedigree=is_pedigree)
+        one.texts = {"a": written}
+        return written_parents(one).get("a")
+
+    assert texts(Animal("a"), *both) == texts(Animal("a", 2)) == ("Bob", "Eva")
+    assert texts(Animal("a", 2), "dam") == ("Bob", "") and texts(Animal("a", 2, sire="b")) == ("", "Eva")
+    assert texts(Animal("a", 2, sire="b"), *both, written=("b", "Ada")) == ("", "Ada")
+    swapped = Animal("a", 2, sire="b", dam="c")
+    assert texts(swapped, *both, written=("c", "b")) == ("c", "b")
+    assert texts(swapped, *both, written=("c", "b"), is_pedigree=True) is None
+
+
+def test_what_an_animal_is_after_a_taking() -> None:
+    """One without a row is gone if it had one, but for one whose id a row has that is left out; one that was filed by
+    hand stays so. One that isn't taken over is dropped, and keeps what is known of it."""
+    found: dict[Standing, list[Standing]] = {}
+    for standing in Standing.ROW, Standing.GONE, Standing.PARENT, Standing.FILED:
+        known = Known(NUMBER, "a", "Anna", standing, by_hand=frozenset({Field.SIRE}), owner_day=OwnerDay.INFERRED)
+        row, none, left_out = (next_book(Animal("a", line, number=NUMBER), known) for line in (2, 0, 0))
+        left_out.used_again = {"a"}
+        assert known_after(next_book(None, known)) == {"a": known._replace(standing=Standing.DROPPED)}
+        row.overridden = {"a": frozenset({Field.SIRE})}
+        after = [known_after(one)["a"] for one in (none, left_out, row)]
+        found[standing] = [one.standing for one in after]
+        assert [len(one.by_hand) for one in after] == [1, 1, 0]
+        assert [one.owner_day for one in after] == [OwnerDay.INFERRED, OwnerDay.INFERRED, OwnerDay.GIVEN]
+    without = dict(zip(found, (Standing.GONE, Standing.GONE, Standing.PARENT, Standing.FILED)))
+    assert found == {standing: [one, Standing.ROW, Standing.ROW] for standing, one in without.items()}
+    assert known_after(next_book(Animal("a"), None))["a"].standing is Standing.PARENT
+
+
+def moved(basis: OwnerDay, born: str, *days: str, left: str = "") -> tuple[list[str], list[tuple[str, str]], OwnerDay]:
+    """The days of an animal's transfers in order, those of them that are told, each with its day before, and what the
+    last one comes from."""
+    report, day = Report(), datetime.date.fromisoformat
+    animal = Animal("a", 2, born=day(born), left=day(left) if left else None, owner_day=basis)
+    given = [transfer(NUMBER, day(one), at, at + 1) for at, one in enumerate(days, 1)]
+    found = OwnerDays(cast(Book, SimpleNamespace(owner_of=str)), report, None).in_order(animal, given)
+    told = [one.finding for one in report.entries if isinstance(one.finding, OwnerDayMoved)]
+    return [one.day for one in found], [(str(one.before), str(one.now)) for one in told], animal.owner_day
+
+
+def test_days_of_owners_in_order() -> None:
+    """An inferred last day is moved and not told; one that was given moves those before it. What is moved to a birth
+    or an exit is told, and inferred from then on."""
+    inferred, given = OwnerDay.INFERRED, OwnerDay.GIVEN
+    days = "2010-01-01", "2012-01-01"
+    assert moved(given, "2001-01-01", *days) == ([*days], [], given)
+    assert moved(inferred, "2001-01-01", *reversed(days)) == ([days[1]] * 2, [], inferred)
+    assert moved(given, "2001-01-01", *reversed(days)) == ([days[0]] * 2, [(days[1], days[0])], given)
+    assert moved(given, "2001-01-01", *days, left="2011-01-01") == (
+        [days[0], "2011-01-01"], [(days[1], "2011-01-01")], inferred
+    )  # fmt: skip
+    assert moved(given, "2013-01-01", *days) == (["2013-01-01"] * 2, [(one, "2013-01-01") for one in days], inferred)
+    # an exit before the birth leaves no day open
+    born = "2011-01-01"
+    assert moved(inferred, born, *days, left="2005-01-01") == ([born] * 2, [(days[0], born)], inferred)
+
+
+def filing(length: int = 0) -> Filing:
+    """That of an animal beside a journal of so many commands, whose owners are told by their herds."""
+    book = SimpleNamespace(journal=SimpleNamespace(length=length), owner_of=str, by_number=dict)
+    return Filing(NextBook(cast(Book, book), {}, set(), Report()), cast(OwnerDays, None))
+
+
+def test_refusals_behind_the_journal() -> None:
+    """The first command behind it is seen, and what is refused in it, as of commands by hand, doesn't count."""
+    for refused, wanted in ((2, False), (3, True), (4, True)):
+        program = SimpleNamespace(file_text=lambda text, count, at=refused: {at: Refusal.SAME_OWNER})
+        assert filing(3).refused_behind(cast(Herdbook, program), b"", 2) is wanted
+
+
+def test_a_birth_day_that_changes_is_told_but_where_both_are_invented() -> None:
+    record, later = record_after(None, birth(NUMBER, BORN, "", "", 4, False)), datetime.date(2002, 3, 4)
+    invented, period = BirthBasis(BirthSource.INVENTED), BirthBasis(BirthSource.PERIOD, year_of(2002).period())
+    for before, after in ((invented, invented), (invented, period), (period, invented)):
+        animal = Animal("a", 2, owner="4", born=later, number=NUMBER, birth_basis=after)
+        told = [one.name for one in filing().changes(animal, record, Known(NUMBER, "a", birth=before))]
+        assert told == ([] if before is after else ["birth day"])
+
+
+def test_what_no_command_corrects() -> None:
+    """A birth day, a number, a stored embryo, and an exit that moves or is withdrawn; a new exit is one of the
+    commands."""
+    record = record_after(None, birth(NUMBER, BORN, "", "", 4, False))
+    left = record._replace(left=datetime.date(2005, 1, 2))
+
+    def animal(**more: Any) -> Animal:
+        return dataclasses.replace(Animal("a", 2, born=BORN, number=NUMBER), **more)
+
+    assert not is_corrected(animal(), record) and not is_corrected(animal(left=left.left), record)
+    assert not is_corrected(animal(left=left.left), left)
+    assert is_corrected(animal(), left) and is_corrected(animal(left=BORN), left)
+    changed = {"born": left.left, "number": NUMBER.replace("F", "M"), "embryo": True}
+    assert all(is_corrected(animal(**{name: value}), record) for name, value in changed.items())
+
+
+def test_commands_that_are_left_out_are_told_by_what_refuses_them() -> None:
+    """An exit that is left out tells that the animal counts as gone, and a transfer doesn't."""
+    day = BORN.isoformat()
+    exit, transferred = (
+        CommandLeftOut(kind, day, Refusal.LATER_OFFSPRING, "b", line)
+        for kind, line in ((CommandKind.EXIT, 7), (CommandKind.TRANSFER, 0))
+    )
+    assert exit.words().endswith(" (b in line 7) (refusal 16); the animal counts as gone")
+    assert transferred.words().endswith(" (b) (refusal 16)")
+    other = CommandLeftOut(CommandKind.EXIT, day, Refusal.SAME_OWNER, "", 0)
+    assert len({one.theme() for one in (exit, transferred, other)}) == 3
