@@ -22,6 +22,7 @@ def main(words: list[str]) -> int:
             stream.reconfigure(encoding="utf-8", errors="backslashreplace")
     sys.stdout, sys.stderr = cast(TextIO, Harmless(sys.stdout)), cast(TextIO, Harmless(sys.stderr))
     try:
+        only_text(words)
         call = joined(words)
         asked = words_for(call).parser.read(call)
         asked.does(asked)
@@ -46,6 +47,14 @@ def main(words: list[str]) -> int:
     for sentence in sentences:
         print(f"society: {sentence}", file=sys.stderr)
     return 1
+
+
+def only_text(words: list[str]) -> None:
+    """A mistake where a word isn't text: a book couldn't keep it, nor could it be told. Python has half characters for
+    the bytes that aren't."""
+    for word in words:
+        if not word.isascii() and any("\ud800" <= character <= "\udfff" for character in word):
+            raise Mistake(f"{word} isn't UTF-8 text: write it otherwise, or rename the file or folder that it names")
 
 
 def run() -> NoReturn:

@@ -8,7 +8,8 @@ from typing import Callable
 
 import pytest
 
-from society.book.files import put
+from front_desk.desk import Desk
+from society.book.files import put, source_of
 
 
 def test_synced_before_it_has_its_name(tmp_path: pathlib.Path, monkeypatch: pytest.MonkeyPatch) -> None:
@@ -47,3 +48,14 @@ def test_not_in_place_of_another(tmp_path: pathlib.Path) -> None:
     with pytest.raises(FileExistsError):
         put(tmp_path / "file", b"text", replaces=False)
     assert [path.read_bytes() for path in tmp_path.iterdir()] == [b"precious"]
+
+
+def test_names_that_are_no_text(desk: Desk, tmp_path: pathlib.Path) -> None:
+    """Nothing is begun of a word that isn't UTF-8 text, and the name of a folder that isn't is kept in other letters."""
+    for name in "b\udce4r.csv", "b\udce4r":
+        (desk.room / name).write_text("id,born\nA 1,2001-01-01\n", encoding="utf-8")
+        desk.wrong(r"b\udce4r", "take", name)
+    desk.wrong("isn't UTF-8 text: write it otherwise", "take", "b\udce4r.csv", "--book", "another")
+    folder = tmp_path / "f\udce4l"
+    folder.mkdir()
+    assert source_of(folder / "a.csv", b"").path == rf"{tmp_path.resolve()}/f\xe4l/a.csv"
