@@ -10,6 +10,7 @@ import pytest
 
 from front_desk.desk import TOP, Desk, NewDesk
 from front_desk.sheet import Secretary, sheet_text
+from front_desk.whole import FLOCK
 
 # so long a test with today in it may take, in seconds
 BEFORE_MIDNIGHT = 180
@@ -88,3 +89,10 @@ def mrode_desk(taken_mrode: Desk, tmp_path: pathlib.Path) -> Desk:
 def society_desk(taken_society: Desk, tmp_path: pathlib.Path) -> Desk:
     """A desk with the book of the society's sheet: 502 animals with those that were added."""
     return taken_society.copy_to(tmp_path / "the society's desk")
+
+
+@pytest.fixture
+def flock_desk(desk: Desk) -> Desk:
+    """With a flock in its book."""
+    desk.take(FLOCK)
+    return desk

@@ -1,0 +1,78 @@
+"""Owners whose names change: each keeps its own, and transfers by hand stay."""
+from __future__ import annotations
+
+from front_desk.desk import Desk
+
+TITLES = "id;sex;birth;sire;dam;owner;exit\n"
+OWNERS = ("Meier", "Huber", "Kunz")
+
+
+def transfers(desk: Desk) -> list[str]:
+    """The days of the transfers of the book, in order."""
+    return [line.split(",")[2] for line in desk.commands() if line.startswith("transfer")]
+
+
+def owners_sheet(*owners: str) -> str:
+    """A sheet of as many animals as owners."""
+    return TITLES + "".join(f"a{at};F;2001-03-0{at};;;{owner};\n" for at, owner in enumerate(owners, 1))
+
+
+def owners_listed(desk: Desk) -> list[str]:
+    return [line.split(",")[1] for line in desk.good("list", "--columns", "id,owner").out.splitlines()[1:]]
+
+
+def test_names_that_go_from_owner_to_owner(desk: Desk) -> None:
+    """Each has its own, though another one had it before, or both change theirs."""
+    desk.take(owners_sheet(*OWNERS))
+    now = list(OWNERS)
+    for before, after in [
+        ("Meier", "Bauer"), ("Huber", "Meier"), ("Meier", "Kern"), ("Kunz", "Huber"), ("Bauer", "x"), ("Kern", "Bauer"),
+        ("x", "Kern"), ("Bauer", "x"), ("Kern", "Bauer"), ("x", "Kern"),
+    ]:  # fmt: skip
+        now[now.index(before)] = after
+        assert " 0 changed" in desk.take(owners_sheet(*now), "--owner", f"{before}={after}").last
+        assert owners_listed(desk) == now
+    assert transfers(desk) == []
+    desk.good("undo", "--to", "1")
+    assert owners_listed(desk) == list(OWNERS)
+
+
+def test_new_owner_of_a_name_of_before(desk: Desk) -> None:
+    """The name of an owner who is written otherwise now, also for a while, may be another's."""
+    desk.take(owners_sheet(*OWNERS))
+    desk.take(owners_sheet("Bauer", "Huber", "Kunz"), "--owner", "Meier=Bauer")
+    desk.take(owners_sheet("Kern", "Huber", "Kunz"), "--owner", "Bauer=Kern")
+    desk.good("transfer", "a2", "--to", "Meier", "--day", "2010-01-01")
+    assert owners_listed(desk) == ["Kern", "Meier", "Kunz"]
+    desk.good("birth", "a4", "--sex", "f", "--day", "2011-01-01", "--owner", "Bauer")
+    assert owners_listed(desk) == ["Kern", "Meier", "Kunz", "Bauer"]
+    desk.take(owners_sheet("Kern", "Meier", "Meier (herd 4)", "Bauer"), "--day", "2012-01-01", "--anyway")
+    assert owners_listed(desk) == ["Kern", "Meier", "Meier (herd 4)", "Bauer"]
+    assert "is whole" in desk.good("verify").out
+    herds = [line.split(",")[-2] for line in desk.commands() if line.startswith("transfer")]
+    assert len(herds) == len(set(herds)) == 2
+
+
+def test_transfer_by_hand_stays(desk: Desk) -> None:
+    """Its day too, where the cells are as in the last sheet, or the owner is only written otherwise."""
+    titles = TITLES.replace("owner", "since;owner")
+
+    def sheet(day: str, owner: str) -> str:
+        return titles + f"s;M;2001-03-01;;;{day};{owner};\nd;F;2001-03-02;;;{day};{owner};\n"
+
+    desk.take(sheet("2003-01-01", "Meier"))
+    desk.good("transfer", "d", "--to", "Groß", "--day", "2010-01-01")
+    for day, owner, renamed in [
+        ("2003-01-01", "Meier", ""), ("2003-01-01", "Meyer", "Meier=Meyer"), ("2004-01-01", "Meyer", "")
+    ]:  # fmt: skip
+        desk.take(sheet(day, owner), *["--owner", renamed][: 2 * bool(renamed)])
+        assert owners_listed(desk) == [owner, "Groß"]
+        assert transfers(desk) == [day, "2003-01-01", "2010-01-01"]
+        assert "is whole" in desk.good("verify").out
+    # a row that a sheet lacks
+    desk.take(titles + "s;M;2001-03-01;;;2004-01-01;Kern;\n", "--owner", "Meyer=Kern", "--anyway")
+    desk.take(sheet("2004-01-01", "Kern"))
+    assert owners_listed(desk) == ["Kern", "Groß"] and transfers(desk)[-1] == "2010-01-01"
+    # another owner of the sheet is followed
+    desk.take(sheet("2012-01-01", "Lang"))
+    assert owners_listed(desk) == ["Lang", "Lang"] and transfers(desk)[-1] == "2012-01-01"
