@@ -139,6 +139,10 @@ class Desk:
     def commands(self) -> list[str]:
         return self.text("book/commands.csv").splitlines()[1:]
 
+    def transfer_days(self) -> list[str]:
+        """The days of the transfers of the book, in order."""
+        return [line.split(",")[2] for line in self.commands() if line.startswith("transfer")]
+
     def numbers(self) -> dict[str, str]:
         return {row["id"]: row["number"] for row in self.table("book/ids.csv") if row["row"] != "dropped"}
 

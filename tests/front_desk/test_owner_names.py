@@ -7,11 +7,6 @@ TITLES = "id;sex;birth;sire;dam;owner;exit\n"
 OWNERS = ("Meier", "Huber", "Kunz")
 
 
-def transfers(desk: Desk) -> list[str]:
-    """The days of the transfers of the book, in order."""
-    return [line.split(",")[2] for line in desk.commands() if line.startswith("transfer")]
-
-
 def owners_sheet(*owners: str) -> str:
     """A sheet of as many animals as owners."""
     return TITLES + "".join(f"a{at};F;2001-03-0{at};;;{owner};\n" for at, owner in enumerate(owners, 1))
@@ -32,7 +27,7 @@ def test_names_that_go_from_owner_to_owner(desk: Desk) -> None:
         now[now.index(before)] = after
         assert " 0 changed" in desk.take(owners_sheet(*now), "--owner", f"{before}={after}").last
         assert owners_listed(desk) == now
-    assert transfers(desk) == []
+    assert desk.transfer_days() == []
     desk.good("undo", "--to", "1")
     assert owners_listed(desk) == list(OWNERS)
 
@@ -67,12 +62,12 @@ def test_transfer_by_hand_stays(desk: Desk) -> None:
     ]:  # fmt: skip
         desk.take(sheet(day, owner), *["--owner", renamed][: 2 * bool(renamed)])
         assert owners_listed(desk) == [owner, "Groß"]
-        assert transfers(desk) == [day, "2003-01-01", "2010-01-01"]
+        assert desk.transfer_days() == [day, "2003-01-01", "2010-01-01"]
         assert "is whole" in desk.good("verify").out
     # a row that a sheet lacks
     desk.take(titles + "s;M;2001-03-01;;;2004-01-01;Kern;\n", "--owner", "Meyer=Kern", "--anyway")
     desk.take(sheet("2004-01-01", "Kern"))
-    assert owners_listed(desk) == ["Kern", "Groß"] and transfers(desk)[-1] == "2010-01-01"
+    assert owners_listed(desk) == ["Kern", "Groß"] and desk.transfer_days()[-1] == "2010-01-01"
     # another owner of the sheet is followed
     desk.take(sheet("2012-01-01", "Lang"))
-    assert owners_listed(desk) == ["Lang", "Lang"] and transfers(desk)[-1] == "2012-01-01"
+    assert owners_listed(desk) == ["Lang", "Lang"] and desk.transfer_days()[-1] == "2012-01-01"

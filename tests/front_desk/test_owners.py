@@ -9,11 +9,6 @@ TITLES = "id;sex;birth;sire;dam;owner;exit\n"
 PARENTS = "s;M;2001-03-01;;;Meier;\nd;F;2001-03-02;;;Meier;\n"
 
 
-def transfers(desk: Desk) -> list[str]:
-    """The days of the transfers of the book, in order."""
-    return [line.split(",")[2] for line in desk.commands() if line.startswith("transfer")]
-
-
 def since(desk: Desk, id: str) -> str:
     """What a certificate says of the owner's first day."""
     desk.good("certificate", id, "--out", "page.html", "--force")
@@ -26,11 +21,11 @@ def test_owner_changed_and_then_an_exit_before(desk: Desk, today: datetime.date)
     last_week = today - datetime.timedelta(7)
     desk.take(TITLES + PARENTS)
     desk.take(TITLES + PARENTS.replace("d;F;2001-03-02;;;Meier", "d;F;2001-03-02;;;Groß"))
-    assert transfers(desk) == [str(today)]
+    assert desk.transfer_days() == [str(today)]
     assert since(desk, "d") == f"{today} (inferred)"
     done = desk.take(TITLES + PARENTS.replace("d;F;2001-03-02;;;Meier;", f"d;F;2001-03-02;;;Groß;{last_week}"))
     assert " 0 left out" in done.last
-    assert transfers(desk) == [str(last_week)]
+    assert desk.transfer_days() == [str(last_week)]
     assert desk.commands()[-1].startswith(f"exit,HOLGBRF000000000002,{last_week}")
 
 
@@ -43,7 +38,7 @@ def test_birth_corrected_past_a_transfer(desk: Desk) -> None:
         "birth, its exit or its owner before",
         "line 3: d: changed: birth day: 2006-03-02, before 2001-03-02",
     )
-    assert transfers(desk) == ["2006-03-02"]
+    assert desk.transfer_days() == ["2006-03-02"]
 
 
 def test_day_of_a_change_has_a_column(desk: Desk, today: datetime.date) -> None:
@@ -55,21 +50,21 @@ def test_day_of_a_change_has_a_column(desk: Desk, today: datetime.date) -> None:
 
     desk.take(TITLES + PARENTS)
     desk.take(TITLES + PARENTS.replace("d;F;2001-03-02;;;Meier", "d;F;2001-03-02;;;Groß"))
-    assert transfers(desk) == [str(today)]
+    assert desk.transfer_days() == [str(today)]
     done = desk.take(sheet("03.04.2010", "Groß"))
-    assert transfers(desk) == ["2010-04-03"]
+    assert desk.transfer_days() == ["2010-04-03"]
     assert since(desk, "d") == "2010-04-03"
     desk.take(sheet("01.05.2012", "Weiß"))
-    assert transfers(desk) == ["2010-04-03", "2012-05-01"]
+    assert desk.transfer_days() == ["2010-04-03", "2012-05-01"]
     done = desk.take(sheet(f"{today + datetime.timedelta(9)}", "Löw"))
     assert "its first day with its owner is left out" in done.out
-    assert len(transfers(desk)) == 2
+    assert len(desk.transfer_days()) == 2
     assert " 0 changed" in done.last
     # of a month or a year that hasn't ended it is no day after today
     desk.take(sheet(str(today.year), "Löw"))
-    assert transfers(desk)[2:] == [str(today)]
+    assert desk.transfer_days()[2:] == [str(today)]
     assert " 0 left out" in desk.take(sheet(str(today), "Süß")).last
-    assert transfers(desk)[2:] == [str(today)] * 2
+    assert desk.transfer_days()[2:] == [str(today)] * 2
 
 
 def test_day_before_an_inferred_one(desk: Desk) -> None:
@@ -77,7 +72,7 @@ def test_day_before_an_inferred_one(desk: Desk) -> None:
     desk.take(TITLES + PARENTS)
     desk.take(TITLES + PARENTS.replace("d;F;2001-03-02;;;Meier", "d;F;2001-03-02;;;Groß"))
     desk.take("id;birth;sire;dam;owner;since\ns;2001-03-01;;;;\nd;2001-03-02;;;Weiß;2012-05-01\n")
-    assert transfers(desk) == ["2012-05-01", "2012-05-01"]
+    assert desk.transfer_days() == ["2012-05-01", "2012-05-01"]
 
 
 def test_first_owner_since_a_day(desk: Desk) -> None:
@@ -103,7 +98,7 @@ def test_owner_is_written_otherwise(desk: Desk) -> None:
     desk.wrong("the book has 'Meyer' too, as another owner", "take", "sheet.csv", "--owner", "Meier=Meyer")
     done = desk.typed(done.commands()[0])
     assert " 0 changed" in done.last
-    assert transfers(desk) == []
+    assert desk.transfer_days() == []
     assert " 0 changed" in desk.take(renamed).last
     desk.good("certificate", "s", "--out", "page.html")
     assert "Meyer" in "".join(desk.page("page.html").itertext())
