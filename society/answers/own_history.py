@@ -9,6 +9,7 @@ from society.book.book import NO_OWNER
 from society.book.changes import Told
 from society.book.history import change_numbered
 from society.book.history_words import difference, heading
+from society.book.owner_names import names_now
 from society.book.rows import COLUMNS, Row
 from society.taking.report import What
 from society.taking.stored_findings import entry_of
@@ -21,7 +22,7 @@ def history_of(connection: sqlite3.Connection, id: str) -> Iterator[str]:
     """Each change that changed the animal or told of it, with what it did and told."""
     began, ended = rows_by_change(connection, id, "since"), rows_by_change(connection, id, "until")
     told = told_of_animal(connection, id)
-    owners: dict[int, str] = dict(connection.execute("SELECT herd, name FROM owner")) | {NO_OWNER: ""}
+    owners = names_now(connection) | {NO_OWNER: ""}
     names = names_of_parents(connection, [*began.values(), *ended.values()])
     for number in sorted(began.keys() | ended.keys() | told.keys()):
         change = change_numbered(connection, number)

@@ -126,6 +126,9 @@ def prepare(path: pathlib.Path, copy: pathlib.Path, program: Herdbook) -> Change
     """A copy of a backup that is whole, with a change behind its others that tells of the restoring."""
     try:
         source = source_of(path, path.read_bytes())
+    except OSError as error:
+        raise Mistake(BackupFault.NOT_READ.said(path=path, error=error.strerror or str(error))) from None
+    try:
         with opened_to_read(path) as connection:
             version = version_of(connection, path)
             if not version:
@@ -134,9 +137,10 @@ def prepare(path: pathlib.Path, copy: pathlib.Path, program: Herdbook) -> Change
                 raise Mistake(BackupFault.ACTS.said(path=path))
             copy.write_bytes(bytes_of(connection))
     except OSError as error:
-        raise Mistake(BackupFault.NOT_READ.said(path=path, error=error.strerror or str(error))) from None
+        raise Mistake(BackupFault.NOT_RESTORED.said(path=path, error=error.strerror or str(error))) from None
     except sqlite3.Error as error:
-        raise Mistake(BackupFault.DAMAGED.said(path=path, error=str(error))) from None
+        fault = BackupFault.DAMAGED if primary(error) in DAMAGED else BackupFault.NOT_RESTORED
+        raise Mistake(fault.said(path=path, error=str(error))) from None
     try:
         with contextlib.closing(connect(copy, "rw")) as connection:
             connection.execute("BEGIN IMMEDIATE")

@@ -17,7 +17,7 @@ from society.book.journal import NO_JOURNAL, Journal, Step, command_file, refusa
 from society.book.kinds import Remembered, Standing
 from society.book.known import Known
 from society.book.lazy import Lazy, whole
-from society.book.owner_names import free_name
+from society.book.owner_names import as_written, owners_came
 from society.book.rows import Row, known_of, record_of
 from society.book.state import ALL_ROWS, CELLS, NOW, Meaning, Values, read_remembered, rows_now, select_rows
 
@@ -190,22 +190,11 @@ class Book:
     @functools.cached_property
     def owners(self) -> dict[str, int]:
         """The owners' herds, by their names as they are written now."""
-        owners = self.owners_came()
-        for one in self.remembered:
-            if one.what is not Remembered.OWNER or one.word not in owners:
-                continue
-            herd = owners.pop(one.word)
-            if one.meaning in owners:
-                # what another one is called was lost in an earlier version
-                other = owners.pop(one.meaning)
-                owners[free_name(one.meaning, other, {*owners, one.meaning})] = other
-            owners[one.meaning] = herd
-        return owners
+        return as_written(self.owners_came(), self.remembered)
 
     def owners_came(self) -> dict[str, int]:
         """The owners' herds, by the names by which they came."""
-        found = self.connection.execute("SELECT name, herd FROM owner ORDER BY herd") if self.connection else ()
-        return dict(found)
+        return owners_came(self.connection) if self.connection else {}
 
     def respelt(self, owner: str) -> str:
         """An owner of a cell of the last sheet, as it is written from now on."""

@@ -14,6 +14,8 @@ TEXT = "'"
 # characters of control but tabs and ends of lines, halves of characters, and marks that turn the direction of what
 # follows
 ACTING = re.compile("[\x00-\x08\x0b-\x1f\x7f-\x9f\ud800-\udfff\u061c\u200e\u200f\u202a-\u202e\u2066-\u2069]")
+# what ends a line
+ENDS = re.compile("[\n\r\v\f\x1c-\x1e\x85\u2028\u2029]")
 # the bytes of ASCII that do nothing
 HARMLESS = bytes(range(0x20, 0x7F)) + b"\t\n"
 
@@ -41,6 +43,11 @@ def for_terminals(text: str) -> str:
         if text.encode().translate(None, HARMLESS).decode().isprintable():
             return text
     return ACTING.sub(lambda found: escape(found[0]), text)
+
+
+def in_a_line(text: str) -> str:
+    """The text with a name for each character that would end its line."""
+    return ENDS.sub(lambda found: escape(found[0]), text)
 
 
 def escape(character: str) -> str:

@@ -5,9 +5,11 @@ import sqlite3
 from typing import Iterator
 
 from society.book.book import NO_OWNER
+from society.book.cells import in_a_line
 from society.book.changes import Change
 from society.book.history import told_by
 from society.book.kinds import ChangeKind, Standing
+from society.book.owner_names import names_now
 from society.book.rows import COLUMNS, Row, known_of
 from society.book.state import ANIMALS
 from society.mistake import counted
@@ -35,7 +37,7 @@ STANDINGS = {
 
 def heading(change: Change) -> str:
     """A change in a line: its number and time, who made it, what it did, and how much of each it told."""
-    file = change.source.name if change.source else ""
+    file = in_a_line(change.source.name) if change.source else ""
     what = KINDS[change.kind].format(file=file, undone_to=change.undone_to)
     if change.kind is ChangeKind.UNDO and not change.undone_to:
         what = "brought back the empty book"
@@ -48,9 +50,9 @@ def details(connection: sqlite3.Connection, change: Change) -> Iterator[str]:
     """What is kept of a change, what it changed of each animal, and what it told."""
     yield heading(change)
     if change.source:
-        yield f"file: {change.source.path}, SHA-256 {change.source.digest}"
+        yield f"file: {in_a_line(change.source.path)}, SHA-256 {change.source.digest}"
     if change.options:
-        yield f"options: {' '.join(f'{one.option} {one.word}'.strip() for one in change.options)}"
+        yield in_a_line(f"options: {' '.join(f'{one.option} {one.word}'.strip() for one in change.options)}")
     edition = connection.execute(
         "SELECT predecessor, keeps FROM edition WHERE edition = ?", (change.edition,)
     ).fetchone()
@@ -68,7 +70,7 @@ def animals_changed(connection: sqlite3.Connection, number: int) -> Iterator[str
     """Each animal that a change changed, with what was before and after."""
     before, after = (rows_by_id(connection, column, number) for column in ("until", "since"))
     names = names_around(connection, number)
-    owners: dict[int, str] = dict(connection.execute("SELECT herd, name FROM owner")) | {NO_OWNER: ""}
+    owners = names_now(connection) | {NO_OWNER: ""}
     ids = sorted(before.keys() | after.keys())
     yield f"animals changed: {len(ids)}"
     for id in ids:

@@ -2,7 +2,37 @@
 owner after the other, and of each name once."""
 from __future__ import annotations
 
-from collections.abc import Collection, Mapping
+import sqlite3
+from collections.abc import Collection, Iterable, Mapping
+
+from society.book.kinds import Remembered
+from society.book.state import Meaning, read_remembered
+
+
+def owners_came(connection: sqlite3.Connection) -> dict[str, int]:
+    """The owners' herds, by the names by which they came."""
+    return dict(connection.execute("SELECT name, herd FROM owner ORDER BY herd"))
+
+
+def as_written(came: Mapping[str, int], remembered: Iterable[Meaning]) -> dict[str, int]:
+    """The owners' herds, by their names as they are written by what is remembered."""
+    owners = {**came}
+    for one in remembered:
+        if one.what is not Remembered.OWNER or one.word not in owners:
+            continue
+        herd = owners.pop(one.word)
+        if one.meaning in owners:
+            # what another one is called was lost in an earlier version
+            other = owners.pop(one.meaning)
+            owners[free_name(one.meaning, other, {*owners, one.meaning})] = other
+        owners[one.meaning] = herd
+    return owners
+
+
+def names_now(connection: sqlite3.Connection) -> dict[int, str]:
+    """The owners' names as they are written now, by their herds."""
+    owners = as_written(owners_came(connection), read_remembered(connection))
+    return {herd: name for name, herd in owners.items()}
 
 
 def free_name(name: str, herd: int, taken: Collection[str]) -> str:

@@ -23,7 +23,7 @@ from society.desk.texts import TEXTS
 from society.desk.words import NAMES, the_words
 from society.mistake import Mistake
 from society.pages.page import finished
-from society.reading.sheet import MOST_BYTES
+from society.reading.bounds import MOST_BYTES
 
 # what stands above the pages: those that whoever asks may ask for
 MENU = {

@@ -32,7 +32,7 @@ from society.desk.office import Office
 from society.desk.sentences import DeskFault
 from society.desk.uploads import Uploads
 from society.mistake import Mistake
-from society.reading.sheet import MOST_BYTES
+from society.reading.bounds import MOST_BYTES
 
 ADDRESS = "127.0.0.1"
 THREADS = 8

@@ -10,6 +10,7 @@ from society.book.book import NO_OWNER, Book
 from society.book.changes import Told
 from society.book.history import change_numbered
 from society.book.history_words import facts
+from society.book.owner_names import names_now
 from society.book.rows import COLUMNS, Row
 from society.desk.change_lines import ChangeLine, line_of
 from society.desk.finding_words import Sentence, sentence_of
@@ -49,7 +50,7 @@ def differences_of(book: Book, number: int, words: Words, most: int) -> tuple[in
     ids = [id for (id,) in ask(f"SELECT id {CHANGED} ORDER BY id LIMIT :most", asked)]
     before, after = (rows_of(book, ids, column, number) for column in ("until", "since"))
     names = names_of_parents(book.connection, [*before.values(), *after.values()])
-    owners: dict[int, str] = dict(ask("SELECT herd, name FROM owner")) | {NO_OWNER: ""}
+    owners = names_now(book.connection) | {NO_OWNER: ""}
     return count, [difference(id, before.get(id), after.get(id), names, owners, words) for id in ids]
 
 
@@ -101,7 +102,7 @@ def own_changes(book: Book, id: str, words: Words) -> list[OwnChange]:
     began, ended = (rows_by_change(book.connection, id, column) for column in ("since", "until"))
     told = told_of_animal(book.connection, id)
     names = names_of_parents(book.connection, [*began.values(), *ended.values()])
-    owners: dict[int, str] = dict(book.connection.execute("SELECT herd, name FROM owner")) | {NO_OWNER: ""}
+    owners = names_now(book.connection) | {NO_OWNER: ""}
     found = []
     for number in sorted(began.keys() | ended.keys() | told.keys(), reverse=True):
         change = change_numbered(book.connection, number)

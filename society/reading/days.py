@@ -173,20 +173,34 @@ def is_span(text: str) -> bool:
 
 def span_within(text: str, month_first: bool = False) -> Span | None:
     """The only day, month or year within a text, if there is one."""
-    for form in FORMS:
-        # a year alone ends the text: other numbers may be prices
-        behind = r"(?=[).]*$)" if form is FORMS[-1] else r"(?!\d|[./-]\d)"
-        found = list(re.finditer(r"(?<![\w./-])" + form.pattern + behind, text, re.IGNORECASE))
-        if len(found) == 1:
-            try:
-                return span_of(found[0].groupdict(), found[0].group(), month_first)
-            except Unreadable as error:
-                if error.fault is DayFault.WRONG_ORDER:
-                    raise
-                return None
-        if found:
-            return None
-    return None
+    found = list[re.Match[str]]()
+    for form in FORMS[:-1]:
+        # a form may fit a part of what an earlier one fits
+        found += [one for one in within(form, text, r"(?!\d|[./-]\d)") if not any(overlap(one, other) for other in found)]
+    # a year alone ends the text: other numbers may be prices
+    found = found or within(FORMS[-1], text, r"(?=[).]*$)")
+    said = {span_said(one, month_first) for one in found}
+    return said.pop() if len(said) == 1 else None
+
+
+def within(form: re.Pattern[str], text: str, behind: str) -> list[re.Match[str]]:
+    """Where the form fits. A number that could be no month of a year is none."""
+    found = re.finditer(r"(?<![\w./-])" + form.pattern + behind, text, re.IGNORECASE)
+    return [one for one in found if "day" in one.groupdict() or FIRST_YEAR <= int(one["year"]) <= LAST_YEAR]
+
+
+def overlap(one: re.Match[str], other: re.Match[str]) -> bool:
+    return one.start() < other.end() and other.start() < one.end()
+
+
+def span_said(found: re.Match[str], month_first: bool) -> Span | None:
+    """What is said there; nothing where the year of a day is none that can be."""
+    try:
+        return span_of(found.groupdict(), found.group(), month_first)
+    except Unreadable as error:
+        if error.fault is DayFault.WRONG_ORDER:
+            raise
+        return None
 
 
 def span_of(parts: dict[str, str | None], text: str, month_first: bool) -> Span:

@@ -9,7 +9,7 @@ from typing import Callable
 from society.book.kinds import Field
 from society.mistake import Mistake
 from society.reading.encodings import decoded
-from society.reading.pedigree_lines import read_bytes
+from society.reading.pedigree_lines import given_bytes
 from society.reading.pedigree_titles import OF_FIELD
 from society.reading.words import plain
 
@@ -17,7 +17,7 @@ from society.reading.words import plain
 def read_ids(path: pathlib.Path, is_known: Callable[[str], bool]) -> list[str]:
     """The ids in their order, each once: a whole line where that is known, else its first cell. A first line may be a
     title."""
-    text, _ = decoded(path, read_bytes(path))
+    text, _ = decoded(path, given_bytes(path))
     lines = [" ".join(line.split()) for line in text.splitlines() if line.strip()]
     # an id may begin as a comment does
     lines = [line for line in lines if not line.startswith("#") or is_known(line)]

@@ -10,8 +10,10 @@ from society.reading.words import KNOWN_SEXES, plain, sex_word
 
 
 def parts_of(words: list[str]) -> list[str]:
-    """The parts between commas; one that has a comma itself stands in quotation marks."""
-    return [part for word in words for part in next(csv.reader([word], skipinitialspace=True), [""])]
+    """The parts between commas; one that has a comma itself stands in quotation marks. An end of a line is a blank, as it
+    is in a sheet's cells."""
+    lines = (" ".join(word.splitlines()) for word in words)
+    return [part for line in lines for part in next(csv.reader([line], skipinitialspace=True), [""])]
 
 
 def read_given(words: list[str]) -> dict[str, str]:

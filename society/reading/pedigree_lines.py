@@ -9,6 +9,7 @@ import sys
 from typing import NamedTuple
 
 from society.mistake import Mistake
+from society.reading.bounds import bounded, check_bounds, read_bytes
 from society.reading.encodings import decoded
 
 # how standard input is named
@@ -32,18 +33,21 @@ class Line(NamedTuple):
 
 def read_lines(path: pathlib.Path) -> list[Line]:
     """The lines that have cells; `#` begins a comment. The first line says what stands between cells."""
-    text, _ = decoded(path, read_bytes(path))
+    text, _ = decoded(path, given_bytes(path))
     numbered = enumerate((TITLES_OF_PLINK.sub("", line) if line[:1] == "#" else line for line in text.splitlines()), 1)
     lines = [(number, part) for number, part in numbered if part.strip() and not part.lstrip().startswith("#")]
     separator = next((one for one in ";\t," if lines and one in lines[0][1]), None)
+    found = [Line(number, cells_of(number, part, separator)) for number, part in lines]
+    check_bounds(path, found)
+    return found
+
+
+def cells_of(number: int, part: str, separator: str | None) -> list[str]:
+    """The cells of a line; without a separator blanks stand between them."""
     if separator:
-        return [
-            Line(number, [cell.strip() for cell in next(csv.reader([part], delimiter=separator))])
-            for number, part in lines
-        ]
-    for number, part in lines:
-        check_blanks(number, part)
-    return [Line(number, [unquoted(cell) for cell in CELL.findall(part)]) for number, part in lines]
+        return [cell.strip() for cell in next(csv.reader([part], delimiter=separator))]
+    check_blanks(number, part)
+    return [unquoted(cell) for cell in CELL.findall(part)]
 
 
 def unquoted(cell: str) -> str:
@@ -52,17 +56,14 @@ def unquoted(cell: str) -> str:
     return inner.replace('\\"', '"').strip()
 
 
-def read_bytes(path: pathlib.Path) -> bytes:
-    try:
-        return standard_input() if path == STANDARD_INPUT else path.read_bytes()
-    except OSError as error:
-        raise Mistake(f"{path} can't be read: {error.strerror or error}. Is the name right?") from None
+def given_bytes(path: pathlib.Path) -> bytes:
+    return standard_input() if path == STANDARD_INPUT else read_bytes(path)
 
 
 @functools.cache
 def standard_input() -> bytes:
     """It comes only once."""
-    return sys.stdin.buffer.read()
+    return bounded(STANDARD_INPUT, sys.stdin.buffer)
 
 
 def check_blanks(number: int, part: str) -> None:

@@ -13,6 +13,7 @@ from typing import Callable, NamedTuple
 
 from society.book.named import made
 from society.mistake import Mistake
+from society.reading.bounds import check_bounds, read_bytes
 from society.reading.column_findings import SheetFinding
 from society.reading.encodings import decoding
 from society.reading.sentences import SheetFault
@@ -20,8 +21,6 @@ from society.reading.words import clean
 from society.reading.workbook import read_workbook
 
 SEPARATORS = ";\t,"
-# so large a sheet may be: bytes of the file, rows, and letters of a cell
-MOST_BYTES, MOST_ROWS, MOST_LETTERS = 50_000_000, 200_000, 10_000
 # blanks that cells are read without
 BLANKS = ("  ", " \n", "\n ", " \r", "\r ")
 # the titles stand in one of so many rows
@@ -92,27 +91,6 @@ def read_sheet(path: pathlib.Path, score: Score, worksheet: str = "") -> Sheet:
     line, titles = rows[at]
     check_bounds(path, rows)
     return Sheet(line, titles, rows[at + 1 :], how, faults)
-
-
-def check_bounds(path: pathlib.Path, rows: list[Row]) -> None:
-    """A mistake where there is more than a sheet of a society has."""
-    if len(rows) > MOST_ROWS:
-        raise Mistake(SheetFault.TOO_MANY_ROWS.said(path=path, rows=len(rows), most=MOST_ROWS))
-    if max(map(len, itertools.chain.from_iterable(cells for _, cells in rows))) > MOST_LETTERS:
-        line = next(line for line, cells in rows if max(map(len, cells)) > MOST_LETTERS)
-        raise Mistake(SheetFault.LONG_CELL.said(line=line, most=MOST_LETTERS))
-
-
-def read_bytes(path: pathlib.Path) -> bytes:
-    try:
-        if path.is_file() and path.stat().st_size > MOST_BYTES:
-            size, most = round(path.stat().st_size / 1e6), round(MOST_BYTES / 1e6)
-            raise Mistake(SheetFault.TOO_LARGE.said(path=path, size=size, most=most))
-        return path.read_bytes()
-    except IsADirectoryError:
-        raise Mistake(SheetFault.IS_FOLDER.said(path=path)) from None
-    except OSError as error:
-        raise Mistake(SheetFault.CANT_BE_READ.said(path=path, error=error)) from None
 
 
 def title_row(rows: list[list[str]], score: Score) -> int:

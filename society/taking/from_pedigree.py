@@ -10,7 +10,7 @@ from society.book.opening import to_look_at
 from society.herdbook import Herdbook
 from society.mistake import Mistake, counted
 from society.reading.options import read_given
-from society.reading.pedigree_lines import STANDARD_INPUT, read_bytes
+from society.reading.pedigree_lines import STANDARD_INPUT, given_bytes
 from society.reading.pedigree_titles import READ
 from society.reading.triples import Triples, read_triples
 from society.reading.unknown import UnknownParents
@@ -53,7 +53,7 @@ def take_into(
     """What a pedigree makes of a book, and the change that is to be made, none for a preview."""
     book.read_all()
     report = Report()
-    source = source_of(path, read_bytes(path))
+    source = source_of(path, given_bytes(path))
     triples = read_triples(path, given_columns(wishes.columns), UnknownParents(wishes.unknown), report)
     animals, about = triples.animals, [*triples.told]
     ids = animals.keys() | book.known.keys()

@@ -14,10 +14,11 @@ from society.herdbook import Herdbook
 from society.mistake import MOST_NAMED
 from society.one_call import keep
 from society.reading.animal import Animal
+from society.reading.bounds import read_bytes
 from society.reading.columns import Columns, find_columns
 from society.reading.options import read_given, read_sexes
 from society.reading.sheet_animals import Rows
-from society.reading.sheet import Sheet, read_bytes, read_sheet
+from society.reading.sheet import Sheet, read_sheet
 from society.reading.titles import known_titles
 from society.reading.unknown import UnknownParents
 from society.taking.completing import complete

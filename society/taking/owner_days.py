@@ -80,6 +80,8 @@ class OwnerDays:
         animal.owner_day = known.owner_day
         has_other_owner = self.has_other_owner(animal, record)
         has_other_day = not has_other_owner and self.has_other_day(animal, record)
+        if not has_other_owner and self.has_day(animal, record):
+            animal.owner_day = OwnerDay.GIVEN
         if not (before or has_other_owner or has_other_day):
             return Owners(first, [], 0, False)
         first_herd, transfers = first, [one._replace(animal=animal.number) for one in before]
@@ -88,7 +90,6 @@ class OwnerDays:
                 transfers.append(self.change(animal, record))
         elif has_other_day:
             assert animal.since is not None
-            animal.owner_day = OwnerDay.GIVEN
             if transfers:
                 transfers[-1] = transfers[-1]._replace(day=animal.since.first.isoformat())
             elif first != NO_OWNER:
@@ -117,11 +118,15 @@ class OwnerDays:
             return False
         return True
 
-    def has_other_day(self, animal: Animal, record: Record) -> bool:
+    def has_day(self, animal: Animal, record: Record) -> bool:
         """Does the sheet say since when the owner that the book has has it?"""
-        if not animal.line or not self.is_day(animal) or animal.since is None or animal.since.first == record.since:
+        if not animal.line or not self.is_day(animal) or animal.since is None or self.herd_of(animal.owner) != record.herd:
             return False
-        return self.herd_of(animal.owner) == record.herd and (bool(record.giver) or animal.since.first > animal.born)
+        return bool(record.giver) or animal.since.first > animal.born
+
+    def has_other_day(self, animal: Animal, record: Record) -> bool:
+        """Is that another day than the book has?"""
+        return self.has_day(animal, record) and animal.since is not None and animal.since.first != record.since
 
     def is_day(self, animal: Animal) -> bool:
         return animal.since is not None and animal.since.is_day and not self.is_later(animal)

@@ -75,6 +75,11 @@ def test_days_within_texts() -> None:
     assert span_within("sold 13/05/2010.") == span_within("sold 05/13/2010", True) == Span(day, day)
     assert span_within("sold 3.4.2020 or 5.6.2021, in 2022") is span_within("sold for 2010 EUR") is None
     assert span_within("sold (2010).") == year_of(2010)
+    # also where they are written in different forms; one day that is written twice is one
+    several = "sold 03.04.2020, paid 2020-05-06", "sold 2020-05-06, paid 07/2020", "3 May 2020 or 4.5.1820"
+    assert {span_within(text) for text in several} == {None}
+    for text in "sold 13.05.2010 (2010-05-13)", "13.5.2010, 13.05.2010", "sold 13 May 2010, tag 12.3456":
+        assert span_within(text) == Span(day, day), text
     with pytest.raises(Unreadable, match="'05/13/2010' has the day and the month in the other order"):
         span_within("sold 05/13/2010")
 

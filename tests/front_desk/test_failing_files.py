@@ -112,3 +112,12 @@ def test_short_files(taken_flock: Desk, tmp_path: pathlib.Path, is_new: bool) ->
         before = changes_of(desk.room / "book")
         done = run(desk, "take", "grown.csv", before=functools.partial(limit_files, size))
         told_truly(done, before, changes_of(desk.room / "book"))
+
+
+def test_short_files_of_a_restoring(taken_flock: Desk, tmp_path: pathlib.Path) -> None:
+    """A backup that there is no room to copy isn't damaged."""
+    taken_flock.good("backup", "copy", "--force")
+    for size in SIZES:
+        book = tmp_path / str(size)
+        done = run(taken_flock, "restore", "copy", "--book", str(book), before=functools.partial(limit_files, size))
+        assert done.status == (0 if changes_of(book) else 1) and "damaged" not in done.err, f"{size}: {done}"

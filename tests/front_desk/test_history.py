@@ -175,6 +175,30 @@ def test_backup(flock_desk: Desk) -> None:
     flock_desk.wrong("can't be read: No such file", "restore", "absent")
 
 
+def test_line_of_a_change(desk: Desk) -> None:
+    """The name of a sheet, of its folder and an option stay in their lines, though they have ends of lines."""
+    folder = desk.room / "in\nfolder"
+    folder.mkdir()
+    sheet = desk.write("in\nfolder/a\nb.csv", FLOCK.replace(",sire,", ',"the\nsire",', 1))
+    desk.good("take", sheet, "--columns", "sire=the\nsire")
+    assert "took the sheet a\\x0ab.csv (" in desk.good("history").out.splitlines()[0]
+    lines = desk.good("history", "1").out.splitlines()
+    assert lines[1].startswith("file: ") and "in\\x0afolder/a\\x0ab.csv, SHA-256 " in lines[1]
+    assert lines[2] == "options: --columns sire=the\\x0asire"
+
+
+def test_owner_as_it_is_written_now(desk: Desk) -> None:
+    """History names an owner as it is written now, whichever name it came by."""
+    rows = "id;sex;birth;sire;dam;owner\ns;M;2001-03-01;;;{}\nd;F;2001-03-02;;;{}\n"
+    desk.take(rows.format("Meier", "Groß"))
+    desk.take(rows.format("Meyer", "Groß"), "--owner", "Meier=Meyer")
+    assert "owner Meyer" in desk.good("history", "1").out and "Meier" not in desk.good("history", "1").out
+    desk.good("transfer", "d", "--to", "Meyer", "--day", "2010-01-01")
+    assert "owner Meyer, before Groß" in desk.good("history", "3").out
+    shown = desk.good("show", "d").out
+    assert "owner Meyer, before Groß" in shown and "Meier" not in shown
+
+
 def test_flock_over_three_takings(desk: Desk) -> None:
     """400 rows, taken three times with commands by hand between: what was filed stays, and each number too."""
     draw = random.Random(7)

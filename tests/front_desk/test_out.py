@@ -13,7 +13,8 @@ from society.book import files, out
 from society.book.book import Book
 from society.book.book_read import reading
 from society.mistake import Mistake
-from society.reading.sheet import MOST_BYTES, MOST_LETTERS, MOST_ROWS, Row, check_bounds, read_bytes
+from society.reading.bounds import MOST_BYTES, MOST_LETTERS, MOST_ROWS, check_bounds, read_bytes
+from society.reading.sheet import Row
 
 ODD = "id,name,sex,born,sire,dam\n@SUM(A1),+x,F,2001-01-01,,\nA 1,\x1b[31mred,F,2001-01-01,,\nA-1,,F,2001-01-01,,\nA/1,,M,2001-01-01,,\n"
 
@@ -115,7 +116,20 @@ def test_file_names(desk: Desk) -> None:
     (b"id,born,sire,dam\n" + b" " * 50_000_000, "sheet.csv has 50 MB, and 50 MB are read at most"),
 ])  # fmt: skip
 def test_bounds(desk: Desk, text: str | bytes, told: str) -> None:
+    """Of a sheet, and of a pedigree alike."""
     desk.wrong(told, "take", desk.write("sheet.csv", text))
+    desk.wrong(told, "take", "--pedigree", "sheet.csv")
+
+
+def test_bounds_without_end(desk: Desk) -> None:
+    """What never ends isn't read to its end; a cell of any length is no fault of the front desk."""
+    for words in ("take", "/dev/zero"), ("take", "--pedigree", "/dev/zero"):
+        desk.wrong("/dev/zero has 50 MB, and 50 MB are read at most", *words)
+    long = "b" * 140_000
+    desk.wrong("line 3: a cell has more than 10,000 letters", "take", desk.write("long.csv", f"id,born\na,2001\n{long},2001\n"))
+    desk.wrong("line 2: a cell has more than 10,000 letters", "take", "--pedigree", desk.write("long.txt", f"a 0 0\n{long} 0 0\n"))
+    desk.take("id,sex,born,sire,dam\na,m,2001,,\n")
+    desk.wrong("long.txt: the book has no animal 'b", "mating", "--dams", desk.write("long.txt", f"{long},x\n"))
 
 
 def test_at_the_bounds(tmp_path: pathlib.Path) -> None:

@@ -67,6 +67,20 @@ def test_day_of_a_change_has_a_column(desk: Desk, today: datetime.date) -> None:
     assert desk.transfer_days()[2:] == [str(today)] * 2
 
 
+def test_inferred_day_is_said(desk: Desk, today: datetime.date) -> None:
+    """A sheet says the very day that stood for the owner's first: it is inferred no more, and nothing else changes."""
+    rows = "id;sex;birth;sire;dam;owner;since\ns;M;2001-03-01;;;Meier;\nd;F;2001-03-02;;;{}\n"
+    desk.take(rows.format("Meier;"))
+    desk.take(rows.format("Groß;2010"))
+    assert since(desk, "d") == "2010-12-31 (inferred)"
+    desk.take(rows.format("Groß;2010-12-31"))
+    assert since(desk, "d") == "2010-12-31"
+    assert desk.transfer_days() == ["2010-12-31"]
+    # so no later sheet without a day, nor one with the year alone, makes it less
+    desk.take(rows.format("Groß;2010"))
+    assert since(desk, "d") == "2010-12-31"
+
+
 def test_day_before_an_inferred_one(desk: Desk) -> None:
     """The inferred day of the owner before gives way."""
     desk.take(TITLES + PARENTS)
