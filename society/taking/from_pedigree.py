@@ -70,13 +70,12 @@ def take_into(
     # what is told of both are the parents of the file
     leave_out_same_parent(animals, report)
     cut_cycles(animals, report)
-    find_sexes_and_days(next_book, triples)
+    counts = find_sexes_and_days(next_book, triples)
     if not wishes.leave_out:
         refuse_lost_links(report)
-    missing = [field for field in (Field.SEX, Field.BIRTH) if field not in triples.columns]
-    what = "standard input" if path == STANDARD_INPUT else str(path)
-    about += [invented(what, len(animals), missing)] * bool(missing)
-    return finish(next_book, program, wishes, source, About(call, about, invented=len(animals) if missing else 0))
+    about += invented("standard input" if path == STANDARD_INPUT else str(path), counts)
+    invented_for = max(counts.values(), default=0)
+    return finish(next_book, program, wishes, source, About(call, about, invented=invented_for))
 
 
 def given_columns(words: list[str]) -> dict[Field, str]:
@@ -89,24 +88,32 @@ def given_columns(words: list[str]) -> dict[Field, str]:
     return given
 
 
-def find_sexes_and_days(next_book: NextBook, triples: Triples) -> None:
-    """Sexes and days of the file, and those that it doesn't give inferred; without a column for them they are
-    invented."""
-    animals, report = next_book.animals, next_book.report
+def find_sexes_and_days(next_book: NextBook, triples: Triples) -> dict[Field, int]:
+    """Sexes and days of the file, and those that it doesn't give inferred; without a column for them they are invented
+    where the book wasn't given them either. Answers for how many animals they are invented."""
+    animals, report, counts = next_book.animals, next_book.report, {}
     if Field.SEX in triples.columns:
         find_sexes(next_book)
     else:
-        for animal in animals.values():
-            animal.sex = ""
+        counts[Field.SEX] = sum(not animal.sex for animal in animals.values())
         invent_sexes(animals, report)
-    if Field.BIRTH in triples.columns:
+    # where a day is known the others fit it
+    if Field.BIRTH in triples.columns or any(not known.birth.is_invented for known in next_book.book.known.values()):
         find_days(next_book)
     else:
+        counts[Field.BIRTH] = len(animals)
         invent_days(animals)
+    return {field: count for field, count in counts.items() if count}
 
 
-def invented(path: str, count: int, missing: list[Field]) -> str:
-    words = {Field.SEX: "sexes", Field.BIRTH: "birth days"}
-    what = " and ".join(words[field] for field in missing)
-    animals = counted(count, "animal")
-    return f"{path}: the {what} of {animals} are invented so that parents are older than their offspring"
+def invented(path: str, counts: dict[Field, int]) -> list[str]:
+    """What is invented, in a sentence where it is for as many animals."""
+    fields = {Field.SEX: "sexes", Field.BIRTH: "birth days"}
+    words: dict[int, list[str]] = {}
+    for field, count in counts.items():
+        words.setdefault(count, []).append(fields[field])
+    return [
+        f"{path}: the {' and '.join(what)} of {counted(count, 'animal')} are invented so that parents are older than "
+        "their offspring"
+        for count, what in words.items()
+    ]

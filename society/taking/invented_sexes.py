@@ -13,10 +13,12 @@ MOST_COUPLES = 9
 
 def invent_sexes(animals: dict[str, Animal], report: Report) -> None:
     """A sire is a male and a dam a female. Where an animal is both, sexes are sought that make a male and a female of
-    each couple, and the parents of some are swapped, which changes no coefficient. No calf has one parent twice."""
-    sexes = Sexes(animals)
+    each couple, and the parents of some are swapped, which changes no coefficient. No calf has one parent twice. Sexes
+    that are there stay."""
     for animal in animals.values():
-        animal.sex_source = SexSource.INVENTED
+        if not animal.sex:
+            animal.sex_source = SexSource.INVENTED
+    sexes = Sexes(animals)
     for animal in animals.values():
         sexes.place_parents(animal, report)
 
@@ -37,6 +39,10 @@ class Sexes:
                 self.mates.setdefault(animal.dam, {}).setdefault(animal.sire, animal)
         # for each animal the mate by which its sex was found
         self.found_by: dict[str, str] = {}
+        given = [id for id, animal in animals.items() if animal.sex]
+        for id in given:
+            if any(id in self.calf[role] and self.fits(role, id) for role in Role):
+                self.colour(id)
         for id, animal in animals.items():
             if not animal.sex:
                 self.colour(id)
@@ -46,8 +52,8 @@ class Sexes:
         self.spread_both()
 
     def colour(self, first: str) -> None:
-        """Gives an animal the sex of its role, and all that are joined to it by couples theirs."""
-        self.animals[first].sex = "M" if first in self.calf[Role.SIRE] else "F"
+        """Gives an animal the sex of its role where it has none, and all that are joined to it by couples theirs."""
+        self.animals[first].sex = self.animals[first].sex or ("M" if first in self.calf[Role.SIRE] else "F")
         reached = [first]
         for one in reached:
             for mate in self.mates.get(one, ()):
@@ -55,6 +61,11 @@ class Sexes:
                     self.animals[mate].sex = "F" if self.animals[one].sex == "M" else "M"
                     self.found_by[mate] = one
                     reached.append(mate)
+
+    def fits(self, role: Role, id: str) -> bool:
+        """Is the sex of an animal its role's, or invented?"""
+        animal = self.animals[id]
+        return animal.sex_source is SexSource.INVENTED or animal.sex == role.sex
 
     def spread_both(self) -> None:
         reached = list(self.both)
@@ -66,7 +77,10 @@ class Sexes:
                     reached.append(mate)
 
     def place_parents(self, animal: Animal, report: Report) -> None:
-        """Puts the male parent in the sire's place and the female one in the dam's."""
+        """Puts the male parent in the sire's place and the female one in the dam's. One whose sex isn't invented is left
+        to the program, which refuses it."""
+        if not all(self.fits(role, parent) for role, parent in animal.parents()):
+            return
         sexes = [self.animals[parent].sex for _, parent in animal.parents()]
         if len(sexes) == 2 and sexes[0] == sexes[1]:
             report.add(animal.line, animal.id, self.no_sexes_fit(animal))

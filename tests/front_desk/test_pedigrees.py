@@ -87,6 +87,28 @@ def test_invented(desk: Desk) -> None:
     assert "(invented): the pedigree has neither" in words
 
 
+def test_nothing_is_invented_over_what_the_book_was_given(desk: Desk) -> None:
+    """A pedigree without sexes and days is added to a book of a sheet: only what nobody gave is found."""
+    desk.take("id,sex,birth,sire,dam,owner\na,f,2001-01-01,,,Nord\nb,m,2001-02-01,,,Nord\nc,m,,,,Nord\n")
+    desk.good("birth", "e", "--sex", "m", "--day", "2012-05-05", "--sire", "b", "--dam", "a", "--owner", "Nord")
+    before = desk.listed("list", "--columns", "id,sex,birth")
+    done = desk.good("take", "--pedigree", desk.write("p.txt", "a x y\nb x z\n"))
+    done.shows("p.txt: the sexes of 3 animals are invented so that parents are older than their offspring")
+    assert "book: 7 animals, 0 new, 4 changed, 3 invented, 4 inferred, 0 left out, " in done.last
+    listed = desk.listed("list", "--columns", "id,sex,birth")
+    assert [row for row in listed if row["id"] in "abce"] == before
+    sexes = {row["id"]: row["sex"] for row in listed if row["id"] in "xyz"}
+    assert sexes == {"x": "M (invented)", "y": "F (invented)", "z": "F (invented)"}
+    # a parent of the other sex is refused, and a sex is sought that fits those that are given
+    both = "take", "--pedigree", desk.write("both.txt", "u a 0\nv b w\nt w s\n")
+    done = desk.good(*both, "--leave-out")
+    done.tells(
+        "line 1: u: its sire a is left out: it isn't male (refusal 5)",
+        "line 3: t: changed: taken with the sire s and the dam w, since w is a sire in line 3 and a dam in line 2",
+    )
+    assert desk.parents() | {"u": ("", ""), "v": ("b", "w"), "t": ("s", "w")} == desk.parents()
+
+
 BOTH = "a 0 0\nb 0 0\nc a b\nd c a\ne d c\nf 0 d\n"
 
 
