@@ -8,7 +8,7 @@ from society.book.asking_sentences import Naming, NotSuch
 from society.book.book import NO_OWNER, Book
 from society.book.changes import Change, Made, Option, Told
 from society.book.commands import Command, Record, birth, leave, parents, record_after, transfer
-from society.book.inferred import GIVEN_EXIT
+from society.book.inferred import GIVEN_EXIT, OwnerDay
 from society.book.journal import Step
 from society.book.kinds import ChangeKind, Field, Remembered, Standing
 from society.book.known import BREED, COUNTRY, Known
@@ -141,7 +141,7 @@ def transferred(book: Book, known: Known, day: datetime.date, taker: str, giver:
         raise Mistake(Naming.NO_OWNER.said(name=giver, hint=Naming.AS_IN_BOOK.said()))
     herd_before = record.herd if giver is None else book.owners[giver]
     found = ValueChanged("owner", taker, book.owner_of(record.herd))
-    after = known._replace(by_hand=known.by_hand | {Field.OWNER})
+    after = known._replace(by_hand=known.by_hand | {Field.OWNER}, owner_day=OwnerDay.GIVEN)
     command = transfer(known.number, day, herd_before, herd)
     return ByHand(ChangeKind.TRANSFER, command, after, (found, *new_owner(book, taker)), new_owners)
 

@@ -70,18 +70,20 @@ class Keeping:
         given = frozenset(one for one in known.by_hand if one in self.given)
         as_before = {one for one in (*known.by_hand, Field.SINCE) if self.is_as_before(one, cells, animal)}
         stays = given & as_before
-        self.next_book.overridden[animal.id] = given - stays
         values = values_of(animal)
+        owner = self.book.owner_of(record.herd)
+        # a sheet that has the owner by hand says nothing otherwise, and his day is still by hand
+        agreeing = {Field.OWNER} if animal.owner == owner else set[Field]()
+        self.next_book.overridden[animal.id] = given - stays - agreeing
         for role in Role:
             if Field(role.value) in stays:
                 animal.set_parent(role, self.next_book.id_of(record.parent(role)))
-        if Field.OWNER in known.by_hand and Field.OWNER not in given - stays:
-            owner = self.book.owner_of(record.herd)
-            # a day of the sheet's owner is none of the one by hand
-            if Field.SINCE in as_before or animal.owner not in ("", owner):
-                animal.since = None
+        # a day of the sheet's owner, or of one before, is none of the one by hand
+        is_of_other = Field.OWNER in stays and animal.owner not in ("", owner)
+        if Field.OWNER in known.by_hand and (Field.SINCE in as_before or is_of_other):
+            animal.since = None
         if Field.OWNER in stays:
-            animal.owner = self.book.owner_of(record.herd)
+            animal.owner = owner
         if Field.EXIT in stays:
             animal.left, animal.exit_basis = record.left, known.exit
         if Field.EMBRYO in stays:

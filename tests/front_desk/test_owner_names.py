@@ -1,6 +1,8 @@
 """Owners whose names change: each keeps its own, and transfers by hand stay."""
 from __future__ import annotations
 
+import datetime
+
 from front_desk.desk import Desk
 
 TITLES = "id;sex;birth;sire;dam;owner;exit\n"
@@ -71,3 +73,16 @@ def test_transfer_by_hand_stays(desk: Desk) -> None:
     # another owner of the sheet is followed
     desk.take(sheet("2012-01-01", "Lang"))
     assert owners_listed(desk) == ["Lang", "Lang"] and desk.transfer_days()[-1] == "2012-01-01"
+
+
+def test_day_by_hand_stays(desk: Desk, today: datetime.date) -> None:
+    """Beside a day that is as in the last sheet, whether that has the owner by hand now, still, or another one."""
+    rows = "id;sex;birth;sire;dam;owner;since\ns;M;2001-03-01;;;Meier;\nd;F;2001-03-02;;;{};2003-01-01\n"
+    desk.take(rows.format("Meier"))
+    desk.good("transfer", "d", "--to", "Groß", "--day", "2010-01-01")
+    for _ in range(2):
+        assert " 0 changed" in desk.take(rows.format("Groß")).last
+        assert desk.transfer_days() == ["2003-01-01", "2010-01-01"]
+    desk.take(rows.format("Lang"))
+    assert owners_listed(desk) == ["Meier", "Lang"]
+    assert desk.transfer_days() == ["2003-01-01", "2010-01-01", str(today)]

@@ -81,6 +81,17 @@ def test_inferred_day_is_said(desk: Desk, today: datetime.date) -> None:
     assert since(desk, "d") == "2010-12-31"
 
 
+def test_day_by_hand_is_given(desk: Desk) -> None:
+    """Though that of the owner before was inferred; and where it gives way to an exit, that is told."""
+    rows = "id;sex;birth;sire;dam;owner;since;exit\ns;M;2001-03-01;;;Meier;;\nd;F;2001-03-02;;;{}\n"
+    desk.take(rows.format("Meier;;"))
+    desk.take(rows.format("Groß;2010;"))
+    desk.good("transfer", "d", "--to", "Weiß", "--day", "2012-01-01")
+    assert since(desk, "d") == "2012-01-01"
+    moved = "it has been of 'Weiß' since 2011-01-01, and not since 2012-01-01, which can't be with its birth, its exit or"
+    desk.take(rows.format("Groß;2010;2011-01-01")).tells(f"line 3: d: to look at: {moved} its owner before")
+
+
 def test_day_before_an_inferred_one(desk: Desk) -> None:
     """The inferred day of the owner before gives way."""
     desk.take(TITLES + PARENTS)
