@@ -13,6 +13,8 @@ from society.book.sentences import BookFault
 from society.mistake import CALLED, Mistake
 
 NAME = "book.sqlite"
+# beside it, and no part of it, where those who may use the book have accounts
+ACCOUNTS = "accounts.sqlite"
 # so long a change waits for another one to end
 SECONDS_TO_WAIT = 900
 # so often something is tried of a file that others are changing

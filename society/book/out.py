@@ -6,7 +6,7 @@ import contextlib
 import pathlib
 
 from society.book.book import Book
-from society.book.database import companions
+from society.book.database import ACCOUNTS, companions
 from society.book.exports import NAMES
 from society.book.files import cant_be_written, digest_of, put
 from society.book.last_backup import NAME as LAST_BACKUP
@@ -68,9 +68,11 @@ def is_there(path: pathlib.Path) -> Mistake:
 
 
 def is_of_book(book: Book, path: pathlib.Path) -> bool:
-    """Is it, by its name or by a link, one of the book's own files, or one that stays of an earlier version?"""
+    """Is it, by its name or by a link, one of the book's own files, one of its accounts, or one that stays of an earlier
+    version?"""
     folder = book.folder
-    of_book = [*companions(book.path), *(folder / name for name in (*NAMES, *OLD_NAMES, LAST_BACKUP))]
+    of_book = [*companions(book.path), *companions(folder / ACCOUNTS)]
+    of_book += [folder / name for name in (*NAMES, *OLD_NAMES, LAST_BACKUP)]
     of_book += list((folder / OLD).iterdir()) if (folder / OLD).is_dir() else []
     place = path.resolve()
     if place == (folder / OLD).resolve() or (folder / OLD).resolve() in place.parents:

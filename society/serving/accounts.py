@@ -10,6 +10,7 @@ import unicodedata
 from collections.abc import Callable
 from dataclasses import dataclass
 
+from society.book.database import ACCOUNTS
 from society.desk.people import AccountRole, Person
 from society.mistake import Mistake
 from society.serving import accounts_file
@@ -31,7 +32,7 @@ class Accounts:
     """Those beside the book of a folder."""
 
     def __init__(self, folder: pathlib.Path, clock: Callable[[], float] = time.time) -> None:
-        self.path, self.clock = folder / accounts_file.NAME, clock
+        self.path, self.clock = folder / ACCOUNTS, clock
         self.are_there = self.path.exists()
         if self.are_there:
             accounts_file.look_at(self.path)

@@ -15,7 +15,6 @@ from society.desk.people import AccountRole
 from society.mistake import Mistake
 from society.serving.sentences import AccountFault
 
-NAME = "accounts.sqlite"
 # what tells it from other databases: ACCT
 APPLICATION = 0x41434354
 MODE = 0o600

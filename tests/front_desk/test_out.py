@@ -28,7 +28,8 @@ def flock_desk(desk: Desk) -> Desk:
 @pytest.mark.parametrize(
     "name",
     [
-        "book/book.sqlite", "book/commands.csv", "book/ids.csv", "book/owners.csv", "book/old/x", "book/last_backup.csv"
+        "book/book.sqlite", "book/commands.csv", "book/ids.csv", "book/owners.csv", "book/old/x", "book/last_backup.csv",
+        "book/accounts.sqlite",
     ],
 )  # fmt: skip
 def test_never_onto_the_book(flock_desk: Desk, name: str) -> None:
