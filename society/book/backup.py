@@ -28,6 +28,7 @@ from society.book.database import (
 )
 from society.book.files import cant_be_written, put, source_of, sync_folder
 from society.book.history import last_change, next_number, now, write_change
+from society.book.in_the_way import check_new
 from society.book.kinds import ChangeKind
 from society.book.last_backup import remember
 from society.book.old_folder import alone, are_exports, keep_files
@@ -71,6 +72,8 @@ def restore(
     at, this raises `Overtaken`."""
     if path_of(folder).exists() and path.exists() and path.samefile(path_of(folder)):
         raise Mistake(f"{path} is the book itself: name a backup")
+    if not has_file(folder) and not has_old_files(folder):
+        check_new(folder)
     with tempfile.TemporaryDirectory(prefix="society-") as room:
         copy = pathlib.Path(room) / "book.sqlite"
         change = prepare(path, copy, program)

@@ -6,7 +6,7 @@ import contextlib
 import pathlib
 
 from society.book.book import Book
-from society.book.database import ACCOUNTS, companions
+from society.book.database import ACCOUNTS, companions, path_of
 from society.book.exports import NAMES
 from society.book.files import cant_be_written, digest_of, put
 from society.book.last_backup import NAME as LAST_BACKUP
@@ -70,14 +70,22 @@ def is_there(path: pathlib.Path) -> Mistake:
 def is_of_book(book: Book, path: pathlib.Path) -> bool:
     """Is it, by its name or by a link, one of the book's own files, one of its accounts, or one that stays of an earlier
     version?"""
-    folder = book.folder
-    of_book = [*companions(book.path), *companions(folder / ACCOUNTS)]
-    of_book += [folder / name for name in (*NAMES, *OLD_NAMES, LAST_BACKUP)]
-    of_book += list((folder / OLD).iterdir()) if (folder / OLD).is_dir() else []
-    place = path.resolve()
-    if place == (folder / OLD).resolve() or (folder / OLD).resolve() in place.parents:
+    old, place = book.folder / OLD, path.resolve()
+    if place == old.resolve() or old.resolve() in place.parents:
         return True
-    return any(place == one.resolve() or (path.exists() and one.exists() and path.samefile(one)) for one in of_book)
+    return is_one_of(path, [*names_of_book(book.folder), *(old.iterdir() if old.is_dir() else [])])
+
+
+def names_of_book(folder: pathlib.Path) -> list[pathlib.Path]:
+    """The places in a folder at which a book and its accounts have files."""
+    others = [folder / name for name in (*NAMES, *OLD_NAMES, LAST_BACKUP)]
+    return [*companions(path_of(folder)), *companions(folder / ACCOUNTS), *others]
+
+
+def is_one_of(path: pathlib.Path, files: list[pathlib.Path]) -> bool:
+    """Is a file one of these, by its name or by a link?"""
+    place = path.resolve()
+    return any(place == one.resolve() or (path.exists() and one.exists() and path.samefile(one)) for one in files)
 
 
 def is_taken_sheet(book: Book, path: pathlib.Path) -> bool:

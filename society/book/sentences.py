@@ -35,6 +35,14 @@ class BookFault(Sentence):
     NO_FOLDER = "the folder {folder} isn't there: make it, or name another folder by --book"
     FOLDER_CLOSED = "the folder {folder} can't be written ({error}): nothing is changed"
     FILE_CLOSED = "{path} can't be written ({error}): nothing is changed"
+    SHEET_IN_PLACE = (
+        "{path} is where the book in the folder {folder} has a file of its own: give the sheet another name, or move it to "
+        "another folder, and take it there"
+    )
+    FILE_IN_PLACE = (
+        "{path} isn't of a book, and one in the folder {folder} would write over it: move it away, or name another folder "
+        "by --book"
+    )
     COEFFICIENTS_LACK = (
         "{path} keeps {kept} of {there}, so it isn't whole: restore a backup, as {called} restore FILE --anyway"
     )

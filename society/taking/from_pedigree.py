@@ -5,6 +5,7 @@ import pathlib
 
 from society.book.book import Book
 from society.book.files import source_of
+from society.book.in_the_way import check_place
 from society.book.kinds import Field
 from society.book.opening import to_look_at
 from society.herdbook import Herdbook
@@ -51,6 +52,7 @@ def take_into(
     book: Book, path: pathlib.Path, wishes: Wishes, program: Herdbook, call: Call
 ) -> tuple[Outcome, Prepared | None]:
     """What a pedigree makes of a book, and the change that is to be made, none for a preview."""
+    check_place(book, path)
     book.read_all()
     report = Report()
     source = source_of(path, given_bytes(path))

@@ -7,6 +7,7 @@ from dataclasses import dataclass, replace
 from society.book.book import Book
 from society.book.changes import Option
 from society.book.files import source_of
+from society.book.in_the_way import check_place
 from society.book.kinds import Field, Remembered
 from society.book.opening import to_look_at
 from society.book.state import Meaning
@@ -62,6 +63,7 @@ def take_into(
     book: Book, path: pathlib.Path, wishes: Wishes, program: Herdbook
 ) -> tuple[Outcome, Prepared | None]:
     """What a sheet makes of a book, and the change that is to be made, none for a preview."""
+    check_place(book, path)
     book.read_all()
     source = source_of(path, read_bytes(path))
     wishes = with_settings(book, wishes)

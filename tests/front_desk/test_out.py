@@ -46,6 +46,26 @@ def test_never_onto_a_sheet(flock_desk: Desk) -> None:
         flock_desk.wrong("is a sheet that was taken, and is never written over", "list", "--out", name, "--force")
 
 
+def test_a_book_is_written_over_nothing_else(desk: Desk) -> None:
+    """Neither over a sheet in its place, nor over what was there before the book; exports that stayed give way."""
+    sheet = desk.write("ids.csv", "id,sex,born,sire,dam,remark\na,F,2001-01-01,,,precious\n")
+    desk.write("sheet.csv", FLOCK)
+    desk.wrong("ids.csv is where the book in the folder . has a file of its own", "take", sheet, "--book", ".")
+    in_the_way = "ids.csv isn't of a book, and one in the folder . would write over it: move it away"
+    desk.wrong(in_the_way, "take", "sheet.csv", "--book", ".")
+    desk.wrong(in_the_way, "take", "--pedigree", desk.write("p.txt", "a 0 0\n"), "--book", ".")
+    desk.good("take", sheet)
+    desk.good("backup", "copy")
+    desk.wrong(in_the_way, "restore", "copy", "--book", ".")
+    (desk.room / "book/old").mkdir()
+    desk.good("take", desk.write("book/old/2001.csv", desk.text(sheet)))
+    (desk.room / sheet).rename(desk.room / "other.csv")
+    desk.good("take", "other.csv", "--semicolons", "--book", ".")
+    (desk.room / "book.sqlite").unlink()
+    (desk.room / "commands.csv").unlink()
+    desk.good("take", "sheet.csv", "--book", ".")
+
+
 def test_onto_other_files(flock_desk: Desk) -> None:
     """Only where that is wished; a link is replaced, and what it leads to stays."""
     flock_desk.write("other.csv", "precious")

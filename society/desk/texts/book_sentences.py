@@ -94,6 +94,16 @@ SENTENCES: dict[Sentence, tuple[str, str, str]] = {
         "Der Ordner {folder} kann nicht geschrieben werden ({error}): nichts ist geändert.",
         "Le dossier {folder} ne peut pas être écrit ({error}) : rien n'est modifié.",
     ),
+    BookFault.SHEET_IN_PLACE: (
+        "",
+        "{path} liegt, wo das Herdbuch im Ordner {folder} eine eigene Datei hat: geben Sie der Tabelle einen anderen Namen.",
+        "{path} est là où le livre du dossier {folder} a un fichier à lui : donnez un autre nom au tableau.",
+    ),
+    BookFault.FILE_IN_PLACE: (
+        "{path} isn't of a book, and one in the folder {folder} would write over it: move it away",
+        "{path} gehört zu keinem Herdbuch, und eines im Ordner {folder} würde es überschreiben: verschieben Sie es.",
+        "{path} n'est d'aucun livre, et un livre dans le dossier {folder} l'écraserait : déplacez-le.",
+    ),
     BookFault.FILE_CLOSED: (
         "",
         "{path} kann nicht geschrieben werden ({error}): nichts ist geändert.",
