@@ -10,6 +10,7 @@ from society.book.kinds import Field
 from society.book.opening import to_look_at
 from society.herdbook import Herdbook
 from society.mistake import Mistake, counted
+from society.reading.day_cells import DayCells
 from society.reading.options import read_given
 from society.reading.pedigree_lines import STANDARD_INPUT, given_bytes
 from society.reading.pedigree_titles import READ
@@ -56,7 +57,8 @@ def take_into(
     book.read_all()
     report = Report()
     source = source_of(path, given_bytes(path))
-    triples = read_triples(path, given_columns(wishes.columns), UnknownParents(wishes.unknown), report)
+    days = DayCells(UnknownParents(wishes.unknown), month_first=False)
+    triples = read_triples(path, given_columns(wishes.columns), days.unknown, report)
     animals, about = triples.animals, [*triples.told]
     ids = animals.keys() | book.known.keys()
     if wishes.keep:
@@ -65,7 +67,7 @@ def take_into(
     if not wishes.leave_out:
         refuse_alike(animals, ids)
     given = {field.value for field in triples.columns if field is not Field.ID}
-    next_book = NextBook(book, animals, given, report, is_pedigree=True)
+    next_book = NextBook(book, animals, given, report, days, is_pedigree=True)
     add_others(next_book, wishes.drop_gone)
     if not wishes.leave_out:
         refuse_both(animals, report)

@@ -71,7 +71,7 @@ def take_into(
     rename_owners(book, wishes)
     read = read_animals(path, wishes, book, words)
     keep(book, read)
-    next_book = NextBook(book, read.animals, set(read.columns.found), read.report)
+    next_book = NextBook(book, read.animals, set(read.columns.found), read.report, read.rows.cells.days)
     complete(next_book, read.columns, wishes)
     understood = understood_of(path, read, again(words, wishes), titles_before(book))
     book.remembered += [Meaning(Remembered.COLUMN, *pair) for pair in read.columns.titles_found()]

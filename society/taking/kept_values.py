@@ -9,7 +9,6 @@ from society.book.role import Role
 from society.book.state import CELL_FIELDS
 from society.reading.animal import Animal
 from society.reading.days import Span
-from society.reading.words import clean
 from society.taking.animal_findings import KeptByHand, KeptFromBook
 from society.taking.next_book import NextBook
 
@@ -63,12 +62,15 @@ class Keeping:
             self.report.add(animal.line, animal.id, found)
 
     def keep_by_hand(self, animal: Animal, known: Known, record: Record) -> None:
-        """What was filed by hand stays where the cell is as it was in the last sheet; an animal that no sheet had
+        """What was filed by hand stays where the cell says what it said in the last sheet; an animal that no sheet had
         before had empty ones."""
         before = self.book.cells.get((animal.id,))
         cells: dict[Field, object] = dict(zip(CELL_FIELDS, before[1:])) if before else {}
-        given = frozenset(one for one in known.by_hand if one in self.given)
-        as_before = {one for one in (*known.by_hand, Field.SINCE) if self.is_as_before(one, cells, animal)}
+        given, alike = frozenset(one for one in known.by_hand if one in self.given), self.next_book.meanings.are_alike
+        as_before = {
+            one for one in (*known.by_hand, Field.SINCE)
+            if alike(animal.id, one, cells.get(one), animal.cells.get(one, ""))
+        }  # fmt: skip
         stays = given & as_before
         values = values_of(animal)
         owner = self.book.owner_of(record.herd)
@@ -93,11 +95,6 @@ class Keeping:
         for one, value in values_of(animal).items():
             if value != values[one]:
                 self.report.add(animal.line, animal.id, KeptByHand(one, value))
-
-    def is_as_before(self, field: Field, cells: dict[Field, object], animal: Animal) -> bool:
-        """Is a cell as in the last sheet, or is its owner only written otherwise now?"""
-        before, now = str(cells.get(field) or ""), animal.cells.get(field, "")
-        return now == before or (field is Field.OWNER and clean(now) == self.book.respelt(before))
 
 
 def values_of(animal: Animal) -> dict[Field, str]:

@@ -9,6 +9,8 @@ from society.book.commands import Command, Record, birth, day_text, parents
 from society.book.kinds import Field
 from society.book.role import Role
 from society.reading.animal import Animal
+from society.reading.day_cells import DayCells
+from society.taking.meanings import Meanings
 from society.taking.report import Finding, Report
 
 
@@ -16,10 +18,12 @@ class NextBook:
     """The animals that are to stand in the book, by id, beside the book as it is."""
 
     def __init__(
-        self, book: Book, animals: dict[str, Animal], given: set[str], report: Report, is_pedigree: bool = False
-    ) -> None:
+        self, book: Book, animals: dict[str, Animal], given: set[str], report: Report, days: DayCells,
+        is_pedigree: bool = False,
+    ) -> None:  # fmt: skip
+        """`days` is how days are read, and which words are unknown parents."""
         self.book, self.animals, self.given, self.report = book, animals, given, report
-        self.is_pedigree = is_pedigree
+        self.meanings, self.is_pedigree = Meanings(animals, book, days), is_pedigree
         self.names = book.by_number()
         # whether a parent is a sire or a dam, by most of its offspring
         self.roles: dict[str, Role] = {}

@@ -170,15 +170,26 @@ def records_after(book: Book, filed: Filed) -> dict[str, Record]:
 
 def cell_rows(next_book: NextBook) -> dict[Values, Values]:
     """The last cells of each animal; those of a column that the sheet doesn't have stay, with owners as they are written
-    from now on."""
+    from now on, and those of sheets where a pedigree says the same."""
     book = next_book.book
     kept = {key: respelt(book, row) for key, row in book.cells.items()} if book.renamed else dict(book.cells)
     for id, animal in next_book.animals.items():
         if animal.line:
             before = kept.get((id,))
             said: Callable[[str, object], object] = animal.cells.get
-            kept[id,] = (id, *map(said, CELL_FIELDS, before[1:] if before else NOTHING))
+            now = (id, *map(said, CELL_FIELDS, before[1:] if before else NOTHING))
+            kept[id,] = as_in_sheet(next_book, before, now) if before and next_book.is_pedigree else now
     return kept
+
+
+def as_in_sheet(next_book: NextBook, before: Values, now: Values) -> Values:
+    """The cells of a pedigree, in which those of a sheet stay that say the same."""
+    if before == now:
+        return now
+    id, alike = str(now[0]), next_book.meanings.are_alike
+    cells = zip(CELL_FIELDS, before[1:], now[1:])
+    stays = [there == here or alike(id, field, there, str(here or "")) for field, there, here in cells]
+    return (id, *(there if stay else here for stay, there, here in zip(stays, before[1:], now[1:])))
 
 
 def respelt(book: Book, row: Values) -> Values:

@@ -86,6 +86,32 @@ def test_by_hand_between_sheets(flock_desk: Desk) -> None:
     assert " 1 gone: " in flock_desk.take(FLOCK).last
 
 
+def test_cells_that_say_the_same(desk: Desk) -> None:
+    """A parent by its id or its name, an unknown one and a day may be written otherwise, also by a pedigree: what was
+    filed by hand since the first sheet stays."""
+    rows = "id,name,sex,birth,sire,dam,owner,since,exit\n" + "".join((
+        "b,Bob,m,2000-02-01,{0},,,,\n", "e,Eva,f,2000-03-01,,,,,{1}\n", "a,Anna,f,2003-01-01,{0},,{2}\n",
+        "d,Dora,f,2005-01-01,{3},\n",
+    ))  # fmt: skip
+    desk.take(rows.format("", "", "Nord,01.05.2004,", "Bob,Eva,,"))
+    # this exit is left out, since the book has a later calf: the day by hand is another one
+    sheet = rows.format("", "01.03.2001", "Nord,01.05.2004,", "Bob,Eva,,")
+    desk.take(sheet)
+    desk.good("exit", "e", "--day", "2015-01-01")
+    desk.good("transfer", "a", "--to", "Süd", "--day", "2010-01-01")
+    desk.good("parents", "a", "--sire", "b", "--dam", "e")
+    desk.good("parents", "d", "--sire", "0")
+    desk.good("birth", "c", "--sex", "f", "--day", "2012-01-01", "--sire", "b", "--dam", "e")
+    filed = desk.good("list", "--columns", "id,sire,dam,owner,exit").out
+    pedigree = "id sire dam sex birth\nb 0 0 m 2000-02-01\ne 0 0 f 2000-03-01\na 0 0 f 2003-01-01\nd b e f 2005-01-01\n"
+    desk.good("take", "--pedigree", desk.write("pedigree.txt", pedigree))
+    again = rows.format("?", "2001-03-01", "Süd,2004-05-01,", "b,e,,") + "c,,f,2012-01-01,nn,?,,,\n"
+    for text in sheet, again, sheet.replace("Nord", "Süd"):
+        assert " 0 changed" in desk.take(text).last
+        assert desk.good("list", "--columns", "id,sire,dam,owner,exit").out == filed
+    assert desk.transfer_days() == ["2004-05-01", "2010-01-01"]
+
+
 def test_undo(flock_desk: Desk) -> None:
     """The first state again: the same numbers, and the same bytes of the list."""
     first = flock_desk.good("list").out

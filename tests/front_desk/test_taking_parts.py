@@ -11,9 +11,12 @@ from society.book.commands import birth, record_after, transfer
 from society.book.inferred import BirthBasis, BirthSource, OwnerDay
 from society.book.kinds import CommandKind, Field, Standing
 from society.book.known import Known
+from society.book.state import CELL_FIELDS
 from society.herdbook import Herdbook
 from society.reading.animal import Animal
+from society.reading.day_cells import DayCells
 from society.reading.days import year_of
+from society.reading.unknown import UnknownParents
 from society.refusals import Refusal
 from society.taking.known_after import known_after, written_parents
 from society.taking.next_book import NextBook
@@ -21,9 +24,11 @@ from society.taking.numbers import give_numbers
 from society.taking.owner_days import OwnerDays
 from society.taking.report import Report
 from society.taking.row_findings import CommandLeftOut, OwnerDayMoved
+from society.taking.saving import cell_rows
 from society.taking.sheet_commands import Filing, is_corrected
 
 NUMBER, BORN = "HOLGBRF000000000001", datetime.date(2001, 1, 2)
+DAYS = DayCells(UnknownParents(), month_first=False)
 
 
 def numbered(book: Book, *born: tuple[str, int], breed: str = "", country: str = "") -> dict[str, str]:
@@ -61,7 +66,7 @@ def next_book(animal: Animal | None, known: Known | None, *given: str, is_pedigr
     records = {NUMBER: record_after(None, birth(NUMBER, BORN, "", "", 1, False))}
     before = {known.id: known} if known else {}
     book = SimpleNamespace(known=before, dropped={}, records=records, by_number=dict)
-    return NextBook(cast(Book, book), {animal.id: animal} if animal else {}, {*given}, Report(), is_pedigree)
+    return NextBook(cast(Book, book), {animal.id: animal} if animal else {}, {*given}, Report(), DAYS, is_pedigree)
 
 
 def test_texts_of_parents_after_a_taking() -> None:
@@ -101,6 +106,16 @@ def test_what_an_animal_is_after_a_taking() -> None:
     assert known_after(next_book(Animal("a"), None))["a"].standing is Standing.PARENT
 
 
+def test_cells_after_a_pedigree() -> None:
+    """A sheet's stay where the pedigree says the same, or has no such column."""
+    one = next_book(Animal("a", 2, cells={"sire": "", "dam": "e"}), Known(NUMBER, "e", "Eva"), "sire", "dam", is_pedigree=True)
+    before = dict(zip(CELL_FIELDS, ("Anna", "f", "2001", "?", "eva", "Nord", None, "sold", "")))
+    for dam, after in (("eva", "eva"), ("Ada", "e")):
+        one.book.cells = {("a",): ("a", *(before | {Field.DAM: dam}).values())}
+        one.book.renamed = []
+        assert cell_rows(one) == {("a",): ("a", *(before | {Field.DAM: after}).values())}
+
+
 def moved(basis: OwnerDay, born: str, *days: str, left: str = "") -> tuple[list[str], list[tuple[str, str]], OwnerDay]:
     """The days of an animal's transfers in order, those of them that are told, each with its day before, and what the
     last one comes from."""
@@ -132,7 +147,7 @@ def test_days_of_owners_in_order() -> None:
 def filing(length: int = 0) -> Filing:
     """That of an animal beside a journal of so many commands, whose owners are told by their herds."""
     book = SimpleNamespace(journal=SimpleNamespace(length=length), owner_of=str, by_number=dict)
-    return Filing(NextBook(cast(Book, book), {}, set(), Report()), cast(OwnerDays, None))
+    return Filing(NextBook(cast(Book, book), {}, set(), Report(), DAYS), cast(OwnerDays, None))
 
 
 def test_refusals_behind_the_journal() -> None:
