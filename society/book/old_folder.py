@@ -9,19 +9,19 @@ import pathlib
 from dataclasses import dataclass, replace
 from typing import Iterator
 
-from society.book.book import Book
+from society.book.book import NO_OWNER, Book
 from society.book.changes import Made, Source
-from society.book.commands import Command, read_commands, replay
+from society.book.commands import Command, Record, read_commands, replay
 from society.book.book_changed import changing
 from society.book.database import path_of
 from society.book.files import digest_of, put
 from society.book.journal import Step
 from society.book.inferred import OwnerDay
-from society.book.kinds import ChangeKind, Remembered, Standing
+from society.book.kinds import ChangeKind, Field, Remembered, Standing
 from society.book.known import Known
 from society.book.old_names import ALL_NAMES, COMMANDS, IDS, OLD, OLD_NAMES, OPTIONS, OWNERS, PARENTS, REPORT, is_old
 from society.book.old_words import STANDING_OF, read_birth, read_exit, read_sex
-from society.book.state import Meaning
+from society.book.state import CELL_FIELDS, Meaning, Values
 from society.book.writing import Filed, Rows, State, animal_rows, write
 from society.herdbook import Herdbook
 from society.mistake import Mistake
@@ -107,9 +107,31 @@ def write_old(book: Book, program: Herdbook, old: OldBook, text: bytes) -> None:
     made = Made(ChangeKind.FOLDER, Source(COMMANDS, str(place), digest_of(text)))
     in_book = {id: known for id, known in old.known.items() if known.standing is not Standing.DROPPED}
     made = replace(made, counts=(("animals", len(in_book)), ("commands", len(old.commands))))
-    rows = Rows({}, animal_rows(old.known, replay(old.commands)))
-    state = State(rows, remembered=old.remembered, new_owners=old.owners)
+    records = replay(old.commands)
+    cells = Rows({}, last_cells(in_book, records, {herd: owner for owner, herd in old.owners.items()}))
+    state = State(Rows({}, animal_rows(old.known, records)), cells, old.remembered, old.owners)
     write(book, program, Filed([Step(command) for command in old.commands]), lambda: state, made)
+
+
+def last_cells(
+    in_book: dict[str, Known], records: dict[str, Record], owners: dict[int, str]
+) -> dict[Values, Values]:
+    """What the last sheet said of the animals that had a row, as far as the book shows it: such a folder has no cells, and
+    what is filed by hand is compared with them."""
+    ids = {known.number: id for id, known in in_book.items()} | {"": ""}
+    cells: dict[Values, Values] = {}
+    for id, known in in_book.items():
+        _, born, sire, dam, embryo, herd, _, left, _ = records[known.number]
+        exit = known.exit.text or (known.exit.period.text if known.exit.period else str(left or ""))
+        said = {
+            Field.NAME: known.name, Field.SEX: known.number[6] * (not known.sex.is_inferred),
+            Field.BIRTH: str(born) * (not known.birth.is_inferred), Field.SIRE: known.written_sire or ids[sire],
+            Field.DAM: known.written_dam or ids[dam], Field.OWNER: "" if herd == NO_OWNER else owners.get(herd, str(herd)),
+            Field.EXIT: exit, Field.EMBRYO: "1" * embryo,
+        }  # fmt: skip
+        if known.standing.had_row():
+            cells[id,] = (id, *map(said.get, CELL_FIELDS))
+    return cells
 
 
 def read(folder: pathlib.Path, program: Herdbook) -> OldBook:

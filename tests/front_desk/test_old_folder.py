@@ -53,6 +53,20 @@ def test_taken_after_it(old_desk: Desk) -> None:
     assert old_desk.text("book/old/ids.csv") == FILES["ids.csv"]
 
 
+def test_commands_by_hand_after_it(old_desk: Desk) -> None:
+    """They stay where a cell says what the last sheet said, as far as the book shows it, and not where another is said."""
+    old_desk.good("transfer", "a", "--to", "Neu", "--day", "2010-01-01")
+    old_desk.good("parents", "c", "--sire", "0")
+    old_desk.good("parents", "e", "--sire", "0")
+    old_desk.good("exit", "c", "--day", "2012-01-01")
+    filed = old_desk.good("list", "--columns", "id,sire,dam,owner,exit").out
+    assert "a,,,Neu," in filed and "c,,a,Nord,2012-01-01" in filed and "e,,c,," in filed
+    assert " 0 changed" in old_desk.take(SHEET.removesuffix("g;;F;2003-01-01;;;;\n")).last
+    assert old_desk.good("list", "--columns", "id,sire,dam,owner,exit").out == filed
+    assert " 1 changed" in old_desk.take(SHEET.replace("e;Eve;F;2009-01-01;x;", "e;Eve;F;2009-01-01;b;")).last
+    assert old_desk.parents()["e"] == ("b", "c")
+
+
 def test_commands_of_others(old_desk: Desk) -> None:
     """An animal that the commands have is in the book: it is gone where `ids.csv` has it as dropped, and has its number
     as its id where that doesn't name it; letters in a number are no digits that others go on from."""
