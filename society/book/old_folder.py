@@ -1,6 +1,7 @@
 """The folder of a book of version 0.11, whose files were the book: it is taken over, and the files stay in `old`."""
 from __future__ import annotations
 
+import collections
 import contextlib
 import csv
 import fcntl
@@ -12,7 +13,7 @@ from typing import Iterator
 from society.book.book import NO_OWNER, Book
 from society.book.changes import Made, Source
 from society.book.commands import Command, Record, read_commands, replay
-from society.book.book_changed import changing
+from society.book.book_changed import changing, creating
 from society.book.database import path_of
 from society.book.files import digest_of, put
 from society.book.journal import Step
@@ -22,7 +23,8 @@ from society.book.known import Known
 from society.book.old_names import ALL_NAMES, COMMANDS, IDS, OLD, OLD_NAMES, OPTIONS, OWNERS, PARENTS, REPORT, is_old
 from society.book.old_words import STANDING_OF, read_birth, read_exit, read_sex
 from society.book.state import CELL_FIELDS, Meaning, Values
-from society.book.writing import Filed, Rows, State, animal_rows, write
+from society.book.verify import verify
+from society.book.writing import Filed, Rows, State, animal_rows, end, write_unended
 from society.herdbook import Herdbook
 from society.mistake import Mistake
 
@@ -103,6 +105,7 @@ def clear(folder: pathlib.Path) -> None:
 
 
 def write_old(book: Book, program: Herdbook, old: OldBook, text: bytes) -> None:
+    """The book of the files, once it is seen that it is whole."""
     place = (book.folder / OLD / COMMANDS).resolve()
     made = Made(ChangeKind.FOLDER, Source(COMMANDS, str(place), digest_of(text)))
     in_book = {id: known for id, known in old.known.items() if known.standing is not Standing.DROPPED}
@@ -110,7 +113,11 @@ def write_old(book: Book, program: Herdbook, old: OldBook, text: bytes) -> None:
     records = replay(old.commands)
     cells = Rows({}, last_cells(in_book, records, {herd: owner for owner, herd in old.owners.items()}))
     state = State(Rows({}, animal_rows(old.known, records)), cells, old.remembered, old.owners)
-    write(book, program, Filed([Step(command) for command in old.commands]), lambda: state, made)
+    filed = Filed([Step(command) for command in old.commands])
+    with creating(book.folder) as connection:
+        number, moment = write_unended(book, connection, program, filed, lambda: state, made)
+        verify(Book(book.folder, connection), program, book.folder / IDS)
+        end(book, connection, number, moment)
 
 
 def last_cells(
@@ -136,8 +143,14 @@ def last_cells(
 
 def read(folder: pathlib.Path, program: Herdbook) -> OldBook:
     path = folder / COMMANDS
+    if are_exports(folder):
+        raise Mistake(
+            f"{path_of(folder)}, the book, is missing or empty: {folder / IDS} was only written from it. Restore a backup, "
+            "by the word restore, or take the sheet into another folder"
+        )
     if not path.exists():
         raise Mistake(f"the folder {folder} has files of version 0.11, and no {COMMANDS}: restore it")
+    listed = [known_of(folder, row) for row in read_table(folder, IDS, ID_TITLES)]
     commands = read_commands(path)
     refused = program.file(commands)
     if refused:
@@ -146,10 +159,12 @@ def read(folder: pathlib.Path, program: Herdbook) -> OldBook:
             f"{path}: command {place + 1} is refused: {refusal.words()} (refusal {refusal}). "
             "Somebody has changed this file: restore it, or take the sheet into another folder"
         )
-    known = read_known(folder, set(replay(commands)))
+    known = read_known(folder, listed, set(replay(commands)))
     owners = read_table(folder, OWNERS, ["herd", "owner"])
     if not all(herd.isdecimal() for herd, _ in owners):
         raise changed(folder / OWNERS)
+    each_once(folder / OWNERS, [str(int(herd)) for herd, _ in owners])
+    each_once(folder / OWNERS, [owner for _, owner in owners])
     options = read_table(folder, OPTIONS, ["option", "word"], needed=False)
     if not all(option in (one.value for one in Remembered) for option, _ in options):
         raise changed(folder / OPTIONS)
@@ -157,12 +172,18 @@ def read(folder: pathlib.Path, program: Herdbook) -> OldBook:
     return OldBook(commands, known, {owner: int(herd) for herd, owner in owners}, remembered)
 
 
-def read_known(folder: pathlib.Path, numbers: set[str]) -> dict[str, Known]:
+def read_known(folder: pathlib.Path, listed: list[Known], numbers: set[str]) -> dict[str, Known]:
     """The animals that are in the book, and those that were dropped."""
-    rows = read_table(folder, IDS, ID_TITLES)
-    all_known = [known_of(folder, row) for row in rows]
-    found = {known.id: known for known in all_known if known.standing is Standing.DROPPED}
-    in_book = [known._replace(standing=listed(known.standing)) for known in all_known if known.number in numbers]
+    lost = next((one for one in listed if one.standing is not Standing.DROPPED and one.number not in numbers), None)
+    if lost:
+        raise Mistake(
+            f"{folder / IDS} has {lost.id} ({lost.number}), whose birth isn't in {folder / COMMANDS}: restore both files, or "
+            "take the sheet into another folder"
+        )
+    in_book = [known._replace(standing=in_book_as(known.standing)) for known in listed if known.number in numbers]
+    each_once(folder / IDS, [known.number for known in in_book])
+    each_once(folder / IDS, [known.id for known in in_book])
+    found = {known.id: known for known in listed if known.standing is Standing.DROPPED}
     found |= {known.id: known for known in in_book}
     named = {known.number for known in in_book}
     found |= {number: Known(number, number) for number in numbers - named}
@@ -173,7 +194,14 @@ def read_known(folder: pathlib.Path, numbers: set[str]) -> dict[str, Known]:
     return found
 
 
-def listed(standing: Standing) -> Standing:
+def each_once(path: pathlib.Path, words: list[str]) -> None:
+    """A mistake where a column has a word twice, which would be lost in one of its lines."""
+    twice = next((word for word, count in collections.Counter(words).items() if count > 1), None)
+    if twice is not None:
+        raise Mistake(f"{path} has '{twice}' in two lines: restore it, or take the sheet into another folder")
+
+
+def in_book_as(standing: Standing) -> Standing:
     return Standing.GONE if standing is Standing.DROPPED else standing
 
 
@@ -195,11 +223,6 @@ def read_table(folder: pathlib.Path, name: str, titles: list[str], needed: bool 
             found, *rows = csv.reader(file)
     except (OSError, ValueError):
         found = []
-    if found == [*titles, "change"]:
-        raise Mistake(
-            f"{path_of(folder)}, the book, is missing or empty: {path} was only written from it. Restore a backup, by "
-            "the word restore, or take the sheet into another folder"
-        )
     if found != titles or any(len(row) != len(titles) for row in rows):
         raise changed(path)
     return rows

@@ -84,6 +84,14 @@ def write_within(
     book: Book, connection: sqlite3.Connection, program: Herdbook, filed: Filed, find_state: Callable[[], State],
     made: Made,
 ) -> Change:  # fmt: skip
+    return end(book, connection, *write_unended(book, connection, program, filed, find_state, made))
+
+
+def write_unended(
+    book: Book, connection: sqlite3.Connection, program: Herdbook, filed: Filed, find_state: Callable[[], State],
+    made: Made,
+) -> tuple[int, int]:  # fmt: skip
+    """Writes all of a change, whose end makes it one; answers its number and its moment."""
     number, moment = next_number(connection), now()
     journal = written_journal(connection, book.journal, filed)
     write_change(connection, number, moment, journal, made)
@@ -99,15 +107,11 @@ def write_within(
         write_rows(connection, REMEMBERED, number, before, remembered_rows(remembered))
     if coefficients:
         write_coefficients(connection, coefficients.value().splitlines())
-        return end(book, connection, number, moment)
-    if state.keeps_coefficients:
-        return end(book, connection, number, moment)
-    if state.coefficients is not None:
+    elif state.coefficients is not None:
         write_coefficients(connection, state.coefficients)
-        return end(book, connection, number, moment)
-    if keeps_most(book, connection, program, state):
-        return end(book, connection, number, moment)
-    return compute_and_end(book, connection, program, number, moment)
+    elif not state.keeps_coefficients and not keeps_most(book, connection, program, state):
+        write_coefficients(connection, program.ask(["inbreeding"], Book(book.folder, connection)))
+    return number, moment
 
 
 def write_owners(connection: sqlite3.Connection, state: State) -> list[Meaning] | None:

@@ -106,6 +106,13 @@ def test_two_first_calls_at_once(old_desk: Desk, monkeypatch: pytest.MonkeyPatch
     ("commands.csv", "birth\n", "book/commands.csv: line 1 isn't the header of a command file"),
     ("commands.csv", FILES["commands.csv"][:-8], "book/commands.csv: line 8 has 3 cells, not 8: mend it, or restore"),
     ("ids.csv", "number\n", "book/ids.csv is missing or was changed"),
+    ("ids.csv", FILES["ids.csv"].replace(",b,", ",a,"), "book/ids.csv has 'a' in two lines: restore it, or take the sheet"),
+    ("ids.csv", FILES["ids.csv"].replace("M000000000002", "F000000000001"),
+     "book/ids.csv has 'SKUGBRF000000000001' in two lines"),
+    ("owners.csv", "herd,owner\n1,Nord\n2,Nord\n", "book/owners.csv has 'Nord' in two lines"),
+    ("owners.csv", "herd,owner\n1,Nord\n01,Süd\n", "book/owners.csv has '1' in two lines"),
+    ("commands.csv", "".join(FILES["commands.csv"].splitlines(keepends=True)[:5]),
+     "book/ids.csv has x (SKUGBRM000000000006), whose birth isn't in book/commands.csv: restore both files, or take the"),
     ("owners.csv", "herd,owner\nx,y\n", "book/owners.csv is missing or was changed"),
     ("options.csv", "option,word\nx,y\n", "book/options.csv is missing or was changed"),
 ])  # fmt: skip
@@ -118,8 +125,10 @@ def test_changed_by_somebody(old_desk: Desk, name: str, text: str | None, told: 
 
 @pytest.mark.parametrize("is_there", [False, True])
 def test_exports_alone(desk: Desk, is_there: bool) -> None:
-    """Where the database is missing, or has nothing in it, its exports aren't taken for it, and no new one is begun."""
+    """Where the database is missing, or has nothing in it, its exports aren't taken for it, also with commands that were
+    refused, and no new one is begun."""
     desk.take("id,born,sire,dam\na,2001-01-01,,\n")
+    assert "is refused" in desk.run("exit", "a", "--day", "1990-01-01").err
     (desk.room / "book/book.sqlite").unlink()
     if is_there:
         desk.write("book/book.sqlite", b"")
