@@ -11,6 +11,7 @@ from society.book.coefficients import Coefficient, kept_coefficients
 from society.book.history_words import STANDINGS
 from society.book.kinds import Standing
 from society.book.known import Known
+from society.book.owner_day import owner_day_known
 from society.book.role import Role
 from society.book.rows import Row, known_of
 from society.mistake import counted
@@ -45,7 +46,7 @@ class Shown:
         known, row = self.known, self.row
         coefficient = self.coefficients[known.number]
         owner = self.book.owner_of(row.herd or 0)
-        since = f", since {row.owned_since}" if row.giver else ""
+        since = f", since {row.owned_since}{known.owner_day.mark()}" if owner_day_known(row.giver, known.owner_day) else ""
         found = [
             ("number", known.number),
             ("sex", SEXES[known.number[6]] + known.sex.mark() + ", castrated" * known.castrated),

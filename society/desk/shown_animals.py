@@ -10,6 +10,7 @@ from society.book.coefficients import Coefficient
 from society.book.inferred import BirthBasis, ExitBasis, ExitSource
 from society.book.kinds import Standing
 from society.book.known import Known
+from society.book.owner_day import owner_day_known
 from society.book.role import Role
 from society.book.rows import SEX_SOURCES, Row, birth_basis, exit_basis, known_of
 from society.desk.words import Words
@@ -50,6 +51,11 @@ def exit_of(row: Row, words: Words) -> str:
     if row.departed:
         return words.language.marked(words.day(row.departed), mark_of(basis))
     return words("exit unknown", basis.text) if basis.day_is_unknown else ""
+
+
+def owner_day_of(row: Row, known: Known, words: Words) -> str:
+    """The day since which the owner has it, with the mark of one that is inferred. One from the birth on has that day."""
+    return words.language.marked(words.day(row.owned_since), mark_of(known.owner_day) if row.giver else None)
 
 
 class Litter(NamedTuple):
@@ -117,7 +123,8 @@ class Shower:
     def facts(self, row: Row, known: Known) -> list[tuple[str, str]]:
         words, line = self.words, self.line(row)
         castrated, embryo = f", {words('castrated')}", f", {words('from embryo')}"
-        since = f" {words('since', words.day(row.owned_since))}" if row.giver else ""
+        is_said = owner_day_known(row.giver, known.owner_day)
+        since = f" {words('since', owner_day_of(row, known, words))}" if is_said else ""
         found = [
             (words("number"), row.number),
             (words("sex"), line.sex + castrated * known.castrated),

@@ -7,7 +7,7 @@ from society.book.book import NO_OWNER
 from society.book.inferred import BirthBasis
 from society.book.kinds import Field
 from society.book.rows import Row, known_of
-from society.desk.shown_animals import born_of, exit_of
+from society.desk.shown_animals import born_of, exit_of, owner_day_of
 from society.desk.texts.members import MEMBERS
 from society.desk.words import Words
 
@@ -23,7 +23,7 @@ def facts_said(row: Row, names: Mapping[str, str], owners: Mapping[int, str], wo
         "sire": names.get(row.sire or "", row.sire or ""),
         "dam": names.get(row.dam or "", row.dam or ""),
         "owner": owners.get(row.herd or NO_OWNER, str(row.herd)),
-        "owner since": words.day(row.owned_since),
+        "owner since": owner_day_of(row, known, words),
         "exit": exit_of(row, words),
         "stored embryo": words("yes") if row.embryo else "",
         "basis of the birth day": basis_said(known.birth, words),

@@ -5,10 +5,11 @@ import datetime
 from collections.abc import Mapping, Sequence
 from dataclasses import dataclass
 
-from society.book.book import NO_OWNER, Book
+from society.book.book import Book
 from society.book.certificate_facts import certificate_facts
 from society.book.coefficients import Coefficient, kept_coefficients
 from society.book.known import Known
+from society.book.owner_day import owner_day_known
 from society.book.role import Role
 from society.pages.common import common_ancestors, letters_named
 from society.pages.languages import Language
@@ -129,9 +130,12 @@ class Certificate:
             "owner": self.book.owner_of(int(told["herd"])) or texts["no owner"],
             "since": texts["no owner"],
         }
-        if owner_day_known(self.book, self.known):
+        if self.knows_owner_day():
             pairs["since"] = self.day(told["since"], mark_of(self.known.owner_day))
         return [(texts[what], fact) for what, fact in pairs.items()]
+
+    def knows_owner_day(self) -> bool:
+        return owner_day_known(self.book.records[self.known.number].giver, self.known.owner_day)
 
     def day(self, day: object, mark: Mark | None = None) -> str:
         return self.language.marked(self.language.day(day), mark)
@@ -163,7 +167,7 @@ class Certificate:
         ancestors = [self.names[self.told[letters]] for letters in DRAWN if self.told[letters] != "0"]
         marks = {mark_of(one.birth) for one in (self.known, *ancestors)}
         marks |= {mark_of(self.known.exit), mark_of(self.known.sex)}
-        marks |= {mark_of(self.known.owner_day)} if owner_day_known(self.book, self.known) else set()
+        marks |= {mark_of(self.known.owner_day)} if self.knows_owner_day() else set()
         written = [letters for letters in DRAWN if self.written(letters)]
         marks |= {Mark.IN_SHEET if self.told[letters] == "0" else Mark.INFERRED for letters in written}
         common = [self.texts["common note"].format(letters_named(self.common))] * bool(self.common)
@@ -188,10 +192,3 @@ def certificates_page(book: Book, animals: Sequence[Known], language: Language, 
 
 def role_of(letters: str) -> Role:
     return Role.SIRE if letters[-1] == "S" else Role.DAM
-
-
-def owner_day_known(book: Book, known: Known) -> bool:
-    """Is the day known since which the owner has it? A sheet gives the owner of today: only a change of owners has a
-    day, which may be inferred where there is one before."""
-    giver = book.records[known.number].giver
-    return bool(giver) and (giver != NO_OWNER or not known.owner_day.is_inferred)

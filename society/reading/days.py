@@ -112,6 +112,9 @@ class Span(NamedTuple):
     def is_day(self) -> bool:
         return self.precision is Precision.DAY
 
+    def has(self, day: datetime.date) -> bool:
+        return self.first <= day <= self.last
+
     def period(self) -> Period:
         """The month or the year."""
         is_month = self.precision is Precision.MONTH

@@ -13,10 +13,10 @@ from society.book.journal import accepted_commands
 from society.book.kinds import Field
 from society.book.named import made
 from society.reading.animal import Animal
-from society.reading.days import DayFault
+from society.reading.days import DayFault, Span
 from society.reading.cell_findings import DayLeftOut
 from society.taking.report import Finding, Report
-from society.taking.row_findings import OwnerDayMoved
+from society.taking.row_findings import OwnerDayInferred, OwnerDayMoved
 
 
 class Owners(NamedTuple):
@@ -43,6 +43,8 @@ class OwnerDays:
         self.told: set[tuple[str, Finding]] = set()
         # the animals whose last transfer is refused
         self.refused: set[str] = set()
+        # the first days with owners that stay, where the sheet says others than the book's, by the animals' ids
+        self.other_days: dict[str, str] = {}
 
     @functools.cached_property
     def before(self) -> tuple[dict[str, int], dict[str, list[Command]]]:
@@ -79,23 +81,22 @@ class OwnerDays:
             first, before = self.before[0][record.number], self.before[1].get(record.number, [])
         animal.owner_day = known.owner_day
         has_other_owner = self.has_other_owner(animal, record)
-        has_other_day = not has_other_owner and self.has_other_day(animal, record)
-        if not has_other_owner and self.has_day(animal, record):
-            animal.owner_day = OwnerDay.GIVEN
-        if not (before or has_other_owner or has_other_day):
+        since = None if has_other_owner else self.other_days_of(animal, record)
+        if not (before or has_other_owner or since):
             return Owners(first, [], 0, False)
         first_herd, transfers = first, [one._replace(animal=animal.number) for one in before]
-        if has_other_owner:
-            if animal.id not in self.refused:
-                transfers.append(self.change(animal, record))
-        elif has_other_day:
-            assert animal.since is not None
+        if has_other_owner and animal.id not in self.refused:
+            since = animal.since
+            transfers.append(self.change(animal, record))
+        elif since:
+            day = self.day_said(animal, since)
             if transfers:
-                transfers[-1] = transfers[-1]._replace(day=animal.since.first.isoformat())
-            elif first != NO_OWNER:
-                first_herd = NO_OWNER
-                transfers = [transfer(animal.number, animal.since.first, NO_OWNER, first)]
-        transfers = self.in_order(animal, transfers)
+                transfers[-1] = transfers[-1]._replace(day=day.isoformat())
+            else:
+                first_herd, transfers = NO_OWNER, [transfer(animal.number, day, NO_OWNER, first)]
+        transfers = self.in_order(animal, transfers, since)
+        if since and not has_other_owner and transfers[-1].day != record.since.isoformat():
+            self.other_days[animal.id] = transfers[-1].day
         is_kept = [one[1:] for one in transfers[: len(before)]] == [
             one._replace(animal=animal.number)[1:] for one in before
         ]
@@ -104,10 +105,10 @@ class OwnerDays:
     def of_new(self, animal: Animal) -> Owners:
         """A new animal has its owner from its birth on, but where the sheet says since when."""
         herd = self.herd_of(animal.owner)
-        if animal.since is None or herd == NO_OWNER or not self.is_day(animal) or animal.since.first <= animal.born:
+        if animal.since is None or herd == NO_OWNER or self.is_later(animal) or animal.since.first <= animal.born:
             return made(Owners, (herd, [], 0, False))
-        only = [transfer(animal.number, animal.since.first, NO_OWNER, herd)]
-        return Owners(NO_OWNER, self.in_order(animal, only), 0, False)
+        only = [transfer(animal.number, self.day_said(animal, animal.since), NO_OWNER, herd)]
+        return Owners(NO_OWNER, self.in_order(animal, only, animal.since), 0, False)
 
     def has_other_owner(self, animal: Animal, record: Record) -> bool:
         if not animal.owner or self.herd_of(animal.owner) == record.herd:
@@ -118,18 +119,22 @@ class OwnerDays:
             return False
         return True
 
-    def has_day(self, animal: Animal, record: Record) -> bool:
-        """Does the sheet say since when the owner that the book has has it?"""
-        if not animal.line or not self.is_day(animal) or animal.since is None or self.herd_of(animal.owner) != record.herd:
-            return False
-        return bool(record.giver) or animal.since.first > animal.born
+    def other_days_of(self, animal: Animal, record: Record) -> Span | None:
+        """The days of the sheet since which the owner that the book has has it, where the book's isn't among them. Of an
+        owner from the birth on only later ones are said."""
+        since = animal.since
+        if not animal.line or since is None or not animal.owner or self.is_later(animal):
+            return None
+        if self.herd_of(animal.owner) != record.herd or (not record.giver and since.first <= animal.born):
+            return None
+        if since.is_day:
+            animal.owner_day = OwnerDay.GIVEN
+        return None if since.has(record.since) else since
 
-    def has_other_day(self, animal: Animal, record: Record) -> bool:
-        """Is that another day than the book has?"""
-        return self.has_day(animal, record) and animal.since is not None and animal.since.first != record.since
-
-    def is_day(self, animal: Animal) -> bool:
-        return animal.since is not None and animal.since.is_day and not self.is_later(animal)
+    def day_said(self, animal: Animal, since: Span) -> datetime.date:
+        """The day of the sheet, or the last one of its month or year, which is inferred."""
+        animal.owner_day = OwnerDay.GIVEN if since.is_day else OwnerDay.INFERRED
+        return min(since.last, self.today)
 
     def is_later(self, animal: Animal) -> bool:
         if animal.since is None or animal.since.first <= self.today:
@@ -143,13 +148,13 @@ class OwnerDays:
         that of the taking."""
         day, animal.owner_day = self.day, self.source
         if animal.since:
-            day = min(animal.since.last, self.today)
-            animal.owner_day = OwnerDay.GIVEN if animal.since.is_day else OwnerDay.INFERRED
+            day = self.day_said(animal, animal.since)
         return transfer(animal.number, day, record.herd, self.herd_of(animal.owner))
 
-    def in_order(self, animal: Animal, transfers: list[Command]) -> list[Command]:
+    def in_order(self, animal: Animal, transfers: list[Command], since: Span | None = None) -> list[Command]:
         """The transfers with no day before the birth, before that of the owner before, or after the exit. Days that
-        were inferred give way; where a day that was given does, it is told."""
+        were inferred give way; where a day that was given does, it is told, and so is that of a month or a year, which
+        the sheet says of the last one by `since`."""
         low, high = animal.born, animal.left or datetime.date.max
         days = [datetime.date.fromisoformat(command.day) for command in transfers]
         if days and not animal.owner_day.is_inferred:
@@ -158,12 +163,13 @@ class OwnerDays:
         found = []
         for place, (command, day) in enumerate(zip(transfers, days)):
             moved = min(max(day, low), high) if low <= high else low
-            if moved != day:
-                is_last = place == len(transfers) - 1
-                if not is_last or not animal.owner_day.is_inferred:
-                    owner = self.book.owner_of(int(command.taker))
-                    self.tell(animal, OwnerDayMoved(owner, day, moved))
-                animal.owner_day = OwnerDay.INFERRED if is_last else animal.owner_day
+            is_last, owner = place == len(transfers) - 1, self.book.owner_of(int(command.taker))
+            if is_last and since and since.has(moved) and not since.is_day:
+                self.tell(animal, OwnerDayInferred(moved, since.period()))
+            elif moved != day and (since or not is_last or not animal.owner_day.is_inferred):
+                self.tell(animal, OwnerDayMoved(owner, day, moved))
+            if moved != day and is_last:
+                animal.owner_day = OwnerDay.INFERRED
             found.append(command._replace(day=moved.isoformat()))
             low = moved
         return found

@@ -5,6 +5,7 @@ import datetime
 from dataclasses import dataclass
 from typing import Hashable
 
+from society.book.inferred import Period
 from society.book.kinds import CommandKind
 from society.refusals import Refusal
 from society.taking.harm import Harm
@@ -130,3 +131,16 @@ class OwnerDayMoved(Finding):
             f"it has been of '{self.owner}' since {self.now}, and not since {self.before}, which can't be with its birth, "
             "its exit or its owner before"
         )
+
+
+@dataclass(frozen=True, slots=True)
+class OwnerDayInferred(Finding):
+    """Of the day since which an owner has the animal the sheet says the month or the year alone."""
+
+    day: datetime.date
+    period: Period
+
+    what = What.INFERRED
+
+    def words(self) -> str:
+        return f"owner since {self.day}, from {self.period.words()}"

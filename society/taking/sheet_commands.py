@@ -9,6 +9,7 @@ from society.book.journal import Step, alike
 from society.book.kinds import CommandKind
 from society.book.known import Known
 from society.book.named import made
+from society.book.owner_day import owner_day_known
 from society.book.writing import Filed
 from society.herdbook import Herdbook
 from society.mistake import Mistake
@@ -141,6 +142,9 @@ class Filing:
             ("exit", exit, exit_words(animal.left, animal.exit_basis)),
             ("stored embryo", IS_EMBRYO[record.embryo], IS_EMBRYO[animal.embryo]),
         ]
+        if animal.id in self.owners.other_days:
+            since = record.since if owner_day_known(record.giver, known.owner_day) else ""
+            pairs.append(("owner since", since, self.owners.other_days[animal.id]))
         found = [ValueChanged(name, str(after), str(before)) for name, before, after in pairs if before != after]
         if known.birth.is_invented and animal.birth_basis.is_invented:
             # invented days are invented anew each time

@@ -92,6 +92,31 @@ def test_day_by_hand_is_given(desk: Desk) -> None:
     desk.take(rows.format("Groß;2010;2011-01-01")).tells(f"line 3: d: to look at: {moved} its owner before")
 
 
+def test_month_or_year_of_an_owner(desk: Desk) -> None:
+    """Its last day stands for it, which is told, and marked wherever it is shown; a day within it stays as it is."""
+    rows = "id;sex;birth;sire;dam;owner;since\ns;M;2001-03-01;;;Meier;{}\nd;F;2001-03-02;;;Groß;{}\n"
+    done = desk.take(rows.format("05.2003", "2001"))
+    done.tells("line 2: s: inferred: owner since 2003-05-31, from the month 2003-05")
+    assert desk.transfer_days() == ["2003-05-31"]
+    # of its first owner's days only a whole one is known
+    assert since(desk, "s") == "not known" and "owner         Meier\n" in desk.good("show", "s").out
+    done = desk.take(rows.format("2003", "2002"))
+    assert " 1 changed, 1 inferred," in done.last and "changed: owner since 1" in done.out
+    done.tells("line 3: d: changed: owner since: 2002-12-31, before none")
+    desk.take(rows.replace("Groß", "Lang").format("2003-05-02", "2009"))
+    for day, marked in (("2009", "2009-12-31 (inferred)"), ("2009-12-31", "2009-12-31"), ("2010-01-02", "2010-01-02")):
+        done = desk.take(rows.replace("Groß", "Lang").format("2003-05-02", day))
+        assert since(desk, "d") == marked
+        shown = desk.good("show", "d").out
+        assert f"owner         Lang, since {marked}\n" in shown
+    done.tells("line 3: d: changed: owner since: 2010-01-02, before 2009-12-31")
+    assert "owner since 2009-12-31, before 2009-12-31 (inferred)" in shown
+    # a year that can't be after the owner before
+    done = desk.take(rows.replace("Groß", "Lang").format("2003-05-02", "2001"))
+    told = "it has been of 'Lang' since 2002-12-31, and not since 2001-12-31, which can't be with its birth, its exit or"
+    done.tells(f"line 3: d: to look at: {told} its owner before")
+
+
 def test_day_before_an_inferred_one(desk: Desk) -> None:
     """The inferred day of the owner before gives way."""
     desk.take(TITLES + PARENTS)

@@ -147,7 +147,8 @@ def test_days_of_owners_in_order() -> None:
 def filing(length: int = 0) -> Filing:
     """That of an animal beside a journal of so many commands, whose owners are told by their herds."""
     book = SimpleNamespace(journal=SimpleNamespace(length=length), owner_of=str, by_number=dict)
-    return Filing(NextBook(cast(Book, book), {}, set(), Report(), DAYS), cast(OwnerDays, None))
+    owners = cast(OwnerDays, SimpleNamespace(other_days={}))
+    return Filing(NextBook(cast(Book, book), {}, set(), Report(), DAYS), owners)
 
 
 def test_refusals_behind_the_journal() -> None:
