@@ -105,25 +105,36 @@ class TestSessionRefusals(Refusals):
         self.count(process.wait() == 1 and told == b"herdbook: write fault\n", f"a broken pipe: {told!r}")
 
     def test_desk_left(self) -> None:
-        """Once its output is closed a session ends at the next request, also to the desk that met it, of an input that
-        doesn't end."""
-        reader, writer = os.pipe()
-        process = subprocess.Popen(
-            [self.program, "session"], stdin=subprocess.PIPE, stdout=writer, stderr=subprocess.DEVNULL
-        )
-        os.close(writer)
-        os.close(reader)
-        assert process.stdin
-        asked = 0
-        while asked < 20_000 and process.poll() is None:
-            with contextlib.suppress(BrokenPipeError):
-                process.stdin.write(SMALL.splitlines(keepends=True)[0].encode() * 50)
-                process.stdin.flush()
-            time.sleep(0.005)
-            asked += 50
-        has_ended = process.poll() is not None
+        """Once a write has failed a session ends at the next request of an input that doesn't end, whoever met the failed
+        write and whomever the request is for."""
+        desk, inspector = b"a,desk,1,exit,%s,2000-01-01,,,,,\n" % SIRE.encode(), b"q,inspector,2,seen\n"
+        for first, next in (desk, inspector), (inspector, desk), (desk, desk), (inspector, inspector), (desk, b"\"\n\"\n"):
+            # the first answer may not have been written yet
+            self.count(any(ended_at_next(self.program, first, next) for _ in range(5)), f"goes on: {first!r}, {next!r}")
+
+
+def ended_at_next(program: str, first: bytes, next: bytes) -> bool:
+    """Whether a session whose output is closed ends with status 1 at the second request, which comes a little later."""
+    reader, writer = os.pipe()
+    words = [program, "session", "--desks", "16", "--inspectors", "16"]
+    process = subprocess.Popen(words, stdin=subprocess.PIPE, stdout=writer, stderr=subprocess.DEVNULL)
+    os.close(writer)
+    os.close(reader)
+    assert process.stdin
+    try:
+        process.stdin.write(first)
+        process.stdin.flush()
+        time.sleep(0.2)
+        process.stdin.write(next)
+        process.stdin.flush()
+        return process.wait(2) == 1
+    except subprocess.TimeoutExpired:
+        return False
+    finally:
         process.kill()
-        self.count(has_ended and process.wait() == 1, f"the session goes on after {asked} requests")
+        with contextlib.suppress(BrokenPipeError):
+            process.stdin.close()
+        process.wait()
 
 
 def is_no_thread(wanted: Done, done: Done) -> bool:

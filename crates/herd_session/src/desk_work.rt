@@ -78,10 +78,11 @@ impl<N: SessionName> Clerk<N> {
         task: &DeskTask<N>,
         goes_on: bool,
     ) -> Result<(), ReportFault> {
-        match self.file_wanted(rt, hall, task) {
+        let written = match self.file_wanted(rt, hall, task) {
             Ok(filed) => hall.output.lock(rt).reply(task, &filed, goes_on),
             Err(fault) => hall.output.lock(rt).fault(task.tag(), fault),
-        }
+        };
+        hall.passed_on(written)
     }
 
     // Files the command of a task.

@@ -19,6 +19,7 @@ use herd_office::{Office, OfficeParts};
 use std::alloc::Global;
 use std::io::{Read, Write};
 use std::marker::Brand;
+use std::sync::atomic::AtomicBool;
 use std::sync::{Mutex, Wait};
 use std::thread;
 use std::thread::{Scope, Threads};
@@ -106,6 +107,7 @@ fn held_under_name<
         office,
         told: Mutex::new(first.again()),
         output: Mutex::new(Output::new(alloc, writer, first)),
+        has_failed: AtomicBool::new(false),
     };
     let worked = work(rt, alloc, &hall, staff, reader);
     let Hall { office, output, .. } = hall;

@@ -56,10 +56,11 @@ fn answer_question<N: SessionName, H: Wait, R: Wait + Drop, W: Write>(
     observer: &mut Observer<N>,
     task: &InspectorTask<N>,
 ) -> Result<(), ReportFault> {
-    match answer(rt, alloc, hall, observer, task) {
+    let written = match answer(rt, alloc, hall, observer, task) {
         Ok(answer) => hall.output.lock(rt).answer(&answer),
         Err(fault) => hall.output.lock(rt).fault(task.tag(), fault),
-    }
+    };
+    hall.passed_on(written)
 }
 
 // The answer to a task's question, from a history that begins with each that was answered before.

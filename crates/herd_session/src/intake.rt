@@ -17,8 +17,10 @@ use std::alloc::Global;
 use std::io::{Read, Write};
 use std::marker::PhantomData;
 use std::sync::Wait;
+use std::sync::atomic::Ordering;
 
-/// Reads requests up to the end of the input, and hands each to whom it is for. It ends early once a write has failed.
+/// Reads requests up to the end of the input, and hands each to whom it is for. It ends early at a request that it reads
+/// once a write has failed.
 pub(crate) fn take_requests<N: SessionName, H: Wait, R: Wait + Drop, I: Read + Drop, W: Write>(
     rt: &H,
     alloc: Global,
@@ -46,7 +48,8 @@ fn fault_after(before: u64, cause: LineCause) -> LineFault {
     cause.at(number)
 }
 
-// Hands the request of a record to whom it is for, or tells why it is for nobody.
+// Hands the request of a record to whom it is for, or tells why it is for nobody. None goes anywhere once a write has
+// failed.
 fn hand_on<N: SessionName, H: Wait, R: Wait + Drop, W: Write>(
     rt: &H,
     alloc: Global,
@@ -58,6 +61,9 @@ fn hand_on<N: SessionName, H: Wait, R: Wait + Drop, W: Write>(
     requires there { IsRecordAt N.records before (fields_of row.now) }
     requires few { before < 2 ^ 64 - 1 }
 {
+    if hall.has_failed.load(Ordering::SeqCst) {
+        return Err(ReportFault::Write);
+    }
     let (desks, inspectors) = (queues.desks.as_slice(), queues.inspectors.as_slice());
     match request_in(alloc, desks.len(), inspectors.len(), row) {
         Request::Desk(place, asked) => {

@@ -3,7 +3,7 @@
 use core::mem;
 use crossbeam_channel::{Receiver, Sender, bounded};
 use std::alloc::{AllocError, Global};
-use std::sync::atomic::{AtomicBool, AtomicU64, Ordering};
+use std::sync::atomic::{AtomicU64, Ordering};
 use std::sync::{Arc, Mutex, Wait};
 use std::time::Duration;
 
@@ -22,6 +22,7 @@ pub(crate) struct Inlet<T: Drop> {
 }
 
 /// The end of a queue at which tasks are taken.
+#[derive(Drop)]
 pub(crate) struct Outlet<T: Drop> {
     shared: Arc<Shared<T>, Global>,
     begun: Receiver<()>,
@@ -33,8 +34,6 @@ struct Shared<T> {
     waiting: Mutex<Vec<T>>,
     // how often all that waited was taken
     taken: AtomicU64,
-    // whether nobody takes any more
-    is_left: AtomicBool,
 }
 
 /// Why a task isn't added.
@@ -53,7 +52,6 @@ pub(crate) fn queue<T: Drop>(alloc: Global) -> Result<(Inlet<T>, Outlet<T>), All
     let shared = Shared {
         waiting: Mutex::new(Vec::new(alloc)),
         taken: AtomicU64::new(0),
-        is_left: AtomicBool::new(false),
     };
     let Ok(one) = Arc::new(alloc, shared) else {
         return Err(AllocError);
@@ -74,9 +72,6 @@ pub(crate) fn queue<T: Drop>(alloc: Global) -> Result<(Inlet<T>, Outlet<T>), All
 impl<T: Drop> Inlet<T> {
     /// Adds a task. Where many wait it gives the other end a little time.
     pub(crate) fn add<H: Wait>(&self, rt: &H, task: T) -> Result<(), Unsent<T>> {
-        if self.shared.is_left.load(Ordering::SeqCst) {
-            return Err(Unsent::Left);
-        }
         let mut waiting = self.shared.waiting.lock(rt);
         if let Err(refused) = waiting.push(task) {
             return Err(Unsent::Memory(refused.value));
@@ -115,15 +110,5 @@ impl<T: Drop> Outlet<T> {
     /// Whether no task is known to wait.
     pub(crate) fn is_empty(&self) -> bool {
         self.begun.is_empty()
-    }
-}
-
-impl<T: Drop> Drop for Outlet<T> {
-    fn drop(self) {
-        let Self {
-            shared,
-            begun: _begun,
-        } = self;
-        shared.is_left.store(true, Ordering::SeqCst);
     }
 }
