@@ -106,13 +106,30 @@ pub(crate) fn start_inspectors<
     let mut started = Vec::new(alloc);
     for inspector in inspectors {
         let (inlet, outlet) = queue(alloc)?;
-        let thread = scope
-            .spawn(move || work_as_inspector(rt, alloc, hall, inspector, outlet))
-            .or(Err(SessionFault::NoThread))?;
-        started.push(thread)?;
+        started.push(start_inspector(scope, rt, alloc, hall, inspector, outlet)?)?;
         queues.inspectors.push(inlet)?;
     }
     Ok(started)
+}
+
+// Starts the thread of an inspector.
+fn start_inspector<
+    's,
+    N: SessionName + Send + Sync,
+    E,
+    H: Wait + Sync,
+    R: Wait + Drop + Send + Sync,
+    W: Write + Send,
+>(
+    scope: &'s Scope<'s, E>,
+    rt: &'s H,
+    alloc: Global,
+    hall: &'s Hall<N, R, W>,
+    inspector: Inspector<N>,
+    tasks: Outlet<InspectorTask<N>>,
+) -> Result<InspectorThread<N>, SessionFault> {
+    let started = scope.spawn(move || work_as_inspector(rt, alloc, hall, inspector, tasks));
+    started.or(Err(SessionFault::NoThread))
 }
 
 /// Waits for the desks.

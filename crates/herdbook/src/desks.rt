@@ -103,8 +103,8 @@ fn filed_in<N: OfficeName + Send + Sync, H: Threads + Wait + Sync>(
     ensures { IfOk result (IsSummaryOfDeal N.limits deal.entry) }
 {
     let (office, desks, inspectors) = Office::<N, &H>::open(alloc, parts)?;
-    let filed = all_filed(rt, alloc, &office, desks, deal)?;
-    closed(rt, alloc, office, filed, inspectors)
+    let filed = all_filed(rt, alloc, &office, desks, deal);
+    closed_once_filed(rt, alloc, office, filed, inspectors)
 }
 
 // The desks, once the commands are filed.
@@ -122,6 +122,25 @@ fn all_filed<N: OfficeName + Send + Sync, H: Threads + Wait + Sync, R: Wait + Dr
 {
     file_turn(rt, office, &mut desks[0], deal.first_turn())?;
     file_in_turn(rt, alloc, office, desks, deal)
+}
+
+// Closes the office once the commands are filed. Where an office is open, a proof takes long that an early return drops
+// it, so this one stands by itself.
+fn closed_once_filed<N: OfficeName, H: Wait, R: Wait + Drop>(
+    rt: &H,
+    alloc: Global,
+    office: Office<N, R>,
+    filed: Result<Vec<Desk<N>>, ClerkFault>,
+    inspectors: Vec<Inspector<N>>,
+) -> Result<Summary, ClerkFault>
+    requires numbers { IfOk filed (λ desks. numbers_of desks.items ≡ range_with_len 1 office.staff.desks) }
+    requires inspectors { office.staff.inspectors ≤ vec_len inspectors }
+    requires some { 1 ≤ vec_len inspectors }
+    ensures { (deal : Deal) → office.staff.desks ≡ deal.desks
+        → IfOk filed (λ desks. All (HasDone deal) desks.items) → IfOk result (IsSummaryOfDeal N.limits deal) }
+{
+    let desks = filed?;
+    closed(rt, alloc, office, desks, inspectors)
 }
 
 // Lets the first inspector learn the desks' slips and freeze the book, closes the office, and gives its summary. No
