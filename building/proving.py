@@ -54,8 +54,9 @@ class Proving:
         while self.ready and len(self.running) < self.machine.most_runs:
             name = self.ready.pop(0)
             jobs = self.machine.jobs([jobs for _, jobs in self.running.values()])
+            gives_way = any(chains[other] > chains[name] for other, _ in self.running.values())
             self.say(f"proving {name}")
-            self.running[pool.submit(self.prove, name, jobs)] = name, jobs
+            self.running[pool.submit(self.prove, name, jobs, gives_way)] = name, jobs
 
     def end(self) -> None:
         """Waits until one has ended."""
@@ -68,14 +69,15 @@ class Proving:
         if self.running and not self.is_well:
             self.say(f"still proving {', '.join(name for name, _ in self.running.values())}")
 
-    def prove(self, name: str, jobs: int) -> bool:
-        """Proves a crate by so many processes, over those below it, and keeps what comes of it."""
+    def prove(self, name: str, jobs: int, gives_way: bool) -> bool:
+        """Proves a crate by so many processes, over those below it, and keeps what comes of it. It may give way to a run
+        for which more crates wait."""
         told = collections.deque[str](maxlen=LAST_LINES)
         try:
             with room() as at:
                 self.crates.copy_to(at, name)
                 self.summed[name] = checksums(name, at)
-                told.extend(self.runs.lines(self.words(name, jobs), at / "crates" / name))
+                told.extend(self.runs.lines(self.words(name, jobs), at / "crates" / name, gives_way))
                 if name == self.crates.program:
                     summed = (line for lines in self.summed.values() for line in lines)
                     self.place.put(at / "crates" / name / "out" / name, text_of(self.crates, summed))

@@ -7,6 +7,8 @@ import subprocess
 import threading
 from typing import Iterator
 
+# How far a run steps back that gives way.
+NICENESS = "10"
 # The seconds that a call gets to end its runs once one has failed.
 PAUSE = 0.5
 # How a run ends that was killed, and one whose prover was.
@@ -20,13 +22,14 @@ class Runs:
         self.lock, self.ended = threading.Lock(), threading.Event()
         self.under_way: set[subprocess.Popen[str]] = set()
 
-    def lines(self, words: list[str], at: pathlib.Path) -> Iterator[str]:
-        """Runs rt with these words in that folder, and gives the lines that it tells."""
+    def lines(self, words: list[str], at: pathlib.Path, gives_way: bool) -> Iterator[str]:
+        """Runs rt with these words in that folder, and gives the lines that it tells. One that gives way has the
+        processors that others leave."""
         with self.lock:
             if self.ended.is_set():
                 raise Ended
             run = subprocess.Popen(
-                ["rt", *words],
+                [*(("nice", "-n", NICENESS) if gives_way else ()), "rt", *words],
                 cwd=at,
                 stdin=subprocess.DEVNULL,
                 stdout=subprocess.PIPE,

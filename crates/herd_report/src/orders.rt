@@ -1,9 +1,10 @@
-ghost use Rattle.std.specs.Prelude.{◌≡◌, ◌<◌, IfErr, IfOk, IfSome, OnOk};
+ghost use Rattle.std.specs.Prelude.{◌≡◌, ◌<◌, IfErr, IfOk, IfSome, List, OnOk, Option, ℕ};
 ghost use Rattle.herd_frozen.specs.declared.TheConstants.{DEPTH_LIMIT};
 ghost use Rattle.herd_kinship.specs.Coefficients.{AreCoefficients};
 ghost use Rattle.herd_report.specs.reading.CommandFile.{commands};
 ghost use Rattle.herd_report.specs.Run.{AnswersIfKnown, CanEndBy, CanEndReplying, EndsIfKnown};
-ghost use Rattle.herd_report.specs.Run.{EndsReplying, EndsReporting, IsReplied, IsReported};
+ghost use Rattle.herd_report.specs.Run.{EndsReplying, EndsReporting, IsFrozenFile, IsReplied, IsReported};
+ghost use Rattle.herd_report.specs.declared.orders.Order.{Order};
 
 use crate::command_filing::{fault_of_rest, file_commands};
 use crate::reading::command_reader::CommandReader;
@@ -89,6 +90,22 @@ pub fn run<H: Threads + Wait + Sync, R: Read + Drop, W: Write>(
         (R.remaining reader) (W.contents writer.old) (W.contents writer.new)) }
     ensures fault { IfErr result (CanEndBy order.now) }
 {
+    let frozen = frozen_of_file(alloc, limits, reader)?;
+    write_report(rt, alloc, &frozen, order, writer)
+}
+
+// Files a command file, and freezes its book. Where there is none, nothing is written, whatever is ordered.
+fn frozen_of_file<R: Read + Drop>(
+    alloc: Global,
+    limits: Limits,
+    reader: R,
+) -> Result<Frozen<Global>, RunFault>
+    ensures ok { IfOk result (λ frozen. IfSome (R.remaining reader)
+        (λ bytes. IsFrozenFile limits (commands bytes limits.steps) frozen)) }
+    ensures err { IfErr result (λ fault. (order : Order) → (text : Option (List ℕ))
+        → EndsIfKnown limits order (R.remaining reader) text text fault) }
+    ensures fault { IfErr result (λ fault. (order : Order) → CanEndBy order fault) }
+{
     let mut commands = CommandReader::open(alloc, reader, limits.steps)?;
     let mut register = Register::new(alloc, limits);
     match file_commands(&mut commands, &mut register) {
@@ -100,8 +117,7 @@ pub fn run<H: Threads + Wait + Sync, R: Read + Drop, W: Write>(
         },
     }
     let frozen = register.pedigree().freeze(alloc)?;
-    drop(register);
-    write_report(rt, alloc, &frozen, order, writer)
+    Ok(frozen)
 }
 
 /// Writes what is ordered of a frozen book.
