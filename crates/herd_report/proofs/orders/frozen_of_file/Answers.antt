@@ -1,5 +1,5 @@
 -- What was read and filed is what the file says.
-use Rattle.std.proofs.Common.{◌≡◌, ◌∙◌, ℕ, IfSome, None, Some, ap, inl, refl, subst}
+use Rattle.std.proofs.Common.{◌≡◌, ◌∙◌, ℕ, None, Some, ap, inl, refl, subst}
 use Rattle.std.proofs.lemmas.Option.{IfSome_then}
 use Rattle.herd_frozen.specs.freezing.Frozen.{IsFrozenFrom}
 use Rattle.herd_frozen.specs.declared.TheConstants.{DEPTH_LIMIT, MOST_ANIMALS}

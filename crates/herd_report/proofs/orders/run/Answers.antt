@@ -1,8 +1,8 @@
 -- The report of the frozen book of a file is that of the file.
-use Rattle.std.proofs.Common.{IfSome}
 use Rattle.std.proofs.lemmas.Option.{IfSome_then}
 use Rattle.std.proofs.lemmas.Result.{IfErr-weaker, on_ok_weaker}
 use Rattle.herd_report.specs.reading.CommandFile.{commands}
+use Rattle.herd_report.proofs.lemmas.Exits.{if_err}
 use Rattle.herd_report.proofs.RunFacts.{run_answers, run_ends, run_possible}
 use Rattle.herd_report.proofs.orders.run.Goals as goal
 
@@ -25,3 +25,7 @@ returns-clause-err g c =
 pub returns-clause-fault : goal.returns-clause-fault
 returns-clause-fault g c =
     run_possible c.args.order.now c.in_ok-frozen.frozen _ _ c.write_report.result c.write_report.ensures.err
+
+pub returns-in_err-frozen-clause-fault : goal.returns-in_err-frozen-clause-fault
+returns-in_err-frozen-clause-fault g c =
+    if_err c.from_residual.result _ _ c.from_residual.ensures.1 (c.in_err-frozen.ensures.fault c.args.order.now)
