@@ -13,7 +13,7 @@ from society.book.backup_sentences import BackupFault
 from society.book.book import Book
 from society.book.book_changed import Overtaken, set_write_ahead, stop_no_more
 from society.book.book_read import opened_to_read, reading
-from society.book.changes import Change, Made
+from society.book.changes import NO_MARK, Change, Made, Mark
 from society.book.database import (
     DAMAGED,
     companions,
@@ -65,11 +65,11 @@ def bytes_of(connection: sqlite3.Connection) -> bytes:
 
 
 def restore(
-    folder: pathlib.Path, path: pathlib.Path, program: Herdbook, anyway: bool, looked: int | None = None
+    folder: pathlib.Path, path: pathlib.Path, program: Herdbook, anyway: bool, looked: Mark | None = None
 ) -> Change:
     """Makes the book of a copy that of a folder. A book that is there goes to the folder `old` before, with all that
-    anybody changed until then; so do the files of version 0.11. Where its last change isn't the one that somebody looked
-    at, this raises `Overtaken`."""
+    anybody changed until then; so do the files of version 0.11. Where it isn't the one that somebody looked at, this
+    raises `Overtaken`."""
     if path_of(folder).exists() and path.exists() and path.samefile(path_of(folder)):
         raise Mistake(f"{path} is the book itself: name a backup")
     if not has_file(folder) and not has_old_files(folder):
@@ -79,7 +79,7 @@ def restore(
         change = prepare(path, copy, program)
 
         def look() -> None:
-            if looked is not None and change_now(folder) not in (None, looked):
+            if looked is not None and mark_now(folder) not in (None, looked):
                 raise Overtaken
             if (has_file(folder) or has_old_files(folder)) and not anyway:
                 raise Mistake(
@@ -98,12 +98,12 @@ def restore(
     return change
 
 
-def change_now(folder: pathlib.Path) -> int | None:
-    """The number of the last change of the book that is there, 0 where there is none; none where it is damaged."""
+def mark_now(folder: pathlib.Path) -> Mark | None:
+    """The mark of the book that is there, also where there is none; none where it is damaged."""
     try:
         with reading(folder) as connection:
             change = last_change(connection) if connection else None
-            return change.number if change else 0
+            return change.mark if change else NO_MARK
     except (sqlite3.Error, Mistake):
         return None
 

@@ -6,6 +6,11 @@ from dataclasses import dataclass, field
 
 from society.book.kinds import ChangeKind
 
+# by which a state of a book is known: its last change, and when that was made, since where a copy was restored another
+# change may have the number
+Mark = tuple[int, int]
+NO_MARK: Mark = (0, 0)
+
 
 @dataclass(frozen=True, slots=True)
 class Source:
@@ -72,3 +77,7 @@ class Change:
     def moment(self) -> int:
         """Its time in nanoseconds since 1970 began, which its exports have as the time when they were changed."""
         return round(self.time.timestamp() * 1_000_000) * 1000
+
+    @property
+    def mark(self) -> Mark:
+        return self.number, self.moment

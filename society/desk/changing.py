@@ -9,11 +9,12 @@ from typing import cast
 
 from society.book.book import Book
 from society.book.book_changed import changing
+from society.book.changes import NO_MARK, Mark
 from society.book.opening import no_book
 from society.book.verify import verify
 from society.desk.desk import Desk
 from society.desk.jobs import Job, Stage
-from society.desk.kept import NO_MARK, Mark, mark_of
+from society.desk.kept import mark_of
 from society.desk.office import BookMoved
 from society.desk.sentences import DeskFault
 from society.desk.session import SessionEnded

@@ -14,11 +14,12 @@ from werkzeug.wrappers import Response
 
 from society.book.book import Book
 from society.book.book_read import reading
+from society.book.changes import NO_MARK, Mark
 from society.book.database import NAME as DATABASE
 from society.desk.exporting import Exports
 from society.desk.glance import Glances
 from society.desk.jobs import Jobs
-from society.desk.kept import NO_MARK, Kept, Mark
+from society.desk.kept import Kept
 from society.desk.office import Office
 from society.desk.uploads import Uploads
 

@@ -7,11 +7,9 @@ from collections.abc import Callable
 from typing import TypeVar, cast
 
 from society.book.book import Book
+from society.book.changes import NO_MARK, Mark
 
 Value = TypeVar("Value")
-# by which a book is known: its last change, and when that was made
-Mark = tuple[int, int]
-NO_MARK: Mark = (0, 0)
 # so many values are kept
 MOST = 64
 
@@ -47,4 +45,4 @@ class Kept:
 
 def mark_of(book: Book) -> Mark:
     """By which it is seen whether a book is another than before."""
-    return (book.change.number, book.change.moment) if book.change else NO_MARK
+    return book.change.mark if book.change else NO_MARK

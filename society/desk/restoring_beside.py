@@ -10,6 +10,7 @@ from society.book.backup import prepare, restore
 from society.book.book import Book
 from society.book.book_changed import Overtaken
 from society.book.book_read import opened_to_read
+from society.book.changes import Mark
 from society.book.history import change_numbered
 from society.desk.beside import Doing, Tell
 from society.desk.taking_beside import Taken
@@ -38,11 +39,11 @@ def looked_into(path: pathlib.Path, tell: Tell) -> Backup:
             return Backup(changes, len(book.known), last.time if last else None)
 
 
-def restored(folder: pathlib.Path, path: pathlib.Path, looked: int, tell: Tell) -> Taken:
-    """Restores it, if the book is still the one after the change that was looked at; that goes to the folder `old`."""
+def restored(folder: pathlib.Path, path: pathlib.Path, looked: Mark, tell: Tell) -> Taken:
+    """Restores it, if the book is still the one that was looked at; that goes to the folder `old`."""
     tell(Doing.RESTORING)
     try:
         change = restore(folder, path, Herdbook(), anyway=True, looked=looked)
     except Overtaken:
         return Taken(0, True)
-    return Taken(change.number, mark=(change.number, change.moment))
+    return Taken(change.number, mark=change.mark)

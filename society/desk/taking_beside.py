@@ -3,6 +3,7 @@ from __future__ import annotations
 
 import argparse
 import csv
+import hashlib
 import io
 import pathlib
 from collections.abc import Callable, Collection, Mapping
@@ -11,12 +12,13 @@ from typing import TypeVar
 
 from society.book.book import Book
 from society.book.book_changed import Overtaken
-from society.book.changes import Option
+from society.book.changes import NO_MARK, Mark, Option
 from society.book.opening import still_to_change, to_look_at, to_prepare
+from society.book.settings import Setting, settings_of
 from society.command_line.arguments import day, days, three_letters
 from society.desk.beside import Doing, Tell
 from society.desk.forms import made_by
-from society.desk.kept import NO_MARK, Mark
+from society.desk.kept import mark_of
 from society.desk.sheet_columns import ColumnsShown, columns_shown
 from society.desk.shown_findings import first_of_each, totals_of
 from society.desk.suggested import Days, days_of
@@ -34,6 +36,8 @@ from society.taking.wishes import Wishes
 Value = TypeVar("Value")
 # the kind of work that looks at what was dropped
 LOOKING = "looking"
+# the settings by which sheets are read
+OF_SHEETS = (Setting.BREED, Setting.COUNTRY, Setting.UNKNOWN)
 
 
 @dataclass(frozen=True)
@@ -51,13 +55,28 @@ class Chosen:
 
 
 @dataclass(frozen=True)
-class Look:
-    """What a sheet would change of the book after a change, 0 for none. `told` are sentences and entries on why it can't
-    be read; obstacles keep it from being taken; `entries` are the first of each kind, of which there are `totals`;
-    `days` are those of all entries that are told for a bound; `rows` are the sheet's, of which `left_out` are;
-    `remembered` are the options that hold since an earlier sheet; `after` is the book then, none where it can't be read."""
+class Seen:
+    """What the look at a sheet is of: the book, and how the sheet is read, as a digest."""
 
-    change: int
+    mark: Mark
+    reading: str
+
+
+def seen_of(book: Book, chosen: Chosen) -> Seen:
+    """A sheet is read by what was chosen for it, and by settings, which are no part of the book's history."""
+    settings = settings_of(book)
+    read_by = repr((chosen, [settings[one] for one in OF_SHEETS]))
+    return Seen(mark_of(book), hashlib.sha256(read_by.encode()).hexdigest())
+
+
+@dataclass(frozen=True)
+class Look:
+    """What a sheet would change. `told` are sentences and entries on why it can't be read; obstacles keep it from being
+    taken; `entries` are the first of each kind, of which there are `totals`; `days` are those of all entries that are
+    told for a bound; `rows` are the sheet's, of which `left_out` are; `remembered` are the options that hold since an
+    earlier sheet; `after` is the book then, none where it can't be read."""
+
+    seen: Seen
     columns: ColumnsShown | None
     told: tuple[str | Entry, ...] = ()
     obstacles: tuple[Finding, ...] = ()
@@ -72,11 +91,12 @@ class Look:
 
 @dataclass(frozen=True)
 class Taken:
-    """The change that a taking made, or that the book isn't any more the one that was looked at. `mark` is that of the
-    book behind it, if the taking was the last change and the book is whole."""
+    """The change that a taking made, or that the book isn't any more the one that was looked at, or the sheet would be
+    read otherwise. `mark` is that of the book behind it, if the taking was the last change and the book is whole."""
 
     change: int
     book_changed: bool = False
+    read_otherwise: bool = False
     mark: Mark = NO_MARK
 
 
@@ -85,19 +105,19 @@ def looked_at(folder: pathlib.Path, path: pathlib.Path, chosen: Chosen, tell: Te
     tell(Doing.COLUMNS)
     with to_look_at(folder, program) as book:
         columns, failed = columns_of(book, path, chosen, folder)
-        number = book.change.number if book.change else 0
+        seen = seen_of(book, chosen)
     if failed:
-        return look_of(number, columns, failed)
+        return look_of(seen, columns, failed)
     tell(Doing.CHANGES)
     with to_look_at(folder, program) as book:
-        number = book.change.number if book.change else 0
+        seen = seen_of(book, chosen)
         try:
             outcome, _ = take_into(book, path, replace(wishes_of(folder, chosen), preview=True), program)
         except Mistake as mistake:
-            return look_of(number, columns, mistake)
+            return look_of(seen, columns, mistake)
     entries, understood = sorted(outcome.report.in_order(), key=harm_of), outcome.understood
     return Look(
-        number, columns, (), outcome.obstacles, tuple(first_of_each(entries)), totals_of(entries),
+        seen, columns, (), outcome.obstacles, tuple(first_of_each(entries)), totals_of(entries),
         days_of(entry.finding for entry in entries), understood.rows if understood else 0,
         sum(entry.part is ROW for entry in entries), understood.remembered if understood else (), outcome.after,
     )  # fmt: skip
@@ -108,11 +128,11 @@ def harm_of(entry: Entry) -> tuple[Harm, bool]:
     return entry.finding.does(), not isinstance(entry.finding, OddRow)
 
 
-def look_of(number: int, columns: ColumnsShown | None, mistake: Mistake) -> Look:
+def look_of(seen: Seen, columns: ColumnsShown | None, mistake: Mistake) -> Look:
     """That of a sheet that can't be read."""
     if isinstance(mistake, CantBeTaken):
-        return Look(number, columns, mistake.entries or mistake.told, mistake.obstacles)
-    return Look(number, columns, mistake.sentences)
+        return Look(seen, columns, mistake.entries or mistake.told, mistake.obstacles)
+    return Look(seen, columns, mistake.sentences)
 
 
 def columns_of(
@@ -125,9 +145,9 @@ def columns_of(
         return None, mistake
 
 
-def taken(folder: pathlib.Path, path: pathlib.Path, chosen: Chosen, looked: int, form: str, tell: Tell) -> Taken:
-    """Takes a sheet, if the book is still the one after the change that was looked at, and its form didn't take it.
-    Others file while that is prepared; who waits for it waits for the writing alone."""
+def taken(folder: pathlib.Path, path: pathlib.Path, chosen: Chosen, looked: Seen, form: str, tell: Tell) -> Taken:
+    """Takes a sheet, if the book is still the one that was looked at, the sheet is read as it was then, and its form
+    didn't take it. Others file while that is prepared; who waits for it waits for the writing alone."""
     program = Herdbook()
     tell(Doing.TAKING)
     try:
@@ -135,16 +155,16 @@ def taken(folder: pathlib.Path, path: pathlib.Path, chosen: Chosen, looked: int,
             before = made_by(book, form)
             if before:
                 return Taken(before.number)
-            number = book.change.number if book.change else 0
-            if number != looked:
-                return Taken(number, True)
+            seen = seen_of(book, chosen)
+            if seen != looked:
+                return Taken(0, seen.mark != looked.mark, seen.mark == looked.mark)
             _, prepared = take_into(book, path, replace(wishes_of(folder, chosen), form=form), program)
         assert prepared is not None
         with still_to_change(folder, book.change) as now:
             change = save(now, program, prepared)
     except Overtaken:
         return Taken(0, True)
-    return Taken(change.number, mark=(change.number, change.moment))
+    return Taken(change.number, mark=change.mark)
 
 
 def wishes_of(folder: pathlib.Path, chosen: Chosen) -> Wishes:

@@ -5,9 +5,10 @@ import pathlib
 
 from society.book.book import Book
 from society.book.book_read import reading
+from society.book.changes import Mark
 from society.book.verify import verify
 from society.desk.beside import Tell
-from society.desk.kept import Mark, mark_of
+from society.desk.kept import mark_of
 from society.herdbook import Herdbook
 
 

@@ -15,12 +15,15 @@ from flask import Flask
 from werkzeug.test import TestResponse
 
 from society.desk.app import desk_app
+from society.book.changes import NO_MARK
 from society.desk.desk import Desk
 from society.desk.exporting import Exports
 from society.desk.forms import new_form
 from society.desk.jobs import Jobs
+from society.desk.kept import mark_of
 from society.desk.office import Office
 from society.desk.link import LinkGate
+from society.desk.looked import written
 from society.desk.uploads import Uploads
 
 SECRET, PORT = "a secret", 4711
@@ -75,10 +78,22 @@ class Site:
 
     def take(self, address: str) -> str:
         """Takes a sheet as its page has it, and answers the page behind that."""
-        page = self.page(address)
-        change = re.search(r'name="change" value="(\d+)"', page)
-        assert change, shown(page)
-        return self.page(self.post(f"{address}/take", change=change[1]).headers["Location"])
+        return self.page(self.post(f"{address}/take", **looked_in(self.page(address))).headers["Location"])
+
+    def looked(self) -> str:
+        """What a form has of the book as it is now."""
+        with self.desk.opened() as book:
+            return written(mark_of(book) if book else NO_MARK)
+
+    def drop_backup(self, copy: bytes) -> str:
+        """Drops a backup, and answers the address of its page."""
+        data = {"csrf_token": self.token(), "backup": (io.BytesIO(copy), "copy.sqlite")}
+        return str(self.client.post("/restore", data=data, headers={"Host": HOST}).headers["Location"])
+
+    def restore(self, copy: bytes) -> str:
+        """Restores a backup as its page has it, and answers the page behind that."""
+        address = self.drop_backup(copy)
+        return self.page(self.post(address, **looked_in(self.page(address))).headers["Location"])
 
 
 def form_in(page: str) -> str:
@@ -86,6 +101,13 @@ def form_in(page: str) -> str:
     found = re.search(r'name="form" value="([^"]+)"', page)
     assert found
     return found[1]
+
+
+def looked_in(page: str) -> dict[str, str]:
+    """What a page's form has of the book that the page shows."""
+    found = dict(re.findall(r'name="(looked|reading)" value="([^"]*)"', page))
+    assert found, shown(page)
+    return found
 
 
 def shown(text: str) -> str:

@@ -4,7 +4,6 @@ from __future__ import annotations
 
 import concurrent.futures
 import contextlib
-import io
 import pathlib
 import sqlite3
 import time
@@ -12,7 +11,7 @@ from collections.abc import Iterator
 
 import pytest
 
-from desk.site import HOST, SECONDS, Site, form_in, shown
+from desk.site import HOST, SECONDS, Site, form_in, looked_in, shown
 from desk.test_desk_filing import BIRTH, DAM
 from desk.test_desk_sheets import EXAMPLE
 from front_desk.desk import Desk
@@ -27,14 +26,15 @@ NEW_ROW = b"Lower Mill,NEW-9,f,2019-01-01,,,\n"
 def test_two_tabs(site: Site, society_desk: Desk) -> None:
     """A sheet that is taken in two tabs at once is taken once, and the other tab takes nothing."""
     address = site.drop("sheet.csv", EXAMPLE + NEW_ROW)
-    forms = [form_in(site.page(address)) for _ in range(2)]
+    pages = [site.page(address) for _ in range(2)]
+    forms = [form_in(page) for page in pages]
     browsers = [Site(site.desk, site.app) for _ in forms]
     tokens = [one.token() for one in browsers]
     with concurrent.futures.ThreadPoolExecutor(2) as pool:
         sent = [
             pool.submit(one.client.post, f"{address}/take", headers={"Host": HOST},
-                        data={"csrf_token": token, "form": form, "change": "1"})
-            for one, token, form in zip(browsers, tokens, forms)
+                        data={"csrf_token": token, "form": form, **looked_in(page)})
+            for one, token, form, page in zip(browsers, tokens, forms, pages)
         ]  # fmt: skip
     jobs = [site.desk.jobs.found(("taking", form)) for form in forms]
     assert all(one.result().status_code == 302 for one in sent)
@@ -78,19 +78,32 @@ def test_restored(site: Site, society_desk: Desk, monkeypatch: pytest.MonkeyPatc
     """Only the book that was looked at gives way to a backup, and the session answers for the book of now."""
     copy = site.get("/book.sqlite").get_data()
     site.post("/file/exit", id=DAM, day="2024-05-01")
-    data = {"csrf_token": site.token(), "backup": (io.BytesIO(copy), "copy.sqlite")}
-    address = site.client.post("/restore", data=data, headers={"Host": HOST}).headers["Location"]
-    assert 'name="change" value="2"' in site.page(address)
-    assert TEXTS["book changed"][0] in shown(site.page(site.post(address, change="1").headers["Location"]))
+    address = site.drop_backup(copy)
+    assert TEXTS["book changed"][0] in shown(site.page(site.post(address, looked="1-1").headers["Location"]))
     assert len(society_desk.good("history").out.splitlines()) == 2
     assert TEXTS["backup restored"][0].format("copy.sqlite") in shown(
-        site.page(site.post(address, change="2").headers["Location"])
+        site.page(site.post(address, **looked_in(site.page(address))).headers["Location"])
     )
     # the exit is gone with the book that had it
     assert TEXTS["accepted"][0] in shown(
         site.page(site.post("/file/exit", id=DAM, day="2024-05-02").headers["Location"])
     )
     society_desk.good("verify")
+
+
+def test_same_number(site: Site, society_desk: Desk) -> None:
+    """A restored book isn't the one that was looked at before, though its last change has the same number."""
+    copy = site.get("/book.sqlite").get_data()
+    society_desk.good("exit", DAM, "--day", "2024-05-01")
+    sheet, backup, undo = site.drop("sheet.csv", EXAMPLE + NEW_ROW), site.drop_backup(copy), "/history/1/undo"
+    pages = {to: site.page(to) for to in (sheet, backup, undo)}
+    site.restore(copy)
+    assert looked_in(site.page(sheet)) != looked_in(pages[sheet])
+    for to, address in (sheet, f"{sheet}/take"), (backup, backup), (undo, undo):
+        answer = site.page(site.post(address, **looked_in(pages[to])).headers["Location"])
+        assert TEXTS["book changed"][0] in shown(answer)
+    with site.desk.opened() as book:
+        assert book and book.change and book.change.number == 2 and "NEW-9" not in book.known
 
 
 def test_no_path(site: Site, monkeypatch: pytest.MonkeyPatch) -> None:

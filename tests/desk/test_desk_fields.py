@@ -26,7 +26,7 @@ def test_wrong_country(empty_site: Site, language: str) -> None:
     assert field and 'aria-invalid="true"' in field[0] and "country-wrong" in field[0] and "DE" in shown(field[0])
     assert words("mend first") in shown(page) and words.counted("would be", 3) in shown(page)
     assert f"{address}/take" not in page and words("wrong how") in shown(page)
-    site.post(f"{address}/take", change="0")
+    site.post(f"{address}/take", looked=site.looked())
     assert site.desk.folder.exists() is False
     site.post(f"{address}/columns", breed="sku", country="deu")
     site.take(address)
@@ -79,7 +79,7 @@ def test_owner_who_is_not_there(site: Site, society_desk: Desk) -> None:
     field = re.search(r'<strong class="is-wrong" id="owner-wrong">.*?</strong>', page)
     assert field and "the book has no owner 'Nobody'" in shown(field[0])
     assert "The book would have 502 animals." in shown(page) and f"{address}/take" not in page
-    site.post(f"{address}/take", change="1")
+    site.post(f"{address}/take", looked=site.looked())
     assert len(society_desk.good("history").out.splitlines()) == 1
     site.post(f"{address}/columns", owner="Oak Lodge=Oak Lodges")
     page = site.take(address)

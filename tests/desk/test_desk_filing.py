@@ -9,7 +9,7 @@ import time
 
 import pytest
 
-from desk.site import SECONDS, Site, form_in, shown
+from desk.site import SECONDS, Site, form_in, looked_in, shown
 from front_desk.desk import Desk
 from society.desk.texts import TEXTS
 from society.refusals import Refusal
@@ -101,7 +101,8 @@ def test_sent_twice(site: Site) -> None:
         browsers = [Site(site.desk, site.app) for _ in range(4)]
         answers = [pool.submit(one.post, "/file/exit", **fields) for one in browsers]
     assert [one.result().headers["Location"] for one in answers] == ["/answer/3"] * 4
-    undo = {"last": "3", "form": form_in(site.page("/history/2/undo"))}
+    page = site.page("/history/2/undo")
+    undo = {"form": form_in(page), **looked_in(page)}
     assert [site.post("/history/2/undo", **undo).headers["Location"] for _ in range(2)] == ["/history/4"] * 2
     # what was undone isn't filed by the old form
     assert site.post("/file/exit", **fields).headers["Location"] == "/answer/3"

@@ -84,7 +84,8 @@ def test_other_origins(site: Site, headers: dict[str, str]) -> None:
     """No page of another site files anything, though the browser has the cookie and the token."""
     before = site.get("/history").get_data()
     for address in writing(site):
-        fields = {"csrf_token": site.token(), "id": "GK-17/472c", "day": "2024-05-01", "last": "1", "name": "Mine"}
+        fields = {"csrf_token": site.token(), "looked": site.looked()}
+        fields |= {"id": "GK-17/472c", "day": "2024-05-01", "name": "Mine"}
         answer = site.client.post(address, data=fields, headers={"Host": HOST} | headers)
         assert answer.status_code == 403, address
     assert site.get("/history").get_data() == before

@@ -11,8 +11,8 @@ from desk.site import Site, shown
 from desk.test_desk_filing import BIRTH, DAM, SIRE
 from front_desk.desk import Desk
 from society.book.book import Book
+from society.book.changes import NO_MARK
 from society.book.history import last_that_changed
-from society.desk.kept import NO_MARK
 from society.desk.office import BookMoved, Office
 from society.desk.session import Answer
 from society.desk.texts import TEXTS

@@ -8,7 +8,7 @@ import zipfile
 
 import pytest
 
-from desk.site import HOST, Site, form_in, shown
+from desk.site import HOST, Site, form_in, looked_in, shown
 from front_desk.desk import TOP, Desk
 from society.book.exports import refresh
 from society.desk.jobs import TAKING, Job
@@ -63,8 +63,7 @@ def test_start_while_the_first_is_taken(empty_site: Site) -> None:
     page = site.page("/")
     assert TEXTS["no book yet"][0] in shown(page) and job.address not in page
     address = site.drop("first.csv", EXAMPLE)
-    site.page(address)
-    to = site.post(f"{address}/take", change="0").headers["Location"]
+    to = site.post(f"{address}/take", **looked_in(site.page(address))).headers["Location"]
     taking = site.desk.jobs.found((TAKING, to.rpartition("/")[2]))
     assert taking and taking.address == to and "first.csv" in shown(site.page(to))
 
@@ -135,32 +134,48 @@ def test_options(empty_site: Site) -> None:
 def test_book_changed_between(site: Site, society_desk: Desk) -> None:
     """A command in a terminal between the look and `take`: the page says so and looks anew."""
     address = site.drop("sheet.csv", EXAMPLE + b"Lower Mill,NEW-1,f,2019-01-01,,,\n")
-    page = site.page(address)
-    change = re.search(r'name="change" value="(\d+)"', page)
-    assert change and change[1] == "1"
+    looked = looked_in(site.page(address))
     society_desk.good("birth", "NEW-1", "--sex", "f", "--day", "2019-01-01", "--owner", "Lower Mill")
-    again = site.page(site.post(f"{address}/take", change="1").headers["Location"])
+    again = site.page(site.post(f"{address}/take", **looked).headers["Location"])
     assert TEXTS["book changed"][0] in shown(again)
     assert "Animals with a row 501 of these in the book already 501 Animals" in shown(again)
-    assert 'name="change" value="2"' in again
+    assert looked_in(again) != looked
     assert len(society_desk.good("history").out.splitlines()) == 2
     site.take(address)
     assert len(society_desk.good("history").out.splitlines()) == 3
+
+
+def test_read_otherwise_between(site: Site, society_desk: Desk) -> None:
+    """Where settings, or what was chosen, are others than on the page that takes a sheet that is told, and it is looked
+    at anew; what else a society says of itself is no matter of sheets."""
+    address = site.drop("sheet.csv", EXAMPLE + b"Lower Mill,NEW-1,f,2019-01-01,keiner,,\n")
+    page, told = site.page(address), TEXTS["sheet read otherwise"][0]
+    assert "keiner" in shown(page)
+    for to, given in ("/settings", {"unknown": "keiner"}), (f"{address}/columns", {"drop_gone": "1"}):
+        site.post(to, **given)
+        before, page = page, site.page(site.post(f"{address}/take", **looked_in(page)).headers["Location"])
+        assert told in shown(page) and shown(page).replace(told, "") != shown(before)
+    site.post("/settings", unknown="keiner", name="Goats")
+    assert TEXTS["sheet taken"][0].format("sheet.csv") in shown(
+        site.page(site.post(f"{address}/take", **looked_in(page)).headers["Location"])
+    )
+    assert len(society_desk.good("history").out.splitlines()) == 2
 
 
 def test_sent_twice(site: Site, society_desk: Desk) -> None:
     """A form that is sent again takes its sheet once: meanwhile, afterwards, and by a desk that was opened anew, whoever
     sends it sees what the first one changed."""
     address = site.drop("sheet.csv", EXAMPLE + b"Lower Mill,NEW-1,f,2019-01-01,,,\n")
-    form = form_in(site.page(address))
-    first, second = (site.post(f"{address}/take", change="1", form=form).headers["Location"] for _ in range(2))
+    page = site.page(address)
+    form, looked = form_in(page), looked_in(page)
+    first, second = (site.post(f"{address}/take", **looked, form=form).headers["Location"] for _ in range(2))
     assert first == second
     assert TEXTS["sheet taken"][0].format("sheet.csv") in shown(site.page(first))
     site.desk.jobs.forget((TAKING, form))
-    for again in second, site.post(f"{address}/take", change="1", form=form).headers["Location"]:
+    for again in second, site.post(f"{address}/take", **looked, form=form).headers["Location"]:
         assert site.get(again).headers["Location"] == "/history/2"
     assert len(society_desk.good("history").out.splitlines()) == 2
-    assert site.post(f"{address}/take", change="2").status_code == 404
+    assert site.post(f"{address}/take", **looked).status_code == 404
 
 
 def test_another_sheet(site: Site) -> None:
@@ -210,7 +225,9 @@ def test_second_sheet_and_undo(empty_site: Site) -> None:
     """A grown sheet changes what it says; undo asks, and brings back the state before as a new change."""
     site = empty_site
     columns = {"column-sire": "V", "column-dam": "M"}
+    earlier = ""
     for text in (FLOCK, GROWN.replace(b"2003-01-01", b"2003-01-02")):
+        earlier = site.looked()
         address = site.drop("flock.csv", text)
         site.page(address)
         site.post(f"{address}/columns", **columns)
@@ -218,11 +235,11 @@ def test_second_sheet_and_undo(empty_site: Site) -> None:
     assert "Changed 1" in shown(page) and "New 1" in shown(page)
     question = site.page("/history/1/undo")
     assert "Bring back the book as it was after change 1?" in shown(question) and 'class="more"' not in question
-    assert "nothing" not in shown(site.page(site.post("/history/1/undo", last="1").headers["Location"]))[:1]
+    assert "nothing" not in shown(site.page(site.post("/history/1/undo", looked=earlier).headers["Location"]))[:1]
     assert len(re.findall("<tr>", site.page("/history"))) == 3
-    page = site.page(site.post("/history/1/undo", last="2").headers["Location"])
+    page = site.page(site.post("/history/1/undo", **looked_in(question)).headers["Location"])
     assert TEXTS["brought back"][0].format(1) in shown(page)
     assert "d isn't in the book any more" in shown(page)
     assert "Animals 3 " in shown(site.page("/"))
     # the state of now isn't brought back
-    assert site.post("/history/3/undo", last="3").headers["Location"] == "/history"
+    assert site.post("/history/3/undo", looked=site.looked()).headers["Location"] == "/history"

@@ -49,7 +49,7 @@ def test_other_changes(site: Site) -> None:
         first, before = book.change, glance_of(book)
     glance_now(site)
     site.post("/file/parents", id=DAM, sire="", dam="")
-    site.post("/history/1/undo", last="2")
+    site.post("/history/1/undo", looked=site.looked())
     for _ in range(2):
         here, all_of_it = glance_now(site)
         assert here == all_of_it

@@ -16,6 +16,7 @@ from typing import Any, cast
 import pytest
 
 from desk.server import SECONDS, Server, free_port
+from desk.site import looked_in
 from front_desk.desk import Desk
 from society.desk.forms import new_form
 from society.desk.serving import ADDRESS, bound, room
@@ -69,8 +70,12 @@ def begin_taking(server: Server) -> None:
     token = re.match(r"/sheet/([\w-]+)", posted("/sheet", parts.encode(), "multipart/form-data; boundary=x"))
     assert token
     form = f"csrf_token={found[1]}&anyway=1".encode()
-    posted(f"/sheet/{token[1]}/columns", form, "application/x-www-form-urlencoded")
-    take = form + f"&change=1&form={new_form()}".encode()
+    page = posted(f"/sheet/{token[1]}/columns", form, "application/x-www-form-urlencoded")
+    while "http-equiv" in page:
+        with opened.open(f"{base}/sheet/{token[1]}") as answer:
+            page = answer.read().decode()
+    take = form + "".join(f"&{name}={value}" for name, value in looked_in(page).items()).encode()
+    take += f"&form={new_form()}".encode()
     posted(f"/sheet/{token[1]}/take", take, "application/x-www-form-urlencoded")
 
 

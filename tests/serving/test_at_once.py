@@ -11,7 +11,7 @@ import threading
 
 import pytest
 
-from desk.site import HOST, shown
+from desk.site import HOST, looked_in, shown
 from front_desk.desk import Desk
 from serving.visitor import Served, Visitor
 from society.desk.forms import new_form
@@ -42,13 +42,11 @@ def test_two_sheets(served: Served) -> None:
     """The second clerk sees what the first changed before "take", and nothing of it is undone."""
     carl, clara = Visitor(served, "Carl"), Visitor(served, "Clara")
     first, second = looked_at(carl, 1), looked_at(clara, 2)
-    page = clara.page(second)
-    change = re.search(r'name="change" value="(\d+)"', page)
-    assert change and change[1] == "1"
+    looked = looked_in(clara.page(second))
     carl.take(first)
     # what Clara looked at isn't there any more: she is shown the book of now, and nothing is taken
-    page = clara.page(clara.post(f"{second}/take", change=change[1]).headers["Location"])
-    assert TEXTS["book changed"][0] in shown(page) and 'value="2"' in page
+    page = clara.page(clara.post(f"{second}/take", **looked).headers["Location"])
+    assert TEXTS["book changed"][0] in shown(page) and looked_in(page) != looked
     assert names(clara)[1:] == ["Carl"]
     clara.take(second)
     assert names(clara)[1:] == ["Carl", "Clara"]
@@ -63,7 +61,7 @@ def test_own_sheets(served: Served) -> None:
     for other in clara, kim:
         assert other.get(address).status_code == 404
         for way in "take", "leave", "columns", "suggested":
-            assert other.post(f"{address}/{way}", change="1").status_code == 404
+            assert other.post(f"{address}/{way}", looked=carl.looked()).status_code == 404
     assert carl.get(address).status_code == 200
 
 
@@ -97,17 +95,15 @@ def test_names(served: Served, society_desk: Desk) -> None:
     carl.post("/file/exit", id=DAM, day="2024-05-01")
     copy = kim.get("/book.sqlite").get_data()
     carl.take(looked_at(carl, 1))
-    kim.post("/history/2/undo", last="3")
+    kim.post("/history/2/undo", looked=kim.looked())
     society_desk.good("birth", "NEW-9", "--sex", "f", "--day", "2024-06-01")
     # a backup is looked at, and restored by a keeper
     data = {"csrf_token": kim.token(), "backup": (io.BytesIO(copy), "../copy.sqlite")}
     address = kim.client.post("/restore", data=data, headers={"Host": HOST}).headers["Location"]
     page = kim.page(address)
     assert TEXTS["ask restore"][0].format("copy.sqlite") in shown(page) and "502" in shown(page)
-    now = re.search(r'name="change" value="(\d+)"', page)
-    assert now and now[1] == "5"
-    assert TEXTS["book changed"][0] in shown(kim.page(kim.post(address, change="4").headers["Location"]))
-    page = kim.page(kim.post(address, change=now[1]).headers["Location"])
+    assert TEXTS["book changed"][0] in shown(kim.page(kim.post(address, looked="4-1").headers["Location"]))
+    page = kim.page(kim.post(address, **looked_in(page)).headers["Location"])
     assert TEXTS["backup restored"][0].format("copy.sqlite") in shown(page)
     own = names(kim)
     assert own[1:] == ["Carl", "Kim"]

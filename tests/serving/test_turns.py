@@ -14,17 +14,20 @@ from front_desk.desk import Desk
 from society.book import backup as backups
 from society.book import exports
 from society.book.backup import restore
+from society.book.book import Book
 from society.book.book_changed import Overtaken
+from society.book.book_read import reading
 from society.book.exports import refresh
 from society.desk import taking_beside
 from society.desk.forms import new_form
-from society.desk.taking_beside import Chosen, Taken, taken
+from society.desk.taking_beside import Chosen, Seen, Taken, seen_of, taken
 from society.herdbook import Herdbook
 from society.taking import from_sheet
 from society.taking.from_sheet import take_sheet
 from society.taking.wishes import Wishes
 
 DAM, OTHER, DAY = "GK-17/472c", "GK-16/433c", "2024-05-01"
+ANYWAY = Chosen(options=(("anyway", "1"),))
 
 
 @pytest.fixture
@@ -73,9 +76,14 @@ def behind(monkeypatch: pytest.MonkeyPatch, module: object, name: str, do: Calla
     monkeypatch.setattr(module, name, both)
 
 
+def seen_now(folder: pathlib.Path) -> Seen:
+    with reading(folder) as connection:
+        return seen_of(Book(folder, connection), ANYWAY)
+
+
 def taken_now(folder: pathlib.Path, path: pathlib.Path) -> Taken:
-    """A sheet is taken at a desk that looked at the first change."""
-    return taken(folder, path, Chosen(options=(("anyway", "1"),)), 1, new_form(), lambda _: None)
+    """A sheet is taken at a desk that looked at the book of now."""
+    return taken(folder, path, ANYWAY, seen_now(folder), new_form(), lambda _: None)
 
 
 def test_sheet_of_a_desk(folder: pathlib.Path, society_desk: Desk, monkeypatch: pytest.MonkeyPatch) -> None:
@@ -91,7 +99,7 @@ def test_sheet_of_a_desk(folder: pathlib.Path, society_desk: Desk, monkeypatch: 
     assert kinds(folder) == ["take", "exit"]
     monkeypatch.undo()
     monkeypatch.setenv("HERDBOOK", society_desk.program)
-    made = taken(folder, path, Chosen(options=(("anyway", "1"),)), 2, new_form(), lambda _: None)
+    made = taken_now(folder, path)
     assert (made.change, made.book_changed) == (3, False) and kinds(folder) == ["take", "exit", "take"]
     society_desk.good("verify")
 
@@ -176,7 +184,8 @@ def test_restoring_of_another_book(folder: pathlib.Path, society_desk: Desk, mon
     it was left."""
     society_desk.good("backup", "copy.sqlite")
     exits = iter((OTHER, DAM))
-    for looked, name in enumerate(("prepare", "set_write_ahead"), 1):
+    for name in "prepare", "set_write_ahead":
+        looked = seen_now(folder).mark
         behind(monkeypatch, backups, name, lambda: society_desk.good("exit", next(exits), "--day", DAY))
         with pytest.raises(Overtaken):
             restore(folder, society_desk.room / "copy.sqlite", Herdbook(), anyway=True, looked=looked)

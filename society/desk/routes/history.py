@@ -3,7 +3,7 @@ from __future__ import annotations
 
 import datetime
 
-from flask import Blueprint, abort, flash, redirect, render_template, request, url_for
+from flask import Blueprint, abort, flash, redirect, render_template, url_for
 from werkzeug.wrappers import Response
 
 from society.book.backup import bytes_of
@@ -16,6 +16,8 @@ from society.book.undo import undo
 from society.desk.change_lines import line_of, lines_of
 from society.desk.desk import Answer, the_desk, with_book
 from society.desk.forms import change_once, sent_form
+from society.desk.kept import mark_of
+from society.desk.looked import sent_mark, written
 from society.desk.paging import part_read
 from society.desk.shown_changes import differences_of, told_of_change
 from society.desk.shown_options import given_of
@@ -75,19 +77,19 @@ def ask_undo(book: Book, number: int) -> Answer:
         abort(404)
     newest = last_changes(book.connection, min(last - number, MOST_TOLD))
     return render_template(
-        "undo.html", number=number, last=last, taken_back=lines_of(book.connection, newest, the_words()),
-        more=last - number - len(newest),
+        "undo.html", number=number, taken_back=lines_of(book.connection, newest, the_words()),
+        more=last - number - len(newest), looked=written(mark_of(book)),
     )  # fmt: skip
 
 
 @page.post("/history/<int(max=999999999):number>/undo")
 def bring_back(number: int) -> Answer:
     """Brings it back, if the book is the one of which it was asked."""
-    desk, last, form = the_desk(), request.form.get("last", ""), sent_form()
+    desk, looked, form = the_desk(), sent_mark(), sent_form()
 
     def make(book: Book) -> Change | None:
         assert book.change is not None
-        is_as_asked = str(book.change.number) == last and number < book.change.number
+        is_as_asked = mark_of(book) == looked and number < book.change.number
         return undo(book, desk.program, number, form) if is_as_asked else None
 
     made = change_once(desk, form, make)

@@ -5,10 +5,12 @@ from __future__ import annotations
 from flask import Blueprint, abort, flash, redirect, render_template, request, url_for
 from werkzeug.wrappers import Response
 
-from society.book.backup import change_now
+from society.book.backup import mark_now
+from society.book.changes import NO_MARK
 from society.desk.desk import Answer, the_desk
 from society.desk.finding_words import Sentence
 from society.desk.jobs import TAKING, Job, Stage
+from society.desk.looked import sent_mark, written
 from society.desk.people import the_name
 from society.desk.restoring_beside import Backup, looked_into, restored
 from society.desk.routes.sheet import is_taken
@@ -50,8 +52,10 @@ def look(token: str) -> Answer:
     job = desk.jobs.of((LOOKING, token), looked_into, (upload.path,))
     if job.stage is Stage.DONE:
         assert isinstance(job.value, Backup)
-        now = change_now(desk.folder) or 0
-        return render_template("backup.html", upload=upload, backup=job.value, now=now)
+        now = mark_now(desk.folder) or NO_MARK
+        return render_template(
+            "backup.html", upload=upload, backup=job.value, is_there=now != NO_MARK, looked=written(now)
+        )
     return not_done(job)
 
 
@@ -67,10 +71,8 @@ def not_done(job: Job) -> Answer:
 @page.post("/restore/<token>")
 def bring_back(token: str) -> Answer:
     """Restores it, if the book is the one that was looked at. The session sees by itself that the book is another one."""
-    upload, desk, looked = upload_of(token), the_desk(), request.form.get("change", "")
-    if not looked.isdecimal() or len(looked) > 9:
-        abort(400)
-    values = (desk.folder, upload.path, int(looked))
+    upload, desk = upload_of(token), the_desk()
+    values = (desk.folder, upload.path, sent_mark())
     desk.jobs.of((TAKING, token), restored, values, lambda value: is_taken(desk, value))
     return redirect(url_for("restoring.under_way", token=token))
 

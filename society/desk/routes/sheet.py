@@ -9,7 +9,7 @@ from werkzeug.datastructures import FileStorage
 from werkzeug.wrappers import Response
 
 from society.book.book import Book
-from society.book.changes import Option
+from society.book.changes import NO_MARK, Option
 from society.book.kinds import Field
 from society.desk.changing import go_on
 from society.desk.desk import Answer, Desk, the_desk
@@ -22,8 +22,8 @@ from society.desk.shown_findings import groups_of
 from society.desk.shown_mistakes import on_page, without_paths
 from society.desk.suggested import COLUMNS, Proposed, field_of, labels_of, proposed, suggestions_of
 from society.desk.suggested import choose as choose_suggested
-from society.desk.kept import NO_MARK
-from society.desk.taking_beside import LOOKING, Chosen, Look, Taken, looked_at, taken
+from society.desk.looked import sent_mark, written
+from society.desk.taking_beside import LOOKING, Chosen, Look, Seen, Taken, looked_at, seen_of, taken
 from society.desk.uploads import Upload
 from society.desk.words import the_words
 from society.desk.wrong_fields import cleaned, wrong_fields
@@ -83,11 +83,10 @@ def wrong_in(upload: Upload) -> dict[str, str]:
 
 def job_of(upload: Upload, wrong: Collection[str]) -> Job:
     """The look at a file for the book as it is now, without the fields that can't be read."""
-    desk = the_desk()
+    desk, chosen = the_desk(), Chosen.of(upload.columns, upload.options, wrong)
     with desk.opened() as book:
-        change = book.change.number if book and book.change else 0
-    chosen = Chosen.of(upload.columns, upload.options, wrong)
-    return desk.jobs.of((LOOKING, upload.token, chosen, change), looked_at, (desk.folder, upload.path, chosen))
+        seen = seen_of(book or Book(desk.folder, None), chosen)
+    return desk.jobs.of((LOOKING, upload.token, seen), looked_at, (desk.folder, upload.path, chosen))
 
 
 @page.get("/sheet/<token>")
@@ -110,7 +109,8 @@ def look(token: str) -> Answer:
     is_read = found.after is not None
     groups = groups_of(found.entries, words, found.totals, found.days)
     return render_template(
-        "look.html", upload=upload, look=found, fields=list(Field), given=upload.options,
+        "look.html", upload=upload, look=found, looked=written(found.seen.mark), fields=list(Field),
+        given=upload.options,
         wrong={name: sentence_in(sentence, words) for name, sentence in wrong.items()},
         faults=[] if is_read else sentences, guards=sentences if is_read else [],
         groups=groups, has_choices=any(line.choices for group in groups for line in group.lines),
@@ -163,17 +163,15 @@ def take_suggestion(token: str) -> Answer:
 
 @page.post("/sheet/<token>/take")
 def take(token: str) -> Answer:
-    """Takes it, if the book is the one that was looked at. Of a form that took it before that is shown."""
-    desk, form, looked = the_desk(), sent_form(), request.form.get("change", "")
-    if not looked.isdecimal() or len(looked) > 9:
-        abort(400)
+    """Takes it, if it would change what was looked at. Of a form that took it before that is shown."""
+    desk, form, looked = the_desk(), sent_form(), Seen(sent_mark(), request.form.get("reading", ""))
     to = url_for("sheet.taking", token=token, form=form)
     if not taken_by(form):
         upload = upload_of(token)
         if wrong_in(upload):
             return to_look(upload)
         chosen = Chosen.of(upload.columns, upload.options)
-        values = (desk.folder, upload.path, chosen, int(looked), form)
+        values = (desk.folder, upload.path, chosen, looked, form)
         job = desk.jobs.of((TAKING, form), taken, values, lambda value: is_taken(desk, value))
         job.address = to
     return redirect(to)
@@ -208,7 +206,8 @@ def taking(token: str, form: str) -> Answer:
     desk.jobs.forget(job.key)
     if job.stage is Stage.FAILED:
         return render_template("look.html", upload=upload, look=None, faults=on_page(job.failed.sentences)), 400
-    flash(the_words()("book changed"), "look")
+    otherwise = isinstance(job.value, Taken) and job.value.read_otherwise
+    flash(the_words()("sheet read otherwise" if otherwise else "book changed"), "look")
     return to_look(upload)
 
 

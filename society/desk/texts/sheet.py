@@ -226,6 +226,11 @@ TEXTS = {
         "Das Herdbuch wurde inzwischen geändert. Das ist der Stand von jetzt.",
         "Le livre a été modifié entre-temps. Voici ce qui est là maintenant.",
     ),
+    "sheet read otherwise": (
+        "The settings, or what was chosen for this sheet, changed meanwhile. This is what it would change now.",
+        "Die Einstellungen oder die Angaben zu dieser Tabelle wurden inzwischen geändert. Das würde sich jetzt ändern.",
+        "Les réglages, ou les choix pour ce tableau, ont été modifiés entre-temps. Voici ce qui changerait maintenant.",
+    ),
     "sheet taken": ("{} is taken.", "{} ist übernommen.", "{} est importé."),
     "sheet left": (
         "{} is left, and nothing is changed.", "{} ist verworfen, und nichts ist geändert.",
