@@ -8,12 +8,14 @@ from collections.abc import Sequence
 
 from society.book.beside import Beside
 from society.book.book import Book
-from society.book.changes import Change
+from society.book.book_read import reading
+from society.book.changes import NO_MARK, Change, Mark
 from society.book.commands import Command
-from society.book.history import login
+from society.book.history import last_change, login
 from society.book.journal import NO_JOURNAL, Journal, Part, lines_with_refusals, parts_of, refusals_of
 from society.book.sentences import ProgramFault
 from society.desk.ancestors_alone import LARGE, Expected, lines_alone
+from society.desk.kept import mark_of
 from society.desk.session import Answer, Places, Session, SessionEnded, SessionFault
 from society.herdbook import Herdbook
 from society.mistake import Mistake
@@ -32,8 +34,8 @@ class BookMoved(Exception):
 
 
 class Office(Herdbook):
-    """The program, whose one session answers, at the journal of the book that is asked of; where that is of an earlier
-    moment the book is to be opened anew. Each stored reply is compared with the session's."""
+    """The program, whose one session answers, at the journal of the book that is asked of; where that isn't the book of
+    now any more it is to be opened anew. Each stored reply is compared with the session's."""
 
     def __init__(self, places: Places = Places()) -> None:
         super().__init__()
@@ -44,8 +46,8 @@ class Office(Herdbook):
         self.lock = threading.RLock()
         self.session: Session | None = None
         self.is_closed = False
-        # the journal that the session has filed, and the moment of the change after which it is that
-        self.journal, self.moment = NO_JOURNAL, 0
+        # the journal that the session has filed, and the mark of the book that has it
+        self.journal, self.mark = NO_JOURNAL, NO_MARK
 
     def ask(self, words: list[str], book: Book) -> list[str]:
         if words[0] in QUESTIONS and "--with" not in words and book.journal.length:
@@ -124,7 +126,7 @@ class Office(Herdbook):
         """A change is stored, which may be that of the session's last reply: without it a book is another one."""
         with self.lock:
             if (change.edition, change.length) == (self.journal.edition, self.journal.length):
-                self.moment = max(self.moment, change.moment)
+                self.mark = max(self.mark, change.mark)
 
     def desk_of(self, name: str) -> int:
         """Everybody has a desk; where there are more people than desks some share one."""
@@ -133,11 +135,11 @@ class Office(Herdbook):
     def at(self, book: Book, to_file: bool = False) -> Session:
         """The session, brought to a book's journal."""
         with self.lock:
-            journal, moment = book.journal, book.change.moment if book.change else 0
+            journal = book.journal
             is_of_it = journal.edition == self.journal.edition and self.is_known_to(book)
             goes_on = is_of_it and journal.length >= self.journal.length
             is_there = self.session is not None and not self.session.has_ended
-            if is_there and not goes_on and moment <= self.moment and not to_file:
+            if is_there and not goes_on and not to_file and not is_of_now(book):
                 raise BookMoved
             if self.is_closed:
                 raise SessionEnded
@@ -154,14 +156,12 @@ class Office(Herdbook):
             except SessionFault as fault:
                 self.forget(self.session)
                 raise Mistake(ProgramFault.JOURNAL_CANT_BE_FILED.said(fault=str(fault))) from None
-            self.moment = max(self.moment, moment)
+            self.mark = mark_of(book)
             return self.session
 
     def is_known_to(self, book: Book) -> bool:
         """Is the change after which the session stands one of this book? It isn't where another book was restored."""
-        assert book.connection is not None
-        asked = "SELECT 1 FROM change WHERE time = ?"
-        return not self.moment or book.connection.execute(asked, (self.moment // 1000,)).fetchone() is not None
+        return self.mark == NO_MARK or has_change(book, self.mark)
 
     def catch_up(self, session: Session, book: Book) -> None:
         """Files the commands of a book that the session lacks, and compares each reply with the stored one."""
@@ -200,3 +200,18 @@ class Office(Herdbook):
         with self.lock:
             self.is_closed = True
             self.forget(self.session)
+
+
+def has_change(book: Book, mark: Mark) -> bool:
+    assert book.connection is not None
+    number, moment = mark
+    asked = "SELECT 1 FROM change WHERE (change, time) = (?, ?)"
+    return book.connection.execute(asked, (number, moment // 1000)).fetchone() is not None
+
+
+def is_of_now(book: Book) -> bool:
+    """Has it the last change of the book that is there, behind which one may be under way? When it was changed doesn't
+    say so: clocks are put back."""
+    with reading(book.folder) as connection:
+        last = last_change(connection) if connection else None
+        return last is None or has_change(book, last.mark)

@@ -3,6 +3,7 @@ from __future__ import annotations
 
 import contextlib
 import sqlite3
+import time
 from collections.abc import Callable
 
 import pytest
@@ -84,6 +85,25 @@ def test_longer_without_it(site: Site, society_desk: Desk, words: list[str], mon
         society_desk.good("exit", id, "--day", "2024-05-01")
     page = site.page(site.post("/file/exit", id=DAM, day="2024-05-02").headers["Location"])
     assert TEXTS["accepted"][0] in shown(page)
+    society_desk.good("verify")
+
+
+def test_clock_put_back(site: Site, society_desk: Desk, monkeypatch: pytest.MonkeyPatch) -> None:
+    """The session answers for the book that is there, though an earlier one be of a later time."""
+    later = time.time_ns() + 7_200_000_000_000
+    with monkeypatch.context() as ahead:
+        ahead.setattr("time.time_ns", lambda: later)
+        site.post("/file/exit", id=DAM, day="2024-05-01")
+    society_desk.good("backup", "copy.sqlite")
+    site.post("/file/birth", **BIRTH | {"dam": "", "sire": ""})
+    society_desk.good("restore", "copy.sqlite", "--anyway")
+    society_desk.good("birth", "NEW-2", "--sex", "f", "--day", "2024-05-01", "--dam", "GK-16/433c")
+    answer = site.post("/file/birth", **BIRTH | {"dam": "NEW-2", "day": "2026-05-01"})
+    assert TEXTS["accepted"][0] in shown(site.page(answer.headers["Location"]))
+    society_desk.good("undo", "--to", "1")
+    assert "sires, the least related first" in shown(site.page(f"/matings?dam={DAM}"))
+    answer = site.post("/file/exit", id=DAM, day="2024-05-02")
+    assert TEXTS["accepted"][0] in shown(site.page(answer.headers["Location"]))
     society_desk.good("verify")
 
 
