@@ -14,6 +14,7 @@ from society.book.search import find
 from society.desk.desk import Desk
 from society.desk.forms import change_once, made_by, token_with
 from society.desk.sentences import DeskFault
+from society.desk.shown_parents import ROLES, parents_of, shown_in
 from society.mistake import Mistake
 
 # the kinds of commands with the fields of their forms, which the history has as options but for the animal
@@ -24,6 +25,8 @@ FIELDS: dict[ChangeKind, tuple[str, ...]] = {
     ChangeKind.EXIT: ("id", "day"),
 }
 KINDS = {kind.value: kind for kind in FIELDS}
+# an unknown parent, as a terminal would say it
+UNKNOWN = "0"
 
 
 @dataclass(frozen=True)
@@ -64,8 +67,10 @@ class Form:
         for role in {"sire", "dam"}.intersection(FIELDS[self.kind]):
             self.parent(book, role)
 
-    def options(self) -> tuple[Option, ...]:
+    def options(self, book: Book) -> tuple[Option, ...]:
         """What was written, as the history has the options of a word."""
+        if self.kind is ChangeKind.PARENTS:
+            return tuple(Option(f"--{role}", self.text(role) or UNKNOWN) for role in self.roles_said(book))
         names = [name for name in FIELDS[self.kind] if name != "id" and self.text(name)]
         return tuple(Option(f"--{name}", "" if name == "embryo" else self.text(name)) for name in names)
 
@@ -74,7 +79,7 @@ class Form:
             ChangeKind.BIRTH: self.birth, ChangeKind.PARENTS: self.parents, ChangeKind.TRANSFER: self.transfer,
             ChangeKind.EXIT: lambda book: departed(book, self.animal(book), self.day()),
         }  # fmt: skip
-        return replace(makers[self.kind](book), options=self.options(), form=self.token)
+        return replace(makers[self.kind](book), options=self.options(book), form=self.token)
 
     def birth(self, book: Book) -> ByHand:
         sex = self.text("sex")
@@ -87,8 +92,20 @@ class Form:
         return born(book, calf)
 
     def parents(self, book: Book) -> ByHand:
-        """Both parents, as the form has them: an empty one is unknown."""
-        return with_parents(book, self.animal(book), self.parent(book, "sire") or "", self.parent(book, "dam") or "")
+        """The parents that are said: an empty one is unknown."""
+        said = self.roles_said(book)
+        sire, dam = ((self.parent(book, role) or "") if role in said else None for role in ROLES)
+        return with_parents(book, self.animal(book), sire, dam)
+
+    def roles_said(self, book: Book) -> tuple[str, ...]:
+        """Which parents somebody wrote otherwise than the form showed them; both where nothing was, or none was shown."""
+        known = self.animal(book)
+        shown = shown_in(self.given, known)
+        if shown is None:
+            return ROLES
+        if shown != parents_of(book, known):
+            raise Mistake(DeskFault.PARENTS_CHANGED.said(id=known.id))
+        return tuple(role for role in ROLES if self.text(role) != " ".join(shown[role].split())) or ROLES
 
     def transfer(self, book: Book) -> ByHand:
         if not self.text("to"):

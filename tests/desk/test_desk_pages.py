@@ -13,7 +13,7 @@ from desk.test_desk_filing import BIRTH, DAM, SIRE
 from front_desk.desk import Desk
 from society.book.changes import Change, Option
 from society.book.history import EPOCH, FILED_BY_HAND
-from society.book.kinds import ChangeKind
+from society.book.kinds import ChangeKind, Field
 from society.breed.meanings import MEANINGS
 from society.desk.shown_options import given_of
 from society.desk.texts import SENTENCES, TEXTS
@@ -109,6 +109,35 @@ def test_correction_of_nothing(site: Site) -> None:
     given = written_in(page)
     site.post("/file/parents", id=DAM, sire=given["sire"], dam=given["dam"])
     assert f"filed parents : {DAM}" in shown(site.page("/history"))
+
+
+def test_corrected_by_two(site: Site) -> None:
+    """A parent that the form of a correction showed and nobody wrote otherwise isn't said; where somebody else gave others
+    meanwhile that is told, and the form has those of now but for what was written."""
+    first, second, third = (written_in(site.page(f"/file/parents?id={DAM}")) for _ in range(3))
+    page = site.page(site.post("/file/parents", **corrected(first, dam="")).headers["Location"])
+    assert TEXTS["accepted"][0] in shown(page)
+    with site.desk.opened() as book:
+        assert book and book.change and book.change.options == (Option("--dam", "0"),)
+        assert book.known[DAM].by_hand == {Field.DAM}
+    answer = site.post("/file/parents", **corrected(second, sire=SIRE))
+    page = answer.get_data(as_text=True)
+    assert answer.status_code == 400 and f"somebody gave {DAM} other parents meanwhile" in shown(page)
+    assert TEXTS["in book now"][0].format(second["sire"]) in shown(page)
+    second = written_in(page)
+    assert (second["sire"], second["dam"]) == (SIRE, "")
+    page = site.page(site.post("/file/parents", **corrected(second, sire="GK-16/433c")).headers["Location"])
+    # refused: the other parent is there again too
+    third = written_in(page)
+    assert TEXTS["refused"][0] in shown(page) and (third["sire"], third["dam"]) == ("GK-16/433c", "")
+    assert site.post("/file/parents", **corrected(third, sire=SIRE)).headers["Location"] == "/answer/4"
+    with site.desk.opened() as book:
+        assert book and book.records[book.known[DAM].number].dam == ""
+
+
+def corrected(form: dict[str, str], **fields: str) -> dict[str, str]:
+    """What is sent of a form in which fields were written."""
+    return {name: text for name, text in {**form, **fields}.items() if name != "csrf_token"}
 
 
 @pytest.mark.parametrize("language", LANGUAGES)

@@ -15,6 +15,7 @@ from society.desk.office import BookMoved
 from society.desk.rules import may
 from society.desk.shown_changes import told_of_change
 from society.desk.shown_mistakes import on_page
+from society.desk.shown_parents import OF_ANIMAL, with_those_of_now
 from society.desk.words import the_words
 from society.mistake import Mistake
 from society.taking.report import What
@@ -32,19 +33,13 @@ def filing(book: Book) -> Answer:
 @with_book
 def form(book: Book, kind: str) -> Answer:
     given = {name: text for name, text in request.args.items() if text}
-    if kind == ChangeKind.PARENTS.value and "id" in given:
-        given |= parents_now(book, given["id"])
-    return shown(book, kind, given, [])
+    return shown(book, kind, to_correct(book, kind, given, "id"), [])
 
 
-def parents_now(book: Book, word: str) -> dict[str, str]:
-    """The parents that an animal has, to be corrected; none where no animal is meant."""
-    known = book.known.get(word)
-    if known is None:
-        return {}
-    record = book.records[known.number]
-    named = {"sire": record.sire, "dam": record.dam}
-    return {role: book.by_number()[number].id for role, number in named.items() if number}
+def to_correct(book: Book, kind: str, given: dict[str, str], of: str) -> dict[str, str]:
+    """With the parents of now to be corrected, of the animal that a field names, where one is meant."""
+    known = book.known.get(given.get(of, ""))
+    return with_those_of_now(book, given, known) if kind == ChangeKind.PARENTS.value and known else given
 
 
 def shown(
@@ -76,7 +71,7 @@ def file(kind: str) -> Answer:
 
 @with_book
 def form_again(book: Book, kind: str, faults: list[Sentence]) -> Answer:
-    return shown(book, kind, dict(request.form), faults)
+    return shown(book, kind, to_correct(book, kind, dict(request.form), OF_ANIMAL), faults)
 
 
 @page.get("/answer/<int(max=999999999):number>")
@@ -89,6 +84,6 @@ def answer(book: Book, number: int) -> Answer:
         abort(404)
     line, kind = line_of(book.connection, change, the_words()), change.kind.value
     if line.refused and may("filing.form"):
-        return shown(book, kind, written_in(change, line.id), [], line)
+        return shown(book, kind, to_correct(book, kind, written_in(change, line.id), "id"), [], line)
     looks = [one for group in told_of_change(book, number, the_words()) if group.what is What.LOOK for one in group.lines]
     return render_template("answer.html", kind=kind, change=line, known=book.known.get(line.id), looks=looks)

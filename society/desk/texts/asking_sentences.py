@@ -128,6 +128,11 @@ SENTENCES: dict[Sentence, tuple[str, str, str]] = {
         "Der Tag fehlt, oder er ist nicht wie 2001-03-01 geschrieben.",
         "La date manque, ou n'est pas écrite comme 2001-03-01.",
     ),
+    DeskFault.PARENTS_CHANGED: (
+        "",
+        "{id} hat inzwischen andere Eltern bekommen: sehen Sie nach und melden Sie es noch einmal.",
+        "Les parents de {id} ont été modifiés entre-temps : vérifiez et déclarez-le de nouveau.",
+    ),
     DeskFault.NO_ANIMAL: (
         "",
         "Das Tier fehlt: schreiben Sie seine Ohrmarke, seinen Namen oder seine Nummer.",

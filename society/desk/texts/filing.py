@@ -28,6 +28,7 @@ TEXTS = {
         "by id, name or number; empty where unknown", "nach Ohrmarke, Name oder Nummer; leer, wo unbekannt",
         "par boucle, nom ou numéro ; vide si inconnu",
     ),
+    "in book now": ("in the book now: {}", "jetzt im Herdbuch: {}", "dans le livre maintenant : {}"),
     "owner hint": ("empty where not known", "leer, wo nicht bekannt", "vide si inconnu"),
     "by id name number": ("by id, name or number", "nach Ohrmarke, Name oder Nummer", "par boucle, nom ou numéro"),
     "file it": ("File it", "Melden", "Déclarer"),
