@@ -128,6 +128,18 @@ def last_that_changed(connection: sqlite3.Connection) -> int:
     return int(connection.execute(f"SELECT ifnull(max(change), 0) FROM change WHERE NOT ({refused})").fetchone()[0])
 
 
+def taken_back_by(connection: sqlite3.Connection, number: int) -> int:
+    """The change that brought back a state before a change; 0 where the book of now has it, as where that was undone."""
+    asked = "SELECT change, undone_to FROM change WHERE change > ? AND undone_to IS NOT NULL ORDER BY change DESC"
+    last = None
+    for change, undone_to in connection.execute(asked, (number,)):
+        if last is None or change <= last:
+            if undone_to < number:
+                return int(change)
+            last = undone_to
+    return 0
+
+
 def all_changes(connection: sqlite3.Connection) -> list[Change]:
     rows = connection.execute(f"SELECT {COLUMNS} FROM change ORDER BY change").fetchall()
     return [change_of(connection, row) for row in rows]

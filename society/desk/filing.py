@@ -98,7 +98,7 @@ class Form:
         return with_parents(book, self.animal(book), sire, dam)
 
     def roles_said(self, book: Book) -> tuple[str, ...]:
-        """Which parents somebody wrote otherwise than the form showed them; both where nothing was, or none was shown."""
+        """Which parents somebody wrote otherwise than the form showed them; both where none was, or none was shown."""
         known = self.animal(book)
         shown = shown_in(self.given, known)
         if shown is None:

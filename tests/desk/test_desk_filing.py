@@ -111,6 +111,12 @@ def test_sent_twice(site: Site) -> None:
         assert site.post("/file/exit", id=DAM, day="2024-06-01", form=none).status_code == 400
     with site.desk.opened() as book:
         assert book and book.change and book.change.number == 5
+    # it is told that the book doesn't have it, until that is undone too
+    told = f"{TEXTS['taken back by'][0]} {TEXTS['change number'][0].format(4)}"
+    assert all(told in shown(site.page(page)) for page in ("/answer/3", "/history/3"))
+    assert TEXTS["taken back by"][0] not in shown(site.page("/answer/2"))
+    site.post("/history/3/undo", looked=site.looked())
+    assert not any(TEXTS["taken back by"][0] in shown(site.page(page)) for page in ("/answer/3", "/history/3"))
 
 
 def test_gone_back_to(site: Site) -> None:

@@ -112,8 +112,8 @@ def test_correction_of_nothing(site: Site) -> None:
 
 
 def test_corrected_by_two(site: Site) -> None:
-    """A parent that the form of a correction showed and nobody wrote otherwise isn't said; where somebody else gave others
-    meanwhile that is told, and the form has those of now but for what was written."""
+    """A parent that a form showed and nobody wrote otherwise isn't said; where somebody else gave others meanwhile that
+    is told, and the form has those of now but for what was written."""
     first, second, third = (written_in(site.page(f"/file/parents?id={DAM}")) for _ in range(3))
     page = site.page(site.post("/file/parents", **corrected(first, dam="")).headers["Location"])
     assert TEXTS["accepted"][0] in shown(page)

@@ -4,7 +4,7 @@ from __future__ import annotations
 from flask import Blueprint, abort, redirect, render_template, request, url_for
 
 from society.book.book import Book
-from society.book.history import change_numbered
+from society.book.history import change_numbered, taken_back_by
 from society.book.kinds import ChangeKind
 from society.desk.change_lines import ChangeLine, line_of
 from society.desk.desk import Answer, the_desk, with_book
@@ -86,4 +86,5 @@ def answer(book: Book, number: int) -> Answer:
     if line.refused and may("filing.form"):
         return shown(book, kind, to_correct(book, kind, written_in(change, line.id), "id"), [], line)
     looks = [one for group in told_of_change(book, number, the_words()) if group.what is What.LOOK for one in group.lines]
-    return render_template("answer.html", kind=kind, change=line, known=book.known.get(line.id), looks=looks)
+    by = taken_back_by(book.connection, number)
+    return render_template("answer.html", kind=kind, change=line, known=book.known.get(line.id), looks=looks, by=by)

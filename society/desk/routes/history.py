@@ -10,7 +10,7 @@ from society.book.backup import bytes_of
 from society.book.book import Book
 from society.book.changes import Change
 from society.book.exports import report_text
-from society.book.history import change_numbered, last_changes, last_that_changed
+from society.book.history import change_numbered, last_changes, last_that_changed, taken_back_by
 from society.book.last_backup import last_backup, remember
 from society.book.undo import undo
 from society.desk.change_lines import line_of, lines_of
@@ -51,6 +51,7 @@ def change(book: Book, number: int) -> Answer:
         "change.html", change=line_of(book.connection, found, words), source=found.source,
         given=given_of(found, words), length=found.length, edition=found.edition, count=count, differences=shown,
         groups=told_of_change(book, number, words), last=last_that_changed(book.connection),
+        by=taken_back_by(book.connection, number),
     )  # fmt: skip
 
 

@@ -26,6 +26,7 @@ TEXTS = {
         "Il n'y a rien à annuler : une déclaration refusée ne change aucun animal.",
     ),
     "taken back": ("What this takes back", "Was damit zurückgenommen wird", "Ce qui est annulé"),
+    "taken back by": ("It was taken back by", "Es wurde zurückgenommen durch", "Cela a été annulé par"),
     "and more changes": ("and {} more changes", "und {} weitere Änderungen", "et {} autres modifications"),
     "and more changes (one)": ("and {} more change", "und {} weitere Änderung", "et {} autre modification"),
     "change number": ("Change {}", "Änderung {}", "Modification {}"),
