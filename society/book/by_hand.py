@@ -29,8 +29,8 @@ from society.taking.young_parents import young_parents
 
 @dataclass(frozen=True)
 class ByHand:
-    """A command, the animal as the society knows it afterwards, what is told where it is accepted, and the token of the
-    form in which it was written, if it was one."""
+    """A command, the animal as the society knows it afterwards, what is told where it is accepted, the token of the
+    form in which it was written, if it was one, and its owner's first day where that is inferred and later."""
 
     kind: ChangeKind
     command: Command
@@ -39,6 +39,12 @@ class ByHand:
     new_owners: dict[str, int] = field(default_factory=dict)
     options: tuple[Option, ...] = ()
     form: str = ""
+    owner_since: datetime.date | None = None
+
+    def refused(self, refusal: Refusal) -> CommandRefused:
+        """What is told of it where it is refused."""
+        since = self.owner_since if refusal is Refusal.DAY_TOO_EARLY else None
+        return CommandRefused(self.kind, self.command.day, refusal, since)
 
 
 @dataclass(frozen=True)
@@ -143,7 +149,10 @@ def transferred(book: Book, known: Known, day: datetime.date, taker: str, giver:
     found = ValueChanged("owner", taker, book.owner_of(record.herd))
     after = known._replace(by_hand=known.by_hand | {Field.OWNER}, owner_day=OwnerDay.GIVEN)
     command = transfer(known.number, day, herd_before, herd)
-    return ByHand(ChangeKind.TRANSFER, command, after, (found, *new_owner(book, taker)), new_owners)
+    since = inferred_since(known, record, day)
+    return ByHand(
+        ChangeKind.TRANSFER, command, after, (found, *new_owner(book, taker)), new_owners, owner_since=since
+    )  # fmt: skip
 
 
 def departed(book: Book, known: Known, day: datetime.date) -> ByHand:
@@ -151,7 +160,13 @@ def departed(book: Book, known: Known, day: datetime.date) -> ByHand:
     record = book.records[known.number]
     after = known._replace(exit=GIVEN_EXIT, by_hand=known.by_hand | {Field.EXIT})
     found = ValueChanged("exit", day.isoformat(), str(record.left or ""))
-    return ByHand(ChangeKind.EXIT, leave(known.number, day), after, (found,))
+    since = inferred_since(known, record, day)
+    return ByHand(ChangeKind.EXIT, leave(known.number, day), after, (found,), owner_since=since)
+
+
+def inferred_since(known: Known, record: Record, day: datetime.date) -> datetime.date | None:
+    """The first day of its owner where that is inferred, and after a day on which it was born."""
+    return record.since if known.owner_day.is_inferred and record.born <= day < record.since else None
 
 
 def id_of(book: Book, number: str) -> str:
@@ -162,7 +177,7 @@ def file(book: Book, program: Herdbook, one: ByHand) -> tuple[Change, Refusal | 
     """Files a command as a change of its own, with the program's reply: why it is refused, or none."""
     refusal = program.reply(one.command, book)
     rows = Rows({}, {}) if refusal else rows_of(book, one)
-    findings = (CommandRefused(one.kind, one.command.day, refusal),) if refusal else one.findings
+    findings = (one.refused(refusal),) if refusal else one.findings
     keeps = bool(refusal) or one.kind in (ChangeKind.TRANSFER, ChangeKind.EXIT)
     born, corrected = (one.known.number * (one.kind is kind) for kind in (ChangeKind.BIRTH, ChangeKind.PARENTS))
     new_owners = {} if refusal else one.new_owners

@@ -10,7 +10,6 @@ from society.book.changes import Change
 from society.book.history import FILED_BY_HAND, told_by
 from society.book.kinds import ChangeKind
 from society.desk.words import Words
-from society.refusals import Refusal
 from society.taking.animal_findings import CommandRefused
 from society.taking.report import What
 from society.taking.stored_findings import entry_of
@@ -24,7 +23,7 @@ class Filed(NamedTuple):
     """The id of the animal of a command that was filed by hand, and why it was refused, if it was."""
 
     id: str
-    refusal: Refusal | None
+    refused: CommandRefused | None
 
 
 @dataclass(frozen=True, slots=True)
@@ -46,8 +45,8 @@ def lines_of(connection: sqlite3.Connection, changes: Iterable[Change], words: W
 
 
 def line_of(connection: sqlite3.Connection, change: Change, words: Words) -> ChangeLine:
-    id, refusal = filed_by(connection, change) if change.kind in FILED_BY_HAND else ("", None)
-    refused = words("was refused", words(f"refusal {refusal.value}")) if refusal else ""
+    id, found = filed_by(connection, change) if change.kind in FILED_BY_HAND else ("", None)
+    refused = words("was refused", why(found, words)) if found else ""
     counts = "" if change.kind in FILED_BY_HAND else counts_of(change, words)
     what = what_of(change, words)
     return ChangeLine(change.number, words.time(change.time), change.login, what, id, counts, refused)
@@ -73,8 +72,13 @@ def what_of(change: Change, words: Words) -> str:
 def filed_by(connection: sqlite3.Connection, change: Change) -> Filed:
     """Of which animal a command was, and its reply, as the history has them."""
     entries = [entry_of(one) for one in told_by(connection, change.number)]
-    refusal = next((one.finding.refusal for one in entries if isinstance(one.finding, CommandRefused)), None)
-    return Filed(entries[0].id if entries else id_in_journal(connection, change), refusal)
+    refused = next((one.finding for one in entries if isinstance(one.finding, CommandRefused)), None)
+    return Filed(entries[0].id if entries else id_in_journal(connection, change), refused)
+
+
+def why(refused: CommandRefused, words: Words) -> str:
+    since = f"; {words('owner since inferred', words.day(refused.owner_since))}" if refused.owner_since else ""
+    return words(f"refusal {refused.refusal.value}") + since
 
 
 def id_in_journal(connection: sqlite3.Connection, change: Change) -> str:

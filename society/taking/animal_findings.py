@@ -135,15 +135,23 @@ class ValueChanged(Finding):
 
 @dataclass(frozen=True, slots=True)
 class CommandRefused(Finding):
-    """A command that was filed by hand is refused."""
+    """A command that was filed by hand is refused. `owner_since` is its owner's first day, where only that forbids it,
+    and is inferred."""
 
     command: ChangeKind
     day: str
     refusal: Refusal
+    owner_since: datetime.date | None = None
 
     what = What.LEFT_OUT
     harm = Harm.FACTS
 
     def words(self) -> str:
         on = f" on {self.day}" if self.day else ""
-        return f"the {self.command.value}{on} is refused: {self.refusal.words()} (refusal {self.refusal})"
+        return f"the {self.command.value}{on} is refused: {self.why()}"
+
+    def why(self) -> str:
+        why = f"{self.refusal.words()} (refusal {self.refusal})"
+        if self.owner_since is None:
+            return why
+        return f"{why}; its owner's first day, {self.owner_since}, is inferred, and gives way to a sheet's"

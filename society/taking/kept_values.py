@@ -62,36 +62,45 @@ class Keeping:
             self.report.add(animal.line, animal.id, found)
 
     def keep_by_hand(self, animal: Animal, known: Known, record: Record) -> None:
-        """What was filed by hand stays where the cell says what it said in the last sheet; an animal that no sheet had
-        before had empty ones."""
-        before = self.book.cells.get((animal.id,))
-        cells: dict[Field, object] = dict(zip(CELL_FIELDS, before[1:])) if before else {}
-        given, alike = frozenset(one for one in known.by_hand if one in self.given), self.next_book.meanings.are_alike
-        as_before = {
-            one for one in (*known.by_hand, Field.SINCE)
-            if alike(animal.id, one, cells.get(one), animal.cells.get(one, ""))
-        }  # fmt: skip
+        """What was filed by hand stays where the cell says what it said in the last sheet."""
+        values, owner = values_of(animal), self.book.owner_of(record.herd)
+        given = frozenset(one for one in known.by_hand if one in self.given)
+        as_before = self.as_before(animal, known.by_hand | {Field.SINCE})
         stays = given & as_before
-        values = values_of(animal)
-        owner = self.book.owner_of(record.herd)
         # a sheet that has the owner by hand says nothing otherwise, and his day is still by hand
         agreeing = {Field.OWNER} if animal.owner == owner else set[Field]()
         self.next_book.overridden[animal.id] = given - stays - agreeing
         for role in Role:
             if Field(role.value) in stays:
                 animal.set_parent(role, self.next_book.id_of(record.parent(role)))
-        # a day of the sheet's owner, or of one before, is none of the one by hand
-        is_of_other = Field.OWNER in stays and animal.owner not in ("", owner)
-        if Field.OWNER in known.by_hand and (Field.SINCE in as_before or is_of_other):
-            animal.since = None
-        if Field.OWNER in stays:
-            animal.owner = owner
+        if Field.OWNER in known.by_hand:
+            self.keep_owner(animal, owner, Field.OWNER in stays, Field.SINCE in as_before)
         if Field.EXIT in stays:
             animal.left, animal.exit_basis = record.left, known.exit
         if Field.EMBRYO in stays:
             animal.embryo = record.embryo
         if Field.NAME in stays:
             animal.name = known.name
+        self.tell_by_hand(animal, values)
+
+    def as_before(self, animal: Animal, fields: frozenset[Field]) -> frozenset[Field]:
+        """The fields whose cells say what they said in the last sheet; those of an animal that none had were empty."""
+        before, alike = self.book.cells.get((animal.id,)), self.next_book.meanings.are_alike
+        cells: dict[Field, object] = dict(zip(CELL_FIELDS, before[1:])) if before else {}
+        return frozenset(one for one in fields if alike(animal.id, one, cells.get(one), animal.cells.get(one, "")))
+
+    def keep_owner(self, animal: Animal, owner: str, stays: bool, day_is_as_before: bool) -> None:
+        """An owner by hand: a day of the sheet's owner, or of one before, is none of his."""
+        is_of_other = stays and animal.owner not in ("", owner)
+        if is_of_other:
+            self.next_book.kept_owners.add(animal.id)
+        if is_of_other or day_is_as_before:
+            animal.since = None
+        if stays:
+            animal.owner = owner
+
+    def tell_by_hand(self, animal: Animal, values: dict[Field, str]) -> None:
+        """Tells what stays in the place of the sheet's values."""
         for one, value in values_of(animal).items():
             if value != values[one]:
                 self.report.add(animal.line, animal.id, KeptByHand(one, value))

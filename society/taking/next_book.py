@@ -35,6 +35,8 @@ class NextBook:
         self.texts: dict[str, tuple[str, str]] = {}
         # the fields that were filed by hand and that the sheet says otherwise now than before
         self.overridden: dict[str, frozenset[Field]] = {}
+        # the ids of rows that name another owner than the one by hand, who stays
+        self.kept_owners: set[str] = set()
 
     def record(self, id: str) -> Record | None:
         known = self.book.known.get(id)

@@ -19,11 +19,12 @@ SHORT = 4
 
 
 def tell_respelt_owners(next_book: NextBook, owners_before: set[str]) -> None:
-    """`owners_before` are those that the book had before this taking."""
-    taken = collections.defaultdict[str, collections.Counter[str]](collections.Counter)
+    """`owners_before` are those that the book had before this taking. A row in whose place one by hand stays tells
+    nothing."""
+    taken, kept = collections.defaultdict[str, collections.Counter[str]](collections.Counter), next_book.kept_owners
     for animal in next_book.animals.values() if next_book.book.known else ():
         record = next_book.record(animal.id)
-        if record and animal.line and (before := next_book.book.owner_of(record.herd)):
+        if record and animal.line and animal.id not in kept and (before := next_book.book.owner_of(record.herd)):
             taken[before][animal.owner] += 1
     for before, now in taken.items():
         owner, count = now.most_common(1)[0]

@@ -2,6 +2,7 @@
 field."""
 from __future__ import annotations
 
+import dataclasses
 import datetime
 import pathlib
 import sqlite3
@@ -13,11 +14,14 @@ from society.book.changes import Change, Option
 from society.book.kinds import ChangeKind
 from society.book.rows import Row
 from society.book.schema import FIRST, SECOND
-from society.desk.change_lines import counts_of, id_in_journal, what_of
+from society.desk.change_lines import counts_of, id_in_journal, what_of, why
 from society.desk.shown_facts import facts_said
 from society.desk.shown_options import Given, given_of
+from society.desk.texts import TEXTS
 from society.desk.words import Words
 from society.desk.wrong_fields import cleaned, owners_of, wrong_fields
+from society.refusals import Refusal
+from society.taking.animal_findings import CommandRefused
 
 DAY = datetime.datetime(2024, 3, 1, tzinfo=datetime.timezone.utc)
 EMBRYO = Row(
@@ -56,6 +60,16 @@ def test_facts() -> None:
     assert said["birth day"] == "15.02.2001"
     invented = EMBRYO._replace(birth_source="invented", birth_period=None, birth_no_such_day=None)
     assert facts_said(invented, names, owners, words)["basis of the birth day"] == "erfunden"
+    transferred = EMBRYO._replace(owner_day="inferred", giver=3)
+    assert facts_said(transferred, names, owners, words)["owner since"] == "05.04.2003 (erschlossen)"
+
+
+def test_refusal_of_an_inferred_day() -> None:
+    """Where only an inferred day of its owner's forbids a command that is said."""
+    refused, words = CommandRefused(ChangeKind.EXIT, "2001-01-01", Refusal.DAY_TOO_EARLY), Words("de")
+    assert why(refused, words) == TEXTS["refusal 14"][1]
+    told = why(dataclasses.replace(refused, owner_since=DAY.date()), words)
+    assert told.endswith("bekam; der erste Tag des Besitzers, 01.03.2024, ist erschlossen und weicht dem einer Tabelle")
 
 
 def test_options() -> None:

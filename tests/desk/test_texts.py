@@ -220,6 +220,11 @@ DAY = datetime.date(2001, 2, 3)
         (SexInferred("F", SexSource.DAM, False), "Geschlecht weiblich, da es Mutter ist", "sexe femelle, car elle est mère"),
         (CommandRefused(ChangeKind.EXIT, "2001-02-03", Refusal.LEFT_ALREADY), "Abgang am 03.02.2001 ist abgelehnt: es ist schon abgegangen",
          "Sortie le 03/02/2001\u00a0: refusé, il est déjà sorti"),
+        (CommandRefused(ChangeKind.EXIT, "2001-02-02", Refusal.DAY_TOO_EARLY, DAY),
+         "Abgang am 02.02.2001 ist abgelehnt: der Tag liegt vor der Geburt, oder bevor der Besitzer es bekam; der erste Tag des "
+         "Besitzers, 03.02.2001, ist erschlossen und weicht dem einer Tabelle",
+         "Sortie le 02/02/2001\u00a0: refusé, le jour précède la naissance, ou l'arrivée chez le propriétaire\u00a0; le premier "
+         "jour du propriétaire, 03/02/2001, est déduit et cède à celui d'un tableau"),
         (BirthDayInferred(DAY, BirthBasis(BirthSource.PERIOD, Period("2001")), False, 0),
          "Geburtstag 03.02.2001, aus Monat oder Jahr: 2001", "date de naissance 03/02/2001, d'après le mois ou l'année\u00a0: 2001"),
         (BirthDayInferred(DAY, BirthBasis(BirthSource.OFFSPRING), False, 0),

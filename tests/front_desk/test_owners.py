@@ -23,6 +23,9 @@ def test_owner_changed_and_then_an_exit_before(desk: Desk, today: datetime.date)
     desk.take(TITLES + PARENTS.replace("d;F;2001-03-02;;;Meier", "d;F;2001-03-02;;;Groß"))
     assert desk.transfer_days() == [str(today)]
     assert since(desk, "d") == f"{today} (inferred)"
+    told = f"(refusal 14); its owner's first day, {today}, is inferred, and gives way to a sheet's"
+    assert told in desk.run("exit", "d", "--day", str(last_week)).err and told in desk.good("history", "3").out
+    assert "is inferred" not in desk.run("transfer", "d", "--to", "Löw", "--day", "1999-01-01").err
     done = desk.take(TITLES + PARENTS.replace("d;F;2001-03-02;;;Meier;", f"d;F;2001-03-02;;;Groß;{last_week}"))
     assert " 0 left out" in done.last
     assert desk.transfer_days() == [str(last_week)]
@@ -152,6 +155,12 @@ def test_owner_is_written_otherwise(desk: Desk) -> None:
     assert " 0 changed" in desk.take(renamed).last
     desk.good("certificate", "s", "--out", "page.html")
     assert "Meyer" in "".join(desk.page("page.html").itertext())
+    # though one that the sheet has as another's was given to the owner by hand
+    third = "c;F;2004-01-01;;;Huber;\n"
+    desk.take(renamed + third)
+    desk.good("transfer", "c", "--to", "Meyer", "--day", "2010-01-01")
+    done = desk.take(renamed.replace("Meyer", "Mayer") + third)
+    done.shows("to look at: the 2 animals of 'Meyer' are now of 'Mayer', whom the book didn't have")
 
 
 def test_owners_that_are_alike(desk: Desk) -> None:

@@ -66,7 +66,7 @@ def does(wished: Wished) -> Callable[[argparse.Namespace], None]:
             tell(note)
         if refusal:
             raise Mistake(
-                f"{one.known.id}: {what(one)} refused: {refusal.words()} (refusal {refusal}). The animals are as "
+                f"{one.known.id}: {what(one)} refused: {one.refused(refusal).why()}. The animals are as "
                 f"before; change {change.number} of the history tells of it"
             )
         print(f"{one.known.id} ({one.known.number}): {what(one)} accepted: change {change.number}")

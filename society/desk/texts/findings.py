@@ -161,7 +161,12 @@ FINDINGS: dict[str, tuple[str, str]] = {
     ),
     "new animal": ("ein neues Tier mit der Nummer {number}", "un nouvel animal, avec le numéro {number}"),
     "value changed": ("{name}: {after}, vorher {before}", "{name} : {after}, avant {before}"),
-    "command refused": ("{command}[ am {day}] ist abgelehnt: {refusal}", "{command}[ le {day}] : refusé, {refusal}"),
+    "command refused": (
+        "{command}[ am {day}] ist abgelehnt: {refusal}[; der erste Tag des Besitzers, {owner_since}, ist erschlossen und "
+        "weicht dem einer Tabelle]",
+        "{command}[ le {day}] : refusé, {refusal}[ ; le premier jour du propriétaire, {owner_since}, est déduit et cède à "
+        "celui d'un tableau]",
+    ),
     # parents
     "found by name": (
         "{role} „{written}“ ist dem Namen nach {id}: ist ein anderes gemeint, schreiben Sie dessen Ohrmarke",

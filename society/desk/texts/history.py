@@ -19,6 +19,11 @@ TEXTS = {
         "The register refused it, and nothing changed: {}.", "Das Register lehnte ab, und nichts änderte sich: {}.",
         "Le registre l'a refusé, et rien n'a changé : {}.",
     ),
+    "owner since inferred": (
+        "its owner's first day, {}, is inferred, and gives way to a sheet's",
+        "der erste Tag des Besitzers, {}, ist erschlossen und weicht dem einer Tabelle",
+        "le premier jour du propriétaire, {}, est déduit et cède à celui d'un tableau",
+    ),
     "refused short": ("refused", "abgelehnt", "refusé"),
     "changes nothing": (
         "There is nothing to undo: a refused command changes no animal.",
