@@ -21,6 +21,7 @@ from society.mistake import Mistake
 from society.reading.unknown import UnknownParents
 from society.refusals import Refusal
 from society.taking.animal_findings import CommandRefused, NewAnimal, ValueChanged
+from society.taking.near_ids import id_alike
 from society.taking.new_owners import new_owner
 from society.taking.report import Entry, Finding
 from society.taking.stored_findings import told_of
@@ -79,7 +80,8 @@ def born(book: Book, calf: Calf) -> ByHand:
     known = Known(number, calf.id, calf.name, Standing.FILED, by_hand=by_hand)
     command = birth(number, calf.day, sire, dam, herd, calf.embryo)
     findings = (
-        NewAnimal(number), *young_parents(book, calf.day, calf.sire, calf.dam), *new_owner(book, calf.owner)
+        NewAnimal(number), *id_alike(book, calf.id), *young_parents(book, calf.day, calf.sire, calf.dam),
+        *new_owner(book, calf.owner),
     )  # fmt: skip
     return ByHand(ChangeKind.BIRTH, command, known, findings, new_owners)
 

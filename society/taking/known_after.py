@@ -49,10 +49,9 @@ def known_animals(next_book: NextBook) -> dict[str, Known]:
 
 def standing_of(next_book: NextBook, animal: Animal, before: Known | None) -> Standing:
     """That of an animal without a row."""
-    if animal.id in next_book.used_again:
-        return Standing.ROW
-    if before and before.standing is Standing.FILED:
-        return Standing.FILED
+    # a row that is left out, since it is another animal's, makes no other of the one that the book has
+    if before and (animal.id in next_book.used_again or before.standing is Standing.FILED):
+        return before.standing
     return Standing.GONE if before and before.standing.had_row() else Standing.PARENT
 
 

@@ -5,22 +5,26 @@ import collections
 import functools
 
 from society.book.book import Book
+from society.book.state import NOW
 from society.reading.animal import Animal, links_outside
 from society.reading.ids import nearly, nearly_all
 from society.taking.look_findings import IdsAlike
 from society.taking.parent_findings import FoundByNearId
-from society.taking.parent_names import can_be
+from society.taking.parent_names import can_be, ids_given
 from society.taking.report import Report
+
+# the ids that may be alike, since they are so without any zero: their index has all that is asked for
+LIKELY = f"SELECT folded_id FROM animal WHERE {NOW} AND replace(replace(folded_id, ' ', ''), '0', '') = ?"
 
 
 class NearIds:
-    """The animals that have a row, or had one, by what their ids have but for case, blanks and zeros. `animals` are
-    those of the sheet and of the book."""
+    """The animals that have a row, had one, or were filed by hand, by what their ids have but for case, blanks and zeros.
+    `animals` are those of the sheet and of the book."""
 
     def __init__(self, rows: dict[str, Animal], animals: dict[str, Animal], book: Book) -> None:
         self.rows, self.animals = rows, animals
-        self.with_row = rows.keys() | {id for id, known in book.known.items() if known.standing.had_row()}
-        self.ids = [*self.with_row & animals.keys()]
+        self.with_id = rows.keys() | ids_given(book)
+        self.ids = [*self.with_id & animals.keys()]
         self.nearly = nearly_all(self.ids)
 
     @functools.cached_property
@@ -33,7 +37,7 @@ class NearIds:
 
     def find_parents(self, report: Report) -> None:
         """A parent that is no id, but differs so from just one, is that animal where it can be it."""
-        for calf, role, text in links_outside(self.rows.values(), self.with_row):
+        for calf, role, text in links_outside(self.rows.values(), self.with_id):
             near = self.near.get(nearly(text), [])
             if len(near) == 1 and near[0] != calf.id and can_be(self.animals[near[0]], role, calf):
                 calf.set_parent(role, near[0])
@@ -52,3 +56,10 @@ class NearIds:
 
     def line_and_id(self, id: str) -> tuple[int, str]:
         return self.animals[id].line, id
+
+
+def id_alike(book: Book, id: str) -> list[IdsAlike]:
+    """The animal of the book whose id differs so from that of one that is filed by hand."""
+    likely = book.rows(f"folded_id IN ({LIKELY})", "".join(id.casefold().split()).replace("0", ""))
+    alike = sorted(row.id for row in likely if row.id != id and nearly(row.id) == nearly(id))
+    return [IdsAlike(one, 0) for one in alike[:1]]

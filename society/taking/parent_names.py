@@ -6,6 +6,7 @@ import functools
 
 from society.alike import SameLetters
 from society.book.book import Book
+from society.book.kinds import Standing
 from society.book.role import Role
 from society.reading.animal import Animal, Link, links_outside
 from society.taking.look_findings import MayBeUnknown, MoreMayBeUnknown
@@ -18,6 +19,7 @@ MANY = 3
 SEVERAL, MOST_WORDS = 2, 9
 # so few parents without a row may be short ids in which two letters are swapped
 FEW = 5
+WITHOUT_ROW = Standing.PARENT
 
 
 class Names:
@@ -36,11 +38,11 @@ class Names:
         return named
 
     def find_parents(self, rows: dict[str, Animal], book: Book) -> None:
-        """A parent that is no row's id, but the name of one animal alone, is taken for that one where it can be it.
-        What is the parent in the book stays it, whatever other animals have its name."""
-        with_row = rows.keys() | {id for id, known in book.known.items() if known.standing.had_row()}
+        """A parent that is no animal's id, but the name of one alone, is taken for that one where it can be it. What is
+        the parent in the book stays it, whatever other animals have its name."""
+        with_id = rows.keys() | ids_given(book)
         ids = {known.number: id for id, known in book.known.items()}
-        links = links_outside(rows.values(), with_row)
+        links = links_outside(rows.values(), with_id)
         links = [(calf, role, text) for calf, role, text in links if text.casefold() in self.named]
         others = {(role, text.casefold()) for calf, role, text in links if not self.possible(calf, role, text)}
         for calf, role, text in links:
@@ -126,6 +128,12 @@ def may_be_unknown(report: Report) -> list[Finding]:
     """What was told of words that may mean an unknown parent: these may be why a file can't be taken."""
     findings = [entry.finding for entry in report.entries]
     return [one for one in findings if isinstance(one, (MayBeUnknown, MoreMayBeUnknown))]
+
+
+def ids_given(book: Book) -> set[str]:
+    """The ids that animals of the book were given, by a row or by hand; that of a parent without one is the text of a
+    cell."""
+    return {id for id, known in book.known.items() if known.standing is not WITHOUT_ROW}
 
 
 def can_be(parent: Animal, role: Role, calf: Animal) -> bool:

@@ -55,6 +55,22 @@ def test_rows_that_are_alike(desk: Desk) -> None:
     done.tells(told.replace("line 4", "line 3", 1).replace("(line 3)", "(in the book)"))
 
 
+def test_ids_that_are_like_one_filed_by_hand(desk: Desk) -> None:
+    """An animal that was filed by hand is known by its id as one with a row is: before names, and where it is written
+    otherwise."""
+    desk.take(TITLES + FLOCK)
+    desk.good("birth", "Ada", "--sex", "f", "--day", "2002-01-01")
+    desk.good("birth", "DE 9", "--sex", "f", "--day", "2002-01-02")
+    rows = "a7;Ada;F;2002-01-01;;\nc1;;F;2005-01-01;;Ada\nc2;;F;2005-01-02;;de09\n"
+    desk.take(TITLES + FLOCK + rows)
+    assert desk.parents()["c1"] == ("", "Ada") and desk.parents()["c2"] == ("", "DE 9")
+    told = "its id differs from DE 9 (in the book) in case, blanks or zeros alone: are they one animal?"
+    desk.take(TITLES + FLOCK + rows + "de 9;;F;2002-01-02;;\n").tells(f"line 7: de 9: to look at: {told}")
+    # one that is filed by hand now
+    assert desk.good("birth", "DE 09", "--sex", "f", "--day", "2002-01-02").err == f"society: DE 09: {told}\n"
+    assert not desk.good("birth", "DE 90", "--sex", "f", "--day", "2002-01-02").err
+
+
 def test_words_for_parents(desk: Desk) -> None:
     """A word that is no id and stands for parents of several animals is told at each taking, with the option."""
     rows = FLOCK + "c1;;F;2004-01-01;Fremdbock;DE 8\nc2;;F;2004-01-02;Fremdbock;\nc3;;F;2004-01-02;X1;\n"
@@ -86,6 +102,20 @@ def test_tag_used_again(desk: Desk) -> None:
         assert " 0 gone" in done.last
     desk.typed(done.commands()[0])
     assert desk.born()["DE 8"] == "2012-03-02"
+
+
+def test_used_tag_of_an_animal_without_a_row(desk: Desk) -> None:
+    """One that was filed by hand, and one that is gone, stay what they are, as nobody had a row of them: the first isn't
+    dropped once the other animal has an id of its own, and neither is in the list as before."""
+    desk.take(TITLES + FLOCK + "DE 9;Ute;F;2001-03-03;;\n")
+    desk.good("birth", "DE 5", "--sex", "f", "--name", "Ida", "--day", "2001-05-05")
+    desk.take(TITLES + FLOCK)
+    listed = desk.good("list").out
+    again = "DE 5;Pia;F;2012-05-05;;\nDE 9;Lea;F;2013-05-05;;\n"
+    assert "2 left out (2 rows)" in desk.take(TITLES + FLOCK + again).last
+    assert desk.good("list").out == listed
+    desk.take(TITLES + FLOCK + again.replace("DE 5", "DE 5/12").replace("DE 9", "DE 9/13"), "--drop-gone")
+    assert desk.numbers().keys() == {"DE 007", "DE 8", "DE 5", "DE 5/12", "DE 9/13"}
 
 
 def test_birth_after_offspring(desk: Desk) -> None:

@@ -88,8 +88,8 @@ def test_texts_of_parents_after_a_taking() -> None:
 
 
 def test_what_an_animal_is_after_a_taking() -> None:
-    """One without a row is gone if it had one, but for one whose id a row has that is left out; one that was filed by
-    hand stays so. One that isn't taken over is dropped, and keeps what is known of it."""
+    """One without a row is gone if it had one, but one whose id a row has that is left out stays what it was, as does
+    one that was filed by hand. One that isn't taken over is dropped, and keeps what is known of it."""
     found: dict[Standing, list[Standing]] = {}
     for standing in Standing.ROW, Standing.GONE, Standing.PARENT, Standing.FILED:
         known = Known(NUMBER, "a", "Anna", standing, by_hand=frozenset({Field.SIRE}), owner_day=OwnerDay.INFERRED)
@@ -102,7 +102,7 @@ def test_what_an_animal_is_after_a_taking() -> None:
         assert [len(one.by_hand) for one in after] == [1, 1, 0]
         assert [one.owner_day for one in after] == [OwnerDay.INFERRED, OwnerDay.INFERRED, OwnerDay.GIVEN]
     without = dict(zip(found, (Standing.GONE, Standing.GONE, Standing.PARENT, Standing.FILED)))
-    assert found == {standing: [one, Standing.ROW, Standing.ROW] for standing, one in without.items()}
+    assert found == {standing: [one, standing, Standing.ROW] for standing, one in without.items()}
     assert known_after(next_book(Animal("a"), None))["a"].standing is Standing.PARENT
 
 
