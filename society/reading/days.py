@@ -137,6 +137,14 @@ def year_of(year: int, wrong: str = "", text: str = "") -> Span:
     return Span(datetime.date(year, 1, 1), datetime.date(year, 12, 31), wrong, text, Precision.YEAR)
 
 
+def span_of_period(period: Period) -> Span:
+    """The days of a month or a year that was read before."""
+    year, _, month = period.text.partition("-")
+    if month:
+        return month_of(int(year), int(month), period.no_such_day)
+    return year_of(int(year), period.no_such_day)
+
+
 @functools.lru_cache(maxsize=50_000)
 def read_span(text: str, month_first: bool = False, legible: bool = True) -> Span:
     """The day, month or year of a cell, or, where that is wanted, the only year that is legible in it; raises

@@ -60,8 +60,9 @@ class Days:
             report.add(animal.line, id, found)
 
     def stays(self, animal: Animal, day: int) -> bool:
-        """Is it the day that was inferred for the book, where the cell has neither month nor year?"""
-        return animal.birth == ANY_DAY and animal.id in self.kept and self.kept[animal.id][0] == day
+        """Is it the day that was inferred for the book, where no cell has a month or a year?"""
+        says_period = animal.line and animal.birth != ANY_DAY
+        return not says_period and animal.id in self.kept and self.kept[animal.id][0] == day
 
     def day_of(self, id: str, open_days: dict[str, int]) -> int:
         """The day of an animal, or of one that has none that which is found of it."""

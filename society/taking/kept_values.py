@@ -3,14 +3,17 @@ hand."""
 from __future__ import annotations
 
 from society.book.commands import Record
+from society.book.inferred import Period
 from society.book.kinds import Field
 from society.book.known import Known
 from society.book.role import Role
 from society.book.state import CELL_FIELDS
 from society.reading.animal import Animal
+from society.reading.cell_findings import ExitInferred
 from society.reading.days import Span
 from society.taking.animal_findings import KeptByHand, KeptFromBook
 from society.taking.next_book import NextBook
+from society.taking.report import Entry
 
 
 def keep_values(next_book: NextBook) -> None:
@@ -20,6 +23,7 @@ def keep_values(next_book: NextBook) -> None:
         known = book.known.get(id)
         if known is not None:
             keeping.keep(animal, known, book.records[known.number])
+    keeping.take_back_exits()
 
 
 class Keeping:
@@ -28,6 +32,8 @@ class Keeping:
     def __init__(self, next_book: NextBook) -> None:
         self.next_book, self.book = next_book, next_book.book
         self.given, self.report = next_book.given, next_book.report
+        # the lines of animals whose exits keep the book's days
+        self.kept_exits: set[int] = set()
 
     def keep(self, animal: Animal, known: Known, record: Record) -> None:
         if known.by_hand:
@@ -39,6 +45,10 @@ class Keeping:
                 animal.set_parent(role, self.next_book.id_of(record.parent(role)))
         if "exit" not in self.given or ("exit" in animal.unread and record.left):
             animal.left, animal.exit_basis = record.left, known.exit
+            self.tell_kept(animal, Field.EXIT, str(record.left))
+        elif animal.exit_basis.period and has_day_within(animal.exit_basis.period, record, known):
+            animal.left, animal.exit_basis = record.left, known.exit
+            self.kept_exits.add(animal.line)
             self.tell_kept(animal, Field.EXIT, str(record.left))
         if "embryo" not in self.given or "embryo" in animal.unread:
             animal.embryo = record.embryo
@@ -60,6 +70,15 @@ class Keeping:
         if field.value in self.given:
             found = KeptFromBook(field, value, field.value in animal.unread)
             self.report.add(animal.line, animal.id, found)
+
+    def take_back_exits(self) -> None:
+        """Where an exit keeps the day of the book, none is inferred from its cell."""
+        if self.kept_exits:
+            entries = self.report.entries
+            self.report.entries = [one for one in entries if not self.is_taken_back(one)]
+
+    def is_taken_back(self, entry: Entry) -> bool:
+        return entry.line in self.kept_exits and isinstance(entry.finding, ExitInferred)
 
     def keep_by_hand(self, animal: Animal, known: Known, record: Record) -> None:
         """What was filed by hand stays where the cell says what it said in the last sheet."""
@@ -104,6 +123,11 @@ class Keeping:
         for one, value in values_of(animal).items():
             if value != values[one]:
                 self.report.add(animal.line, animal.id, KeptByHand(one, value))
+
+
+def has_day_within(period: Period, record: Record, known: Known) -> bool:
+    """Has the book the day of an exit of which a cell says the month or the year?"""
+    return not known.exit.is_inferred and str(record.left).startswith(period.text)
 
 
 def values_of(animal: Animal) -> dict[Field, str]:

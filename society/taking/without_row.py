@@ -2,10 +2,12 @@
 from __future__ import annotations
 
 from society.book.book import Book
+from society.book.commands import Record
 from society.book.kinds import Standing
+from society.book.known import Known
 from society.pedigree_order import ancestors
 from society.reading.animal import Animal
-from society.reading.days import ANY_DAY, Span
+from society.reading.days import ANY_DAY, Span, span_of_period
 from society.taking.animal_findings import RowIsGone
 from society.taking.report import Report
 
@@ -19,13 +21,20 @@ def animals_of_book(book: Book, animals: dict[str, Animal]) -> dict[str, Animal]
             continue
         record = book.records[known.number]
         animal = Animal(id, 0, known.name, "" if known.sex.is_inferred else known.number[6])
-        animal.birth = ANY_DAY if known.birth.is_inferred else Span(record.born, record.born)
+        animal.birth = birth_in_book(known, record)
         animal.sire, animal.dam = ids.get(record.sire, ""), ids.get(record.dam, "")
         animal.owner, animal.embryo = book.owner_of(record.herd), record.embryo
         animal.castrated = known.castrated
         animal.left, animal.exit_basis = record.left, known.exit
         gone[id] = animal
     return gone
+
+
+def birth_in_book(known: Known, record: Record) -> Span:
+    """The days that the book leaves open for a birth: one, those of a month or a year that a sheet said, or all."""
+    if known.birth.period:
+        return span_of_period(known.birth.period)
+    return ANY_DAY if known.birth.is_inferred else Span(record.born, record.born)
 
 
 def add_gone(animals: dict[str, Animal], gone: dict[str, Animal], book: Book, drop: bool, report: Report) -> None:

@@ -176,6 +176,23 @@ def test_exits(desk: Desk) -> None:
     assert "can't be read" not in done.out
 
 
+def test_exit_whose_day_the_book_has(desk: Desk) -> None:
+    """A month or a year leaves it as it is, as it leaves a birth day; another one, or the book's month, gives way."""
+    rows = TITLES + "a;F;2001-01-01;;;{}\nb;F;2001-01-02;;;{}\n"
+    desk.take(rows.format("2020-05-06", "05.2020"))
+    for cell in "2020", "sold in 05.2020":
+        done = desk.take(rows.format(cell, "2020"))
+        done.tells("line 2: a: inferred: exit on 2020-05-06, as in the book, since its cell gives none")
+        assert " 2 inferred" in done.last
+        assert exit_days(desk) == ["2020-05-06", "2020-12-31"]
+    desk.take(rows.format("04.2020", "2020"))
+    assert exit_days(desk) == ["2020-04-30", "2020-12-31"]
+
+
+def exit_days(desk: Desk) -> list[str]:
+    return [line.split(",")[2] for line in desk.commands() if line.startswith("exit")]
+
+
 @pytest.mark.parametrize("cell", ["01.01.2012", "sold 01.01.2012"])
 def test_exit_before_offspring(desk: Desk, cell: str) -> None:
     """An exit that is refused costs that cell."""

@@ -158,6 +158,16 @@ def test_reasons_that_stay(desk: Desk) -> None:
     done.tells(f"line 5: mother: inferred: birth day 2005-01-01, {why}")
 
 
+def test_year_of_an_animal_that_is_gone(desk: Desk) -> None:
+    """A year that an earlier sheet said holds, whatever offspring other parts of the flock have."""
+    desk.take("id,sex,born,sire,dam\ndam,F,2015,,\nc1,F,2018-01-01,,dam\n")
+    later = "id,sex,born,sire,dam\nc2,F,2014-06-03,,dam\nc1,F,2018-01-01,,dam\n"
+    for _ in range(2):
+        done = desk.take(later)
+        assert desk.born()["dam"].startswith("2015-") and desk.parents()["c1"] == ("", "dam")
+        assert "line 2: c2: its dam dam (born 2015-01-01 (inferred)) is left out: it isn't at least a day older" in done.told
+
+
 def test_invented_days(desk: Desk) -> None:
     """A day that was invented for a pedigree stays marked as that once the animal is gone, or has a row without
     a day."""
