@@ -26,6 +26,7 @@ def facts_said(row: Row, names: Mapping[str, str], owners: Mapping[int, str], wo
         "owner since": owner_day_of(row, known, words),
         "exit": exit_of(row, words),
         "stored embryo": words("yes") if row.embryo else "",
+        "castrated": words("yes") if known.castrated else "",
         "basis of the birth day": basis_said(known.birth, words),
         "basis of the sex": MEMBERS[known.sex][words.at] if known.sex.is_inferred else "",
         "sire in the sheet": row.written_sire,

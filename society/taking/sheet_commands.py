@@ -24,7 +24,7 @@ from society.taking.owner_days import OwnerDays
 from society.taking.row_findings import CommandLeftOut
 
 
-IS_EMBRYO = {True: "yes", False: ""}
+YES = {True: "yes", False: ""}
 
 
 class Filing:
@@ -140,7 +140,8 @@ class Filing:
             ("dam", dam, animal.dam),
             ("owner", owner, animal.owner),
             ("exit", exit, exit_words(animal.left, animal.exit_basis)),
-            ("stored embryo", IS_EMBRYO[record.embryo], IS_EMBRYO[animal.embryo]),
+            ("stored embryo", YES[record.embryo], YES[animal.embryo]),
+            ("castrated", YES[known.castrated], YES[animal.castrated]),
         ]
         if animal.id in self.owners.other_days:
             since = record.since if owner_day_known(record.giver, known.owner_day) else ""

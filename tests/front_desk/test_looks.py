@@ -97,6 +97,8 @@ def test_castrated_sire(desk: Desk) -> None:
         done.shows(
             "line 2: w: to look at: it is the sire of c1 (line 5) and of 1 more, and the book has it as castrated"
         )
+    desk.take(TITLES + rows.replace("r;ram", "r;wether")).tells("line 4: r: changed: castrated: yes, before none")
+    assert "  r: castrated yes, before none\n" in desk.good("history", "4").out
 
 
 def test_exits_withdrawn(desk: Desk) -> None:

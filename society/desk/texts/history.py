@@ -146,6 +146,7 @@ TEXTS = {
     "fact owner since": ("owner since", "Besitzer seit", "propriétaire depuis"),
     "fact exit": ("exit", "Abgang", "sortie"),
     "fact stored embryo": ("stored embryo", "gelagerter Embryo", "embryon conservé"),
+    "fact castrated": ("castrated", "kastriert", "castré"),
     "fact basis of the birth day": (
         "basis of the birth day", "Herkunft des Geburtstags", "origine de la date de naissance",
     ),
