@@ -13,7 +13,7 @@ from society.reading.days import ANY_DAY, DayFault, Span
 from society.reading.encodings import Letters
 from society.reading.exits import exit_word
 from society.reading.sexes import Sexes
-from society.reading.unknown import UnknownParents
+from society.reading.unknown import UnknownParents, names_no_owner
 from society.reading.unread import Unread
 from society.reading.words import KNOWN_NO, KNOWN_YES
 from society.taking.report import Finding, Report
@@ -37,6 +37,7 @@ class AnimalCells:
         name, sex, birth, sire, dam, owner, since, exit, embryo = map(said, CELL_FIELDS, NO_TEXTS)
         sire = "" if self.unknown.is_one(sire) else sire
         dam = "" if self.unknown.is_one(dam) else dam
+        owner = "" if names_no_owner(owner) else owner
         animal = Animal(id, line, name, "", ANY_DAY, sire, dam, owner, cells)
         if not f"{id}{name}{owner}{sire}{dam}".isascii():
             self.look_at_letters(animal)

@@ -34,6 +34,10 @@ def unknown_words(more: list[str]) -> set[str]:
     return {""} | {word.casefold() for one in [PEDIGREE, *more] for word in listed(one)}
 
 
+# so many letters may be an owner's initials
+INITIALS = 2
+
+
 class UnknownParents:
     """The texts that stand for an unknown parent: the usual ones, those that the society names besides, and not those
     that it says are known."""
@@ -56,3 +60,12 @@ class UnknownParents:
         if compared(text) in KNOWN_UNKNOWN or is_error_value(text):
             return True
         return text[0] in BEGIN_OF_SIGNS and SIGNS.fullmatch(text) is not None
+
+
+USUAL = UnknownParents()
+
+
+@functools.lru_cache(10_000)
+def names_no_owner(text: str) -> bool:
+    """Is it one of the usual texts for what isn't known? Two letters may be initials of an owner."""
+    return USUAL.is_one(text) and not (len(text) == INITIALS and text.isalpha())

@@ -134,6 +134,17 @@ def test_first_owner_since_a_day(desk: Desk) -> None:
     assert since(desk, "b") == "not known"
 
 
+def test_words_that_are_no_owner(desk: Desk) -> None:
+    """What says of a parent that it isn't known names no owner, as an empty cell, but for what may be initials."""
+    words = ["-", "?", "unbekannt", "N.N.", "n/a"]
+    rows = [f"a{at};F;2001-03-03;;;{word};\n" for at, word in enumerate(words)]
+    desk.take(TITLES + PARENTS + "".join(rows) + "b;F;2001-03-03;;;NB;\n")
+    assert [owner for _, owner in desk.owners()] == ["Meier", "NB"]
+    done = desk.take(TITLES + PARENTS.replace("02;;;Meier", "02;;;?") + "".join(rows) + "b;F;2001-03-03;;;NB;\n")
+    done.tells("line 3: d: inferred: owner Meier, as in the book, since its cell gives none")
+    assert " 0 changed" in done.last
+
+
 def test_owner_is_written_otherwise(desk: Desk) -> None:
     desk.take(TITLES + PARENTS)
     desk.wrong("--owner Maier=Meyer: the book has no owner 'Maier': its owners are 'Meier'", "take", "sheet.csv",
