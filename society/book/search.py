@@ -25,10 +25,7 @@ def find(book: Book, word: str, may_be_file: bool = True) -> Known:
     folded = word.casefold()
     known = book.known.get(word)
     if known:
-        others = sorted(row.id for row in book.rows(f"{NAMED} AND id <> ?", folded, word))
-        if others:
-            shown = some_of(others, MOST_IN_PASSING)
-            book.notes.append(f"'{word}' is taken for the animal with this id; others have this name: {shown}")
+        tell_others(book, word, folded)
         return known
     named = book.rows("number = ?", word) or book.rows(f"{NAMED} AND name = ?", folded, word)
     named = named or book.rows(f"(folded_id = ? OR {NAMED})", folded, folded)
@@ -38,6 +35,16 @@ def find(book: Book, word: str, may_be_file: bool = True) -> Known:
         ids = Some(sorted(row.id for row in named), MOST_IN_PASSING)
         raise Mistake(Naming.SEVERAL.said(count=len(named), word=word, ids=ids))
     raise not_found(book, word, may_be_file)
+
+
+def tell_others(book: Book, word: str, folded: str) -> None:
+    """Other animals that have an id as their name, or one as its number."""
+    taken = f"'{word}' is taken for the animal with this id"
+    others = sorted(row.id for row in book.rows(f"{NAMED} AND id <> ?", folded, word))
+    if others:
+        book.notes.append(f"{taken}; others have this name: {some_of(others, MOST_IN_PASSING)}")
+    for row in book.rows("number = ? AND id <> ?", word, word):
+        book.notes.append(f"{taken}; another has this number: {row.id}")
 
 
 def not_found(book: Book, word: str, may_be_file: bool) -> Mistake:

@@ -108,3 +108,12 @@ def test_show_many(desk: Desk) -> None:
     few, every = desk.good("show", "S").out, desk.good("show", "S", "--all").out
     assert "offspring: 60 with 40 partners" in few and "  and 35 more: --all shows them" in few
     assert few.count("    C") == 25 and every.count("    C") == 60 and "more" not in every
+
+
+def test_id_that_is_a_number(desk: Desk) -> None:
+    """An id is taken before the number of another animal, and this is told."""
+    desk.take("id,birth,sire,dam\nHOLGBRF000000000002,2001,,\nb,2002,,\n")
+    done = desk.good("show", "HOLGBRF000000000002")
+    told = "'HOLGBRF000000000002' is taken for the animal with this id; another has this number: b"
+    assert done.err == f"society: {told}\n" and "2001-07-02" in done.out
+    assert not desk.good("show", "HOLGBRF000000000001").err
