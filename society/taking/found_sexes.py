@@ -34,14 +34,14 @@ def role_of_both(next_book: NextBook, id: str, sires: int, dams: int) -> Role:
 
 def find_sexes(next_book: NextBook) -> None:
     """An animal without a sex has that of the parent that it is, or else that of the book; else it is taken for a
-    female."""
+    female, and stays one for that reason."""
     for id, animal in next_book.animals.items():
         if animal.sex:
             continue
         role, known = next_book.roles.get(id), next_book.book.known.get(id)
         if role:
             animal.sex, animal.sex_source = role.sex, SexSource(role.value)
-        elif known:
+        elif known and known.sex is not SexSource.NOTHING:
             animal.sex, animal.sex_source = known.number[6], SexSource.BOOK
         else:
             animal.sex, animal.sex_source = "F", SexSource.NOTHING

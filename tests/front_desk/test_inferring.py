@@ -194,7 +194,9 @@ def test_invented_days(desk: Desk) -> None:
 
 def test_sexes(desk: Desk) -> None:
     """Without a column of sexes a sire is male and a dam female; what is corrected keeps its digits."""
-    done = desk.take("id,born,sire,dam\na,2001-01-01,,\nb,2001-02-01,,\nc,2003-01-01,a,b\nd,2004-01-01,,\n")
+    for _ in range(2):
+        done = desk.take("id,born,sire,dam\na,2001-01-01,,\nb,2001-02-01,,\nc,2003-01-01,a,b\nd,2004-01-01,,\n")
+        done.tells("line 5: d: inferred: sex female, since nothing else is known")
     assert [number[6] for number in desk.numbers().values()] == ["M", "F", "F", "F"]
     assert " 4 inferred" in done.last
     desk.take("id,born,sire,dam\na,2001-01-01,,\nb,2001-02-01,,\nc,2003-01-01,a,b\nd,2004-01-01,,\ne,2008-01-01,d,c\n")
