@@ -5,7 +5,6 @@ import itertools
 from dataclasses import dataclass
 
 from society.book.changes import Source
-from society.book.known import BREED, COUNTRY
 from society.book.writing import Filed
 from society.herdbook import Herdbook
 from society.mistake import MOST_NAMED
@@ -98,7 +97,8 @@ def book_after(next_book: NextBook, filed: Filed, wishes: Wishes, about: About) 
     new = sum(animal.id not in book.known for animal in with_row)
     added = sum(not animal.line and animal.id not in book.known for animal in animals)
     is_first = not book.records and not next_book.is_pedigree and not (wishes.breed and wishes.country)
-    begin = (wishes.breed or BREED) + (wishes.country or COUNTRY)
+    # a state that was undone may have given them other letters than new ones have
+    begin = next((animal.number[:6] for animal in animals), "")
     return BookAfter(
         len(animals), new, about.invented, bool(book.records) and filed.keeps is not None, begin * is_first,
         wishes.drop_gone, len(with_row), added,

@@ -253,6 +253,10 @@ def test_numbers_of_a_first_taking(desk: Desk) -> None:
     assert "written anew" in done.out
     assert "edition 2" in desk.good("history", "3").out
     assert list(desk.numbers().values()) == ["SKUDEUM000000000001", "SKUDEUF000000000002"]
+    # they keep their letters where all of it is undone, and that is told
+    desk.good("undo", "--to", "0")
+    assert "numbers begin with SKUDEU (breed SKU, country DEU)" in desk.take(TITLES + PARENTS).out
+    assert list(desk.numbers().values()) == ["SKUDEUM000000000001", "SKUDEUF000000000002"]
     assert (
         "the numbers begin"
         not in desk.take(TITLES + PARENTS, "--breed", "A" * 3, "--country", "B" * 3, "--book", "o").out
