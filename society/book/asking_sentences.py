@@ -40,6 +40,9 @@ class NotSuch(Sentence):
     YEAR = "'{text}' isn't a year from {first} to {last}"
     # a birth
     NO_ID = "an animal needs an id: write one"
+    NO_ANIMALS_ID = "'{word}' is a word for an unknown parent: give the animal another id"
+    # a command
+    AFTER_TODAY = "the day {day} is after today: write one that has come"
 
 
 @enum.unique

@@ -68,6 +68,9 @@ def born(book: Book, calf: Calf) -> ByHand:
     """A birth; one of an animal that is in the book is filed with its number, and the program refuses it."""
     if not calf.id:
         raise Mistake(NotSuch.NO_ID.said())
+    if calf.id in unknown_parents(book):
+        raise Mistake(NotSuch.NO_ANIMALS_ID.said(word=calf.id))
+    refuse_to_come(calf.day)
     before = book.known.get(calf.id)
     number = before.number if before else number_for(book, calf)
     herd, new_owners = herd_of(book, calf.owner)
@@ -89,19 +92,28 @@ def born(book: Book, calf: Calf) -> ByHand:
 def parent_named(book: Book, word: str, may_be_file: bool = True) -> Known | None:
     """The animal that is named as a parent; none where none is, or by a text that a sheet of the book has for an unknown
     one."""
-    said = {
-        kind: [one.word for one in book.remembered if one.what is kind]
-        for kind in (Remembered.UNKNOWN, Remembered.KNOWN)
-    }
-    unknown = UnknownParents(said[Remembered.UNKNOWN], said[Remembered.KNOWN])
-    return None if " ".join(word.split()) in unknown else find(book, word, may_be_file)
+    return None if " ".join(word.split()) in unknown_parents(book) else find(book, word, may_be_file)
+
+
+def unknown_parents(book: Book) -> UnknownParents:
+    """The texts for an unknown parent that sheets of the book have."""
+    more, known = (
+        [one.word for one in book.remembered if one.what is kind] for kind in (Remembered.UNKNOWN, Remembered.KNOWN)
+    )
+    return UnknownParents(more, known)
+
+
+def refuse_to_come(day: datetime.date) -> None:
+    """A mistake where a day is after today, as in a sheet: nobody knows yet whether it comes so."""
+    if day > datetime.date.today():
+        raise Mistake(NotSuch.AFTER_TODAY.said(day=day))
 
 
 def number_for(book: Book, calf: Calf) -> str:
-    """The number that it had before, or else the next one."""
+    """With the digits that it had before, or else the next ones; breed and country are those that are wished."""
     former = book.number_before(calf.id)
     if former:
-        return former[:6] + calf.sex + former[7:]
+        return (calf.breed or former[:3]) + (calf.country or former[3:6]) + calf.sex + former[7:]
     row = (
         book.connection and book.connection.execute("SELECT number FROM animal ORDER BY animal DESC LIMIT 1").fetchone()
     )
@@ -143,6 +155,7 @@ def with_parents(book: Book, known: Known, sire: Known | str | None, dam: Known 
 
 def transferred(book: Book, known: Known, day: datetime.date, taker: str, giver: str | None) -> ByHand:
     """Another owner; the giver is the owner that the book has where none is named."""
+    refuse_to_come(day)
     record = book.records[known.number]
     herd, new_owners = herd_of(book, taker)
     if giver is not None and giver not in book.owners:
@@ -159,6 +172,7 @@ def transferred(book: Book, known: Known, day: datetime.date, taker: str, giver:
 
 def departed(book: Book, known: Known, day: datetime.date) -> ByHand:
     """An exit."""
+    refuse_to_come(day)
     record = book.records[known.number]
     after = known._replace(exit=GIVEN_EXIT, by_hand=known.by_hand | {Field.EXIT})
     found = ValueChanged("exit", day.isoformat(), str(record.left or ""))

@@ -27,6 +27,13 @@ def day(text: str) -> datetime.date:
         raise argparse.ArgumentTypeError(NotSuch.DAY.said(text=text)) from None
 
 
+def day_until_today(text: str) -> datetime.date:
+    found = day(text)
+    if found > datetime.date.today():
+        raise argparse.ArgumentTypeError(NotSuch.AFTER_TODAY.said(day=found))
+    return found
+
+
 def days(text: str) -> int:
     if not text.isdecimal() or int(text) > 10_000:
         raise argparse.ArgumentTypeError(NotSuch.DAYS.said(text=text))

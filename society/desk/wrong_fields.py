@@ -5,7 +5,7 @@ import argparse
 from collections.abc import Callable, Mapping
 
 from society.book.book import Book
-from society.command_line.arguments import day, days, three_letters
+from society.command_line.arguments import day_until_today, days, three_letters
 from society.mistake import Mistake
 from society.reading.options import read_sexes
 from society.taking.remembering import rename_owners
@@ -23,7 +23,7 @@ def owners_of(text: str) -> list[str]:
 READERS: dict[str, Callable[[str], object]] = {
     "breed": three_letters,
     "country": three_letters,
-    "day": day,
+    "day": day_until_today,
     "youngest": days,
     "apart": days,
     "sexes": lambda text: read_sexes([text]),

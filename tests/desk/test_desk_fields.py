@@ -62,7 +62,7 @@ def test_unknown_of_earlier_sheets(empty_site: Site, language: str) -> None:
 
 
 @pytest.mark.parametrize("field, text", [
-    ("day", "morgen"), ("youngest", "x"), ("apart", "-1"), ("sexes", "Zibbe"), ("owner", "Meier"),
+    ("day", "morgen"), ("day", "2199-12-31"), ("youngest", "x"), ("apart", "-1"), ("sexes", "Zibbe"), ("owner", "Meier"),
 ])  # fmt: skip
 def test_wrong_fields(empty_site: Site, field: str, text: str) -> None:
     _, page = look_at(empty_site, TITLES + PAIR, **{field: text})

@@ -72,6 +72,8 @@ def test_as_the_words(
     [
         ("birth", BIRTH | {"id": " "}, "an animal needs an id"),
         ("birth", BIRTH | {"day": "01.03.2024"}, "isn't written as 2001-03-01"),
+        ("birth", BIRTH | {"day": "2199-12-31"}, "the day 2199-12-31 is after today"),
+        ("birth", BIRTH | {"id": "NN"}, "'NN' is a word for an unknown parent"),
         ("birth", BIRTH | {"sex": "x"}, "choose male or female"),
         ("birth", BIRTH | {"sire": "GK-10/294"}, "is GK-10/294b"),
         ("exit", {"id": "", "day": "2024-05-01"}, "the animal is missing"),

@@ -38,7 +38,10 @@ def test_single_commands(flock_desk: Desk) -> None:
     flock_desk.good("undo", "--to", "1")
     flock_desk.good("exit", "a0", "--day", "2012-01-01")
     assert "(HOLGBRF000000000018)" in flock_desk.good("birth", "other", "--sex", "f", "--day", "2012-03-04").out
-    assert "(HOLGBRM000000000017)" in flock_desk.good("birth", "calf", "--sex", "m", "--day", "2012-03-04").out
+    again = ["birth", "calf", "--sex", "m", "--day", "2012-03-04"]
+    assert "(HOLGBRM000000000017)" in flock_desk.good(*again).out
+    flock_desk.good("undo")
+    assert "(SUGGBRM000000000017)" in flock_desk.good(*again, "--breed", "SUG").out
     assert "is whole" in flock_desk.good("verify").out
 
 

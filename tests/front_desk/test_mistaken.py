@@ -73,6 +73,7 @@ WORDS: list[tuple[list[str], str]] = [
     (["take", "good.csv", "--breed", "hol"], "'hol' isn't three letters A to Z"),
     (["take", "good.csv", "--book", "file"], "the folder file can't be written"),
     (["take", "good.csv", "--day", "1/2/2003"], "--day: '1/2/2003' isn't a day written as 2001-03-01 or 01.03.2001"),
+    (["take", "good.csv", "--day", "2199-12-31"], "--day: the day 2199-12-31 is after today: write one that has come"),
     (["list"],
      "there is no book in the folder book: take a sheet first, or go to the folder in which you took one\n"
      f"society:   if good.csv is the sheet:\n    {CALLED} take good.csv\n"),
@@ -124,6 +125,11 @@ WORDS_WITH_A_BOOK: list[tuple[list[str], str]] = [
     (["list", "--sex"], "nothing stands behind --sex"),
     (["list", "--sex", "x"], "--sex: 'x' is no word for a sex: write m or f"),
     (["breed", "--living", "--owner", "x"], "--owner and --living don't go together"),
+    (["birth", "n. n.", "--sex", "f", "--day", "2024-03-01"],
+     "'n. n.' is a word for an unknown parent: give the animal another id"),
+    (["birth", "b", "--sex", "f", "--day", "2199-12-31"], "the day 2199-12-31 is after today: write one that has come"),
+    (["transfer", "a", "--to", "x", "--day", "2199-12-31"], "the day 2199-12-31 is after today"),
+    (["exit", "a", "--day", "31.12.2199"], "the day 2199-12-31 is after today"),
     (["certificate", "a", "--out", "file/x.html"], "file/x.html can't be written: there is no folder file"),
 ]  # fmt: skip
 

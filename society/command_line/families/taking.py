@@ -10,7 +10,7 @@ from typing import TYPE_CHECKING
 
 from society.book.beside import SECONDS_IN_TURN
 from society.book.book_changed import anew_where_a_book_came
-from society.command_line.arguments import day, days, three_letters
+from society.command_line.arguments import day_until_today, days, three_letters
 from society.command_line.output import tell
 from society.command_line.parser import Words
 from society.mistake import Mistake
@@ -97,7 +97,7 @@ def add_words(words: Words) -> None:
         "--country", type=three_letters, metavar="ABC",
         help="the numbers' country [GBR, or as in the book]",
     )  # fmt: skip
-    take.add_argument("--day", type=day, help="the day on which owners changed [today, which is inferred]")
+    take.add_argument("--day", type=day_until_today, help="the day on which owners changed [today, which is inferred]")
     take.add_argument(
         "--preview", action="store_true", help="report what would change and what may be wrong, and write nothing"
     )

@@ -70,6 +70,16 @@ SENTENCES: dict[Sentence, tuple[str, str, str]] = {
         "", "„{text}“ ist kein Jahr von {first} bis {last}.", "« {text} » n'est pas une année de {first} à {last}.",
     ),
     NotSuch.NO_ID: ("", "Ein Tier braucht eine Ohrmarke: schreiben Sie eine.", "Un animal a besoin d'une boucle : écrivez-en une."),
+    NotSuch.NO_ANIMALS_ID: (
+        "",
+        "„{word}“ steht für einen unbekannten Elternteil: geben Sie dem Tier eine andere Ohrmarke.",
+        "« {word} » désigne un parent inconnu : donnez une autre boucle à l'animal.",
+    ),
+    NotSuch.AFTER_TODAY: (
+        "",
+        "Der Tag {day} liegt nach heute: schreiben Sie einen, der gekommen ist.",
+        "La date {day} est après aujourd'hui : écrivez-en une qui est venue.",
+    ),
     Mating.NO_CANDIDATE: (
         "",
         "Das Herdbuch hat keine lebenden Tiere, die {role} sein können{among}: {hint}",
