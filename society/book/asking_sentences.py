@@ -42,6 +42,7 @@ class NotSuch(Sentence):
     NO_ID = "an animal needs an id: write one"
     NO_ANIMALS_ID = "'{word}' is a word for an unknown parent: give the animal another id"
     # a command
+    NO_TAKER = "the new owner is missing: write a name"
     AFTER_TODAY = "the day {day} is after today: write one that has come"
 
 

@@ -18,7 +18,7 @@ from society.book.state import select_rows
 from society.book.writing import Filed, Rows, State, write
 from society.herdbook import Herdbook
 from society.mistake import Mistake
-from society.reading.unknown import UnknownParents
+from society.reading.unknown import UnknownParents, names_no_owner
 from society.refusals import Refusal
 from society.taking.animal_findings import CommandRefused, NewAnimal, ValueChanged
 from society.taking.near_ids import id_alike
@@ -73,18 +73,19 @@ def born(book: Book, calf: Calf) -> ByHand:
     refuse_to_come(calf.day)
     before = book.known.get(calf.id)
     number = before.number if before else number_for(book, calf)
-    herd, new_owners = herd_of(book, calf.owner)
+    owner = "" if names_no_owner(calf.owner) else calf.owner
+    herd, new_owners = herd_of(book, owner)
     sire, dam = (parent.number if parent else "" for parent in (calf.sire, calf.dam))
     said = {
         Field.SEX: True, Field.BIRTH: True, Field.NAME: calf.name, Field.SIRE: sire, Field.DAM: dam,
-        Field.OWNER: calf.owner, Field.EMBRYO: calf.embryo,
+        Field.OWNER: owner, Field.EMBRYO: calf.embryo,
     }  # fmt: skip
     by_hand = frozenset(one for one, value in said.items() if value)
     known = Known(number, calf.id, calf.name, Standing.FILED, by_hand=by_hand)
     command = birth(number, calf.day, sire, dam, herd, calf.embryo)
     findings = (
         NewAnimal(number), *id_alike(book, calf.id), *young_parents(book, calf.day, calf.sire, calf.dam),
-        *new_owner(book, calf.owner),
+        *new_owner(book, owner),
     )  # fmt: skip
     return ByHand(ChangeKind.BIRTH, command, known, findings, new_owners)
 
@@ -155,6 +156,8 @@ def with_parents(book: Book, known: Known, sire: Known | str | None, dam: Known 
 
 def transferred(book: Book, known: Known, day: datetime.date, taker: str, giver: str | None) -> ByHand:
     """Another owner; the giver is the owner that the book has where none is named."""
+    if names_no_owner(taker):
+        raise Mistake(NotSuch.NO_TAKER.said())
     refuse_to_come(day)
     record = book.records[known.number]
     herd, new_owners = herd_of(book, taker)

@@ -108,8 +108,6 @@ class Form:
         return tuple(role for role in ROLES if self.text(role) != " ".join(shown[role].split())) or ROLES
 
     def transfer(self, book: Book) -> ByHand:
-        if not self.text("to"):
-            raise Mistake(DeskFault.NO_OWNER.said())
         return transferred(book, self.animal(book), self.day(), self.text("to"), None)
 
 

@@ -12,7 +12,6 @@ class DeskFault(Sentence):
     NO_DAY = "the day is missing, or isn't written as 2001-03-01"
     NO_ANIMAL = "the animal is missing: write its id, name or number"
     NO_SEX = "the sex is missing: choose male or female"
-    NO_OWNER = "the new owner is missing: write a name"
     PARENTS_CHANGED = "somebody gave {id} other parents meanwhile: look at them, and file it again"
     NONE_OF_THESE = "the book has none of these animals: ask for others"
     CLOSING = "the desk is being closed: nothing is filed. Try again when it is open"

@@ -129,6 +129,8 @@ WORDS_WITH_A_BOOK: list[tuple[list[str], str]] = [
      "'n. n.' is a word for an unknown parent: give the animal another id"),
     (["birth", "b", "--sex", "f", "--day", "2199-12-31"], "the day 2199-12-31 is after today: write one that has come"),
     (["transfer", "a", "--to", "x", "--day", "2199-12-31"], "the day 2199-12-31 is after today"),
+    (["transfer", "a", "--to", "", "--day", "2024-03-01"], "the new owner is missing: write a name"),
+    (["transfer", "a", "--to", "?", "--day", "2024-03-01"], "the new owner is missing: write a name"),
     (["exit", "a", "--day", "31.12.2199"], "the day 2199-12-31 is after today"),
     (["certificate", "a", "--out", "file/x.html"], "file/x.html can't be written: there is no folder file"),
 ]  # fmt: skip

@@ -143,6 +143,8 @@ def test_words_that_are_no_owner(desk: Desk) -> None:
     done = desk.take(TITLES + PARENTS.replace("02;;;Meier", "02;;;?") + "".join(rows) + "b;F;2001-03-03;;;NB;\n")
     done.tells("line 3: d: inferred: owner Meier, as in the book, since its cell gives none")
     assert " 0 changed" in done.last
+    desk.good("birth", "c", "--sex", "f", "--day", "2012-03-04", "--owner", "-")
+    assert [owner for _, owner in desk.owners()] == ["Meier", "NB"]
 
 
 def test_owner_is_written_otherwise(desk: Desk) -> None:

@@ -75,6 +75,9 @@ SENTENCES: dict[Sentence, tuple[str, str, str]] = {
         "„{word}“ steht für einen unbekannten Elternteil: geben Sie dem Tier eine andere Ohrmarke.",
         "« {word} » désigne un parent inconnu : donnez une autre boucle à l'animal.",
     ),
+    NotSuch.NO_TAKER: (
+        "", "Der neue Besitzer fehlt: schreiben Sie einen Namen.", "Le nouveau propriétaire manque : écrivez un nom.",
+    ),
     NotSuch.AFTER_TODAY: (
         "",
         "Der Tag {day} liegt nach heute: schreiben Sie einen, der gekommen ist.",
@@ -149,9 +152,6 @@ SENTENCES: dict[Sentence, tuple[str, str, str]] = {
         "L'animal manque : écrivez sa boucle, son nom ou son numéro.",
     ),
     DeskFault.NO_SEX: ("", "Das Geschlecht fehlt: wählen Sie männlich oder weiblich.", "Le sexe manque : choisissez mâle ou femelle."),
-    DeskFault.NO_OWNER: (
-        "", "Der neue Besitzer fehlt: schreiben Sie einen Namen.", "Le nouveau propriétaire manque : écrivez un nom.",
-    ),
     DeskFault.NONE_OF_THESE: (
         "", "Das Herdbuch hat keines dieser Tiere: fragen Sie nach anderen.", "Le livre n'a aucun de ces animaux : demandez-en d'autres.",
     ),
