@@ -98,5 +98,10 @@ TEXTS = {
     ),
     "as the browser": ("as the browser says", "wie der Browser sagt", "selon le navigateur"),
     "keep settings": ("Keep the settings", "Einstellungen speichern", "Enregistrer les réglages"),
+    "set meanwhile": (
+        "{}: somebody else wrote “{}” meanwhile. Look at it, and keep the settings again.",
+        "{}: inzwischen wurde „{}“ eingetragen. Sehen Sie nach und speichern Sie noch einmal.",
+        "{} : quelqu'un d'autre a écrit « {} » entre-temps. Vérifiez et enregistrez de nouveau.",
+    ),
     "settings kept": ("The settings are kept.", "Die Einstellungen sind gespeichert.", "Les réglages sont enregistrés."),
 }  # fmt: skip
