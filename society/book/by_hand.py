@@ -10,15 +10,17 @@ from society.book.changes import Change, Made, Option, Told
 from society.book.commands import Command, Record, birth, leave, parents, record_after, transfer
 from society.book.inferred import GIVEN_EXIT, OwnerDay
 from society.book.journal import Step
-from society.book.kinds import ChangeKind, Field, Remembered, Standing
+from society.book.kinds import ChangeKind, Field, Standing
 from society.book.known import BREED, COUNTRY, Known
 from society.book.rows import row_of
 from society.book.search import find
+from society.book.settings import Setting, settings_of
 from society.book.state import select_rows
+from society.book.unknown_parents import unknown_parents
 from society.book.writing import Filed, Rows, State, write
 from society.herdbook import Herdbook
 from society.mistake import Mistake
-from society.reading.unknown import UnknownParents, names_no_owner
+from society.reading.unknown import names_no_owner
 from society.refusals import Refusal
 from society.taking.animal_findings import CommandRefused, NewAnimal, ValueChanged
 from society.taking.near_ids import id_alike
@@ -91,17 +93,9 @@ def born(book: Book, calf: Calf) -> ByHand:
 
 
 def parent_named(book: Book, word: str, may_be_file: bool = True) -> Known | None:
-    """The animal that is named as a parent; none where none is, or by a text that a sheet of the book has for an unknown
-    one."""
+    """The animal that is named as a parent; none where none is, or by a text that stands for an unknown one in the
+    book."""
     return None if " ".join(word.split()) in unknown_parents(book) else find(book, word, may_be_file)
-
-
-def unknown_parents(book: Book) -> UnknownParents:
-    """The texts for an unknown parent that sheets of the book have."""
-    more, known = (
-        [one.word for one in book.remembered if one.what is kind] for kind in (Remembered.UNKNOWN, Remembered.KNOWN)
-    )
-    return UnknownParents(more, known)
 
 
 def refuse_to_come(day: datetime.date) -> None:
@@ -111,15 +105,18 @@ def refuse_to_come(day: datetime.date) -> None:
 
 
 def number_for(book: Book, calf: Calf) -> str:
-    """With the digits that it had before, or else the next ones; breed and country are those that are wished."""
+    """With the digits that it had before, or else the next ones; breed and country are those that are wished, and of a
+    new one else those of the settings, or of the last number."""
     former = book.number_before(calf.id)
     if former:
         return (calf.breed or former[:3]) + (calf.country or former[3:6]) + calf.sex + former[7:]
     row = (
         book.connection and book.connection.execute("SELECT number FROM animal ORDER BY animal DESC LIMIT 1").fetchone()
     )
-    last = row[0] if row else BREED + COUNTRY
-    return f"{calf.breed or last[:3]}{calf.country or last[3:6]}{calf.sex}{book.greatest_digits() + 1:012}"
+    last, settings = row[0] if row else BREED + COUNTRY, settings_of(book)
+    breed = calf.breed or settings[Setting.BREED] or last[:3]
+    country = calf.country or settings[Setting.COUNTRY] or last[3:6]
+    return f"{breed}{country}{calf.sex}{book.greatest_digits() + 1:012}"
 
 
 def herd_of(book: Book, owner: str) -> tuple[int, dict[str, int]]:

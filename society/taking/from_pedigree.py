@@ -8,6 +8,7 @@ from society.book.files import source_of
 from society.book.in_the_way import check_place
 from society.book.kinds import Field
 from society.book.opening import to_look_at
+from society.book.unknown_parents import unknown_parents
 from society.herdbook import Herdbook
 from society.mistake import Mistake, counted
 from society.reading.day_cells import DayCells
@@ -15,7 +16,6 @@ from society.reading.options import read_given
 from society.reading.pedigree_lines import STANDARD_INPUT, given_bytes
 from society.reading.pedigree_titles import READ
 from society.reading.triples import Triples, read_triples
-from society.reading.unknown import UnknownParents
 from society.taking.birth_days import find_days
 from society.taking.both_parents import leave_out_same_parent, refuse_both
 from society.taking.cycles import cut_cycles
@@ -29,6 +29,7 @@ from society.taking.next_book import NextBook
 from society.taking.other_animals import add_others
 from society.taking.outcome import Outcome
 from society.taking.parents_elsewhere import refuse_alike
+from society.taking.remembering import with_settings
 from society.taking.report import Report
 from society.taking.saving import Prepared, take
 from society.taking.screen import told_with
@@ -57,7 +58,8 @@ def take_into(
     book.read_all()
     report = Report()
     source = source_of(path, given_bytes(path))
-    days = DayCells(UnknownParents(wishes.unknown), month_first=False)
+    days = DayCells(unknown_parents(book, wishes.unknown, wishes.known), month_first=False)
+    wishes = with_settings(book, wishes)
     triples = read_triples(path, given_columns(wishes.columns), days.unknown, report)
     animals, about = triples.animals, [*triples.told]
     ids = animals.keys() | book.known.keys()

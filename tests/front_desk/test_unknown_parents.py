@@ -48,6 +48,22 @@ def test_single_commands(desk: Desk) -> None:
     desk.wrong("the book has no animal 'x'", "parents", "c", "--dam", "x")
 
 
+def test_words_of_the_book(desk: Desk) -> None:
+    """Pedigrees and commands by hand have those that sheets named, and those of the settings, as sheets do."""
+    desk.take(TITLES + "s;M;2001-01-01;;\nNN;F;2001-01-01;;\nc;F;2004-01-01;s;NN\n", "--known", "NN", "--unknown", "fremd")
+    desk.good("settings", "--unknown", "Nemo, Extern", "--breed", "SKU", "--country", "CHE")
+    desk.good("birth", "n", "--sex", "f", "--day", "2020-01-01", "--sire", "nemo", "--dam", "NN")
+    assert desk.numbers()["n"][:6] == "SKUCHE"
+    pedigree = desk.write("p.txt", "id sire dam sex birth\na Nemo fremd F 2005-01-01\nb extern NN M 2005-02-01\n")
+    assert " 0 added, " in desk.good("take", "--pedigree", pedigree).last
+    assert desk.parents() | {"n": ("", "NN"), "a": ("", ""), "b": ("", "NN")} == desk.parents()
+    assert {number[:6] for number in desk.numbers().values()} == {"SKUCHE"}
+    assert " 0 changed" in desk.good("take", "sheet.csv").last
+    # what is said now holds over the settings
+    done = desk.good("take", "--pedigree", pedigree, "--known", "Nemo")
+    assert " 1 added, " in done.last and desk.parents()["a"] == ("Nemo", "")
+
+
 def test_error_values(desk: Desk) -> None:
     """They are empty in any cell, and told; what the book has stays."""
     rows = "s;M;2001-01-01;;\n" + "".join(f"a{at};F;2004-01-01;s;\n" for at, _ in enumerate(ERRORS))
