@@ -45,7 +45,7 @@ def free_name(name: str, herd: int, taken: Collection[str]) -> str:
 def renamings(came: Mapping[str, int], now: Mapping[int, str]) -> list[tuple[str, str]]:
     """What is to be remembered: for owners by the names by which they came, with their herds, and those by which they
     are written now, the name before and after of each renaming. None is named as another one is at that moment: where
-    owners have one another's names, one of them has another one for so long."""
+    owners have one another's names, one of them has another one for so long, by which none came."""
     herds, names = {herd: name for name, herd in came.items()}, dict(came)
     wanted = {herd: now[herd] for herd, name in herds.items() if now.get(herd, name) != name}
     found: list[tuple[str, str]] = []
@@ -53,7 +53,7 @@ def renamings(came: Mapping[str, int], now: Mapping[int, str]) -> list[tuple[str
         herd = next((one for one, name in wanted.items() if name not in names), None)
         if herd is None:
             herd = next(iter(wanted))
-            name = free_name(herds[herd], herd, [*names, *wanted.values()])
+            name = free_name(herds[herd], herd, {*came, *names})
         else:
             name = wanted.pop(herd)
         found.append((herds[herd], name))

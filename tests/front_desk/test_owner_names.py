@@ -34,6 +34,14 @@ def test_names_that_go_from_owner_to_owner(desk: Desk) -> None:
     assert owners_listed(desk) == list(OWNERS)
 
 
+def test_names_for_a_while(desk: Desk) -> None:
+    """None is one by which another owner came, though that one is written otherwise now."""
+    desk.take(owners_sheet("A", "B", "A (herd 1)"))
+    desk.take(owners_sheet("A", "B", "C"), "--owner", "A (herd 1)=C")
+    desk.take(owners_sheet("B", "A", "C"), "--owner", "A=x", "--owner", "B=A", "--owner", "x=B")
+    assert owners_listed(desk) == ["B", "A", "C"] and desk.transfer_days() == []
+
+
 def test_new_owner_of_a_name_of_before(desk: Desk) -> None:
     """The name of an owner who is written otherwise now, also for a while, may be another's."""
     desk.take(owners_sheet(*OWNERS))
