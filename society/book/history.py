@@ -8,17 +8,21 @@ import os
 import pwd
 import sqlite3
 import time
+from collections.abc import Iterable
 
 from society.book.changes import Change, Made, Option, Source, Told
 from society.book.journal import Journal
 from society.book.kinds import ChangeKind
 from society.book.many_rows import insert_many
+from society.book.state import TABLES
 
 COLUMNS = "change, kind, time, login, edition, length, file, path, digest, undone_to"
 # the kinds of changes that are one command, which may be refused
 FILED_BY_HAND = (ChangeKind.BIRTH, ChangeKind.PARENTS, ChangeKind.TRANSFER, ChangeKind.EXIT)
 # those of them by which nothing of another animal changes
 ONE_BY_ONE = (ChangeKind.BIRTH.value, ChangeKind.TRANSFER.value, ChangeKind.EXIT.value)
+# those that make a state as a whole
+WHOLE_STATES = (ChangeKind.TAKE, ChangeKind.PEDIGREE, ChangeKind.UNDO, ChangeKind.RESTORE)
 EPOCH = datetime.datetime(1970, 1, 1, tzinfo=datetime.timezone.utc)
 # who works here by a name of the society's own, as those at a desk with accounts; empty for whom the system names
 WORKER: contextvars.ContextVar[str] = contextvars.ContextVar("worker", default="")
@@ -122,10 +126,19 @@ def changed_one_by_one(connection: sqlite3.Connection, then: Change) -> bool:
 
 
 def last_that_changed(connection: sqlite3.Connection) -> int:
-    """The last change that changed the book, 0 for none: a command that was refused stands in the journal alone."""
-    kinds = ", ".join(f"'{kind.value}'" for kind in FILED_BY_HAND)
-    refused = f"kind IN ({kinds}) AND change IN (SELECT change FROM counted WHERE what = 'refused')"
-    return int(connection.execute(f"SELECT ifnull(max(change), 0) FROM change WHERE NOT ({refused})").fetchone()[0])
+    """The last change that changed the book, 0 for none: a command that was refused stands in the journal alone, and of
+    a whole state everything may be as it was."""
+    refused = f"kind IN ({listed(FILED_BY_HAND)}) AND change IN (SELECT change FROM counted WHERE what = 'refused')"
+    touched = (f"EXISTS (SELECT 1 FROM {table.name} WHERE one.change IN (since, until))" for table in TABLES)
+    same = f"kind IN ({listed(WHOLE_STATES)}) AND NOT ({' OR '.join(touched)})"
+    # the newest first, so that the tables aren't searched for all of them
+    changed = f"SELECT change FROM change AS one WHERE NOT ({refused}) AND NOT ({same}) ORDER BY change DESC LIMIT 1"
+    found = connection.execute(changed).fetchone()
+    return int(found[0]) if found else 0
+
+
+def listed(kinds: Iterable[ChangeKind]) -> str:
+    return ", ".join(f"'{kind.value}'" for kind in kinds)
 
 
 def taken_back_by(connection: sqlite3.Connection, number: int) -> int:

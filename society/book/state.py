@@ -1,6 +1,7 @@
 """The state of a book after a change: its animals, the last cells of each, and what it remembers of its sheets."""
 from __future__ import annotations
 
+import itertools
 import operator
 import sqlite3
 from typing import Callable, Iterable, NamedTuple
@@ -89,8 +90,9 @@ def read_remembered(connection: sqlite3.Connection) -> list[Meaning]:
 
 
 def remembered_rows(meanings: Iterable[Meaning]) -> dict[Values, Values]:
-    """The rows of what is remembered; of a word that is given twice the last meaning holds."""
-    rows = ((one.what.value, one.word, place, one.meaning) for place, one in enumerate(meanings))
+    """The rows of what is remembered, each kind in its order; of a word that is given twice the last meaning holds."""
+    places = {kind: itertools.count() for kind in Remembered}
+    rows = ((one.what.value, one.word, next(places[one.what]), one.meaning) for one in meanings)
     return keyed(REMEMBERED, rows)
 
 

@@ -10,7 +10,6 @@ from society.book.files import source_of
 from society.book.in_the_way import check_place
 from society.book.kinds import Field, Remembered
 from society.book.opening import to_look_at
-from society.book.state import Meaning
 from society.herdbook import Herdbook
 from society.mistake import MOST_NAMED
 from society.one_call import keep
@@ -27,7 +26,7 @@ from society.taking.finish import About, finish, tell
 from society.taking.next_book import NextBook
 from society.taking.obstacles import NoRowTaken
 from society.taking.outcome import Outcome
-from society.taking.remembering import Words, again, limits_of, remember, rename_owners, with_settings
+from society.taking.remembering import Words, again, limits_of, remember, remember_columns, rename_owners, with_settings
 from society.taking.report import CantBeTaken, Report
 from society.taking.saving import Prepared, take
 from society.taking.screen import told_with
@@ -74,7 +73,7 @@ def take_into(
     next_book = NextBook(book, read.animals, set(read.columns.found), read.report, read.rows.cells.days)
     complete(next_book, read.columns, wishes)
     understood = understood_of(path, read, again(words, wishes), titles_before(book))
-    book.remembered += [Meaning(Remembered.COLUMN, *pair) for pair in read.columns.titles_found()]
+    remember_columns(book, read.columns.titles_found())
     about = About(wishes.call(str(path)), understood.lines(), understood, limits_of(words))
     return finish(next_book, program, wishes, source, about)
 

@@ -59,6 +59,13 @@ def remember(book: Book, wishes: Wishes) -> Words:
     return both
 
 
+def remember_columns(book: Book, titles: list[tuple[str, str]]) -> None:
+    """The titles of the sheet's columns, by field; those of other fields stay, and so does what is as it was."""
+    columns = {one.word: one for one in book.remembered if one.what is Remembered.COLUMN}
+    columns |= {field: Meaning(Remembered.COLUMN, field, title) for field, title in titles}
+    book.remembered = [one for one in book.remembered if one.what is not Remembered.COLUMN] + [*columns.values()]
+
+
 def without(words: list[str], taken_back: list[str]) -> list[str]:
     """The words of an option, each of which may be several, without those that another option names."""
     taken = {word.casefold() for one in taken_back for word in listed(one)}

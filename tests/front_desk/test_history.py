@@ -141,6 +141,19 @@ def test_undo(flock_desk: Desk) -> None:
     assert [line.split("  ")[0] for line in flock_desk.good("history").out.splitlines()] == list("12345678")
 
 
+def test_undo_passes_over_what_changed_nothing(flock_desk: Desk) -> None:
+    """A sheet that says what the book has, a restoring, and a state that is brought back and was there already."""
+    first = flock_desk.good("list").out
+    flock_desk.good("exit", "a15", "--day", "2012-01-01")
+    assert "is refused" in flock_desk.run("exit", "a15", "--day", "2012-01-01").err
+    assert " 0 changed" in flock_desk.take(FLOCK).last
+    flock_desk.good("backup", "copy")
+    flock_desk.good("restore", "copy", "--anyway")
+    flock_desk.good("undo", "--to", "2")
+    assert "brought back the state after change 1" in flock_desk.good("undo").out
+    assert flock_desk.good("list").out == first and "is whole" in flock_desk.good("verify").out
+
+
 def test_what_is_kept_of_a_change(flock_desk: Desk) -> None:
     """Who made it, of which file, with which options, and what it did."""
     login, digest = pwd.getpwuid(os.getuid()).pw_name, hashlib.sha256(GROWN.encode()).hexdigest()
