@@ -57,7 +57,7 @@ class NotAllowed(sqlite3.OperationalError):
 def connect(path: pathlib.Path, mode: str) -> sqlite3.Connection:
     if path.exists() and not os.access(path, os.W_OK):
         raise NotAllowed("it belongs to somebody else, and is only to be read")
-    address = f"file:{urllib.parse.quote(str(path.absolute()))}?mode={mode}"
+    address = f"file:{urllib.parse.quote(os.fsencode(path.absolute()))}?mode={mode}"
     connection = sqlite3.connect(address, uri=True, timeout=SECONDS_TO_WAIT, isolation_level=None)
     connection.execute("PRAGMA foreign_keys = ON")
     return connection

@@ -64,10 +64,14 @@ def digest_of(text: bytes) -> str:
     return hashlib.sha256(text).hexdigest()
 
 
+def place_of(path: pathlib.Path) -> str:
+    """Where a file is, as it is kept. Bytes of a folder's name that aren't UTF-8 text are told by their numbers."""
+    return os.fsencode(path.resolve()).decode(errors="backslashreplace")
+
+
 def source_of(path: pathlib.Path, text: bytes) -> Source:
-    """What is kept of a file that was read. Bytes of a folder's name that aren't UTF-8 text are told by their numbers."""
-    place = os.fsencode(path.resolve()).decode(errors="backslashreplace")
-    return Source(path.name, place, digest_of(text))
+    """What is kept of a file that was read."""
+    return Source(path.name, place_of(path), digest_of(text))
 
 
 def cant_be_written(path: pathlib.Path, error: OSError) -> Mistake:

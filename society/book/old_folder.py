@@ -15,7 +15,7 @@ from society.book.changes import Made, Source
 from society.book.commands import Command, Record, read_commands, replay
 from society.book.book_changed import changing, creating
 from society.book.database import path_of
-from society.book.files import digest_of, put
+from society.book.files import digest_of, place_of, put
 from society.book.journal import Step
 from society.book.inferred import OwnerDay
 from society.book.kinds import ChangeKind, Field, Remembered, Standing
@@ -106,8 +106,7 @@ def clear(folder: pathlib.Path) -> None:
 
 def write_old(book: Book, program: Herdbook, old: OldBook, text: bytes) -> None:
     """The book of the files, once it is seen that it is whole."""
-    place = (book.folder / OLD / COMMANDS).resolve()
-    made = Made(ChangeKind.FOLDER, Source(COMMANDS, str(place), digest_of(text)))
+    made = Made(ChangeKind.FOLDER, Source(COMMANDS, place_of(book.folder / OLD / COMMANDS), digest_of(text)))
     in_book = {id: known for id, known in old.known.items() if known.standing is not Standing.DROPPED}
     made = replace(made, counts=(("animals", len(in_book)), ("commands", len(old.commands))))
     records = replay(old.commands)

@@ -8,7 +8,7 @@ import pathlib
 from society.book.book import Book
 from society.book.database import ACCOUNTS, companions, path_of
 from society.book.exports import NAMES
-from society.book.files import cant_be_written, digest_of, put
+from society.book.files import cant_be_written, digest_of, place_of, put
 from society.book.last_backup import NAME as LAST_BACKUP
 from society.book.old_names import OLD, OLD_NAMES
 from society.mistake import Mistake
@@ -95,6 +95,6 @@ def is_taken_sheet(book: Book, path: pathlib.Path) -> bool:
     taken = book.connection.execute("SELECT path, digest FROM change WHERE digest IS NOT NULL").fetchall()
     paths, digests = {place for place, _ in taken}, {digest for _, digest in taken}
     try:
-        return str(path.resolve()) in paths or digest_of(path.read_bytes()) in digests
+        return place_of(path) in paths or digest_of(path.read_bytes()) in digests
     except OSError as error:
         raise cant_be_written(path, error) from None

@@ -9,6 +9,7 @@ from typing import Callable
 import pytest
 
 from front_desk.desk import Desk
+from front_desk.old_folder import LIST, write_old
 from society.book.files import put, source_of
 
 
@@ -59,3 +60,22 @@ def test_names_that_are_no_text(desk: Desk, tmp_path: pathlib.Path) -> None:
     folder = tmp_path / "f\udce4l"
     folder.mkdir()
     assert source_of(folder / "a.csv", b"").path == rf"{tmp_path.resolve()}/f\xe4l/a.csv"
+
+
+def test_folder_whose_name_is_no_text(desk: Desk) -> None:
+    """A book in it is made, asked, changed, copied and restored; and so is one of version 0.11."""
+    there = Desk(desk.room / "f\udce4l", desk.program)
+    there.take("id,sex,born,sire,dam,owner\na,F,2001-01-01,,,Nord\n")
+    listed = there.good("list").out
+    there.good("backup", "copy")
+    there.good("exit", "a", "--day", "2010-01-01")
+    there.good("certificate", "a", "--out", "a.html")
+    there.good("restore", "copy", "--anyway")
+    assert there.good("list").out == listed and "is whole" in there.good("verify").out
+    there.wrong("report.csv is a file of the book", "list", "--out", "book/report.csv", "--force")
+    there.write("sheet.csv", "changed since")
+    there.wrong("sheet.csv is a sheet that was taken", "list", "--out", "sheet.csv", "--force")
+    assert "took the sheet sheet.csv" in there.good("history").out
+    (there.room / "book").rename(there.room / "other")
+    write_old(there)
+    assert there.good("list").out == LIST
