@@ -34,10 +34,7 @@ def opened(folder: pathlib.Path, program: Herdbook) -> Iterator[Book]:
     """The book as it is now, whoever changes it meanwhile; it has to be there."""
     take_over(folder, program)
     up_to_date(folder)
-    with reading(folder) as connection:
-        if connection is None:
-            raise no_book(folder)
-        book = Book(folder, connection)
+    with only_read(folder) as book:
         yield book
     # whoever asks waits for less before the answer
     from society.book.exports import are_fresh, refresh
@@ -45,6 +42,15 @@ def opened(folder: pathlib.Path, program: Herdbook) -> Iterator[Book]:
     if book.change is not None and not are_fresh(folder, book.change):
         # somebody who changes the book writes them too, and in a folder without rights they stay as they are
         refresh(folder, 0)
+
+
+@contextlib.contextmanager
+def only_read(folder: pathlib.Path) -> Iterator[Book]:
+    """The same where nothing may be written: a book of an earlier version stays one."""
+    with reading(folder) as connection:
+        if connection is None:
+            raise no_book(folder)
+        yield Book(folder, connection)
 
 
 def no_book(folder: pathlib.Path) -> Mistake:

@@ -8,7 +8,7 @@ from dataclasses import dataclass
 from fractions import Fraction
 
 from society.book.book import Book
-from society.book.opening import opened
+from society.book.opening import only_read
 from society.breed import from_book
 from society.breed.breed_page import Words, breed_part
 from society.breed.breed_state import state_of
@@ -19,7 +19,6 @@ from society.desk.desk import Desk
 from society.desk.jobs import Job, Stage
 from society.desk.kept import mark_of
 from society.desk.sentences import DeskFault
-from society.herdbook import Herdbook
 from society.mistake import Mistake
 from society.pages.languages import LANGUAGES
 
@@ -50,7 +49,7 @@ def measures_of(desk: Desk, book: Book, whom: Whom) -> Job:
 
 
 def measured(folder: pathlib.Path, whom: Whom, tell: Tell) -> Measured:
-    with opened(folder, Herdbook()) as book:
+    with only_read(folder) as book:
         breed = breed_of(book)
         population = population_of(breed, whom)
         if not population:

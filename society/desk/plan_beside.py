@@ -9,7 +9,7 @@ from dataclasses import dataclass
 from fractions import Fraction
 
 from society.book.book import Book
-from society.book.opening import opened
+from society.book.opening import only_read
 from society.book.sentences import BookFault
 from society.breed.assumed import Asked, Prepared, prepared, usual_bounds
 from society.breed.mated import Planned, best_plan, plan_table
@@ -124,7 +124,7 @@ def compare(desk: Desk, plan: PlanMade) -> None:
 
 def planned(folder: pathlib.Path, asked: Asked, tell: Tell) -> PlanMade:
     program = Herdbook()
-    with opened(folder, program) as book:
+    with only_read(folder) as book:
         tell(Doing.COEFFICIENTS)
         among = prepared(book, asked)
         return made(book, best_plan(book, program, among.dams, among.sires, among.rules), among)

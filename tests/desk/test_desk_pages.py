@@ -11,6 +11,7 @@ import pytest
 from desk.site import Site, form_in, shown
 from desk.test_desk_filing import BIRTH, DAM, SIRE
 from front_desk.desk import Desk
+from front_desk.old_folder import write_old
 from society.book.changes import Change, Option
 from society.book.history import EPOCH, FILED_BY_HAND
 from society.book.kinds import ChangeKind, Field
@@ -279,3 +280,10 @@ def test_none_found(site: Site, path: str) -> None:
         assert TEXTS["none found"][0] in shown(page) and 'href="/animals"' in page
     else:
         assert "Nobody Of That" in shown(page)
+
+
+def test_folder_of_an_earlier_version(empty_site: Site, desk: Desk) -> None:
+    """A folder of version 0.11 that isn't taken over is no empty one."""
+    assert TEXTS["no book yet"][0] in shown(empty_site.page("/"))
+    write_old(desk)
+    assert TEXTS["old folder"][0] in shown(empty_site.page("/"))

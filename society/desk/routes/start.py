@@ -6,6 +6,7 @@ import functools
 from flask import Blueprint, redirect, render_template, request, session, url_for
 from werkzeug.wrappers import Response
 
+from society.book.backup import has_old_files
 from society.book.history import last_changes
 from society.desk.change_lines import lines_of
 from society.desk.desk import Answer, the_desk
@@ -25,7 +26,8 @@ def start() -> Answer:
     desk = the_desk()
     with desk.opened() as book:
         if book is None or book.connection is None or book.change is None:
-            return render_template("begin.html", has_example=EXAMPLE.exists(), taking=desk.jobs.under_way(TAKING))
+            taking, is_old = desk.jobs.under_way(TAKING), has_old_files(desk.folder)
+            return render_template("begin.html", has_example=EXAMPLE.exists(), taking=taking, is_old=is_old)
         glance = desk.kept.of(book, ("glance",), functools.partial(desk.glances.of, book))
         last = lines_of(book.connection, last_changes(book.connection, LAST_CHANGES), the_words())
         return render_template("start.html", glance=glance, changes=last)

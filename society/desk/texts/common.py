@@ -26,6 +26,14 @@ TEXTS = {
         "In diesem Ordner gibt es noch kein Herdbuch.",
         "Il n'y a pas encore de livre dans ce dossier.",
     ),
+    "old folder": (
+        "This folder has a book of version 0.11, which isn't taken over yet: whoever opened the desk opens it anew for that, "
+        "without --read-only.",
+        "In diesem Ordner ist ein Herdbuch der Version 0.11, das noch nicht übernommen ist: dafür startet das Programm neu, "
+        "wer es gestartet hat, ohne --read-only.",
+        "Ce dossier a un livre de la version 0.11, qui n'est pas encore repris : qui a ouvert le programme le rouvre pour "
+        "cela, sans --read-only.",
+    ),
     "book under way": (
         "The book is being made: it is here when that is done.",
         "Das Herdbuch wird gerade angelegt: danach steht es hier.",
