@@ -159,7 +159,8 @@ def test_last_cells() -> None:
     before = {(id,): (id, *(f"{field} of {id}" for field in CELL_FIELDS)) for id in "ab"}
     rows = Animal("a", 2, cells={Field.NAME: "A", Field.OWNER: ""}), Animal("c", 3, cells={Field.NAME: "C"})
     animals = {one.id: one for one in (*rows, Animal("b", cells={Field.NAME: "B"}))}
-    cells = cell_rows(cast(NextBook, SimpleNamespace(book=SimpleNamespace(cells=before, renamed=[]), animals=animals)))
+    book = SimpleNamespace(cells=before, renamed=[])
+    cells = cell_rows(cast(NextBook, SimpleNamespace(book=book, animals=animals, is_pedigree=False)))
     changed = {Field.NAME: "A", Field.OWNER: ""}
     assert cells["a",] == ("a", *(changed.get(field, f"{field} of a") for field in CELL_FIELDS))
     assert cells["b",] == before["b",] and cells["c",] == ("c", "C", *[None] * (len(CELL_FIELDS) - 1))
