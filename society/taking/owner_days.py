@@ -163,11 +163,11 @@ class OwnerDays:
         found = []
         for place, (command, day) in enumerate(zip(transfers, days)):
             moved = min(max(day, low), high) if low <= high else low
-            is_last, owner = place == len(transfers) - 1, self.book.owner_of(int(command.taker))
-            if is_last and since and since.has(moved) and not since.is_day:
+            is_last = place == len(transfers) - 1
+            if is_last and since and not since.is_day and since.has(moved):
                 self.tell(animal, OwnerDayInferred(moved, since.period()))
             elif moved != day and (since or not is_last or not animal.owner_day.is_inferred):
-                self.tell(animal, OwnerDayMoved(owner, day, moved))
+                self.tell(animal, OwnerDayMoved(self.book.owner_of(int(command.taker)), day, moved))
             if moved != day and is_last:
                 animal.owner_day = OwnerDay.INFERRED
             found.append(command._replace(day=moved.isoformat()))
