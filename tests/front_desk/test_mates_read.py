@@ -129,7 +129,7 @@ def test_advice_where_the_journal_can_not_be_read_beside(mrode_desk: Desk, monke
 
 def test_many_sires_are_asked_for_in_parts(mrode_desk: Desk, monkeypatch: pytest.MonkeyPatch) -> None:
     """Each of them, as where all stand in one call; those of one coefficient are in the order of their ids."""
-    mrode_desk.good("birth", "0", "--sex", "m", "--day", "2020-01-01")
+    mrode_desk.good("birth", "0a", "--sex", "m", "--day", "2020-01-01")
     wanted = mrode_desk.good("mating", "--dam", "2").out
     monkeypatch.setenv("HERDBOOK", mrode_desk.program)
     monkeypatch.setattr("society.herdbook.MOST_NUMBERS", 3)
@@ -137,6 +137,6 @@ def test_many_sires_are_asked_for_in_parts(mrode_desk: Desk, monkeypatch: pytest
         book, program = Book(mrode_desk.room / "book", connection), Herdbook()
         read, dam = MatesRead(book, Role.SIRE, False), book.known["2"]
         begun = program.begin_matings(dam.number, read.numbers, book)
-        assert read.ids == ["1", "4", "5", "0"] and len(begun) == 2
+        assert read.ids == ["1", "4", "5", "0a"] and len(begun) == 2
         advice = advise_on_all(book, program, dam, read, begun, False)
-    assert [row[0] for row in advice.table.rows] == ["0", "1", "4", "5"] and advice.table.text(False) == wanted
+    assert [row[0] for row in advice.table.rows] == ["0a", "1", "4", "5"] and advice.table.text(False) == wanted
