@@ -23,14 +23,15 @@ from society.taking.finish import About, finish, tell
 from society.taking.found_sexes import find_sexes
 from society.taking.invented_days import invent_days
 from society.taking.invented_sexes import invent_sexes
+from society.taking.guards import OtherAnimals
 from society.taking.kept_animals import keep_with_ancestors
-from society.taking.lost_links import refuse_lost_links
+from society.taking.lost_links import refuse_lost_links, refuse_used_ids
 from society.taking.next_book import NextBook
 from society.taking.other_animals import add_others
 from society.taking.outcome import Outcome
 from society.taking.parents_elsewhere import refuse_alike
 from society.taking.remembering import with_settings
-from society.taking.report import Report
+from society.taking.report import CantBeTaken, Report
 from society.taking.saving import Prepared, take
 from society.taking.screen import told_with
 from society.taking.suggestions import Call
@@ -67,9 +68,11 @@ def take_into(
         about.append(keep_with_ancestors(animals, wishes.keep))
         report.entries = [entry for entry in report.entries if entry.id in animals]
     if not wishes.leave_out:
-        refuse_alike(animals, ids)
+        refuse_alike(animals, ids, book)
     given = {field.value for field in triples.columns if field is not Field.ID}
     next_book = NextBook(book, animals, given, report, days, is_pedigree=True)
+    if not wishes.anyway:
+        refuse_others(next_book, wishes)
     add_others(next_book, wishes.drop_gone)
     if not wishes.leave_out:
         refuse_both(animals, report)
@@ -82,6 +85,15 @@ def take_into(
     about += invented("standard input" if path == STANDARD_INPUT else str(path), counts)
     invented_for = max(counts.values(), default=0)
     return finish(next_book, program, wishes, source, About(call, about, invented=invented_for))
+
+
+def refuse_others(next_book: NextBook, wishes: Wishes) -> None:
+    """A mistake where the animals of the file look like others than those of the book that have their ids."""
+    refuse_used_ids(next_book.animals, next_book.book)
+    found = OtherAnimals(next_book.book, next_book.animals, next_book.given).of_both()
+    next_book.obstacles += found
+    if found and not wishes.preview:
+        raise CantBeTaken(*found)
 
 
 def given_columns(words: list[str]) -> dict[Field, str]:

@@ -1,8 +1,10 @@
-"""What keeps a sheet from being taken unless it is wished `--anyway`: it looks like another one than the book's."""
+"""What keeps a sheet or a pedigree from being taken unless it is wished `--anyway`: it looks like another one than the
+book's."""
 from __future__ import annotations
 
 import functools
 import re
+from collections.abc import Collection
 
 from society.book.book import Book
 from society.book.kinds import Standing
@@ -28,16 +30,78 @@ FEW_PARENTS = 10
 PARTS = re.compile(r"[\s,;/()\[\]]+")
 
 
-class Guards:
-    """Compares the rows of a sheet with a book, before anything of the book is added to them."""
+class OtherAnimals:
+    """Compares the rows of animals that a book has too with what it says of them, before anything of the book is added
+    to them; `given` are the fields that the rows give."""
+
+    def __init__(self, book: Book, rows: dict[str, Animal], given: Collection[str]) -> None:
+        self.book, self.rows, self.given = book, rows, given
+
+    def of_both(self) -> list[Guard]:
+        found = [self.other_animals(), self.other_sexes(), self.other_parents()]
+        return [guard for guard in found if guard]
+
+    @functools.cached_property
+    def both(self) -> list[tuple[Animal, Known]]:
+        """The rows of animals that the book has, with what it knows of them."""
+        return [(row, known) for id, row in self.rows.items() if (known := self.book.known.get(id))]
+
+    def other_animals(self) -> Guard | None:
+        """Animals that have another birth day than in the book, or the name of another one: an ordinary correction is
+        of a few, and columns that were sorted one without the other change many."""
+        days = [row for row, known in self.both if self.has_other_day(row, known)]
+        ids = {known.name.casefold(): known.id for known in self.book.known.values() if known.name}
+        named = [row for row, known in self.both if ids.get(row.name.casefold(), known.id) != known.id]
+        named = [row for row in named if row.name.casefold() != self.book.known[row.id].name.casefold()]
+        renamed = [row for row in days if row.name.casefold() not in ("", self.book.known[row.id].name.casefold())]
+        if self.are_many(days):
+            what = Changed.NAMES_AND_BIRTH_DAYS if self.are_many(renamed) else Changed.BIRTH_DAYS
+            return self.of_many(what, days)
+        return self.of_many(Changed.NAMES, named) if self.are_many(named) else None
+
+    def has_other_day(self, row: Animal, known: Known) -> bool:
+        """Do both say another day? One that was inferred says nothing."""
+        return row.has_day() and not known.birth.is_inferred and row.birth.first != self.book.records[known.number].born
+
+    def other_sexes(self) -> Guard | None:
+        pairs = [(row, known) for row, known in self.both if row.sex and not known.sex.is_inferred]
+        changed = [row for row, known in pairs if row.sex != known.number[6]]
+        return self.of_many(Changed.SEXES, changed) if self.are_many(changed) else None
+
+    def other_parents(self) -> Guard | None:
+        """Animals that have another animal with a row as a parent than in the book, or none. A parent that is added or
+        that had no row, and one whose cell can't be read, are ordinary."""
+        had_row = {known.number: known.id for known in self.book.known.values() if known.standing.had_row()}
+        changed = []
+        for row, known in self.both:
+            record = self.book.records[known.number]
+            read = [role for role in Role if role in self.given and role not in row.unread]
+            pairs = [(had_row.get(record.parent(role)), row.parent(role)) for role in read]
+            if any(before and before != now and (not now or now in self.rows) for before, now in pairs):
+                changed.append(row)
+        return self.of_many(Changed.PARENTS, changed) if self.are_many(changed) else None
+
+    def are_many(self, changed: list[Animal]) -> bool:
+        return len(changed) > MOST_OTHERS and len(changed) * 100 > PER_HUNDRED * len(self.both)
+
+    def of_many(self, what: Changed, changed: list[Animal]) -> ManyOthers:
+        first = tuple(RowOf(row.id, row.line) for row in changed[:3])
+        is_other = what is Changed.NAMES_AND_BIRTH_DAYS
+        like = LooksLike.ANOTHER_FLOCK if is_other else LooksLike.SORTED_APART
+        return ManyOthers(what, len(changed), len(self.both), first, like)
+
+
+class Guards(OtherAnimals):
+    """Compares all of a sheet with a book."""
 
     def __init__(self, book: Book, rows: dict[str, Animal], columns: Columns) -> None:
-        self.book, self.rows, self.columns = book, rows, columns
+        super().__init__(book, rows, columns.found)
+        self.columns = columns
 
     def of_rows(self) -> list[Guard]:
         """The ids, and what animals are as the rows have them."""
-        found = [self.missing_column(), self.gone(), self.other_animals(), self.other_sexes(), self.other_parents()]
-        return [guard for guard in found if guard]
+        found = [self.missing_column(), self.gone()]
+        return [guard for guard in found if guard] + self.of_both()
 
     def missing_column(self) -> Guard | None:
         lacks = self.columns.lacks_ids
@@ -83,55 +147,6 @@ class Guards:
         days = {(one.name.casefold(), self.book.records[one.number].born) for one in known if not one.birth.is_inferred}
         here = [(row.name.casefold(), row.birth.first) for row in self.rows.values() if row.has_day()]
         return bool(here) and 2 * sum(one in days for one in here) > len(here)
-
-    @functools.cached_property
-    def both(self) -> list[tuple[Animal, Known]]:
-        """The rows of animals that the book has, with what it knows of them."""
-        return [(row, known) for id, row in self.rows.items() if (known := self.book.known.get(id))]
-
-    def other_animals(self) -> Guard | None:
-        """Animals that have another birth day than in the book, or the name of another one: an ordinary correction is
-        of a few, and columns that were sorted one without the other change many."""
-        days = [row for row, known in self.both if self.has_other_day(row, known)]
-        ids = {known.name.casefold(): known.id for known in self.book.known.values() if known.name}
-        named = [row for row, known in self.both if ids.get(row.name.casefold(), known.id) != known.id]
-        named = [row for row in named if row.name.casefold() != self.book.known[row.id].name.casefold()]
-        renamed = [row for row in days if row.name.casefold() != self.book.known[row.id].name.casefold()]
-        if self.are_many(days):
-            what = Changed.NAMES_AND_BIRTH_DAYS if self.are_many(renamed) else Changed.BIRTH_DAYS
-            return self.of_many(what, days)
-        return self.of_many(Changed.NAMES, named) if self.are_many(named) else None
-
-    def has_other_day(self, row: Animal, known: Known) -> bool:
-        """Do both say another day? One that was inferred says nothing."""
-        return row.has_day() and not known.birth.is_inferred and row.birth.first != self.book.records[known.number].born
-
-    def other_sexes(self) -> Guard | None:
-        pairs = [(row, known) for row, known in self.both if row.sex and not known.sex.is_inferred]
-        changed = [row for row, known in pairs if row.sex != known.number[6]]
-        return self.of_many(Changed.SEXES, changed) if self.are_many(changed) else None
-
-    def other_parents(self) -> Guard | None:
-        """Animals that have another animal with a row as a parent than in the book, or none. A parent that is added or
-        that had no row, and one whose cell can't be read, are ordinary."""
-        had_row = {known.number: known.id for known in self.book.known.values() if known.standing.had_row()}
-        changed = []
-        for row, known in self.both:
-            record = self.book.records[known.number]
-            read = [role for role in Role if role in self.columns.found and role not in row.unread]
-            pairs = [(had_row.get(record.parent(role)), row.parent(role)) for role in read]
-            if any(before and before != now and (not now or now in self.rows) for before, now in pairs):
-                changed.append(row)
-        return self.of_many(Changed.PARENTS, changed) if self.are_many(changed) else None
-
-    def are_many(self, changed: list[Animal]) -> bool:
-        return len(changed) > MOST_OTHERS and len(changed) * 100 > PER_HUNDRED * len(self.both)
-
-    def of_many(self, what: Changed, changed: list[Animal]) -> ManyOthers:
-        first = tuple(RowOf(row.id, row.line) for row in changed[:3])
-        is_other = what is Changed.NAMES_AND_BIRTH_DAYS
-        like = LooksLike.ANOTHER_FLOCK if is_other else LooksLike.SORTED_APART
-        return ManyOthers(what, len(changed), len(self.both), first, like)
 
     def behind(self, animals: dict[str, Animal]) -> list[Guard]:
         """What is seen where parents are found by their names, and all animals are there that are to stand in the

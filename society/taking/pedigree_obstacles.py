@@ -7,7 +7,7 @@ from society.book.changes import Option
 from society.book.kinds import Field
 from society.mistake import counted
 from society.taking.obstacles import Obstacle
-from society.taking.suggestions import LEAVE_OUT, Suggestion
+from society.taking.suggestions import ANYWAY, LEAVE_OUT, Suggestion
 
 
 @dataclass(frozen=True, slots=True)
@@ -24,6 +24,23 @@ class LinksLost(Obstacle):
 
     def suggestions(self) -> tuple[Suggestion, ...]:
         return (Suggestion("to take it without them", (LEAVE_OUT,)),)
+
+
+@dataclass(frozen=True, slots=True)
+class IdsUsedAgain(Obstacle):
+    """Lines whose ids the book has for other animals."""
+
+    lines: int
+
+    def words(self) -> str:
+        have = "has an id" if self.lines == 1 else "have ids"
+        return (
+            f"{counted(self.lines, 'line')} {have} that the book has for another animal, and to take one for the other "
+            "changes coefficients"
+        )
+
+    def suggestions(self) -> tuple[Suggestion, ...]:
+        return (Suggestion("if they are the same animals", (ANYWAY,)),)
 
 
 @dataclass(frozen=True, slots=True)
@@ -62,6 +79,24 @@ class ParentsAlike(Obstacle):
 
     def suggestions(self) -> tuple[Suggestion, ...]:
         return (Suggestion("if they are other animals, to take them as founders", (LEAVE_OUT,)),)
+
+
+@dataclass(frozen=True, slots=True)
+class ParentsNamed(Obstacle):
+    """Parents without a line that are names of animals of the book; the first of them are told."""
+
+    parents: int
+    told: str
+
+    def words(self) -> str:
+        are = "has no line and is the name" if self.parents == 1 else "have no line and are names"
+        return (
+            f"{counted(self.parents, 'parent')} {are} of an animal of the book: {self.told}. To take another animal for a "
+            "parent changes coefficients: write the ids"
+        )
+
+    def suggestions(self) -> tuple[Suggestion, ...]:
+        return (Suggestion("to take those of these names where they can be the parents", (LEAVE_OUT,)),)
 
 
 @dataclass(frozen=True, slots=True)
