@@ -19,6 +19,7 @@ from society.book.database import connect, path_of
 from society.book.files import put, table
 from society.book.history import told_by
 from society.book.inferred import GIVEN_BIRTH, GIVEN_EXIT, BirthSource, ExitSource, SexSource
+from society.book.old_beside import keep_old_files
 from society.book.old_words import STANDINGS
 from society.book.rows import birth_basis, exit_basis
 from society.book.state import ALL_ROWS, NOW
@@ -92,6 +93,7 @@ def write_exports(book: Book) -> None:
     change = book.change
     if change is None or are_fresh(book.folder, change):
         return
+    keep_old_files(book.folder)
     with book.journal_read_beside():
         put(book.folder / IDS, ids_text(book, change), change.moment)
         put(book.folder / REPORT, report_text(book, change), change.moment)

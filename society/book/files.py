@@ -22,6 +22,16 @@ def table(
     return text.encode("utf-8-sig" if semicolons else "utf-8")
 
 
+def has_titles(path: pathlib.Path, titles: list[str]) -> bool:
+    """Are these the titles of a file, with commas or with semicolons?"""
+    try:
+        with open(path, encoding="utf-8-sig") as file:
+            first = file.readline().strip()
+    except (OSError, ValueError):
+        return False
+    return first in (",".join(titles), ";".join(titles))
+
+
 def put(path: pathlib.Path, text: bytes, changed: int | None = None, replaces: bool = True) -> None:
     """Writes a file beside its place, under a name that nobody knows before, and then puts it there. `changed` is the
     time at which it was changed. Where it doesn't replace another, one that is there is a `FileExistsError`."""

@@ -6,6 +6,7 @@ import pathlib
 
 from society.book.book import Book
 from society.book.exports import ID_TITLES, IDS, REPORT, REPORT_TITLES
+from society.book.files import has_titles
 from society.book.out import is_one_of, names_of_book
 from society.book.sentences import BookFault
 from society.mistake import Mistake
@@ -28,12 +29,3 @@ def check_new(folder: pathlib.Path) -> None:
         path = folder / name
         if path.is_file() and not has_titles(path, titles):
             raise Mistake(BookFault.FILE_IN_PLACE.said(path=path, folder=folder))
-
-
-def has_titles(path: pathlib.Path, titles: list[str]) -> bool:
-    try:
-        with open(path, encoding="utf-8-sig") as file:
-            first = file.readline().strip()
-    except (OSError, ValueError):
-        return False
-    return first in (",".join(titles), ";".join(titles))

@@ -20,7 +20,9 @@ from society.book.journal import Step
 from society.book.inferred import OwnerDay
 from society.book.kinds import ChangeKind, Field, Remembered, Standing
 from society.book.known import Known
-from society.book.old_names import ALL_NAMES, COMMANDS, IDS, OLD, OLD_NAMES, OPTIONS, OWNERS, PARENTS, REPORT, is_old
+from society.book.old_names import (
+    ALL_NAMES, COMMANDS, ID_TITLES, IDS, OLD, OLD_NAMES, OPTIONS, OWNERS, PARENTS, REPORT, is_old,
+)  # fmt: skip
 from society.book.old_words import STANDING_OF, read_birth, read_exit, read_sex
 from society.book.state import CELL_FIELDS, Meaning, Values
 from society.book.verify import verify
@@ -28,7 +30,6 @@ from society.book.writing import Filed, Rows, State, animal_rows, end, write_une
 from society.herdbook import Herdbook
 from society.mistake import Mistake
 
-ID_TITLES = ["number", "id", "name", "row", "birth", "exit", "sex"]
 # of those that are written from a database
 EXPORTED = [*ID_TITLES, "change"]
 

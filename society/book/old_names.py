@@ -9,6 +9,7 @@ OLD = "old"
 COMMANDS, IDS, REPORT, OWNERS, PARENTS, OPTIONS = (
     "commands.csv", "ids.csv", "report.csv", "owners.csv", "parents.csv", "options.csv"
 )  # fmt: skip
+ID_TITLES = ["number", "id", "name", "row", "birth", "exit", "sex"]
 # those that a later version doesn't write
 OLD_NAMES = (OWNERS, PARENTS, OPTIONS)
 ALL_NAMES = (COMMANDS, IDS, REPORT, *OLD_NAMES)

@@ -4,11 +4,12 @@ from __future__ import annotations
 import fcntl
 import os
 import pathlib
+import shutil
 import subprocess
 
 import pytest
 
-from front_desk.desk import Desk
+from front_desk.desk import Desk, NewDesk
 from front_desk.old_folder import FILES, LIST, SHEET, write_old
 from front_desk.whole import changes_of, ended, start
 from society.book import old_folder
@@ -161,3 +162,21 @@ def test_exports_give_way(desk: Desk) -> None:
     (desk.room / "book/book.sqlite").unlink()
     desk.good("restore", "copy")
     assert not (desk.room / "book/old").exists()
+
+
+@pytest.mark.parametrize("is_damaged", [False, True])
+def test_beside_a_book(old_desk: Desk, new_desk: NewDesk, is_damaged: bool) -> None:
+    """The files are kept as a whole before the exports of a book that was copied there, or restored, replace them."""
+    other = new_desk()
+    other.take(SHEET)
+    other.good("backup", str(old_desk.room / "backup.sqlite"))
+    if is_damaged:
+        old_desk.write("book/book.sqlite", "damaged" * 1000)
+        old_desk.good("restore", "backup.sqlite", "--anyway")
+    else:
+        shutil.copy(old_desk.room / "backup.sqlite", old_desk.room / "book/book.sqlite")
+    assert old_desk.good("list").out == other.good("list").out
+    kept = next((old_desk.room / "book/old").glob("version-0.11-*"))
+    assert {path.name: path.read_text() for path in kept.iterdir()} == FILES
+    assert not is_old(old_desk.room / "book") and len(old_desk.numbers()) == len(other.numbers())
+    assert old_desk.good("list", "--book", str(kept)).out == LIST
