@@ -139,15 +139,16 @@ def test_corrected_by_two(site: Site) -> None:
 def test_settings_of_two(site: Site, society_desk: Desk) -> None:
     """A setting that nobody wrote stays as somebody else set it since the page was shown; where both did it is told."""
     form = written_in(site.page("/settings"))
-    society_desk.good("settings", "--name", "Goats", "--unknown", "keiner", "--address", "Here")
+    society_desk.good("settings", "--name", "Goats", "--unknown", "keiner", "--address", "Here\nThere")
     assert site.post("/settings", **corrected(form, country="CHE")).status_code == 302
     told = society_desk.good("settings").out
-    assert all(f"{line}\n" in told for line in ("name: Goats", "address: Here", "country: CHE", "unknown: keiner"))
+    assert all(f"{line}\n" in told for line in ("name: Goats", "address: Here, There", "country: CHE", "unknown: keiner"))
     answer = site.post("/settings", **corrected(form, name="Sheep"))
     page = answer.get_data(as_text=True)
     assert answer.status_code == 400
     assert TEXTS["set meanwhile"][0].format(TEXTS["society name"][0], "Goats") in shown(page)
     assert society_desk.good("settings").out == told and written_in(page)["unknown"] == "keiner"
+    assert written_in(page)["shown-address"] == "Here\nThere"
     assert site.post("/settings", **corrected(written_in(page))).status_code == 302
     assert society_desk.good("settings").out == told.replace("Goats", "Sheep")
 
