@@ -12,7 +12,7 @@ from typing import Callable
 from society.book.backup_sentences import BackupFault
 from society.book.book import Book
 from society.book.book_changed import Overtaken, set_write_ahead, stop_no_more
-from society.book.book_read import opened_to_read, reading
+from society.book.book_read import bytes_of, opened_to_read, reading
 from society.book.changes import NO_MARK, Change, Made, Mark
 from society.book.database import (
     DAMAGED,
@@ -26,7 +26,8 @@ from society.book.database import (
     version_of,
     with_unfinished,
 )
-from society.book.files import cant_be_written, put, source_of, sync_folder
+from society.book.files import cant_be_written, put, sync_folder
+from society.book.given_backup import read_once
 from society.book.history import last_change, next_number, now, write_change
 from society.book.in_the_way import check_new
 from society.book.kinds import ChangeKind
@@ -52,16 +53,6 @@ def backup(book: Book, path: pathlib.Path, force: bool) -> None:
     except OSError as error:
         raise cant_be_written(path, error) from None
     remember(book)
-
-
-def bytes_of(connection: sqlite3.Connection) -> bytes:
-    """A database as one file, with nothing beside it."""
-    with tempfile.TemporaryDirectory(prefix="society-") as room:
-        path = pathlib.Path(room) / "book.sqlite"
-        with contextlib.closing(sqlite3.connect(path, isolation_level=None)) as copy:
-            connection.backup(copy)
-            copy.execute("PRAGMA journal_mode = DELETE")
-        return path.read_bytes()
 
 
 def restore(
@@ -127,23 +118,7 @@ def has_old_files(folder: pathlib.Path) -> bool:
 
 def prepare(path: pathlib.Path, copy: pathlib.Path, program: Herdbook) -> Change:
     """A copy of a backup that is whole, with a change behind its others that tells of the restoring."""
-    try:
-        source = source_of(path, path.read_bytes())
-    except OSError as error:
-        raise Mistake(BackupFault.NOT_READ.said(path=path, error=error.strerror or str(error))) from None
-    try:
-        with opened_to_read(path) as connection:
-            version = version_of(connection, path)
-            if not version:
-                raise Mistake(BackupFault.NO_BOOK.said(path=path))
-            if connection.execute("SELECT 1 FROM sqlite_schema WHERE type IN ('trigger', 'view')").fetchone():
-                raise Mistake(BackupFault.ACTS.said(path=path))
-            copy.write_bytes(bytes_of(connection))
-    except OSError as error:
-        raise Mistake(BackupFault.NOT_RESTORED.said(path=path, error=error.strerror or str(error))) from None
-    except sqlite3.Error as error:
-        fault = BackupFault.DAMAGED if primary(error) in DAMAGED else BackupFault.NOT_RESTORED
-        raise Mistake(fault.said(path=path, error=str(error))) from None
+    source, version = read_once(path, copy)
     try:
         with contextlib.closing(connect(copy, "rw")) as connection:
             connection.execute("BEGIN IMMEDIATE")

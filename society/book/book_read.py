@@ -57,6 +57,18 @@ def begin_to_read(connection: sqlite3.Connection) -> None:
     connection.execute("SELECT count(*) FROM sqlite_schema").fetchone()
 
 
+def bytes_of(connection: sqlite3.Connection) -> bytes:
+    """A database as one file, with nothing beside it."""
+    import tempfile
+
+    with tempfile.TemporaryDirectory(prefix="society-") as room:
+        path = pathlib.Path(room) / "book.sqlite"
+        with contextlib.closing(sqlite3.connect(path, isolation_level=None)) as copy:
+            connection.backup(copy)
+            copy.execute("PRAGMA journal_mode = DELETE")
+        return path.read_bytes()
+
+
 def copy_of(path: pathlib.Path, room: pathlib.Path) -> pathlib.Path:
     """A copy of a file and of what isn't in it yet, both of one moment, though others may be changing them."""
     import shutil

@@ -8,6 +8,7 @@ from society.book.book import Book
 from society.book.kinds import Field, Remembered
 from society.mistake import Mistake
 from society.reading.columns import find_columns
+from society.reading.given_file import read_file
 from society.reading.options import read_given
 from society.reading.sentences import SheetFault
 from society.reading.sheet import read_sheet
@@ -40,7 +41,7 @@ def columns_shown(book: Book, path: pathlib.Path, wishes: Wishes) -> ColumnsShow
     now = read_given(wishes.columns)
     before = titles_before(book) | read_given(words[Remembered.COLUMNS])
     named = {*before.values(), *now.values()}
-    sheet = read_sheet(path, lambda row: known_titles(row) + sum(title in named for title in row), wishes.worksheet)
+    sheet = read_sheet(read_file(path), lambda row: known_titles(row) + sum(title in named for title in row), wishes.worksheet)
     unknown = UnknownParents(words[Remembered.UNKNOWN], words[Remembered.KNOWN])
     with_row = [known.id for known in book.known.values() if known.standing.had_row()]
     before = {name: title for name, title in before.items() if name not in now}

@@ -26,6 +26,7 @@ from society.desk.wrong_fields import owners_of
 from society.herdbook import Herdbook
 from society.mistake import Mistake
 from society.reading.cell_findings import OddRow
+from society.reading.given_file import read_file
 from society.taking.from_sheet import take_into
 from society.taking.outcome import BookAfter
 from society.taking.harm import Harm
@@ -112,7 +113,7 @@ def looked_at(folder: pathlib.Path, path: pathlib.Path, chosen: Chosen, tell: Te
     with to_look_at(folder, program) as book:
         seen = seen_of(book, chosen)
         try:
-            outcome, _ = take_into(book, path, replace(wishes_of(folder, chosen), preview=True), program)
+            outcome, _ = take_into(book, read_file(path), replace(wishes_of(folder, chosen), preview=True), program)
         except Mistake as mistake:
             return look_of(seen, columns, mistake)
     entries, understood = sorted(outcome.report.in_order(), key=harm_of), outcome.understood
@@ -158,7 +159,7 @@ def taken(folder: pathlib.Path, path: pathlib.Path, chosen: Chosen, looked: Seen
             seen = seen_of(book, chosen)
             if seen != looked:
                 return Taken(0, seen.mark != looked.mark, seen.mark == looked.mark)
-            _, prepared = take_into(book, path, replace(wishes_of(folder, chosen), form=form), program)
+            _, prepared = take_into(book, read_file(path), replace(wishes_of(folder, chosen), form=form), program)
         assert prepared is not None
         with still_to_change(folder, book.change) as now:
             change = save(now, program, prepared)

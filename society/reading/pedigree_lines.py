@@ -11,6 +11,7 @@ from typing import NamedTuple
 from society.mistake import Mistake
 from society.reading.bounds import bounded, check_bounds, read_bytes
 from society.reading.encodings import decoded
+from society.reading.given_file import GivenFile, read_file
 
 # how standard input is named
 STANDARD_INPUT = pathlib.Path("-")
@@ -31,14 +32,14 @@ class Line(NamedTuple):
         return f"line {self.number}: '{' '.join(self.cells)}'"
 
 
-def read_lines(path: pathlib.Path) -> list[Line]:
+def read_lines(file: GivenFile) -> list[Line]:
     """The lines that have cells; `#` begins a comment. The first line says what stands between cells."""
-    text, _ = decoded(path, given_bytes(path))
+    text, _ = decoded(file.path, file.data)
     numbered = enumerate((TITLES_OF_PLINK.sub("", line) if line[:1] == "#" else line for line in text.splitlines()), 1)
     lines = [(number, part) for number, part in numbered if part.strip() and not part.lstrip().startswith("#")]
     separator = next((one for one in ";\t," if lines and one in lines[0][1]), None)
     found = [Line(number, cells_of(number, part, separator)) for number, part in lines]
-    check_bounds(path, found)
+    check_bounds(file.path, found)
     return found
 
 
@@ -54,6 +55,11 @@ def unquoted(cell: str) -> str:
     """A cell without its quotation marks; those that it has within have a backslash before them."""
     inner = cell[1:-1] if len(cell) > 1 and cell[0] == cell[-1] == '"' else cell.strip('"')
     return inner.replace('\\"', '"').strip()
+
+
+def given_file(path: pathlib.Path, is_pedigree: bool) -> GivenFile:
+    """The file of a sheet or of a pedigree, which may come from standard input."""
+    return GivenFile(path, given_bytes(path)) if is_pedigree else read_file(path)
 
 
 def given_bytes(path: pathlib.Path) -> bytes:

@@ -6,16 +6,16 @@ import functools
 import io
 import itertools
 import operator
-import pathlib
 import unicodedata
 from dataclasses import dataclass, field
 from typing import Callable, NamedTuple
 
 from society.book.named import made
 from society.mistake import Mistake
-from society.reading.bounds import check_bounds, read_bytes
+from society.reading.bounds import check_bounds
 from society.reading.column_findings import SheetFinding
 from society.reading.encodings import decoding
+from society.reading.given_file import GivenFile
 from society.reading.sentences import SheetFault
 from society.reading.words import clean
 from society.reading.workbook import read_workbook
@@ -68,14 +68,14 @@ def column_of(rows: list[Row], at: int) -> list[str]:
         return [cells[at] if at < len(cells) else "" for _, cells in rows]
 
 
-def read_sheet(path: pathlib.Path, score: Score, worksheet: str = "") -> Sheet:
-    """Reads a file. `score` says how many titles of a row are known: the separator that gives most is taken, and the
+def read_sheet(file: GivenFile, score: Score, worksheet: str = "") -> Sheet:
+    """The rows of a file. `score` says how many titles of a row are known: the separator that gives most is taken, and the
     worksheet where none is named."""
-    data = read_bytes(path)
+    path, data = file.path, file.data
     faults: list[SheetFinding]
-    if data.startswith(b"PK") and path.suffix.lower() == ".ods":
+    if file.is_zipped() and not file.is_workbook():
         raise Mistake(SheetFault.ODS.said(path=path))
-    if data.startswith(b"PK"):
+    if file.is_workbook():
         found = read_workbook(path, data, score, BEGINNING, worksheet)
         rows, how, faults = numbered(found.rows), found.how, found.faults
     else:

@@ -3,7 +3,6 @@ it has them."""
 from __future__ import annotations
 
 import operator
-import pathlib
 from dataclasses import dataclass
 from typing import Container, Mapping
 
@@ -12,6 +11,7 @@ from society.mistake import Mistake, counted
 from society.reading.animal import Animal
 from society.reading.days import ANY_DAY, Unreadable, read_span
 from society.reading.cell_findings import DayLeftOut, LineAgain, SexUnread
+from society.reading.given_file import GivenFile
 from society.reading.pedigree_lines import STANDARD_INPUT, Line, read_lines
 from society.reading.pedigree_titles import Columns, are_titles, columns_read, family_column, find_pedigree_columns
 from society.reading.sexes import Sexes
@@ -33,13 +33,13 @@ class Triples:
     told: list[str]
 
 
-def read_triples(path: pathlib.Path, given: Mapping[Field, str], unknown: Container[str], report: Report) -> Triples:
-    lines = read_lines(path)
+def read_triples(file: GivenFile, given: Mapping[Field, str], unknown: Container[str], report: Report) -> Triples:
+    lines = read_lines(file)
     titles = lines.pop(0) if lines and are_titles(lines[0].cells, given) else None
     if given and not titles and lines:
         raise Mistake(f"{lines[0]} has none of the titles that --columns names: write a first line with titles")
     if not lines:
-        what = "standard input" if path == STANDARD_INPUT else str(path)
+        what = "standard input" if file.path == STANDARD_INPUT else str(file.path)
         raise Mistake(f"{what} has no animals: write a line `id sire dam` for each")
     if titles is None:
         columns, told = WITHOUT_TITLES, [f"{lines[0]} has none of the known titles, and is taken for an animal"]

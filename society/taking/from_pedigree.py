@@ -1,8 +1,6 @@
 """From a geneticist's pedigree, `id sire dam`, to a book in its folder."""
 from __future__ import annotations
 
-import pathlib
-
 from society.book.book import Book
 from society.book.files import source_of
 from society.book.in_the_way import check_place
@@ -12,8 +10,9 @@ from society.book.unknown_parents import unknown_parents
 from society.herdbook import Herdbook
 from society.mistake import Mistake, counted
 from society.reading.day_cells import DayCells
+from society.reading.given_file import GivenFile
 from society.reading.options import read_given
-from society.reading.pedigree_lines import STANDARD_INPUT, given_bytes
+from society.reading.pedigree_lines import STANDARD_INPUT
 from society.reading.pedigree_titles import READ
 from society.reading.triples import Triples, read_triples
 from society.taking.birth_days import find_days
@@ -38,30 +37,30 @@ from society.taking.suggestions import Call
 from society.taking.wishes import Wishes
 
 
-def take_pedigree(path: pathlib.Path, wishes: Wishes) -> list[str]:
+def take_pedigree(file: GivenFile, wishes: Wishes) -> list[str]:
     """Takes a pedigree; answers what is to be told besides."""
-    program, call = Herdbook(), wishes.call("--pedigree", str(path))
+    program, call = Herdbook(), wishes.call("--pedigree", str(file.path))
     with told_with(call):
         if wishes.preview:
             with to_look_at(wishes.book, program) as book:
-                outcome, notes = take_into(book, path, wishes, program, call)[0], book.notes
+                outcome, notes = take_into(book, file, wishes, program, call)[0], book.notes
         else:
-            outcome, notes = take(wishes.book, program, lambda book: take_into(book, path, wishes, program, call))
+            outcome, notes = take(wishes.book, program, lambda book: take_into(book, file, wishes, program, call))
         tell(outcome)
     return notes
 
 
 def take_into(
-    book: Book, path: pathlib.Path, wishes: Wishes, program: Herdbook, call: Call
+    book: Book, file: GivenFile, wishes: Wishes, program: Herdbook, call: Call
 ) -> tuple[Outcome, Prepared | None]:
     """What a pedigree makes of a book, and the change that is to be made, none for a preview."""
-    check_place(book, path)
+    check_place(book, file.path)
     book.read_all()
     report = Report()
-    source = source_of(path, given_bytes(path))
+    source = source_of(file.path, file.data)
     days = DayCells(unknown_parents(book, wishes.unknown, wishes.known), month_first=False)
     wishes = with_settings(book, wishes)
-    triples = read_triples(path, given_columns(wishes.columns), days.unknown, report)
+    triples = read_triples(file, given_columns(wishes.columns), days.unknown, report)
     animals, about = triples.animals, [*triples.told]
     ids = animals.keys() | book.known.keys()
     if wishes.keep:
@@ -82,7 +81,7 @@ def take_into(
     counts = find_sexes_and_days(next_book, triples)
     if not wishes.leave_out:
         refuse_lost_links(report)
-    about += invented("standard input" if path == STANDARD_INPUT else str(path), counts)
+    about += invented("standard input" if file.path == STANDARD_INPUT else str(file.path), counts)
     invented_for = max(counts.values(), default=0)
     return finish(next_book, program, wishes, source, About(call, about, invented=invented_for))
 

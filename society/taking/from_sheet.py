@@ -14,8 +14,8 @@ from society.herdbook import Herdbook
 from society.mistake import MOST_NAMED
 from society.one_call import keep
 from society.reading.animal import Animal
-from society.reading.bounds import read_bytes
 from society.reading.columns import Columns, find_columns
+from society.reading.given_file import GivenFile, read_file
 from society.reading.options import read_given, read_sexes
 from society.reading.sheet_animals import Rows
 from society.reading.sheet import Sheet, read_sheet
@@ -34,15 +34,15 @@ from society.taking.understood import ColumnRead, Understood
 from society.taking.wishes import Wishes
 
 
-def take_sheet(path: pathlib.Path, wishes: Wishes) -> list[str]:
+def take_sheet(file: GivenFile, wishes: Wishes) -> list[str]:
     """Takes a sheet, or tells what would be taken; answers what is to be told besides."""
-    program, call = Herdbook(), wishes.call(str(path))
+    program, call = Herdbook(), wishes.call(str(file.path))
     with told_with(call):
         if wishes.preview:
             with to_look_at(wishes.book, program) as book:
-                outcome, notes = take_into(book, path, wishes, program)[0], book.notes
+                outcome, notes = take_into(book, file, wishes, program)[0], book.notes
         else:
-            outcome, notes = take(wishes.book, program, lambda book: take_into(book, path, wishes, program))
+            outcome, notes = take(wishes.book, program, lambda book: take_into(book, file, wishes, program))
         tell(outcome)
     return notes
 
@@ -53,22 +53,22 @@ def preview_sheet(path: pathlib.Path, wishes: Wishes) -> Outcome:
     program, wishes = Herdbook(), replace(wishes, preview=True)
     with to_look_at(wishes.book, program) as book:
         try:
-            return take_into(book, path, wishes, program)[0]
+            return take_into(book, read_file(path), wishes, program)[0]
         except CantBeTaken as mistake:
             return Outcome(book.folder, wishes.call(str(path)), about=mistake.told, obstacles=mistake.obstacles)
 
 
 def take_into(
-    book: Book, path: pathlib.Path, wishes: Wishes, program: Herdbook
+    book: Book, file: GivenFile, wishes: Wishes, program: Herdbook
 ) -> tuple[Outcome, Prepared | None]:
     """What a sheet makes of a book, and the change that is to be made, none for a preview."""
+    path, source = file.path, source_of(file.path, file.data)
     check_place(book, path)
     book.read_all()
-    source = source_of(path, read_bytes(path))
     wishes = with_settings(book, wishes)
     words = remember(book, wishes)
     rename_owners(book, wishes)
-    read = read_animals(path, wishes, book, words)
+    read = read_animals(file, wishes, book, words)
     keep(book, read)
     next_book = NextBook(book, read.animals, set(read.columns.found), read.report, read.rows.cells.days)
     complete(next_book, read.columns, wishes)
@@ -104,12 +104,12 @@ class ReadSheet:
     report: Report
 
 
-def read_animals(path: pathlib.Path, wishes: Wishes, book: Book, words: Words) -> ReadSheet:
+def read_animals(file: GivenFile, wishes: Wishes, book: Book, words: Words) -> ReadSheet:
     """The animals of a sheet; else a mistake with all that keeps it from being read."""
     now = read_given(wishes.columns)
     before = titles_before(book) | read_given(words[Remembered.COLUMNS])
     titles = {*before.values(), *now.values()}
-    sheet = read_sheet(path, lambda row: known_titles(row) + sum(title in titles for title in row), wishes.worksheet)
+    sheet = read_sheet(file, lambda row: known_titles(row) + sum(title in titles for title in row), wishes.worksheet)
     unknown, report = UnknownParents(words[Remembered.UNKNOWN], words[Remembered.KNOWN]), Report()
     columns = find_columns(sheet, now, {name: title for name, title in before.items() if name not in now}, unknown,
                            [known.id for known in book.known.values() if known.standing.had_row()])  # fmt: skip
@@ -126,7 +126,7 @@ def read_animals(path: pathlib.Path, wishes: Wishes, book: Book, words: Words) -
     for finding in [*columns.notes, *rows.notes]:
         report.add(0, "", finding)
     if not animals:
-        raise CantBeTaken(NoRowTaken(str(path)), entries=report.entries[:MOST_NAMED])
+        raise CantBeTaken(NoRowTaken(str(file.path)), entries=report.entries[:MOST_NAMED])
     return ReadSheet(sheet, columns, rows, animals, report)
 
 

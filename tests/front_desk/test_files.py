@@ -8,9 +8,9 @@ from typing import Callable
 
 import pytest
 
-from front_desk.desk import Desk
+from front_desk.desk import CALLED, Desk
 from front_desk.old_folder import LIST, write_old
-from society.book.files import put, source_of
+from society.book.files import digest_of, put, source_of
 
 
 def test_synced_before_it_has_its_name(tmp_path: pathlib.Path, monkeypatch: pytest.MonkeyPatch) -> None:
@@ -79,3 +79,17 @@ def test_folder_whose_name_is_no_text(desk: Desk) -> None:
     (there.room / "book").rename(there.room / "other")
     write_old(there)
     assert there.good("list").out == LIST
+
+
+def test_read_once(desk: Desk) -> None:
+    """A sheet, a pedigree or a backup may come through a pipe, and the history has the digest of what was read."""
+    desk.write("sheet", "id,sex,birth,sire,dam\nA,f,2001-01-01,,\n")
+    desk.write("lines", "id sire dam\nB 0 A\n")
+    desk.typed(f"cat sheet | {CALLED} take /dev/stdin")
+    desk.typed(f"cat lines | {CALLED} take --pedigree /dev/stdin")
+    desk.good("backup", "copy")
+    desk.typed(f"cat copy | {CALLED} restore /dev/stdin --book again")
+    assert desk.good("list", "--columns", "id,dam", "--book", "again").out == "id,dam\nA,\nB,A\n"
+    for change, name in enumerate(("sheet", "lines", "copy"), 1):
+        digest = digest_of((desk.room / name).read_bytes())
+        assert digest in desk.good("history", str(change), "--book", "again").out

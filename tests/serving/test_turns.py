@@ -23,6 +23,7 @@ from society.desk.forms import new_form
 from society.desk.taking_beside import Chosen, Seen, Taken, seen_of, taken
 from society.herdbook import Herdbook
 from society.taking import from_sheet
+from society.reading.given_file import read_file
 from society.taking.from_sheet import take_sheet
 from society.taking.wishes import Wishes
 
@@ -114,7 +115,7 @@ def test_sheet_of_a_terminal(folder: pathlib.Path, society_desk: Desk, monkeypat
         behind(monkeypatch, from_sheet, "finish", lambda: free.append(is_free(folder)))
 
     behind(monkeypatch, from_sheet, "finish", file)
-    take_sheet(path, Wishes(folder, anyway=True))
+    take_sheet(read_file(path), Wishes(folder, anyway=True))
     assert free == [True, False] and kinds(folder) == ["take", "exit", "take"]
     living = {row["id"] for row in society_desk.listed("list", "--living")}
     assert "NEW-1" in living and DAM not in living

@@ -18,6 +18,7 @@ from society.one_call import is_the_only_one
 from society.packages import Group, need
 
 if TYPE_CHECKING:
+    from society.reading.given_file import GivenFile
     from society.taking.wishes import Wishes
 
 
@@ -112,6 +113,7 @@ def add_words(words: Words) -> None:
 
 
 def do_take(asked: argparse.Namespace) -> None:
+    from society.reading.pedigree_lines import given_file
     from society.taking.wishes import Wishes
 
     if (asked.sheet is None) == (asked.pedigree is None):
@@ -128,7 +130,8 @@ def do_take(asked: argparse.Namespace) -> None:
         asked.month_first, asked.anyway, asked.preview, asked.youngest, asked.apart, asked.known, asked.owner,
         asked.day_first, no_animal=asked.no_animal, animal=asked.animal,
     )  # fmt: skip
-    if asked.sheet and is_workbook(asked.sheet):
+    file = given_file(asked.sheet or asked.pedigree, is_pedigree=not asked.sheet)
+    if asked.sheet and file.is_workbook():
         need(Group.WORKBOOKS, ": or save the sheet as CSV, and take that")
     # what a taking makes of a large sheet is needed to its end, and nothing of it goes round: to look for what isn't
     # needed any more would find nothing, again and again
@@ -136,24 +139,15 @@ def do_take(asked: argparse.Namespace) -> None:
     # what writes the book waits for Python between two statements, while something else is done beside
     sys.setswitchinterval(SECONDS_IN_TURN)
     is_the_only_one()
-    for note in anew_where_a_book_came(lambda: taken(asked, wishes)):
+    for note in anew_where_a_book_came(lambda: taken(file, wishes, not asked.sheet)):
         tell(note)
 
 
-def taken(asked: argparse.Namespace, wishes: Wishes) -> list[str]:
-    if asked.sheet:
-        from society.taking.from_sheet import take_sheet
+def taken(file: GivenFile, wishes: Wishes, is_pedigree: bool) -> list[str]:
+    if is_pedigree:
+        from society.taking.from_pedigree import take_pedigree
 
-        return take_sheet(asked.sheet, wishes)
-    from society.taking.from_pedigree import take_pedigree
+        return take_pedigree(file, wishes)
+    from society.taking.from_sheet import take_sheet
 
-    return take_pedigree(asked.pedigree, wishes)
-
-
-def is_workbook(path: pathlib.Path) -> bool:
-    """Is it an .xlsx file? Whether it can be read at all is told later."""
-    try:
-        with open(path, "rb") as file:
-            return file.read(2) == b"PK" and path.suffix.lower() != ".ods"
-    except OSError:
-        return False
+    return take_sheet(file, wishes)

@@ -6,8 +6,8 @@ import datetime
 from flask import Blueprint, abort, flash, redirect, render_template, url_for
 from werkzeug.wrappers import Response
 
-from society.book.backup import bytes_of
 from society.book.book import Book
+from society.book.book_read import bytes_of
 from society.book.changes import Change
 from society.book.exports import report_text
 from society.book.history import change_numbered, last_changes, last_that_changed, taken_back_by
