@@ -10,7 +10,7 @@ from society.answers.list_columns import Column, LIST_COLUMNS, parent
 from society.answers.made_columns import as_it_is, each, made_table
 from society.answers.table import Kind, Table
 from society.book.book import Book
-from society.book.inferred import SexSource
+from society.book.inferred import BirthSource, ExitSource, SexSource
 from society.book.known import Known
 from society.book.old_words import STANDINGS
 from society.book.rows import birth_basis, exit_basis
@@ -22,10 +22,23 @@ from society.pedigree_order import ancestors
 # words by what a row of the table has
 STANDING_WORDS = {standing.value: words for standing, words in STANDINGS.items()}
 SEX_WORDS = {source.value: source.words() for source in SexSource}
+# what a day comes from that somebody gave
+GIVEN = (BirthSource.GIVEN.value, ExitSource.GIVEN.value)
+# a word for a sex that a taking knows
+CASTRATED = "male castrated"
 
 
-def sex_of(number: str) -> str:
-    return number[6]
+def sex_of(number: str, castrated: int) -> str:
+    return CASTRATED if castrated else number[6]
+
+
+def said_of_day(day: str | None, source: str, *said: str | None) -> str:
+    """What a sheet says of a day: the day that was given, else a month, a year or a word; nothing where nothing was."""
+    return (day or "") if source in GIVEN else next(filter(None, said), "")
+
+
+def inferred_day(day: str | None, source: str) -> str:
+    return "" if source in GIVEN else day or ""
 
 
 @functools.lru_cache(maxsize=4096)
@@ -41,18 +54,20 @@ def exit_words(source: str, period: str | None, no_such_day: str | None, text: s
 COLUMNS = (
     as_it_is("id", "id", Kind.TEXT),
     as_it_is("name", "name", Kind.TEXT),
-    each("sex", Kind.PLAIN, ("number",), sex_of),
-    as_it_is("birth", "born"),
+    each("sex", Kind.PLAIN, ("number", "castrated"), sex_of),
+    each("birth", Kind.PLAIN, ("born", "birth_source", "birth_period"), said_of_day),
     parent("sire"),
     parent("dam"),
     LIST_COLUMNS[Column.OWNER],
-    as_it_is("exit", "ifnull(departed, '')"),
+    each("exit", Kind.TEXT, ("departed", "exit_source", "exit_period", "exit_text"), said_of_day),
     as_it_is("embryo", "iif(embryo, '1', '')"),
     as_it_is("herdbook_number", "number"),
     LIST_COLUMNS[Column.COEFFICIENT],
     LIST_COLUMNS[Column.DECIMAL],
     each("row_in_sheet", Kind.PLAIN, ("standing",), STANDING_WORDS.__getitem__),
+    each("inferred_birth", Kind.PLAIN, ("born", "birth_source"), inferred_day),
     each("birth_from", Kind.PLAIN, ("birth_source", "birth_period", "birth_no_such_day"), birth_words),
+    each("inferred_exit", Kind.PLAIN, ("departed", "exit_source"), inferred_day),
     each("exit_from", Kind.TEXT, ("exit_source", "exit_period", "exit_no_such_day", "exit_text"), exit_words),
     each("sex_from", Kind.PLAIN, ("sex_source",), SEX_WORDS.__getitem__),
 )
@@ -71,7 +86,7 @@ def conditions_of(book: Book, kept: Iterable[Known] | None) -> tuple[list[str], 
 
 
 def export_table(book: Book, kept: Iterable[Known] | None) -> Table:
-    """A sheet that can be taken again, with what each inferred day and sex comes from."""
+    """A sheet that can be taken again, with the inferred days and what each of them and each sex comes from behind it."""
     return made_table(book, COLUMNS, *conditions_of(book, kept))
 
 

@@ -24,6 +24,27 @@ def test_export(society_desk: Desk) -> None:
     assert [list(row.values())[:9] for row in again] == [list(row.values())[:9] for row in rows]
 
 
+def test_export_of_what_is_inferred(desk: Desk) -> None:
+    """Who is castrated, and who left on an unknown day, is so in the book that takes it, and inferred days are so too."""
+    desk.take("""\
+        id,sex,birth,sire,dam,exit
+        A,f,2001-02-01,,,sold
+        B,wether,2003,,A,05.2010
+        C,m,,,A,
+        D,f,2008-01-01,C,A,
+        """)
+    desk.good("export", "--out", "all.csv")
+    rows = desk.table("all.csv")
+    assert [row["birth"] for row in rows] == ["2001-02-01", "2003", "", "2008-01-01"]
+    assert [row["inferred_birth"] for row in rows] == ["", "2003-07-02", desk.born()["C"], ""]
+    assert [row["inferred_exit"] for row in rows] == ["", "2010-05-31", "", ""]
+    assert desk.good("take", "all.csv").last.startswith("book: 4 animals, 0 new, 0 changed")
+    desk.good("take", "all.csv", "--book", "new")
+    shown = [desk.good("list", "--columns", "id,sex,birth,exit", "--book", book).out for book in ("book", "new")]
+    assert shown[0] == shown[1] and "B,M,2003-07-02 (inferred),2010-05-31 (inferred)" in shown[0]
+    assert "day unknown: 'sold'" in shown[0] and "castrated" in desk.good("show", "B", "--book", "new").out
+
+
 def test_export_of_some(society_desk: Desk) -> None:
     """The ancestors of those that are named, and no others; relationships stay as they are."""
     society_desk.write("keep.txt", "GK-17/472c\nGK-18/487c\n")
