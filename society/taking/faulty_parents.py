@@ -1,7 +1,10 @@
 """Parents that the program refuses: each is left out, alone, and told."""
 from __future__ import annotations
 
+from society.book.book import Book
 from society.book.commands import HEADER, birth, leave, lines_of
+from society.book.kinds import Field
+from society.book.known import Known
 from society.book.role import Role
 from society.herdbook import Herdbook
 from society.mistake import Mistake
@@ -60,4 +63,14 @@ def leave_out_parent(next_book: NextBook, animal: Animal, refusal: Refusal) -> N
         animal.id, DayFact(animal.born, animal.birth_basis.is_inferred),
     )  # fmt: skip
     next_book.report.add(animal.line, animal.id, found)
+    # of an animal without a row it is kept too
+    next_book.texts.setdefault(animal.id, (animal.sire, animal.dam))
     animal.set_parent(role, "")
+
+
+def tried_again(book: Book, known: Known, role: Role, parent: str) -> str:
+    """The parent that an animal has in the book; where it has none, the one by hand that is left out, since a sheet made it
+    impossible: a later sheet may say otherwise."""
+    left_out = known.written(role)
+    is_by_hand = not parent and Field(role.value) in known.by_hand and left_out in book.known
+    return left_out if is_by_hand else parent

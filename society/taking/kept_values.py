@@ -12,6 +12,7 @@ from society.reading.animal import Animal
 from society.reading.cell_findings import ExitInferred
 from society.reading.days import Span
 from society.taking.animal_findings import KeptByHand, KeptFromBook
+from society.taking.faulty_parents import tried_again
 from society.taking.next_book import NextBook
 from society.taking.report import Entry
 
@@ -91,7 +92,8 @@ class Keeping:
         self.next_book.overridden[animal.id] = given - stays - agreeing
         for role in Role:
             if Field(role.value) in stays:
-                animal.set_parent(role, self.next_book.id_of(record.parent(role)))
+                in_book = self.next_book.id_of(record.parent(role))
+                animal.set_parent(role, tried_again(self.book, known, role, in_book))
         if Field.OWNER in known.by_hand:
             self.keep_owner(animal, owner, Field.OWNER in stays, Field.SINCE in as_before)
         if Field.EXIT in stays:

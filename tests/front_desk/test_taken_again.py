@@ -36,6 +36,22 @@ def test_remembered(desk: Desk) -> None:
     desk.wrong("there is no column 'X', which --columns names for id", "take", "sheet.csv", "--columns", "id=X")
 
 
+def test_parent_by_hand_that_is_left_out(desk: Desk) -> None:
+    """A sheet's mistyped sex, by which a parent filed by hand is impossible, takes it away as long as it stands there:
+    also from an animal that was filed by hand and has no row."""
+    sheet = "id,sex,birth,sire,dam\nA2,m,2001-01-01,,\nA3,m,2001-01-01,,\nB1,f,2005-01-01,A2,\n"
+    desk.take(sheet)
+    desk.good("parents", "B1", "--sire", "A3")
+    desk.good("birth", "C1", "--sex", "f", "--day", "2006-01-01", "--sire", "A3")
+    desk.take(sheet.replace("A3,m", "A3,f")).tells(
+        "line 4: B1: its sire A3 (line 3) is left out: it isn't male (refusal 5)",
+        "C1: its sire A3 (line 3) is left out: it isn't male (refusal 5)",
+    )
+    assert desk.parents() == {"A2": ("", ""), "A3": ("", ""), "B1": ("", ""), "C1": ("", "")}
+    done = desk.take(sheet)
+    assert desk.parents()["B1"] == ("A3", "") == desk.parents()["C1"] and " 0 left out" in done.last
+
+
 def test_many_lines(desk: Desk) -> None:
     """The report has all lines of a kind, and a German spreadsheet opens it."""
     rows = (
