@@ -31,6 +31,23 @@ class FoundByName(Finding):
 
 
 @dataclass(frozen=True, slots=True)
+class FoundInBook(Finding):
+    """A parent whose cell is as in the last sheet, where it was the name of an animal that has another one now."""
+
+    role: Role
+    written: str
+    id: str
+
+    what = What.INFERRED
+
+    def words(self) -> str:
+        return (
+            f"its {self.role} '{self.written}' is {self.id} as before, which has another name now: if another is meant, "
+            "write the id of that one"
+        )
+
+
+@dataclass(frozen=True, slots=True)
 class FoundByNearId(Finding):
     """A parent whose cell differs from just one id in case, blanks or leading zeros."""
 

@@ -80,3 +80,17 @@ def test_named_parent_that_comes_later(desk: Desk) -> None:
     done.tells("Hans: gone: no animal has it as a parent any more: it is dropped from the book")
     assert desk.numbers().keys() == {"c", "H1"}
     assert desk.parents()["c"] == ("H1", "")
+
+
+def test_named_parent_with_another_name(desk: Desk) -> None:
+    """A cell that is as it was means the same animal, whatever that is called now, and whoever else has its name."""
+    sheet = "id,name,sex,born,sire,dam\nR1,Max,M,2001-01-01,,\nL1,,F,2004-01-01,Max,\n"
+    desk.take(sheet)
+    for more in "", "R9,Max,M,2002-01-01,,\nL2,,F,2005-01-01,Max,\n":
+        done = desk.take(sheet.replace("R1,Max", "R1,Maximilian") + more)
+        done.tells(
+            "line 3: L1: inferred: its sire 'Max' is R1 as before, which has another name now: if another is meant, write "
+            "the id of that one"
+        )
+        assert desk.parents()["L1"] == ("R1", "") and " 0 added" in done.last
+    assert desk.parents()["L2"] == ("R9", "")

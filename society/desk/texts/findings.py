@@ -172,6 +172,10 @@ FINDINGS: dict[str, tuple[str, str]] = {
         "{role} „{written}“ ist dem Namen nach {id}: ist ein anderes gemeint, schreiben Sie dessen Ohrmarke",
         "{role} « {written} » est {id} par son nom : si un autre est voulu, écrivez sa boucle",
     ),
+    "found in book": (
+        "{role} „{written}“ ist wie zuvor {id}, das jetzt anders heißt: ist ein anderes gemeint, schreiben Sie dessen Ohrmarke",
+        "{role} « {written} » est {id} comme avant, qui a un autre nom : si un autre est voulu, écrivez sa boucle",
+    ),
     "found by near id": (
         "{role} „{written}“ ist {id}, dessen Ohrmarke sich nur in Großschreibung, Leerzeichen oder Nullen unterscheidet",
         "{role} « {written} » est {id}, dont la boucle ne diffère que par les majuscules, espaces ou zéros",
