@@ -11,6 +11,7 @@ from society.book.book import Book
 from society.book.inferred import BirthSource
 from society.book.rows import Row
 from society.mistake import Mistake
+from society.reading.words import as_known
 from society.sentence import AnyOf
 
 # so many owners are named where one isn't known
@@ -62,7 +63,7 @@ def conditions_of(book: Book, choice: Choice) -> tuple[list[str], list[object]]:
 
 def herd_of(book: Book, owner: str) -> int:
     """The herd of an owner, written as in the book or with other capitals."""
-    name = " ".join(owner.split())
+    name = as_known(owner, book.owners)
     if name in book.owners:
         return book.owners[name]
     alike = [one for one in book.owners if one.casefold() == name.casefold()]

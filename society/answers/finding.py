@@ -8,6 +8,7 @@ from society.answers.list_columns import FOUND, animals_table
 from society.answers.table import Table
 from society.book.book import NO_OWNER, Book
 from society.mistake import Mistake
+from society.reading.words import clean
 
 
 def animals_found(book: Book, words: Sequence[str]) -> Table:
@@ -22,7 +23,7 @@ def conditions_of(book: Book, words: Sequence[str]) -> tuple[list[str], list[obj
     """What holds for the row of an animal that is found, with the values for its question marks."""
     conditions, values = list[str](), list[object]()
     for word in words:
-        text = " ".join(word.split()).casefold()
+        text = clean(word).casefold()
         if not text:
             raise Mistake("find needs a text: write a part of an id, a name, a number or an owner")
         herds = [herd for owner, herd in book.owners.items() if text in owner.casefold() and herd != NO_OWNER]

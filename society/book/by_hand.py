@@ -21,6 +21,7 @@ from society.book.writing import Filed, Rows, State, write
 from society.herdbook import Herdbook
 from society.mistake import Mistake
 from society.reading.unknown import names_no_owner
+from society.reading.words import clean
 from society.refusals import Refusal
 from society.taking.animal_findings import CommandRefused, NewAnimal, ValueChanged
 from society.taking.near_ids import id_alike
@@ -95,7 +96,7 @@ def born(book: Book, calf: Calf) -> ByHand:
 def parent_named(book: Book, word: str, may_be_file: bool = True) -> Known | None:
     """The animal that is named as a parent; none where none is, or by a text that stands for an unknown one in the
     book."""
-    return None if " ".join(word.split()) in unknown_parents(book) else find(book, word, may_be_file)
+    return None if clean(word) in unknown_parents(book) else find(book, word, may_be_file)
 
 
 def refuse_to_come(day: datetime.date) -> None:

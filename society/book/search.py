@@ -10,6 +10,7 @@ from society.book.book import Book
 from society.book.known import Known
 from society.book.rows import known_of
 from society.mistake import MOST_IN_PASSING, Mistake, some_of
+from society.reading.words import as_known
 from society.sentence import AnyOf, Said, Some
 
 # so many are named that may be meant
@@ -21,7 +22,7 @@ NAMED = "folded_name = ? AND folded_name <> ''"
 def find(book: Book, word: str, may_be_file: bool = True) -> Known:
     """The animal of an id, a number or a name; a mistake where there is none, or several of a name. Who writes a word in
     a terminal may mean a file by it; who writes it elsewhere isn't told what files there are."""
-    word = " ".join(word.split())
+    word = as_known(word, book.known)
     folded = word.casefold()
     known = book.known.get(word)
     if known:

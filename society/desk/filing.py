@@ -16,6 +16,7 @@ from society.desk.forms import change_once, made_by, token_with
 from society.desk.sentences import DeskFault
 from society.desk.shown_parents import ROLES, parents_of, shown_in
 from society.mistake import Mistake
+from society.reading.words import clean
 
 # the kinds of commands with the fields of their forms, which the history has as options but for the animal
 FIELDS: dict[ChangeKind, tuple[str, ...]] = {
@@ -43,7 +44,7 @@ class Form:
         return token_with(self.sent, [self.text(name) for name in FIELDS[self.kind]])
 
     def text(self, name: str) -> str:
-        return " ".join(self.given.get(name, "").split())
+        return clean(self.given.get(name, ""))
 
     def day(self) -> datetime.date:
         try:

@@ -11,7 +11,7 @@ from society.mistake import Mistake
 from society.reading.encodings import decoded
 from society.reading.pedigree_lines import given_bytes
 from society.reading.pedigree_titles import OF_FIELD
-from society.reading.words import plain
+from society.reading.words import composed, plain
 
 
 def read_ids(path: pathlib.Path, is_known: Callable[[str], bool]) -> list[str]:
@@ -19,6 +19,8 @@ def read_ids(path: pathlib.Path, is_known: Callable[[str], bool]) -> list[str]:
     title."""
     text, _ = decoded(path, given_bytes(path))
     lines = [" ".join(line.split()) for line in text.splitlines() if line.strip()]
+    if not text.isascii():
+        lines = [line if is_known(line) else composed(line) for line in lines]
     # an id may begin as a comment does
     lines = [line for line in lines if not line.startswith("#") or is_known(line)]
     if lines and not is_known(lines[0]) and plain(first_cell(lines[0])) in OF_FIELD[Field.ID]:

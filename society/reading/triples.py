@@ -15,6 +15,7 @@ from society.reading.given_file import GivenFile
 from society.reading.pedigree_lines import STANDARD_INPUT, Line, read_lines
 from society.reading.pedigree_titles import Columns, are_titles, columns_read, family_column, find_pedigree_columns
 from society.reading.sexes import Sexes
+from society.reading.words import composed
 from society.taking.parents_elsewhere import refuse_other_column
 from society.taking.report import Report
 
@@ -33,8 +34,13 @@ class Triples:
     told: list[str]
 
 
-def read_triples(file: GivenFile, given: Mapping[Field, str], unknown: Container[str], report: Report) -> Triples:
+def read_triples(
+    file: GivenFile, given: Mapping[Field, str], unknown: Container[str], known: Container[str], report: Report
+) -> Triples:
+    """The animals of a pedigree. An id that isn't `known` as it is written has composed letters."""
     lines = read_lines(file)
+    if not file.data.isascii():
+        lines = [Line(number, [cell if cell in known else composed(cell) for cell in cells]) for number, cells in lines]
     titles = lines.pop(0) if lines and are_titles(lines[0].cells, given) else None
     if given and not titles and lines:
         raise Mistake(f"{lines[0]} has none of the titles that --columns names: write a first line with titles")

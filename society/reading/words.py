@@ -4,6 +4,7 @@ from __future__ import annotations
 import functools
 import re
 import unicodedata
+from collections.abc import Container
 
 UNKNOWN = (
     "na, <na>, nan, n/a, nn, none, null, unknown, unk, not known, not recorded, not available, unknown sire, unknown dam, "
@@ -67,9 +68,18 @@ INVISIBLE = dict.fromkeys(map(ord, "\u00ad\u200b\u200c\u200d\u200e\u200f\u2060\u
 
 def clean(text: str) -> str:
     """The text with composed letters, with one blank for several or for a line's end, and without any at its ends."""
-    if not text.isascii():
-        text = unicodedata.normalize("NFC", text).translate(INVISIBLE)
-    return " ".join(text.split())
+    return " ".join(composed(text).split())
+
+
+def composed(text: str) -> str:
+    """The text with composed letters, and without signs that no one sees."""
+    return text if text.isascii() else unicodedata.normalize("NFC", text).translate(INVISIBLE)
+
+
+def as_known(text: str, known: Container[str]) -> str:
+    """The text as it is written; cleaned where it isn't known so."""
+    written = " ".join(text.split())
+    return written if written in known else clean(text)
 
 
 @functools.lru_cache(100_000)

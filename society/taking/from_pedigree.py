@@ -60,7 +60,7 @@ def take_into(
     source = source_of(file.path, file.data)
     days = DayCells(unknown_parents(book, wishes.unknown, wishes.known), month_first=False)
     wishes = with_settings(book, wishes)
-    triples = read_triples(file, given_columns(wishes.columns), days.unknown, report)
+    triples = read_triples(file, given_columns(wishes.columns), days.unknown, book.known, report)
     animals, about = triples.animals, [*triples.told]
     ids = animals.keys() | book.known.keys()
     if wishes.keep:

@@ -17,6 +17,7 @@ from society.command_line.output import tell
 from society.command_line.parser import Parser, Words
 from society.herdbook import Herdbook
 from society.mistake import Mistake
+from society.reading.words import clean
 from society.taking.report import What
 
 # the command that somebody wishes, given the book
@@ -98,14 +99,10 @@ def parent(book: Book, word: str | None) -> Known | None:
     return None if word is None else parent_named(book, word)
 
 
-def squeezed(text: str) -> str:
-    return " ".join(text.split())
-
-
 def wished_birth(asked: argparse.Namespace, book: Book) -> ByHand:
     calf = Calf(
-        squeezed(asked.id), asked.sex, asked.day, squeezed(asked.name), parent(book, asked.sire),
-        parent(book, asked.dam), squeezed(asked.owner), asked.embryo, asked.breed or "", asked.country or "",
+        clean(asked.id), asked.sex, asked.day, clean(asked.name), parent(book, asked.sire),
+        parent(book, asked.dam), clean(asked.owner), asked.embryo, asked.breed or "", asked.country or "",
     )  # fmt: skip
     return born(book, calf)
 
@@ -118,8 +115,8 @@ def wished_parents(asked: argparse.Namespace, book: Book) -> ByHand:
 
 
 def wished_transfer(asked: argparse.Namespace, book: Book) -> ByHand:
-    giver = None if asked.giver is None else squeezed(asked.giver)
-    return transferred(book, find(book, asked.id), asked.day, squeezed(asked.to), giver)
+    giver = None if asked.giver is None else clean(asked.giver)
+    return transferred(book, find(book, asked.id), asked.day, clean(asked.to), giver)
 
 
 def wished_exit(asked: argparse.Namespace, book: Book) -> ByHand:
