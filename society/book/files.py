@@ -2,6 +2,7 @@
 from __future__ import annotations
 
 import contextlib
+import errno
 import os
 import pathlib
 from typing import Iterable, Sequence
@@ -11,6 +12,9 @@ from society.book.changes import Source
 from society.book.csv_text import csv_text
 from society.book.sentences import BookFault
 from society.mistake import Mistake
+
+# what a disk says that can't give a file two names, as memory sticks and some shares can't
+NO_LINKS = (errno.EPERM, errno.EOPNOTSUPP, errno.ENOSYS)
 
 
 def table(
@@ -50,13 +54,29 @@ def put(path: pathlib.Path, text: bytes, changed: int | None = None, replaces: b
         if replaces:
             os.replace(beside, path)
         else:
-            os.link(beside, path)
-            beside.unlink()
+            name_once(beside, path)
     except OSError:
         with contextlib.suppress(OSError):
             beside.unlink()
         raise
     sync_folder(path.parent)
+
+
+def name_once(beside: pathlib.Path, path: pathlib.Path) -> None:
+    """Gives a file a name that nothing has; where something has it, that stays, and this is a `FileExistsError`."""
+    try:
+        os.link(beside, path)
+        beside.unlink()
+    except OSError as error:
+        if error.errno not in NO_LINKS:
+            raise
+        # an empty file has the name first, so that nobody else takes it
+        os.close(os.open(path, os.O_WRONLY | os.O_CREAT | os.O_EXCL | os.O_CLOEXEC, 0o666))
+        try:
+            os.replace(beside, path)
+        except OSError:
+            path.unlink()
+            raise
 
 
 def sync_folder(folder: pathlib.Path) -> None:

@@ -11,6 +11,7 @@ import stat
 from collections.abc import Iterator
 
 from society.book.database import connect, statements
+from society.book.files import name_once
 from society.desk.people import AccountRole
 from society.mistake import Mistake
 from society.serving.sentences import AccountFault
@@ -71,7 +72,7 @@ def make(path: pathlib.Path) -> None:
             connection.execute(f"PRAGMA application_id = {APPLICATION}")
             connection.execute("COMMIT")
         with contextlib.suppress(FileExistsError):
-            os.link(beside, path)
+            name_once(beside, path)
     except (OSError, sqlite3.Error) as error:
         raise Mistake(AccountFault.CLOSED.said(path=path, error=str(error))) from None
     finally:

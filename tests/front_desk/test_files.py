@@ -1,6 +1,7 @@
 """A file is put into its place whole, and into no other."""
 from __future__ import annotations
 
+import errno
 import os
 import pathlib
 import secrets
@@ -43,12 +44,20 @@ def test_planted(tmp_path: pathlib.Path, monkeypatch: pytest.MonkeyPatch) -> Non
     assert (tmp_path / "precious").read_bytes() == b"precious" and not (tmp_path / "file").exists()
 
 
-def test_not_in_place_of_another(tmp_path: pathlib.Path) -> None:
-    """Nothing is left beside it."""
+@pytest.mark.parametrize("has_links", [True, False])
+def test_not_in_place_of_another(tmp_path: pathlib.Path, monkeypatch: pytest.MonkeyPatch, has_links: bool) -> None:
+    """Nothing is left beside it, also on a disk that can't give a file two names; there a new one is written too."""
+    def refused(*paths: object) -> None:
+        raise PermissionError(errno.EPERM, "Operation not permitted")
+
+    if not has_links:
+        monkeypatch.setattr(os, "link", refused)
     (tmp_path / "file").write_bytes(b"precious")
     with pytest.raises(FileExistsError):
         put(tmp_path / "file", b"text", replaces=False)
     assert [path.read_bytes() for path in tmp_path.iterdir()] == [b"precious"]
+    put(tmp_path / "new", b"text", replaces=False)
+    assert {path.name: path.read_bytes() for path in tmp_path.iterdir()} == {"file": b"precious", "new": b"text"}
 
 
 def test_names_that_are_no_text(desk: Desk, tmp_path: pathlib.Path) -> None:
