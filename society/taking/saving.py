@@ -4,7 +4,7 @@ from __future__ import annotations
 import contextlib
 import pathlib
 from collections.abc import Callable
-from dataclasses import dataclass
+from dataclasses import dataclass, replace
 
 from society.book.beside import Beside
 from society.book.book import Book
@@ -66,8 +66,9 @@ def saved(
     book: Book, program: Herdbook, outcome: Outcome, prepared: Prepared | None, notes: list[str]
 ) -> tuple[Outcome, list[str]]:
     assert prepared is not None
+    change = save(book, program, prepared)
+    outcome = replace(outcome, call=replace(outcome.call, change=change.number))
     keep(prepared, outcome)
-    save(book, program, prepared)
     return outcome, notes + export(book.folder)
 
 

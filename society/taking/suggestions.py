@@ -61,11 +61,13 @@ class Suggestion:
 
 @dataclass(frozen=True, slots=True)
 class Call:
-    """How `take` was called: the words for the file, the book's folder and the options."""
+    """How `take` was called: the words for the file, the book's folder and the options; and the change that it made, 0
+    for none."""
 
     file: tuple[str, ...]
     book: pathlib.Path
     options: tuple[Option, ...] = ()
+    change: int = 0
 
     @property
     def is_preview(self) -> bool:
@@ -81,7 +83,9 @@ class Call:
         options += [one for one in suggestion.options if one not in options]
         book = ["--book", str(self.book)] * (self.book != USUAL_BOOK)
         take = f"{CALLED} take {shlex.join([*self.file, *book])} {text_of(options)}".rstrip()
-        undo = f"{CALLED} {shlex.join(['undo', *book])} && "
+        # what somebody else changed since isn't taken back
+        only = ["--change", str(self.change)] * bool(self.change)
+        undo = f"{CALLED} {shlex.join(['undo', *only, *book])} && "
         return undo + take if suggestion.undoes and not self.is_preview else take
 
 

@@ -162,6 +162,11 @@ def test_owner_is_written_otherwise(desk: Desk) -> None:
     done = desk.good("take", "sheet.csv")
     done.shows(told)
     desk.wrong("the book has 'Meyer' too, as another owner", "take", "sheet.csv", "--owner", "Meier=Meyer")
+    other = desk.copy_to(desk.room.parent / "other")
+    other.good("birth", "c", "--sex", "f", "--day", "2012-03-04")
+    # where nobody else changed the book meanwhile
+    other.wrong("change 2 isn't the last that changed something, which is 3", "undo", "--change", "2")
+    assert f"{CALLED} undo --change 2 && " in done.commands()[0]
     done = desk.typed(done.commands()[0])
     assert " 0 changed" in done.last
     assert desk.transfer_days() == []

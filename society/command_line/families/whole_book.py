@@ -6,7 +6,7 @@ import pathlib
 
 from society.book.backup import backup, restore
 from society.book.book import Book
-from society.book.history import all_changes, change_numbered
+from society.book.history import all_changes, change_numbered, last_that_changed
 from society.book.history_words import details, heading
 from society.book.opening import export, opened, there_to_change
 from society.book.settings import Setting, change_settings, settings_of
@@ -16,7 +16,7 @@ from society.command_line.arguments import add_force, file, whole_number
 from society.command_line.output import tell
 from society.command_line.parser import Words
 from society.herdbook import Herdbook
-from society.mistake import Mistake, counted
+from society.mistake import CALLED, Mistake, counted
 
 # what each setting is
 SETTINGS = {
@@ -37,7 +37,11 @@ def add_words(words: Words) -> None:
     back = words.add(
         "undo", do_undo, "bring back the state before the last change that changed something, as a new change", "Nothing is lost by it."
     )
-    back.add_argument("--to", type=whole_number, metavar="N", help="the state after this change, 0 for the empty book")
+    which = back.add_mutually_exclusive_group()
+    which.add_argument("--to", type=whole_number, metavar="N", help="the state after this change, 0 for the empty book")
+    which.add_argument(
+        "--change", type=whole_number, metavar="N", help="that before this change, if nothing was changed since"
+    )
     settings = words.add(
         "settings",
         do_settings,
@@ -76,11 +80,24 @@ def do_history(asked: argparse.Namespace, book: Book, program: Herdbook) -> None
 def do_undo(asked: argparse.Namespace) -> None:
     program = Herdbook()
     with there_to_change(asked.book, program) as book:
+        if asked.change is not None:
+            check_last(book, asked.change)
         change = undo(book, program, asked.to)
         notes = export(book.folder)
     print(heading(change))
     for note in notes:
         tell(note)
+
+
+def check_last(book: Book, number: int) -> None:
+    """A mistake where a change isn't the last that changed something."""
+    assert book.connection is not None
+    last = last_that_changed(book.connection)
+    if number != last:
+        raise Mistake(
+            f"change {number} isn't the last that changed something, which is {last}: see what came by {CALLED} history, "
+            "and bring back an earlier state by --to"
+        )
 
 
 def do_verify(asked: argparse.Namespace, book: Book, program: Herdbook) -> None:
