@@ -9,9 +9,11 @@ from dataclasses import dataclass
 
 from society.book.book import Book
 from society.book.files import put, table
+from society.book.history import change_numbered
 
 NAME = "last_backup.csv"
-TITLES = ["time", "change"]
+# with the moment of the change, by which it is told from that of another history
+TITLES = ["time", "change", "moment"]
 
 
 @dataclass(frozen=True, slots=True)
@@ -24,17 +26,21 @@ class LastBackup:
 
 def remember(book: Book) -> None:
     """Keeps that a backup was made now. Where that can't be kept the backup is good all the same."""
-    change = book.change.number if book.change else 0
+    change, moment = (book.change.number, book.change.moment) if book.change else (0, 0)
     now = datetime.datetime.now(datetime.timezone.utc).isoformat(timespec="seconds")
     with contextlib.suppress(OSError):
-        put(book.folder / NAME, table(TITLES, [[now], [change]]))
+        put(book.folder / NAME, table(TITLES, [[now], [change], [moment]]))
 
 
-def last_backup(folder: pathlib.Path) -> LastBackup | None:
-    """None where there was none, or nobody knows."""
+def last_backup(book: Book) -> LastBackup | None:
+    """None where there was none, or nobody knows; nor where the book was restored since from one that hasn't its last
+    change."""
     try:
-        with open(folder / NAME, encoding="utf-8", newline="") as file:
+        with open(book.folder / NAME, encoding="utf-8", newline="") as file:
             row = next(csv.DictReader(file))
-        return LastBackup(datetime.datetime.fromisoformat(row["time"]), int(row["change"]))
+        found = LastBackup(datetime.datetime.fromisoformat(row["time"]), int(row["change"]))
+        change = change_numbered(book.connection, found.change) if book.connection else None
+        # the last one that was made by an earlier version has no moment
+        return found if change and row.get("moment") in (None, str(change.moment)) else None
     except (OSError, StopIteration, ValueError, KeyError, TypeError, csv.Error):
         return None

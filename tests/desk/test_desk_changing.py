@@ -106,6 +106,18 @@ def test_same_number(site: Site, society_desk: Desk) -> None:
         assert book and book.change and book.change.number == 2 and "NEW-9" not in book.known
 
 
+def test_last_backup(site: Site, society_desk: Desk) -> None:
+    """The history tells of one that has changes of this book, not of one whose last change went with a restored book."""
+    copy = site.get("/book.sqlite").get_data()
+    society_desk.good("exit", DAM, "--day", "2024-05-01")
+    later = site.get("/book.sqlite").get_data()
+    assert "after change 2." in shown(site.page("/history"))
+    site.restore(copy)
+    assert "after change 2." not in shown(site.page("/history"))
+    site.restore(later)
+    assert "after change 2." in shown(site.page("/history"))
+
+
 def test_no_path(site: Site, monkeypatch: pytest.MonkeyPatch) -> None:
     """A mistake that names files of this machine is told with their names alone."""
     address = site.drop("sheet.csv", EXAMPLE)

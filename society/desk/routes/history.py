@@ -35,7 +35,7 @@ def history(book: Book) -> Answer:
     connection, count = book.connection, book.change.number
     part = part_read(count, lambda first, most: lines_of(connection, last_changes(connection, most, first), the_words()))
     last = last_that_changed(connection)
-    return render_template("history.html", part=part, last=last, backed_up=last_backup(book.folder))
+    return render_template("history.html", part=part, last=last, backed_up=last_backup(book))
 
 
 @page.get("/history/<int(max=999999999):number>")
