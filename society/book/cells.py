@@ -8,6 +8,8 @@ from typing import Sequence, TypeGuard
 
 # how spreadsheets know a formula, also in the wide letters of East Asia
 FORMULA = frozenset("=+-@\t\r＝＋－＠")
+# those of them with which a text may begin that is read
+SIGNS = FORMULA - frozenset("=＝\t\r")
 FIRST_LETTER = operator.itemgetter(slice(1))
 # an apostrophe before a cell says that it is text
 TEXT = "'"
@@ -23,6 +25,16 @@ HARMLESS = bytes(range(0x20, 0x7F)) + b"\t\n"
 def for_spreadsheets(cell: str) -> str:
     """A cell that no spreadsheet takes for a formula."""
     return TEXT + cell if cell[:1] in FORMULA else cell
+
+
+def from_spreadsheets(cell: str) -> str:
+    """A cell without the apostrophe by which no spreadsheet takes it for a formula."""
+    return cell[1:] if cell[:1] == TEXT and cell[1:2] in SIGNS else cell
+
+
+def may_have_texts(text: str) -> bool:
+    """May a cell of a file have such an apostrophe?"""
+    return TEXT in text and any(TEXT + sign in text for sign in SIGNS)
 
 
 def column_for_spreadsheets(cells: Sequence[object]) -> Sequence[object]:

@@ -8,6 +8,7 @@ import re
 import sys
 from typing import NamedTuple
 
+from society.book.cells import from_spreadsheets, may_have_texts
 from society.mistake import Mistake
 from society.reading.bounds import bounded, check_bounds, read_bytes
 from society.reading.encodings import decoded
@@ -46,7 +47,8 @@ def read_lines(file: GivenFile) -> list[Line]:
 def cells_of(number: int, part: str, separator: str | None) -> list[str]:
     """The cells of a line; without a separator blanks stand between them."""
     if separator:
-        return [cell.strip() for cell in next(csv.reader([part], delimiter=separator))]
+        cells = [cell.strip() for cell in next(csv.reader([part], delimiter=separator))]
+        return [*map(from_spreadsheets, cells)] if may_have_texts(part) else cells
     check_blanks(number, part)
     return [unquoted(cell) for cell in CELL.findall(part)]
 

@@ -10,6 +10,7 @@ import unicodedata
 from dataclasses import dataclass, field
 from typing import Callable, NamedTuple
 
+from society.book.cells import from_spreadsheets, may_have_texts
 from society.book.named import made
 from society.mistake import Mistake
 from society.reading.bounds import check_bounds
@@ -121,7 +122,7 @@ class Cleaned(dict[str, str]):
     def __missing__(self, cell: str) -> str:
         # `="007"` is how some programs keep a spreadsheet from taking away zeros
         is_kept = cell[:2] == '="' and cell[-1:] == '"'
-        self[cell] = found = clean(cell[2:-1] if is_kept else cell)
+        self[cell] = found = from_spreadsheets(clean(cell[2:-1] if is_kept else cell))
         return found
 
 
@@ -130,7 +131,7 @@ def is_clean(text: str, separator: str) -> bool:
     or with a sign that isn't printed, isn't looked at any closer."""
     if '"' in text or any(around in text for around in BLANKS) or text[:1] == " " or text[-1:] == " ":
         return False
-    if f" {separator}" in text or f"{separator} " in text:
+    if f" {separator}" in text or f"{separator} " in text or may_have_texts(text):
         return False
     in_lines = text.replace("\n", "").replace("\r", "").replace(separator, "")
     return in_lines.isprintable() and unicodedata.is_normalized("NFC", text)

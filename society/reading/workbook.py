@@ -8,6 +8,7 @@ import re
 import zipfile
 from typing import Any, Callable, NamedTuple
 
+from society.book.cells import from_spreadsheets
 from society.mistake import Mistake
 from society.reading.column_findings import SheetFinding
 from society.reading.file_findings import DigitsLost, FormulasWithoutValue, WorksheetLacks, WorksheetUnclear
@@ -119,7 +120,7 @@ def cell_text(cell: Any) -> str:
         # the format 00000 shows zeros before a number
         zeros = re.fullmatch(r"0+", str(cell.number_format or ""))
         return f"{value:0{len(zeros.group())}}" if zeros else str(value)
-    return clean(str(value))
+    return from_spreadsheets(clean(str(value)))
 
 
 def day_text(day: datetime.date, shown: str) -> str:

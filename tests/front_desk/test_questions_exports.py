@@ -45,6 +45,16 @@ def test_export_of_what_is_inferred(desk: Desk) -> None:
     assert "day unknown: 'sold'" in shown[0] and "castrated" in desk.good("show", "B", "--book", "new").out
 
 
+def test_export_of_ids_that_begin_as_formulas(desk: Desk) -> None:
+    """No spreadsheet takes them for formulas, and they are read again as they are: from a sheet and from a pedigree."""
+    desk.take("id,name,sex,birth,sire,dam\n-5,O'Brien,m,2001-01-01,,\n+6,@,f,2001-01-01,,\n@7,-,f,2004-01-01,-5,+6\n")
+    desk.good("export", "--out", "export.csv")
+    assert "'@7,-,f" not in desk.text("export.csv") and "'-5" in desk.text("export.csv")
+    assert " 0 new, 0 changed, " in desk.good("take", "export.csv").last
+    desk.good("list", "--columns", "id,sire,dam", "--out", "list.csv")
+    assert " 0 new, 0 changed, " in desk.good("take", "--pedigree", "list.csv").last
+
+
 def test_export_of_some(society_desk: Desk) -> None:
     """The ancestors of those that are named, and no others; relationships stay as they are."""
     society_desk.write("keep.txt", "GK-17/472c\nGK-18/487c\n")
