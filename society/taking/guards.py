@@ -20,8 +20,8 @@ from society.taking.obstacles import (
     Changed, Guard, IdsLack, LooksLike, ManyDropped, ManyGone, ManyOthers, ParentsLack,
 )  # fmt: skip
 
-# more than a tenth of the animals, and at least so many, are gone
-TENTH, LEAST_GONE = 10, 10
+# more than a tenth of the animals, and at least so many, are gone; or all of a small book that has at least so many
+TENTH, LEAST_GONE, LEAST_OF_SMALL = 10, 10, 5
 # more than so many animals, and more than 2 of 100, have another birth day, the name of another, or another parent
 MOST_OTHERS, PER_HUNDRED = 5, 2
 # so many parents without a row are few
@@ -114,7 +114,7 @@ class Guards(OtherAnimals):
     def gone(self) -> Guard | None:
         had_row = self.had_row()
         gone = [id for id in had_row if id not in self.rows]
-        if len(gone) < LEAST_GONE or len(gone) * TENTH <= len(had_row):
+        if not are_too_many(len(gone), len(had_row)):
             return None
         return ManyGone(len(gone), len(had_row), self.like())
 
@@ -158,7 +158,7 @@ class Guards(OtherAnimals):
         """More animals are dropped than may be gone, though not all at once."""
         had_row = [id for id, known in self.book.known.items() if known.standing.had_row()]
         dropped = [id for id in had_row if id not in animals]
-        if len(dropped) < LEAST_GONE or len(dropped) * TENTH <= len(had_row) or self.gone():
+        if not are_too_many(len(dropped), len(had_row)) or self.gone():
             return None
         return ManyDropped(len(dropped), len(had_row), self.like())
 
@@ -188,3 +188,10 @@ class Guards(OtherAnimals):
         found = {at: len(parents & {*self.columns.cells(at)}) for at in free}
         best = max(free, key=lambda at: found[at], default=None)
         return titles[best] if best is not None and 2 * found[best] > len(parents) else ""
+
+
+def are_too_many(gone: int, had_row: int) -> bool:
+    """Are more animals gone than a sheet of the same flock leaves out?"""
+    if had_row < LEAST_GONE:
+        return LEAST_OF_SMALL <= had_row == gone
+    return gone >= LEAST_GONE and gone * TENTH > had_row

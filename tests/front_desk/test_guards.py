@@ -47,6 +47,17 @@ def test_another_flock(taken: Desk, words: tuple[str, ...]) -> None:
     )  # fmt: skip
 
 
+def test_another_small_flock(desk: Desk) -> None:
+    """Of a book of less than ten animals some may be gone, and not all."""
+    desk.take(sheet(flock("A")[:5]))
+    assert " 3 gone" in desk.take(sheet(flock("A")[:2])).last
+    desk.take(sheet(flock("A")[:5]))
+    refused(
+        desk, sheet(flock("B")[:5]), "5 of the 5 animals that had a row in the last sheet have none in this one: it looks "
+        "like the sheet of another flock: name its book by --book", words=("--drop-gone",),
+    )  # fmt: skip
+
+
 def test_another_id(taken: Desk) -> None:
     """The same animals, with another column of ids under the same title, and without the book's column."""
     others = [row.replace("A", "Z", 1) for row in flock("A")]
