@@ -9,6 +9,7 @@ from society.taking.kept_values import keep_values
 from society.taking.near_ids import NearIds
 from society.taking.next_book import NextBook
 from society.taking.parent_names import Names
+from society.taking.parents_before import keep_parents_named
 from society.taking.without_row import add_gone, animals_of_book
 
 MOST_ANIMALS = 60_000
@@ -21,11 +22,13 @@ def add_others(next_book: NextBook, drop_gone: bool) -> None:
     has_sires, has_dams = Role.SIRE in next_book.given, Role.DAM in next_book.given
     next_book.texts = {id: (one.sire * has_sires, one.dam * has_dams) for id, one in animals.items()}
     gone = animals_of_book(book, animals)
+    all_animals = animals | gone
+    keep_parents_named(next_book, all_animals)
     if not next_book.is_pedigree:
-        near = NearIds(animals, animals | gone, book)
+        near = NearIds(animals, all_animals, book)
         near.find_parents(report)
         near.tell_alike(report)
-    Names(animals | gone, report).find_parents(animals, book)
+    Names(all_animals, report).find_parents(animals, book)
     animals |= {id: gone.pop(id) for id in next_book.used_again}
     add_gone(animals, gone, book, drop_gone, report)
     leave_out_unread_sexes(next_book)

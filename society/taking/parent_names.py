@@ -10,7 +10,7 @@ from society.book.kinds import Standing
 from society.book.role import Role
 from society.reading.animal import Animal, Link, links_outside
 from society.taking.look_findings import MayBeUnknown, MoreMayBeUnknown
-from society.taking.parent_findings import AddedAsParent, FoundByName, FoundInBook
+from society.taking.parent_findings import AddedAsParent, FoundByName
 from society.taking.report import Finding, Report
 
 # of so many links a parent without a row that is a sire and a dam is told
@@ -43,7 +43,6 @@ class Names:
         with_id = rows.keys() | ids_given(book)
         ids = {known.number: id for id, known in book.known.items()}
         links = links_outside(rows.values(), with_id)
-        links = [link for link in links if not self.stays(link, book, ids)]
         links = [(calf, role, text) for calf, role, text in links if text.casefold() in self.named]
         others = {(role, text.casefold()) for calf, role, text in links if not self.possible(calf, role, text)}
         for calf, role, text in links:
@@ -57,20 +56,6 @@ class Names:
             if meant:
                 calf.set_parent(role, meant[0].id)
                 self.report.add(calf.line, calf.id, FoundByName(role, text, meant[0].id))
-
-    def stays(self, link: Link, book: Book, ids: dict[str, str]) -> bool:
-        """Has a cell the text that it had before, which was the name of the parent in the book? That has another one now,
-        and stays the parent where it can be it."""
-        calf, role, text = link
-        known = book.known.get(calf.id)
-        if known is None or known.written(role) != text:
-            return False
-        parent = self.animals.get(ids.get(book.records[known.number].parent(role), ""))
-        if parent is None or parent.name.casefold() == text.casefold() or not can_be(parent, role, calf):
-            return False
-        calf.set_parent(role, parent.id)
-        self.report.add(calf.line, calf.id, FoundInBook(role, text, parent.id))
-        return True
 
     def possible(self, calf: Animal, role: Role, name: str) -> list[Animal]:
         return [one for one in self.others(calf, name) if can_be(one, role, calf)]

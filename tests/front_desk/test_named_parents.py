@@ -94,3 +94,10 @@ def test_named_parent_with_another_name(desk: Desk) -> None:
         )
         assert desk.parents()["L1"] == ("R1", "") and " 0 added" in done.last
     assert desk.parents()["L2"] == ("R9", "")
+    # nor is an id meant that is nearly this and came since
+    desk.take(sheet.replace("R1,Max", "R1,Maximilian") + "max,,M,2002-01-01,,\n")
+    assert desk.parents()["L1"] == ("R1", "")
+    near = sheet.replace("R1,Max", "07,").replace("Max", "7")
+    desk.take(near, "--book", "near")
+    told = "line 3: L1: inferred: its sire '7' is 07, whose id differs in case, blanks or zeros alone"
+    assert told in desk.take(near + "007,,M,2002-01-01,,\n", "--book", "near").told
