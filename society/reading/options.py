@@ -6,13 +6,13 @@ import csv
 from society.mistake import Mistake
 from society.reading.sentences import SheetFault
 from society.reading.titles import TITLES
-from society.reading.words import KNOWN_SEXES, plain, sex_word
+from society.reading.words import KNOWN_SEXES, composed, plain, sex_word
 
 
 def parts_of(words: list[str]) -> list[str]:
     """The parts between commas; one that has a comma itself stands in quotation marks. An end of a line is a blank, as it
     is in a sheet's cells."""
-    lines = (" ".join(word.splitlines()) for word in words)
+    lines = (" ".join(composed(word).splitlines()) for word in words)
     return [part for line in lines for part in next(csv.reader([line], skipinitialspace=True), [""])]
 
 

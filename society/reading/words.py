@@ -73,7 +73,7 @@ def clean(text: str) -> str:
 
 def composed(text: str) -> str:
     """The text with composed letters, and without signs that no one sees."""
-    return text if text.isascii() else unicodedata.normalize("NFC", text).translate(INVISIBLE)
+    return text if text.isascii() else unicodedata.normalize("NFC", text.translate(INVISIBLE))
 
 
 def as_known(text: str, known: Container[str]) -> str:
@@ -90,7 +90,7 @@ def plain(text: str) -> str:
 
 
 def listed(text: str) -> list[str]:
-    return [one.strip() for one in text.split(",")]
+    return [one.strip() for one in composed(text).split(",")]
 
 
 def is_error_value(text: str) -> bool:

@@ -50,6 +50,14 @@ def test_words_by_hand_are_cleaned(desk: Desk) -> None:
     assert [row["id"] for row in desk.listed("list", "--owner", "ka\u0308the")] == ["ö1", "ö2"]
 
 
+def test_options_are_cleaned(desk: Desk) -> None:
+    """Their titles and words are those of the sheet, whose cells are; also a letter in two parts with a sign between."""
+    assert clean("o\u00ad\u0308") == clean(clean("o\u00ad\u0308")) == "ö"
+    words = ("--columns", "sire=Va\u0308", "--unknown", "Me\u0301lo", "--sexes", "Ku\u0308=f")
+    done = desk.take("id,sex,birth,Vä,dam\na,Kü,2001-01-01,Mélo,\n", *words)
+    assert " 1 animal, 1 new" in done.last and " 0 added" in done.last
+
+
 def test_most_sheets_need_no_cleaning() -> None:
     assert is_clean("id,name\r\nDE 1,Löwe 7\r\n", ",")
     assert is_clean("id\tname\nDE 1\tLöwe 7\n", "\t")
