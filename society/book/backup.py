@@ -45,7 +45,7 @@ def backup(book: Book, path: pathlib.Path, force: bool) -> None:
     """Writes a copy of the book as it is now, whoever changes it meanwhile: one file, which is whole or isn't there."""
     assert book.connection is not None
     check(book, path, force)
-    text = bytes_of(book.connection)
+    text = copied(book.connection)
     try:
         put(path, text, replaces=force)
     except FileExistsError:
@@ -53,6 +53,19 @@ def backup(book: Book, path: pathlib.Path, force: bool) -> None:
     except OSError as error:
         raise cant_be_written(path, error) from None
     remember(book)
+
+
+def copied(connection: sqlite3.Connection) -> bytes:
+    """A book as one file; what keeps its copy from being made is told of the place where that is, and not of the book."""
+    try:
+        return bytes_of(connection)
+    except (sqlite3.Error, OSError) as error:
+        if isinstance(error, sqlite3.Error) and primary(error) in DAMAGED:
+            raise
+        raise Mistake(
+            f"no copy can be made in {tempfile.tempdir}, the folder for temporary files ({error}): make room there, or "
+            "name another one by TMPDIR"
+        ) from None
 
 
 def restore(

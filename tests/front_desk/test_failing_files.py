@@ -114,6 +114,12 @@ def test_short_files(taken_flock: Desk, tmp_path: pathlib.Path, is_new: bool) ->
         told_truly(done, before, changes_of(desk.room / "book"))
 
 
+def test_short_files_of_a_backup(taken_flock: Desk) -> None:
+    """It is copied elsewhere before: where that fails nothing is wrong with the book."""
+    done = run(taken_flock, "backup", "short", before=functools.partial(limit_files, 50_000))
+    assert done.status == 1 and "the folder for temporary files" in done.err and "book.sqlite" not in done.err
+
+
 def test_short_files_of_a_restoring(taken_flock: Desk, tmp_path: pathlib.Path) -> None:
     """A backup that there is no room to copy isn't damaged."""
     taken_flock.good("backup", "copy", "--force")
