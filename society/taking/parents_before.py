@@ -13,8 +13,8 @@ from society.taking.report import Finding
 
 
 def keep_parents_named(next_book: NextBook, animals: dict[str, Animal]) -> None:
-    """A text that is no animal's id, and by which the book has a parent, means this one where it can be it, whatever it is
-    called now. `animals` are those of the sheet and of the book."""
+    """A text that is no animal's id, and by which the book has a parent, means this one where it can be it, whatever
+    it is called now. `animals` are those of the sheet and of the book."""
     rows, book = next_book.animals, next_book.book
     for calf, role, text in links_outside(rows.values(), rows) if book.known else ():
         known = book.known.get(calf.id)

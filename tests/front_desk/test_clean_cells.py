@@ -51,7 +51,7 @@ def test_words_by_hand_are_cleaned(desk: Desk) -> None:
 
 
 def test_options_are_cleaned(desk: Desk) -> None:
-    """Their titles and words are those of the sheet, whose cells are; also a letter in two parts with a sign between."""
+    """Their titles and words are those of the sheet, whose cells are; also a letter in parts with a sign between."""
     assert clean("o\u00ad\u0308") == clean(clean("o\u00ad\u0308")) == "ö"
     words = ("--columns", "sire=Va\u0308", "--unknown", "Me\u0301lo", "--sexes", "Ku\u0308=f")
     done = desk.take("id,sex,birth,Vä,dam\na,Kü,2001-01-01,Mélo,\n", *words)

@@ -173,15 +173,16 @@ FINDINGS: dict[str, tuple[str, str]] = {
         "{told}. Écrivez-les pareil, car des fondateurs à leur place changent des coefficients",
     ),
     "ids used again": (
-        "{lines} Zeilen haben Ohrmarken, die im Herdbuch andere Tiere haben: eines für das andere zu nehmen ändert Koeffizienten",
-        "{lines} lignes ont des boucles qui sont celles d'autres animaux du livre : prendre l'un pour l'autre change des "
-        "coefficients",
+        "{lines} Zeilen haben Ohrmarken, die im Herdbuch andere Tiere haben: eines für das andere zu nehmen ändert "
+        "Koeffizienten",
+        "{lines} lignes ont des boucles qui sont celles d'autres animaux du livre : prendre l'un pour l'autre change "
+        "des coefficients",
     ),
     "parents named": (
-        "{parents} Eltern haben keine Zeile, und so heißen Tiere des Herdbuchs: {told}. Schreiben Sie die Ohrmarken, denn andere "
-        "Eltern ändern Koeffizienten",
-        "{parents} parents n'ont pas de ligne, et des animaux du livre portent ces noms : {told}. Écrivez les boucles, car "
-        "d'autres parents changent des coefficients",
+        "{parents} Eltern haben keine Zeile, und so heißen Tiere des Herdbuchs: {told}. Schreiben Sie die Ohrmarken, "
+        "denn andere Eltern ändern Koeffizienten",
+        "{parents} parents n'ont pas de ligne, et des animaux du livre portent ces noms : {told}. Écrivez les boucles, "
+        "car d'autres parents changent des coefficients",
     ),
     "parents in column": (
         "von {parents} Eltern stehen {found} in der Spalte „{title}“, und {found_in_ids} in „{ids}“, woraus die Kennungen gelesen "
