@@ -6,6 +6,7 @@ import operator
 from dataclasses import dataclass
 from typing import Container, Mapping
 
+from society.book.commands import COLUMNS
 from society.book.kinds import Field
 from society.mistake import Mistake, counted
 from society.reading.animal import Animal
@@ -41,6 +42,11 @@ def read_triples(
     lines = read_lines(file)
     if not file.data.isascii():
         lines = [Line(number, [cell if cell in known else composed(cell) for cell in cells]) for number, cells in lines]
+    if lines and lines[0].cells in (COLUMNS, COLUMNS[:-1]):
+        raise Mistake(
+            f"{file.path} is a command file, whose animals are numbers and no ids: take what `export --triples` writes of "
+            "its book"
+        )
     titles = lines.pop(0) if lines and are_titles(lines[0].cells, given) else None
     if given and not titles and lines:
         raise Mistake(f"{lines[0]} has none of the titles that --columns names: write a first line with titles")

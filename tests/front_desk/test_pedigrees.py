@@ -178,6 +178,7 @@ def test_pedigree_that_grows_and_shrinks(desk: Desk) -> None:
     ("a b\n", "line 1: 'a b' has 2 cells: write an id, its sire and its dam"),
     ("", "has no animals: write a line `id sire dam` for each"),
     ("a 0 0\n0 a a\n", "line 2: '0' is a word for an unknown parent"),
+    ("kind,animal,day,sire,dam,from,to\nbirth,a,2001-01-01,b,c,,1\n", "is a command file, whose animals are numbers"),
     ("id,sire\na,b\n", "line 1: no title for the dam is found. The titles are 'id', 'sire'"),
 ])  # fmt: skip
 def test_no_pedigree(desk: Desk, text: str, told: str) -> None:
