@@ -3,6 +3,7 @@ from __future__ import annotations
 
 import dataclasses
 import datetime
+import itertools
 import pathlib
 import sqlite3
 from types import SimpleNamespace
@@ -22,12 +23,13 @@ from society.book.inferred import (
 from society.book.journal import NO_JOURNAL, Step, alike
 from society.book.kinds import ChangeKind, Field, Remembered, Standing
 from society.book.known import Known
+from society.book.owner_names import renamings
 from society.book.rows import known_of, record_of, row_of
 from society.book.schema import MIGRATIONS
 from society.book.state import (
     ANIMALS, CELL_FIELDS, REMEMBERED, Meaning, bring_back, read_remembered, remembered_rows, write_rows,
 )  # fmt: skip
-from society.book.writing import animal_rows
+from society.book.writing import Rows, State, animal_rows, write_owners
 from society.mistake import Mistake
 from society.reading.animal import Animal
 from society.taking.next_book import NextBook
@@ -130,6 +132,38 @@ def test_what_is_remembered_keeps_its_order(connection: sqlite3.Connection) -> N
     assert read_remembered(connection) == [again, *others]
 
 
+def test_owners_as_they_are_written_now(connection: sqlite3.Connection, tmp_path: pathlib.Path) -> None:
+    """Also those that have one another's names; one that has the name of another, as in an earlier version, takes none
+    away. A herd of an owner that isn't in the book yet has its name too."""
+    came = {"Meier": 1, "Huber": 2, "Kunz": 3}
+    connection.executemany("INSERT INTO owner (name, herd) VALUES (?, ?)", came.items())
+
+    def book(*pairs: tuple[str, str]) -> Book:
+        made = Book(tmp_path, connection)
+        made.remembered = [Meaning(Remembered.OWNER, *one) for one in pairs]
+        return made
+
+    for names in itertools.permutations([*came, "Meier (herd 1)"], 3):
+        now = dict(zip(came.values(), names))
+        assert book(*renamings(came, now)).owners == dict(zip(names, now))
+    one = book(("Meier", "Huber"))
+    assert one.owners == {"Huber": 1, "Huber (herd 2)": 2, "Kunz": 3} and one.owner_of(2) == "Huber (herd 2)"
+    one.owners["Lang"] = 4
+    assert [one.owner_of(herd) for herd in (1, 4, 5, NO_OWNER)] == ["Huber", "Lang", "5", ""]
+    one.renamed = [("Meier", "x"), ("Huber", "Meier"), ("x", "Huber")]
+    assert [*map(one.respelt, ("Meier", "Huber", "Kunz"))] == ["Huber", "Meier", "Kunz"]
+
+
+def test_names_of_new_owners(connection: sqlite3.Connection, tmp_path: pathlib.Path) -> None:
+    """Each has its own, though another one had it, also for a while, and though it tells a herd."""
+    new = {"Meier (herd 3)": 2, "Meier": 3, "Bauer": 4, "Bauer (herd 4)": 5, "Lang": 6}
+    renamed = [Meaning(Remembered.OWNER, *one) for one in (("Meier", "Bauer"), ("Bauer", "Kern"))]
+    assert write_owners(connection, State(Rows({}, {}), new_owners={"Meier": 1})) is None
+    book = Book(tmp_path, connection)
+    book.remembered = write_owners(connection, State(Rows({}, {}), remembered=renamed, new_owners=new)) or []
+    assert book.owners == {"Kern": 1, **new}
+
+
 def test_former_numbers(connection: sqlite3.Connection, tmp_path: pathlib.Path) -> None:
     """Whoever comes back has the last number, or that with which it was dropped."""
     first, male, other, dropped = (f"{breed}{sex}{at:012}" for breed, sex, at in (
@@ -164,6 +198,10 @@ def test_last_cells() -> None:
     changed = {Field.NAME: "A", Field.OWNER: ""}
     assert cells["a",] == ("a", *(changed.get(field, f"{field} of a") for field in CELL_FIELDS))
     assert cells["b",] == before["b",] and cells["c",] == ("c", "C", *[None] * (len(CELL_FIELDS) - 1))
+    # owners as they are written from now on
+    book.cells, book.renamed, book.respelt = cells, [("", "")], str.upper
+    after = cell_rows(cast(NextBook, SimpleNamespace(book=book, animals={})))
+    assert after == {**cells, ("b",): tuple(one.upper() if one == "owner of b" else one for one in before["b",])}
 
 
 def test_parents_and_owners_by_hand() -> None:
