@@ -6,7 +6,13 @@ import datetime
 import pytest
 
 from front_desk.desk import Desk
-from society.reading.days import DayFault, Span, Unreadable, month_of, read_span, span_within, year_of
+from society.book.kinds import Field
+from society.reading.animal_cells import AnimalCells
+from society.reading.days import ANY_DAY, DayFault, Span, Unreadable, month_of, read_span, span_within, year_of
+from society.reading.sexes import Sexes
+from society.reading.unknown import UnknownParents
+from society.reading.unread import Unread
+from society.taking.report import Report
 
 TITLES = "id;sex;birth;sire;dam;exit\n"
 
@@ -82,6 +88,25 @@ def test_days_within_texts() -> None:
         assert span_within(text) == Span(day, day), text
     with pytest.raises(Unreadable, match="'05/13/2010' has the day and the month in the other order"):
         span_within("sold 05/13/2010")
+
+
+def test_cells_of_days(today: datetime.date) -> None:
+    """What says nothing isn't counted, and what can't be read is; a day after today is read, and not taken."""
+    for field, late in (Field.BIRTH, True), (Field.EXIT, True), (Field.SINCE, False):
+        report, unread = Report(), Unread({})
+        cells, later = AnimalCells(UnknownParents(), Sexes([], {}), unread, report, False), f"{today.year + 1}-01-02"
+        texts = ["2004-02-03", "2004", "?", "37800", later]
+        animals = [cells.animal(line, f"a{line}", {field: text}) for line, text in enumerate(texts)]
+        assert unread.read[field] == 4 and {**unread.cells} == {field: [("37800", 3)]}
+        assert [one.unread for one in animals] == [[], [], [], [field], [field] * late]
+        left_out = [entry.line for entry in report.entries if entry.part]
+        assert left_out == ([3, 4] if late else [3])
+        births, since = [one.birth for one in animals], [one.since and one.since.last for one in animals]
+        day, year = datetime.date(2004, 2, 3), year_of(2004)
+        assert births == ([Span(day, day), year] + [ANY_DAY] * 3 if field is Field.BIRTH else [ANY_DAY] * 5)
+        days = [day, year.last, None, None, datetime.date.fromisoformat(later)]
+        assert since == (days if field is Field.SINCE else [None] * 5)
+        assert [one.left for one in animals] == ([*days[:4], None] if field is Field.EXIT else [None] * 5)
 
 
 def test_month_first(desk: Desk) -> None:

@@ -4,6 +4,12 @@ from __future__ import annotations
 import pytest
 
 from front_desk.desk import Desk
+from society.book.kinds import Field
+from society.reading.animal_cells import AnimalCells
+from society.reading.sexes import Sexes
+from society.reading.unknown import UnknownParents
+from society.reading.unread import Unread
+from society.taking.report import Report
 
 SHEET = "Ohrmarke;Name;Geschlecht;Geburtsdatum;Vater;Mutter\nÄ1;Müller;m;01.03.2001;;\nB2;Süße;w;02.03.2004;Ä1;\n"
 
@@ -38,6 +44,18 @@ def test_letters_decoded_twice(desk: Desk, encoding: str) -> None:
     done = desk.take(twice.encode(encoding, errors="ignore"))
     assert "letters were decoded twice in 1 text: 'MÃ¼ller' for 'Müller' (line 2): save the sheet anew" in done.out
     assert ("letters are lost in 1 text: 'S\ufffd' (line 3)" in done.out) == (encoding == "utf-8")
+
+
+def test_letters_of_each_name() -> None:
+    """Of an animal's id, of its parents and of its owner as of its name."""
+    for field in Field.ID, Field.NAME, Field.SIRE, Field.DAM, Field.OWNER:
+        for text, told in ("MÃ¼ller", "decoded twice in 1 text: 'MÃ¼ller' for 'Müller' (line 7)"), (
+            "M\ufffdller", "lost in 1 text: 'M\ufffdller' (line 7)"
+        ):  # fmt: skip
+            cells = AnimalCells(UnknownParents(), Sexes([], {}), Unread({}), Report(), False)
+            named = {Field.ID.value: "b", field.value: text}
+            cells.animal(7, named.pop(Field.ID), named)
+            assert [told in one.words() for one in cells.letters.told()] == [True], field
 
 
 def test_titles_decoded_twice(desk: Desk) -> None:

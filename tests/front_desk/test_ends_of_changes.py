@@ -9,13 +9,19 @@ from typing import cast
 import pytest
 
 from front_desk.desk import Desk
+from front_desk.whole import FLOCK
 from society.book import backup
 from society.book.book import Book
+from society.book.book_changed import changing
 from society.book.book_read import copy_of
-from society.book.changes import Change
+from society.book.changes import Change, Made
+from society.book.kinds import ChangeKind
 from society.book.settings import Setting, change_settings
+from society.book.state import Meaning, read_remembered
+from society.book.writing import Filed, Rows, State, write
 from society.herdbook import Herdbook
 from society.mistake import Mistake
+from society.taking import saving
 from society.taking.outcome import Outcome
 from society.taking.saving import Prepared, take
 
@@ -34,6 +40,54 @@ def test_folder_that_goes_away(flock_desk: Desk, monkeypatch: pytest.MonkeyPatch
         take(folder, Herdbook(), prepare)
     assert len(seen) == 1 and not folder.exists()
     assert "is whole: 1 change" in flock_desk.good("verify", "--book", "moved").out
+
+
+def test_what_is_told_besides(flock_desk: Desk, monkeypatch: pytest.MonkeyPatch) -> None:
+    """What is found while a taking is prepared, and then of its exports; where it is prepared once more, what is found
+    then."""
+    monkeypatch.setenv("HERDBOOK", flock_desk.program)
+    monkeypatch.setattr(saving, "save", lambda *_: None)
+    monkeypatch.setattr(saving, "export", lambda _: ["of the exports"])
+    folder, notes, outcome = flock_desk.room / "book", list[str](), cast(Outcome, "outcome")
+
+    def prepare(book: Book) -> tuple[Outcome, Prepared | None]:
+        notes.append(f"{len(notes)}")
+        book.notes.append(notes[-1])
+        return outcome, cast(Prepared, "prepared")
+
+    def prepare_beside_another(book: Book) -> tuple[Outcome, Prepared | None]:
+        if not notes:
+            flock_desk.good("exit", "a0", "--day", "2012-01-01")
+        return prepare(book)
+
+    assert take(folder, Herdbook(), prepare) == (outcome, ["0", "of the exports"])
+    notes.clear()
+    assert take(folder, Herdbook(), prepare_beside_another) == (outcome, ["1", "of the exports"])
+
+
+def test_no_book_is_begun_where_the_program_fails(desk: Desk) -> None:
+    """Also where it answers to the commands."""
+    fails = desk.write("fails", f'#!/bin/sh\n[ "$1" != inbreeding ] && exec {desk.program} "$@"\necho no >&2\nexit 3\n')
+    (desk.room / fails).chmod(0o755)
+    desk.program = str(desk.room / fails)
+    desk.wrong("the program `herdbook inbreeding` can't do it: no", "take", desk.write("sheet.csv", FLOCK))
+    assert not (desk.room / "book").exists()
+
+
+def test_nothing_is_remembered_any_more(flock_desk: Desk, monkeypatch: pytest.MonkeyPatch) -> None:
+    """It goes where a change says so, and stays where a change says nothing of it."""
+    monkeypatch.setenv("HERDBOOK", flock_desk.program)
+    found, folder = [], flock_desk.room / "book"
+    try:
+        for remembered in None, list[Meaning]():
+            with changing(folder) as connection:
+                state = State(Rows({}, {}), remembered=remembered, keeps_coefficients=True)
+                write(Book(folder, connection), Herdbook(), Filed([]), lambda: state, Made(ChangeKind.TAKE))
+            with contextlib.closing(sqlite3.connect(folder / "book.sqlite")) as connection:
+                found.append(bool(read_remembered(connection)))
+    finally:
+        signal.signal(signal.SIGINT, signal.default_int_handler)
+    assert found == [True, False]
 
 
 def test_stopped_when_it_is_made(flock_desk: Desk, monkeypatch: pytest.MonkeyPatch) -> None:

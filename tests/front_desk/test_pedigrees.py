@@ -172,6 +172,8 @@ def test_pedigree_that_grows_and_shrinks(desk: Desk) -> None:
     done = desk.good("take", "--pedigree", both, "--leave-out", "--drop-gone")
     assert "book: 6 animals, 0 new, " in done.last
     assert ", 1 gone: " in done.last
+    took = [line.partition(": took ")[2].partition(" (")[0] for line in desk.good("history").out.splitlines()]
+    assert took == ["the pedigree both.txt", "the pedigree more.txt", "the pedigree both.txt"]
 
 
 @pytest.mark.parametrize(("text", "told"), [

@@ -49,7 +49,8 @@ def value_of(kind: Any, is_full: bool) -> Any:
 def test_round_trip(kind: type[Finding], is_full: bool) -> None:
     finding = value_of(kind, is_full)
     entry = Entry(7, "DE 8", finding)
-    assert entry_of(told_of(entry)) == entry
+    told = told_of(entry)
+    assert entry_of(told) == entry and told.part == (kind.part or "")
 
 
 def test_more_than_ten_keep_their_order() -> None:

@@ -14,7 +14,7 @@ from society.book.kinds import Remembered
 from society.book.search import find
 from society.book.state import Meaning
 from society.mistake import Mistake
-from society.taking.remembering import remember
+from society.taking.remembering import remember, rename_owners
 from society.taking.wishes import Wishes
 
 
@@ -88,3 +88,15 @@ def test_words_are_known_or_unknown_as_is_said_last(tmp_path: pathlib.Path) -> N
     assert (words[unknown], words[known]) == (["fremd", "?", "Y"], ["x"]) and owner in book.remembered
     words = remember(book, Wishes(tmp_path, unknown=["fremd"]))
     assert (words[unknown], words[known]) == (["?", "Y", "fremd"], ["x"]) and owner in book.remembered
+
+
+def test_owners_are_written_otherwise_from_now_on(tmp_path: pathlib.Path) -> None:
+    """What else is remembered stays; whoever has the name and isn't named by a command gives it away."""
+    word, owner = Meaning(Remembered.UNKNOWN, "fremd"), Remembered.OWNER
+    book = SimpleNamespace(
+        owners={"Meyer": 1, "Maier": 2}, owners_came=lambda: {"Meier": 1, "Maier": 2}, steps=[], renamed=[],
+        remembered=[Meaning(owner, "Meier", "Meyer"), word],
+    )  # fmt: skip
+    rename_owners(cast(Book, book), Wishes(tmp_path, owners=["Meyer  = Maier"]))
+    assert book.owners == {"Maier": 1, "Maier (herd 2)": 2} and book.renamed == [("Meyer", "Maier")]
+    assert book.remembered == [word, Meaning(owner, "Maier", "Maier (herd 2)"), Meaning(owner, "Meier", "Maier")]

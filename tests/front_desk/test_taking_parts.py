@@ -8,16 +8,20 @@ from typing import Any, cast
 
 from society.book.book import Book
 from society.book.commands import birth, record_after, transfer
-from society.book.inferred import BirthBasis, BirthSource, OwnerDay
-from society.book.kinds import CommandKind, Field, Standing
+from society.book.inferred import BirthBasis, BirthSource, ExitBasis, ExitSource, OwnerDay, SexSource
+from society.book.kinds import ChangeKind, CommandKind, Field, Standing
 from society.book.known import Known
 from society.book.state import CELL_FIELDS
 from society.herdbook import Herdbook
 from society.reading.animal import Animal
 from society.reading.day_cells import DayCells
-from society.reading.days import year_of
+from society.reading.days import Span, month_of, year_of
 from society.reading.unknown import UnknownParents
+from society.book.role import Role
 from society.refusals import Refusal
+from society.taking.animal_findings import CommandRefused, KeptByHand, SexInferred
+from society.taking.found_sexes import find_sexes
+from society.taking.kept_values import keep_values
 from society.taking.known_after import known_after, written_parents
 from society.taking.next_book import NextBook
 from society.taking.numbers import give_numbers
@@ -116,6 +120,39 @@ def test_cells_after_a_pedigree() -> None:
         assert cell_rows(one) == {("a",): ("a", *(before | {Field.DAM: after}).values())}
 
 
+def test_what_was_filed_by_hand() -> None:
+    """It stays where its cell is as in the last sheet, and so does the day of its owner; another cell holds. Where a
+    sheet lacks a column nothing of it is told, and it is by hand as before."""
+    fields, period = frozenset({Field.NAME, Field.OWNER, Field.EXIT, Field.EMBRYO}), year_of(2005)
+    known = Known(NUMBER, "a", "Anna", by_hand=fields, exit=ExitBasis(ExitSource.PERIOD, period.period()))
+    record = record_after(None, birth(NUMBER, BORN, "", "", 4, True))._replace(left=period.last)
+    before = {Field.NAME: "Ann", Field.OWNER: "3", Field.SINCE: "2003", Field.EXIT: "", Field.EMBRYO: ""}
+
+    def kept(*changed: Field, lacks: frozenset[Field] = frozenset()) -> tuple[Animal, set[Field], list[Field]]:
+        """The animal of a sheet after that, the fields that its cells override, and those of which it is told."""
+        given = [one for one in before if one not in lacks]
+        said = {one.value: before[one] + " now" * (one in changed) for one in given}
+        name, owner = said.get(Field.NAME, ""), said.get(Field.OWNER, "")
+        one = next_book(Animal("a", 2, name, owner=owner, cells=said, since=year_of(2003)), known, *said)
+        last = {("a",): ("a", *map(cast(Any, before).get, CELL_FIELDS))}
+        vars(one.book).update(cells=last, records={NUMBER: record}, owner_of=str, respelt=str)
+        keep_values(one)
+        told = [entry.finding.field for entry in one.report.entries if isinstance(entry.finding, KeptByHand)]
+        return one.animals["a"], {*one.overridden["a"]}, told
+
+    animal, overridden, told = kept()
+    assert (animal.name, animal.owner, animal.since, animal.embryo) == ("Anna", "4", None, True)
+    assert (animal.left, animal.exit_basis) == (record.left, known.exit)
+    assert not overridden and {*told} == fields
+    animal, overridden, told = kept(*before)
+    assert (animal.name, animal.owner, animal.left, animal.embryo) == ("Ann now", "3 now", None, False)
+    assert animal.since == year_of(2003) and overridden == fields and not told
+    for changed in (), (Field.SINCE,):
+        animal, overridden, told = kept(*changed, lacks=fields)
+        assert (animal.name, animal.owner, animal.left, animal.embryo) == ("Anna", "4", record.left, True)
+        assert (animal.since is None) == (not changed) and not overridden and not told
+
+
 def moved(basis: OwnerDay, born: str, *days: str, left: str = "") -> tuple[list[str], list[tuple[str, str]], OwnerDay]:
     """The days of an animal's transfers in order, those of them that are told, each with its day before, and what the
     last one comes from."""
@@ -142,6 +179,40 @@ def test_days_of_owners_in_order() -> None:
     # an exit before the birth leaves no day open
     born = "2011-01-01"
     assert moved(inferred, born, *days, left="2005-01-01") == ([born] * 2, [(days[0], born)], inferred)
+
+
+def test_day_of_another_owner(today: datetime.date) -> None:
+    """That of the sheet, or the last one of its month or year that isn't after today, which is inferred; else that of
+    the taking, which is so where none is named."""
+    named, years = datetime.date(2009, 8, 7), (BORN.year, today.year)
+    record = record_after(None, birth(NUMBER, BORN, "", "", 4, False))
+    book = cast(Book, SimpleNamespace(owners={"Nord": 5}))
+
+    def changed(since: Span | None, day: datetime.date | None = None) -> tuple[datetime.date, OwnerDay]:
+        animal = Animal("a", 2, number=NUMBER, owner="Nord", since=since)
+        found = OwnerDays(book, Report(), day).change(animal, record)
+        day = datetime.date.fromisoformat(found.day)
+        assert found == transfer(NUMBER, day, 4, 5)
+        return day, animal.owner_day
+
+    inferred, given = OwnerDay.INFERRED, OwnerDay.GIVEN
+    assert changed(None) == (today, inferred) and changed(None, named) == (named, given)
+    for day in None, named:
+        assert changed(Span(BORN, BORN), day) == (BORN, given)
+        assert changed(month_of(2003, 2), day) == (datetime.date(2003, 2, 28), inferred)
+        assert [changed(year_of(year), day) for year in years] == [
+            (datetime.date(BORN.year, 12, 31), inferred), (today, inferred)
+        ]  # fmt: skip
+
+
+def test_a_sex_that_is_inferred_tells_of_a_cell() -> None:
+    """Where it can't be read, which is something else than none."""
+    for unread, more in (0, ""), (1, ", and its cell can't be read"):
+        one = next_book(Animal("a", 2, unread=["sex"] * unread), None)
+        one.roles = {"a": Role.DAM}
+        find_sexes(one)
+        assert [entry.finding for entry in one.report.entries] == [SexInferred("F", SexSource.DAM, bool(unread))]
+        assert one.report.entries[0].finding.words() == f"sex female, since it is a dam{more}"
 
 
 def filing(length: int = 0) -> Filing:
@@ -194,3 +265,7 @@ def test_commands_that_are_left_out_are_told_by_what_refuses_them() -> None:
     assert transferred.words().endswith(" (b) (refusal 16)")
     other = CommandLeftOut(CommandKind.EXIT, day, Refusal.SAME_OWNER, "", 0)
     assert len({one.theme() for one in (exit, transferred, other)}) == 3
+    # parents have no day
+    for kind, of_day, on in (ChangeKind.EXIT, day, f"exit on {day}"), (ChangeKind.PARENTS, "", "parents"):
+        refused = CommandRefused(kind, of_day, Refusal.LATER_OFFSPRING)
+        assert refused.words() == f"the {on} is refused: {Refusal.LATER_OFFSPRING.words()} (refusal 16)"
