@@ -1,11 +1,26 @@
 """Sheets that look like another one than the book's aren't taken, but by `--anyway`."""
 from __future__ import annotations
 
+import datetime
 import shlex
+from collections.abc import Iterable
+from types import SimpleNamespace
+from typing import cast
 
 import pytest
 
 from front_desk.desk import CALLED, Desk
+from society.book.book import Book
+from society.book.commands import birth, record_after
+from society.book.inferred import BirthBasis, BirthSource
+from society.book.kinds import Standing
+from society.book.known import Known
+from society.book.role import Role
+from society.reading.animal import Animal
+from society.reading.columns import Columns
+from society.reading.days import Precision, Span
+from society.taking.guards import Guards
+from society.taking.obstacles import LooksLike, ManyDropped, ManyGone, ManyOthers, ParentsLack
 
 TITLES = "Ohrmarke;Name;Geburtsdatum;Vater;Mutter"
 
@@ -233,3 +248,85 @@ def test_parents_with_id_and_name(desk: Desk) -> None:
         "a name: write the ids alone into the parents' columns", "take",
         desk.write("sheet.csv", sheet(rows, "Ohrmarke;Geburtsdatum;Vater;Mutter")),
     )  # fmt: skip
+
+
+INFERRED = Known("", "", birth=BirthBasis(BirthSource.PARENTS))
+
+
+def number(at: int) -> str:
+    return f"HOLGBRF{at:012}"
+
+
+def day(at: int) -> datetime.date:
+    return datetime.date(2001, 1, 1) + datetime.timedelta(at)
+
+
+def guards(had: int, rows: Iterable[Animal], alike: Known = Known("", "")) -> Guards:
+    """Of a sheet beside a book of so many animals, from `a0` on, each born a day after the one before, of which the rest
+    is known alike."""
+    known = {f"a{at}": alike._replace(number=number(at), id=f"a{at}", name=f"name {at}") for at in range(had)}
+    records = {number(at): record_after(None, birth(number(at), day(at), "", "", 1, False)) for at in range(had)}
+    sheet = SimpleNamespace(titles=[])
+    columns = SimpleNamespace(lacks_ids="", found={Role.SIRE: 1, Role.DAM: 2}, sheet=sheet)
+    book = SimpleNamespace(known=known, records=records)
+    return Guards(cast(Book, book), {one.id: one for one in rows}, cast(Columns, columns))
+
+
+def row(at: int, letter: str = "a", days: int = 0, sire: str = "") -> Animal:
+    """That of the animal which was born so many days after the first one, with so many days more."""
+    return Animal(f"{letter}{at}", 2 + at, f"name {at}", birth=Span(day(at + days), day(at + days)), sire=sire)
+
+
+def test_so_many_are_few() -> None:
+    """Nine that are gone or dropped, and a tenth; those that are gone aren't told as dropped too."""
+    for had, gone, is_told in (60, 9, False), (60, 10, True), (99, 10, True), (100, 10, False), (101, 11, True):
+        rows = [*map(row, range(had - gone))]
+        told = ManyGone(gone, had, LooksLike.OLDER_SHEET)
+        one = guards(had, rows)
+        assert (one.gone(), one.dropped(one.rows)) == ((told, None) if is_told else (None, None))
+        one = guards(had, rows, Known("", "", standing=Standing.GONE))
+        dropped = one.dropped(one.rows)
+        assert isinstance(dropped, ManyDropped) == is_told and one.gone() is None
+    # five that are others, and two of a hundred
+    for had, others, is_told in (60, 5, False), (60, 6, True), (299, 6, True), (300, 6, False), (301, 7, True):
+        one = guards(had, [row(at, days=9 * (at < others)) for at in range(had)])
+        found = one.other_animals()
+        assert isinstance(found, ManyOthers) == is_told
+    # a day that isn't said or was inferred is no other one
+    rows = [row(at, days=9) for at in range(60)]
+    assert guards(60, rows, INFERRED).other_animals() is None
+    for animal in rows:
+        animal.birth = Span(day(0), day(99), precision=Precision.YEAR)
+    assert guards(60, rows).other_animals() is None
+
+
+def test_what_a_sheet_looks_like() -> None:
+    """Half of its animals are no most of them, wherever that is asked."""
+    first, others = [*map(row, range(30))], [row(at, "b", 5000) for at in range(30)]
+    assert guards(60, [*first, *others[1:]]).like() is LooksLike.PART
+    assert guards(60, [*first, *others]).like() is LooksLike.ANOTHER_FLOCK
+    # the youngest lack, of which one was born with the youngest of the sheet
+    assert guards(60, first).like() is LooksLike.OLDER_SHEET
+    assert guards(60, map(row, range(30, 60))).like() is LooksLike.PART
+    one = guards(31, first)
+    one.book.records = {**one.book.records, number(30): one.book.records[number(29)]}
+    assert one.like() is LooksLike.OLDER_SHEET
+    # most that lack a row have one whose id is written otherwise
+    for count, like in (15, LooksLike.ANOTHER_FLOCK), (16, LooksLike.IDS_OTHERWISE):
+        nearly = [row(at, "A 0", 5000) for at in range(30, 30 + count)]
+        assert guards(60, [*first, *nearly, *others[count - 1 :], row(99, "b")]).like() is like
+    for count, like in (15, LooksLike.ANOTHER_FLOCK), (16, LooksLike.ANOTHER_ID):
+        same = [row(at, "c") for at in range(count)]
+        assert guards(60, [*same, *others[count:]]).like() is like
+        assert guards(60, same, INFERRED).like() is LooksLike.ANOTHER_FLOCK
+
+
+def test_parents_that_lack() -> None:
+    """Ten, each once, and more than half of all; one that the book has lacks nowhere."""
+    for lacking, there, is_told in (9, 0, False), (10, 0, True), (10, 10, False), (10, 9, True):
+        sires = [f"x{at}" for at in range(lacking)] + ["a0"] * there
+        rows = [row(at, sire=sire) for at, sire in enumerate(sires, 1)]
+        found = guards(60, rows).parents()
+        assert isinstance(found, ParentsLack) == is_told
+        assert not isinstance(found, ParentsLack) or (found.lost, found.links) == (lacking, lacking + there)
+    assert guards(60, [row(at, sire=f"x{at % 9}") for at in range(40)]).parents() is None
