@@ -6,15 +6,18 @@ import os
 import pathlib
 import shutil
 import subprocess
+from typing import cast
 
 import pytest
 
 from front_desk.desk import Desk, NewDesk
 from front_desk.old_folder import FILES, LIST, SHEET, write_old
 from front_desk.whole import changes_of, ended, start
-from society.book import old_folder
+from society.book import backup, old_folder
+from society.book.inferred import OwnerDay
 from society.book.old_names import is_old
 from society.herdbook import Herdbook
+from society.mistake import Mistake
 
 
 @pytest.fixture
@@ -24,6 +27,9 @@ def old_desk(desk: Desk) -> Desk:
 
 
 def test_taken_over(old_desk: Desk) -> None:
+    old_desk.write("book/old", b"a file")
+    old_desk.wrong("the folder book is of version 0.11, and can't be taken over (File exists): nothing is", "list")
+    (old_desk.room / "book/old").unlink()
     # a file that was kept before isn't written over
     (old_desk.room / "book/old").mkdir()
     old_desk.write("book/old/commands.csv", "precious")
@@ -37,7 +43,8 @@ def test_taken_over(old_desk: Desk) -> None:
     ]  # fmt: skip
     assert old_desk.text("book/commands.csv") == FILES["commands.csv"]
     assert not is_old(old_desk.room / "book")
-    assert "took over the folder of version 0.11" in old_desk.good("history").out
+    took = "took over the folder of version 0.11 (6 animals, 7 commands)"
+    assert old_desk.good("history").out.rstrip().endswith(took)
     assert "is whole" in old_desk.good("verify").out
     # one that was dropped isn't there, and has its digits again where it is born; a later file of an old name stays
     old_desk.write("book/owners.csv", "later")
@@ -79,6 +86,36 @@ def test_commands_of_others(old_desk: Desk) -> None:
     assert "n (SKUGBRM000000000008)" in old_desk.good("birth", "n", "--sex", "m", "--day", "2012-01-01").out
 
 
+def may_be_taken_over(folder: pathlib.Path) -> bool:
+    """Does nobody else take the folder over now?"""
+    descriptor = os.open(folder, os.O_RDONLY)
+    try:
+        fcntl.flock(descriptor, fcntl.LOCK_EX | fcntl.LOCK_NB)
+    except BlockingIOError:
+        return False
+    finally:
+        os.close(descriptor)
+    return True
+
+
+def test_what_its_files_say_of_animals(old_desk: Desk) -> None:
+    """The texts of parents, and that the days of owners are inferred; what nobody knows is told as changed."""
+    old_desk.write("book/parents.csv", b"id,role,written\nc,sire,Bob\nd,dam,Eva\n")
+    numbers = {line.split(",")[1] for line in FILES["commands.csv"].splitlines()[1:]}
+    known = old_folder.read_known(old_desk.room / "book", numbers)
+    texts = {id: (one.written_sire, one.written_dam) for id, one in known.items()}
+    assert texts == dict.fromkeys("abegx", ("", "")) | {"c": ("Bob", ""), "d": ("", "Eva")}
+    assert {one.owner_day for one in known.values()} == {OwnerDay.INFERRED}
+    for word, other in [
+        ("Anna,yes", "Anna,maybe"), ("from the year 2004", "from then on"), ("the month 2011-05", "some day"),
+        ("since it is a sire", "since then"), ("Eve,yes,,,", "Eve,yes,,"),
+    ]:  # fmt: skip
+        assert word in FILES["ids.csv"]
+        old_desk.write("book/ids.csv", FILES["ids.csv"].replace(word, other).encode())
+        with pytest.raises(Mistake, match="ids.csv is missing or was changed"):
+            old_folder.read_known(old_desk.room / "book", numbers)
+
+
 def test_two_first_calls_at_once(old_desk: Desk, monkeypatch: pytest.MonkeyPatch) -> None:
     """While one takes the folder over the other waits, and finds the book."""
     others: list[subprocess.Popen[bytes]] = []
@@ -86,16 +123,21 @@ def test_two_first_calls_at_once(old_desk: Desk, monkeypatch: pytest.MonkeyPatch
 
     def read_while_another_comes(folder: pathlib.Path, program: Herdbook) -> old_folder.OldBook:
         others.append(start(old_desk, "list"))
-        descriptor = os.open(folder, os.O_RDONLY)
-        with pytest.raises(BlockingIOError):
-            fcntl.flock(descriptor, fcntl.LOCK_EX | fcntl.LOCK_NB)
-        os.close(descriptor)
+        assert not may_be_taken_over(folder)
         return read(folder, program)
 
     monkeypatch.setattr(old_folder, "read", read_while_another_comes)
     monkeypatch.setenv("HERDBOOK", old_desk.program)
     old_folder.take_over(old_desk.room / "book", Herdbook())
     assert [ended(one).out for one in others] == [LIST] and changes_of(old_desk.room / "book") == 1
+
+
+def test_nobody_takes_it_over_where_a_backup_is_restored(old_desk: Desk, monkeypatch: pytest.MonkeyPatch) -> None:
+    folder, may = old_desk.room / "book", list[bool]()
+    monkeypatch.setattr(backup, "prepare", lambda *_: None)
+    monkeypatch.setattr(backup, "put_in_place", lambda *_: may.append(may_be_taken_over(folder)))
+    backup.restore(folder, old_desk.room / "copy", cast(Herdbook, None), anyway=True)
+    assert may == [False] and may_be_taken_over(folder)
 
 
 @pytest.mark.parametrize(("name", "text", "told"), [

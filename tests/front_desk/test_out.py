@@ -44,6 +44,9 @@ def test_never_onto_a_sheet(flock_desk: Desk) -> None:
     flock_desk.write("copy.csv", FLOCK)
     for name in "sheet.csv", "copy.csv":
         flock_desk.wrong("is a sheet that was taken, and is never written over", "list", "--out", name, "--force")
+    # she may be changing it for the next taking
+    flock_desk.write("sheet.csv", FLOCK + "b,M,2010-01-01,a8,a9,x,\n")
+    flock_desk.wrong("is a sheet that was taken, and is never written over", "list", "--out", "sheet.csv", "--force")
 
 
 def test_a_book_is_written_over_nothing_else(desk: Desk) -> None:
@@ -110,6 +113,11 @@ def test_all_or_none(tmp_path: pathlib.Path, monkeypatch: pytest.MonkeyPatch) ->
     with pytest.raises(Mistake, match="full can't be written"):
         out.write_outs(Book(tmp_path / "book", None), {was_there: b"a", new: b"b", full: b"c"}, True)
     assert {path.name: path.read_bytes() for path in tmp_path.iterdir()} == {"was there": b"a"}
+    # nothing is begun where one of them mustn't be written
+    for force, path, told in (False, was_there, "is there already"), (True, tmp_path, "it is a folder: name a file"):
+        with pytest.raises(Mistake, match=told):
+            out.write_outs(Book(tmp_path / "book", None), {new: b"b", path: b"c"}, force)
+        assert not new.exists()
 
 
 def test_spreadsheets_and_terminals(desk: Desk) -> None:
