@@ -12,7 +12,7 @@ from front_desk.desk import Desk
 from front_desk.whole import FLOCK
 from society.book import backup
 from society.book.book import Book
-from society.book.book_changed import changing
+from society.book.book_changed import Overtaken, changing
 from society.book.book_read import copy_of
 from society.book.changes import Change, Made
 from society.book.kinds import ChangeKind
@@ -97,14 +97,38 @@ def test_stopped_when_it_is_made(flock_desk: Desk, monkeypatch: pytest.MonkeyPat
     folder, handlers = flock_desk.room / "book", list[object]()
     monkeypatch.setattr(backup, "keep_old", lambda folder: handlers.append(signal.getsignal(signal.SIGINT)))
     try:
-        backup.restore(folder, flock_desk.room / "copy", Herdbook(), anyway=True)
-        handlers.append(signal.getsignal(signal.SIGINT))
-        signal.signal(signal.SIGINT, signal.default_int_handler)
+        for text in None, b"no database " * 999:
+            if text is not None:
+                flock_desk.write("book/book.sqlite", text)
+            backup.restore(folder, flock_desk.room / "copy", Herdbook(), anyway=True)
+            handlers.append(signal.getsignal(signal.SIGINT))
+            signal.signal(signal.SIGINT, signal.default_int_handler)
         change_settings(folder, {Setting.NAME: "Verein"})
         handlers.append(signal.getsignal(signal.SIGINT))
     finally:
         signal.signal(signal.SIGINT, signal.default_int_handler)
-    assert handlers == [signal.default_int_handler, signal.SIG_IGN, signal.SIG_IGN]
+    assert handlers == [*(signal.default_int_handler, signal.SIG_IGN) * 2, signal.SIG_IGN]
+
+
+def test_restored_in_the_place_of_what_was_looked_at(flock_desk: Desk, monkeypatch: pytest.MonkeyPatch) -> None:
+    """Of a book after its last change, also where another one comes meanwhile; of a damaged one nobody can say."""
+    monkeypatch.setenv("HERDBOOK", flock_desk.program)
+    flock_desk.good("backup", "copy")
+    folder, copy, changes = flock_desk.room / "book", flock_desk.room / "copy", [1, 2]
+    assert (backup.change_now(folder), backup.change_now(flock_desk.room / "other")) == (1, 0)
+    with monkeypatch.context() as patched:
+        patched.setattr(backup, "change_now", lambda _: changes.pop(0))
+        for looked in 1, 0:
+            with pytest.raises(Overtaken):
+                backup.restore(folder, copy, Herdbook(), anyway=True, looked=looked)
+            changes.append(1)
+    assert backup.change_now(folder) == 1 and not (folder / "old").exists()
+    flock_desk.write("book/book.sqlite", b"no database " * 999)
+    assert backup.change_now(folder) is None
+    try:
+        assert backup.restore(folder, copy, Herdbook(), anyway=True, looked=1).number == 2
+    finally:
+        signal.signal(signal.SIGINT, signal.default_int_handler)
 
 
 def test_read_by_a_link_without_rights(flock_desk: Desk) -> None:

@@ -2,18 +2,26 @@
 from __future__ import annotations
 
 import contextlib
+import datetime
 import hashlib
 import os
+import pathlib
 import pwd
 import random
 import re
 import shutil
 import sqlite3
+import time
 
 import pytest
 
 from front_desk.desk import Desk
 from front_desk.whole import FLOCK, GROWN, changes_of
+from society.book import backup
+from society.book.book import Book
+from society.book.last_backup import NAME, last_backup, remember
+from society.herdbook import Herdbook
+from society.mistake import Mistake
 
 CALF = ["birth", "calf", "--sex", "f", "--day", "2012-03-04", "--sire", "a8", "--dam", "a9", "--owner", "Neuer Hof"]
 
@@ -192,6 +200,8 @@ def test_backup(flock_desk: Desk) -> None:
     flock_desk.good(*CALF)
     listed = flock_desk.good("list").out
     assert flock_desk.good("backup", "copy").out == "copy has the book with its 2 changes\n"
+    last = last_backup(flock_desk.room / "book")
+    assert last and last.change == 2 and abs(last.time.timestamp() - time.time()) < 300
     # nothing is written beside it by who reads it
     assert (flock_desk.room / "copy").read_bytes()[18:20] == b"\1\1"
     flock_desk.wrong("copy is there already", "backup", "copy")
@@ -199,8 +209,9 @@ def test_backup(flock_desk: Desk) -> None:
     flock_desk.wrong("book/book.sqlite is the book itself", "restore", "book/book.sqlite", "--anyway")
     changed(flock_desk, "changed", "UPDATE command SET refusal = 5 WHERE place = 3")
     flock_desk.wrong("changed: the program's reply to command 3", "restore", "changed", "--book", "other")
-    # one that the version before made
-    changed(flock_desk, "earlier", "DROP INDEX change_form", "ALTER TABLE change DROP COLUMN form", "PRAGMA user_version = 1")
+    # one that the version before made, with pages of another size
+    changed(flock_desk, "earlier", "DROP INDEX change_form", "ALTER TABLE change DROP COLUMN form", "PRAGMA user_version = 1",
+            "PRAGMA page_size = 8192", "VACUUM")  # fmt: skip
     flock_desk.good("restore", "earlier", "--book", "other")
     assert flock_desk.good("list", "--book", "other").out == listed
     assert "restored the backup earlier" in flock_desk.good("history", "--book", "other").out
@@ -239,6 +250,50 @@ def test_owner_as_it_is_written_now(desk: Desk) -> None:
     assert "owner Meyer, before Groß" in desk.good("history", "3").out
     shown = desk.good("show", "d").out
     assert "owner Meyer, before Groß" in shown and "Meier" not in shown
+
+
+def test_backups_that_are_none(flock_desk: Desk, monkeypatch: pytest.MonkeyPatch) -> None:
+    """Nothing is restored of a file that has no book, or something that no backup has, or that lacks something."""
+    monkeypatch.setenv("HERDBOOK", flock_desk.program)
+    flock_desk.good("backup", "copy")
+    folder, program = flock_desk.room / "other", Herdbook()
+    flock_desk.write("empty", b"")
+    for name, statement, told in [
+        ("empty", "", "has no book: name a backup"),
+        ("acts", "CREATE TRIGGER acts AFTER INSERT ON owner BEGIN SELECT 1; END", "has triggers or views"),
+        ("shows", "CREATE VIEW shows AS SELECT 1", "has triggers or views"),
+        ("lacks", "DROP TABLE given_option", "can't be restored"),
+    ]:
+        if statement:
+            changed(flock_desk, name, statement)
+        with pytest.raises(Mistake, match=told):
+            backup.restore(folder, flock_desk.room / name, program, False)
+        assert not folder.exists()
+
+
+def test_last_backup(tmp_path: pathlib.Path) -> None:
+    """None where there was none, or nobody can say; a backup is good where its time can't be kept."""
+    assert last_backup(tmp_path) is None
+    for folder in tmp_path, tmp_path / "absent":
+        remember(Book(folder, None))
+    last = last_backup(tmp_path)
+    assert last and last.change == 0 and last.time.utcoffset() == datetime.timedelta()
+    for text in (
+        b"", b"time,change\n", b"time\n2001-02-03\n", b"time,change\n2001-02-03\n", b"time,change\nx,1\n",
+        b"time,change\n2001-02-03,x\n", b"time,change\n\xff,1\n",
+    ):  # fmt: skip
+        (tmp_path / NAME).write_bytes(text)
+        assert last_backup(tmp_path) is None, text
+
+
+def test_kept_where_nothing_has_the_name(flock_desk: Desk) -> None:
+    """Also at once, and beside files of names that version 0.11 wrote, which aren't the book."""
+    flock_desk.write("book/options.csv", "later")
+    (flock_desk.room / "book/ids.csv").unlink()
+    for _ in range(2):
+        backup.keep_old(flock_desk.room / "book")
+    kept = [path.read_bytes() for path in (flock_desk.room / "book/old").iterdir()]
+    assert len(kept) == 2 and all(text.startswith(b"SQLite format 3") for text in kept)
 
 
 def test_flock_over_three_takings(desk: Desk) -> None:
