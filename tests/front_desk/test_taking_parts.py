@@ -6,7 +6,7 @@ import datetime
 from types import SimpleNamespace
 from typing import Any, cast
 
-from society.book.book import Book
+from society.book.book import NO_OWNER, Book
 from society.book.commands import birth, record_after, transfer
 from society.book.inferred import BirthBasis, BirthSource, ExitBasis, ExitSource, OwnerDay, SexSource
 from society.book.kinds import ChangeKind, CommandKind, Field, Standing
@@ -15,9 +15,10 @@ from society.book.state import CELL_FIELDS
 from society.herdbook import Herdbook
 from society.reading.animal import Animal
 from society.reading.day_cells import DayCells
-from society.reading.days import Span, month_of, year_of
+from society.reading.days import DayFault, Span, month_of, year_of
 from society.reading.unknown import UnknownParents
 from society.book.role import Role
+from society.reading.cell_findings import DayLeftOut
 from society.refusals import Refusal
 from society.taking.animal_findings import CommandRefused, KeptByHand, SexInferred
 from society.taking.found_sexes import find_sexes
@@ -25,7 +26,7 @@ from society.taking.kept_values import keep_values
 from society.taking.known_after import known_after, written_parents
 from society.taking.next_book import NextBook
 from society.taking.numbers import give_numbers
-from society.taking.owner_days import OwnerDays
+from society.taking.owner_days import OwnerDays, Owners
 from society.taking.report import Report
 from society.taking.row_findings import CommandLeftOut, OwnerDayMoved
 from society.taking.saving import cell_rows
@@ -203,6 +204,57 @@ def test_day_of_another_owner(today: datetime.date) -> None:
         assert [changed(year_of(year), day) for year in years] == [
             (datetime.date(BORN.year, 12, 31), inferred), (today, inferred)
         ]  # fmt: skip
+
+
+def test_owners_of_animals(today: datetime.date) -> None:
+    """What the book has stays where the sheet says nothing else: another owner, or another day of the same one. The first
+    owner of all has an animal from its birth on, or since a day of the sheet."""
+    day, later, tomorrow = (datetime.date(year, 1, 2) for year in (2003, 2005, today.year + 1))
+    born = record_after(None, birth(NUMBER, BORN, "", "", 4, False))
+    given = transfer(NUMBER, day, 4, 5)
+    report = Report()
+
+    def found(owner: str, since: Span | None, is_given: bool = False, *, is_new: bool = False, number: str = NUMBER,
+              refused: bool = False, now: datetime.date = BORN) -> tuple[Owners, str, OwnerDay]:  # fmt: skip
+        record = record_after(born, given) if is_given else born
+        known = {} if is_new else {"a": Known(NUMBER, "a", owner_day=OwnerDay.INFERRED)}
+        owners = {"Nord": 4, "Süd": 5}
+        names = {herd: name for name, herd in owners.items()} | {NO_OWNER: ""}
+        book = SimpleNamespace(known=known, records={NUMBER: record}, owners=owners, owner_of=names.get)
+        days = OwnerDays(cast(Book, book), report, None)
+        days.before = {NUMBER: 4}, {NUMBER: [given]}
+        animal = Animal("a", 2, number=number, owner=owner, since=since, born=now)
+        days.refused |= {"a"} if refused else set()
+        return days.of(animal), animal.owner, animal.owner_day
+
+    inferred, of_day = OwnerDay.INFERRED, OwnerDay.GIVEN
+    first = transfer(NUMBER, day, NO_OWNER, 4)
+    for since in None, Span(BORN, BORN), year_of(2003), Span(tomorrow, tomorrow):
+        assert found("Nord", since) == ((4, [], 0, False), "Nord", inferred)
+        assert found("Nord", since, is_new=True) == ((4, [], 0, False), "Nord", of_day)
+    assert found("Nord", Span(day, day)) == ((NO_OWNER, [first], 0, True), "Nord", of_day)
+    assert found("Nord", Span(day, day), is_new=True) == ((NO_OWNER, [first], 0, False), "Nord", of_day)
+    assert found("Nord", Span(day, day), now=day) == ((4, [], 0, False), "Nord", inferred)
+    assert found("", Span(day, day)) == ((4, [], 0, False), "", inferred)
+    assert found("", Span(day, day), is_new=True) == ((NO_OWNER, [], 0, False), "", of_day)
+    assert found("West", None, is_new=True)[0] == (6, [], 0, False)
+    # another owner, who isn't one yet after today, and none where the command is refused
+    new = transfer(NUMBER, today, 4, 5)
+    assert found("Süd", None) == ((4, [new], 0, False), "Süd", inferred)
+    assert found("Süd", Span(today, today)) == ((4, [new], 0, False), "Süd", of_day)
+    assert found("Süd", None, refused=True) == ((4, [], 0, False), "Süd", inferred)
+    assert found("Süd", Span(tomorrow, tomorrow)) == ((4, [], 0, False), "Nord", inferred)
+    # behind a transfer of the book
+    moved, back = given._replace(day=later.isoformat()), transfer(NUMBER, today, 5, 4)
+    assert found("Süd", Span(day, day), True) == ((4, [given], 1, False), "Süd", inferred)
+    assert found("Süd", Span(later, later), True) == ((4, [moved], 1, True), "Süd", of_day)
+    assert found("Nord", None, True) == ((4, [given, back], 1, False), "Nord", inferred)
+    male = NUMBER.replace("F", "M")
+    assert found("Süd", None, True, number=male) == ((4, [given._replace(animal=male)], 1, False), "Süd", inferred)
+    # once of each animal
+    assert [entry.finding for entry in report.entries] == [
+        DayLeftOut(Field.SINCE, DayFault.AFTER_TODAY, str(tomorrow))
+    ] * 3  # fmt: skip
 
 
 def test_a_sex_that_is_inferred_tells_of_a_cell() -> None:
