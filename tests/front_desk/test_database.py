@@ -16,6 +16,7 @@ from front_desk.desk import Desk
 from front_desk.whole import FLOCK, GROWN, changes_of, run
 from society.book import book_changed, database, schema
 from society.book.exports import refresh
+from society.book.sentences import BookFault
 from society.mistake import Mistake
 
 # who has no rights: nobody
@@ -100,6 +101,42 @@ def test_a_book_that_comes_meanwhile(tmp_path: pathlib.Path) -> None:
         connection.execute("PRAGMA journal_mode = WAL")
     with contextlib.closing(sqlite3.connect(path, isolation_level=None, factory=WhileAnotherMakesIt)) as connection:
         assert [database.version_of(connection, path) for _ in range(2)] == [0, schema.VERSION]
+
+
+def test_folders_of_new_books(tmp_path: pathlib.Path, monkeypatch: pytest.MonkeyPatch) -> None:
+    """One that was made goes again where the book can't be begun, and none else does."""
+    there, file = tmp_path / "there", tmp_path / "file"
+    file.touch()
+    assert [book_changed.make_folder(there) for _ in range(2)] == [True, False]
+    for folder, fault in [
+        (file, BookFault.FOLDER_IS_FILE.said(folder=file)),
+        (file / "new", BookFault.FOLDER_CLOSED.said(folder=file / "new", error="Not a directory")),
+        (tmp_path / "absent/new", BookFault.NO_FOLDER.said(folder=tmp_path / "absent")),
+    ]:
+        with pytest.raises(Mistake) as raised:
+            book_changed.make_folder(folder)
+        assert str(raised.value) == str(Mistake(fault))
+
+    def connect(*_: object) -> sqlite3.Connection:
+        raise sqlite3.OperationalError("disk I/O error")
+
+    monkeypatch.setattr(book_changed, "connect", connect)
+    for folder in there, tmp_path / "new":
+        with pytest.raises(Mistake, match="disk I/O error"), book_changed.creating(folder):
+            pass
+    assert {path.name for path in tmp_path.iterdir()} == {"there", "file"}
+
+
+def test_begun_anew_while_books_come() -> None:
+    """As often as another one makes it."""
+    came = [book_changed.BookCame(), book_changed.BookCame()]
+
+    def change() -> str:
+        if came:
+            raise came.pop()
+        return "made"
+
+    assert book_changed.anew_where_a_book_came(change) == "made" and not came
 
 
 TAKE = ["take", "sheet.csv"]

@@ -11,8 +11,9 @@ import pytest
 from front_desk.desk import Desk
 from front_desk.whole import FLOCK
 from society.book import backup
+from society.book.beside import Beside
 from society.book.book import Book
-from society.book.book_changed import Overtaken, changing
+from society.book.book_changed import Overtaken, changing, stop_no_more
 from society.book.book_read import copy_of
 from society.book.changes import Change, Made
 from society.book.kinds import ChangeKind
@@ -96,6 +97,8 @@ def test_stopped_when_it_is_made(flock_desk: Desk, monkeypatch: pytest.MonkeyPat
     flock_desk.good("backup", "copy")
     folder, handlers = flock_desk.room / "book", list[object]()
     monkeypatch.setattr(backup, "keep_old", lambda folder: handlers.append(signal.getsignal(signal.SIGINT)))
+    # whoever changes a book beside others, as a desk does, is stopped with these
+    Beside(stop_no_more).value()
     try:
         for text in None, b"no database " * 999:
             if text is not None:

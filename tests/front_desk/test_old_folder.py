@@ -2,6 +2,7 @@
 from __future__ import annotations
 
 import fcntl
+import hashlib
 import os
 import pathlib
 import shutil
@@ -43,8 +44,10 @@ def test_taken_over(old_desk: Desk) -> None:
     ]  # fmt: skip
     assert old_desk.text("book/commands.csv") == FILES["commands.csv"]
     assert not is_old(old_desk.room / "book")
-    took = "took over the folder of version 0.11 (6 animals, 7 commands)"
-    assert old_desk.good("history").out.rstrip().endswith(took)
+    heading, file = old_desk.good("history", "1").out.splitlines()[:2]
+    assert heading.endswith("took over the folder of version 0.11 (6 animals, 7 commands)")
+    digest = hashlib.sha256(FILES["commands.csv"].encode()).hexdigest()
+    assert file == f"file: {old_desk.room.resolve() / 'book/old/commands.csv'}, SHA-256 {digest}"
     assert "is whole" in old_desk.good("verify").out
     # one that was dropped isn't there, and has its digits again where it is born; a later file of an old name stays
     old_desk.write("book/owners.csv", "later")
