@@ -1,4 +1,4 @@
-"""Owners of a few rows who are one of many rows but for a letter."""
+"""Owners whose names are much alike: of a few rows, where one of many is meant, or written otherwise."""
 from __future__ import annotations
 
 from collections.abc import Mapping
@@ -9,9 +9,9 @@ import pytest
 
 from society.reading.animal import Animal
 from society.taking.next_book import NextBook
-from society.taking.owner_findings import OwnerMistyped
+from society.taking.owner_findings import OwnerMistyped, OwnerRespelt, OwnersAlike, Spelling
 from society.taking.report import Report
-from society.taking.respelt_owners import differ_by_one, tell_mistyped_owners
+from society.taking.respelt_owners import differ_by_one, tell_mistyped_owners, tell_owners_alike, tell_respelt_owners
 
 
 @pytest.mark.parametrize(("one", "other", "is_alike"), [
@@ -49,3 +49,31 @@ def test_mistyped_owners(rows: Mapping[str, int], before: set[str], found: list[
     """Of two rows at most, where the other has five times as many; of several the one with most. The book's are told no
     more, and in names of three letters each letter counts."""
     assert told(rows, before) == found
+
+
+@pytest.mark.parametrize(("rows", "before", "found"), [
+    (["Meier Meyer", "Meier Meyer"], {"Meier"}, [OwnerRespelt("Meier", "Meyer", 2)]),
+    (["Meier Meyer", "Meier Meier"], {"Meier"}, []), (["Meier Meyer", "Meier Maier"], {"Meier"}, []),
+    (["Meier Meyer"], {"Meier", "Meyer"}, []), (["Abcd ABCE"], {"Abcd"}, [OwnerRespelt("Abcd", "ABCE", 1)]),
+    (["Abcd Abxc"], {"Abcd"}, [OwnerRespelt("Abcd", "Abxc", 1)]), (["Abcd Abxy"], {"Abcd"}, []), ([" Meyer"], set(), []),
+])  # fmt: skip
+def test_owners_that_are_only_respelt(rows: list[str], before: set[str], found: list[OwnerRespelt]) -> None:
+    """All rows of an owner have one whom the book didn't have, and three letters of four are the same."""
+    pairs = {f"a{at}": row.split(" ") for at, row in enumerate(rows, 2)}
+    # an animal without a row, and one that is new
+    animals = {id: Animal(id, int(id[1:]), owner=now) for id, (_, now) in pairs.items()}
+    animals |= {"b": Animal("b", owner="Meier"), "c": Animal("c", 99, owner="Meyer")}
+    herds = {id: SimpleNamespace(herd=one) for id, (one, _) in pairs.items()} | {"b": SimpleNamespace(herd="Meier")}
+    book, report = SimpleNamespace(known=herds, owner_of=str), Report()
+    next_book = SimpleNamespace(animals=animals, book=book, record=herds.get, report=report)
+    tell_respelt_owners(cast(NextBook, next_book), before)
+    assert [entry.finding for entry in report.entries] == found
+
+
+def test_owners_alike_have_rows() -> None:
+    """Signs alone are no names that are alike."""
+    owners = [("Groß A", 2), ("gross a", 3), ("gross a", 4), ("GROSS A", 0), ("?", 5), ("!", 6), ("", 7)]
+    animals = {f"{at}": Animal(f"{at}", line, owner=owner) for at, (owner, line) in enumerate(owners)}
+    report = Report()
+    tell_owners_alike(cast(NextBook, SimpleNamespace(animals=animals, report=report)))
+    assert [entry.finding for entry in report.entries] == [OwnersAlike((Spelling("Groß A", 1), Spelling("gross a", 2)))]
