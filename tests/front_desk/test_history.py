@@ -210,8 +210,8 @@ def test_backup(flock_desk: Desk) -> None:
     changed(flock_desk, "changed", "UPDATE command SET refusal = 5 WHERE place = 3")
     flock_desk.wrong("changed: the program's reply to command 3", "restore", "changed", "--book", "other")
     # one that the version before made, with pages of another size
-    changed(flock_desk, "earlier", "DROP INDEX change_form", "ALTER TABLE change DROP COLUMN form", "PRAGMA user_version = 1",
-            "PRAGMA page_size = 8192", "VACUUM")  # fmt: skip
+    changed(flock_desk, "earlier", "DROP INDEX change_form", "ALTER TABLE change DROP COLUMN form",
+            "PRAGMA user_version = 1", "PRAGMA page_size = 8192", "VACUUM")  # fmt: skip
     flock_desk.good("restore", "earlier", "--book", "other")
     assert flock_desk.good("list", "--book", "other").out == listed
     assert "restored the backup earlier" in flock_desk.good("history", "--book", "other").out

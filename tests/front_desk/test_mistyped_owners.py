@@ -55,7 +55,8 @@ def test_mistyped_owners(rows: Mapping[str, int], before: set[str], found: list[
     (["Meier Meyer", "Meier Meyer"], {"Meier"}, [OwnerRespelt("Meier", "Meyer", 2)]),
     (["Meier Meyer", "Meier Meier"], {"Meier"}, []), (["Meier Meyer", "Meier Maier"], {"Meier"}, []),
     (["Meier Meyer"], {"Meier", "Meyer"}, []), (["Abcd ABCE"], {"Abcd"}, [OwnerRespelt("Abcd", "ABCE", 1)]),
-    (["Abcd Abxc"], {"Abcd"}, [OwnerRespelt("Abcd", "Abxc", 1)]), (["Abcd Abxy"], {"Abcd"}, []), ([" Meyer"], set(), []),
+    (["Abcd Abxc"], {"Abcd"}, [OwnerRespelt("Abcd", "Abxc", 1)]), (["Abcd Abxy"], {"Abcd"}, []),
+    ([" Meyer"], set(), []),
 ])  # fmt: skip
 def test_owners_that_are_only_respelt(rows: list[str], before: set[str], found: list[OwnerRespelt]) -> None:
     """All rows of an owner have one whom the book didn't have, and three letters of four are the same."""

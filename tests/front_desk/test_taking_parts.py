@@ -207,8 +207,8 @@ def test_day_of_another_owner(today: datetime.date) -> None:
 
 
 def test_owners_of_animals(today: datetime.date) -> None:
-    """What the book has stays where the sheet says nothing else: another owner, or another day of the same one. The first
-    owner of all has an animal from its birth on, or since a day of the sheet."""
+    """What the book has stays where the sheet says nothing else: another owner, or another day of the same one. The
+    first owner of all has an animal from its birth on, or since a day of the sheet."""
     day, later, tomorrow = (datetime.date(year, 1, 2) for year in (2003, 2005, today.year + 1))
     born = record_after(None, birth(NUMBER, BORN, "", "", 4, False))
     given = transfer(NUMBER, day, 4, 5)
