@@ -11,14 +11,13 @@ from typing import Callable
 
 from society.book.backup_sentences import BackupFault
 from society.book.book import Book
-from society.book.book_changed import Overtaken, set_write_ahead, stop_no_more
+from society.book.book_changed import Overtaken, make_folder, set_write_ahead, stop_no_more
 from society.book.book_read import bytes_of, opened_to_read, reading
 from society.book.changes import NO_MARK, Change, Made, Mark
 from society.book.database import (
     DAMAGED,
     companions,
     connect,
-    is_empty,
     migrate,
     path_of,
     primary,
@@ -36,6 +35,7 @@ from society.book.old_folder import alone, are_exports, keep_files
 from society.book.old_names import OLD, is_old
 from society.book.out import check
 from society.book.schema import VERSION
+from society.book.sentences import BookFault
 from society.book.verify import verify
 from society.herdbook import Herdbook
 from society.mistake import Mistake
@@ -154,29 +154,29 @@ def put_in_place(folder: pathlib.Path, copy: pathlib.Path, keep: Callable[[], No
     path = path_of(folder)
     with contextlib.closing(connect(copy, "rw")) as source:
         if not path.exists():
-            with contextlib.suppress(FileExistsError):
-                folder.mkdir()
+            make_folder(folder)
         try:
             with contextlib.closing(connect(path, "rwc")) as target:
                 version_of(target, path)
+                give_pages(source, target)
                 # readers don't wait then, of whom `keep` is one
-                if is_empty(target):
-                    target.execute(f"PRAGMA page_size = {source.execute('PRAGMA page_size').fetchone()[0]}")
                 set_write_ahead(target)
                 copy_into(source, target, keep)
                 return
         except sqlite3.Error as error:
             if primary(error) not in DAMAGED:
                 raise told(error, path) from None
-        except FileNotFoundError:
-            raise Mistake(
-                f"the folder {folder.parent} isn't there: make it, or name another folder by --book"
-            ) from None
         except OSError as error:
-            raise Mistake(
-                f"the folder {folder} can't be written ({error.strerror or error}): nothing is changed"
-            ) from None
+            raise Mistake(BookFault.FOLDER_CLOSED.said(folder=folder, error=error)) from None
     replace_damaged(path, copy, keep)
+
+
+def give_pages(source: sqlite3.Connection, target: sqlite3.Connection) -> None:
+    """Gives a database pages of the size that those of another one have, where else it can't be copied into that."""
+    size, wanted = (one.execute("PRAGMA page_size").fetchone()[0] for one in (source, target))
+    if size != wanted:
+        source.execute(f"PRAGMA page_size = {wanted}")
+        source.execute("VACUUM")
 
 
 def copy_into(source: sqlite3.Connection, target: sqlite3.Connection, begin: Callable[[], None]) -> None:

@@ -224,6 +224,10 @@ def test_backup(flock_desk: Desk) -> None:
     assert len(kept) == 1
     flock_desk.good("restore", str(kept[0]), "--book", "third")
     assert "b," in flock_desk.good("list", "--book", "third").out
+    # with pages of the size that those of the book there have
+    flock_desk.good("restore", "earlier", "--anyway")
+    assert flock_desk.good("list").out == listed and "is whole" in flock_desk.good("verify").out
+    flock_desk.wrong("the folder absent isn't there: make it", "restore", "copy", "--book", "absent/book")
     flock_desk.wrong("is damaged, or isn't a backup", "restore", flock_desk.write("text", "no database " * 99))
     flock_desk.wrong("can't be read: No such file", "restore", "absent")
 
