@@ -15,7 +15,7 @@ from society.book.beside import Beside
 from society.book.book import Book
 from society.book.book_changed import Overtaken, changing, stop_no_more
 from society.book.book_read import copy_of
-from society.book.changes import Change, Made
+from society.book.changes import NO_MARK, Change, Made
 from society.book.kinds import ChangeKind
 from society.book.settings import Setting, change_settings
 from society.book.state import Meaning, read_remembered
@@ -117,19 +117,22 @@ def test_restored_in_the_place_of_what_was_looked_at(flock_desk: Desk, monkeypat
     """Of a book after its last change, also where another one comes meanwhile; of a damaged one nobody can say."""
     monkeypatch.setenv("HERDBOOK", flock_desk.program)
     flock_desk.good("backup", "copy")
-    folder, copy, changes = flock_desk.room / "book", flock_desk.room / "copy", [1, 2]
-    assert (backup.change_now(folder), backup.change_now(flock_desk.room / "other")) == (1, 0)
+    folder, copy = flock_desk.room / "book", flock_desk.room / "copy"
+    mark = backup.mark_now(folder)
+    assert mark and mark[0] == 1 and backup.mark_now(flock_desk.room / "other") == NO_MARK
+    other = mark[0], mark[1] + 1
+    marks = [mark, (2, mark[1]), mark, other]
     with monkeypatch.context() as patched:
-        patched.setattr(backup, "change_now", lambda _: changes.pop(0))
-        for looked in 1, 0:
+        patched.setattr(backup, "mark_now", lambda _: marks.pop(0))
+        for looked in mark, mark, NO_MARK, other:
             with pytest.raises(Overtaken):
                 backup.restore(folder, copy, Herdbook(), anyway=True, looked=looked)
-            changes.append(1)
-    assert backup.change_now(folder) == 1 and not (folder / "old").exists()
+            marks += [mark] * (not marks)
+    assert backup.mark_now(folder) == mark and not (folder / "old").exists()
     flock_desk.write("book/book.sqlite", b"no database " * 999)
-    assert backup.change_now(folder) is None
+    assert backup.mark_now(folder) is None
     try:
-        assert backup.restore(folder, copy, Herdbook(), anyway=True, looked=1).number == 2
+        assert backup.restore(folder, copy, Herdbook(), anyway=True, looked=mark).number == 2
     finally:
         signal.signal(signal.SIGINT, signal.default_int_handler)
 

@@ -59,14 +59,17 @@ def test_mistyped_owners(rows: Mapping[str, int], before: set[str], found: list[
     ([" Meyer"], set(), []),
 ])  # fmt: skip
 def test_owners_that_are_only_respelt(rows: list[str], before: set[str], found: list[OwnerRespelt]) -> None:
-    """All rows of an owner have one whom the book didn't have, and three letters of four are the same."""
+    """All rows of an owner have one whom the book didn't have, and three letters of four are the same. A row in whose
+    place an owner by hand stays is none of them."""
     pairs = {f"a{at}": row.split(" ") for at, row in enumerate(rows, 2)}
-    # an animal without a row, and one that is new
+    # an animal without a row, one that is new, and one with an owner by hand
     animals = {id: Animal(id, int(id[1:]), owner=now) for id, (_, now) in pairs.items()}
-    animals |= {"b": Animal("b", owner="Meier"), "c": Animal("c", 99, owner="Meyer")}
-    herds = {id: SimpleNamespace(herd=one) for id, (one, _) in pairs.items()} | {"b": SimpleNamespace(herd="Meier")}
+    others = Animal("b", owner="Meier"), Animal("c", 99, owner="Meyer"), Animal("d", 98, owner="Maier")
+    animals |= {one.id: one for one in others}
+    before_it = {id: one for id, (one, _) in pairs.items()} | dict.fromkeys("bd", "Meier")
+    herds = {id: SimpleNamespace(herd=one) for id, one in before_it.items()}
     book, report = SimpleNamespace(known=herds, owner_of=str), Report()
-    next_book = SimpleNamespace(animals=animals, book=book, record=herds.get, report=report)
+    next_book = SimpleNamespace(animals=animals, book=book, record=herds.get, report=report, kept_owners={"d"})
     tell_respelt_owners(cast(NextBook, next_book), before)
     assert [entry.finding for entry in report.entries] == found
 

@@ -101,11 +101,11 @@ def may_be_taken_over(folder: pathlib.Path) -> bool:
     return True
 
 
-def test_what_its_files_say_of_animals(old_desk: Desk) -> None:
+def test_what_its_files_say_of_animals(old_desk: Desk, monkeypatch: pytest.MonkeyPatch) -> None:
     """The texts of parents, and that the days of owners are inferred; what nobody knows is told as changed."""
     old_desk.write("book/parents.csv", b"id,role,written\nc,sire,Bob\nd,dam,Eva\n")
-    numbers = {line.split(",")[1] for line in FILES["commands.csv"].splitlines()[1:]}
-    known = old_folder.read_known(old_desk.room / "book", numbers)
+    monkeypatch.setenv("HERDBOOK", old_desk.program)
+    known = old_folder.read(old_desk.room / "book", Herdbook()).known
     texts = {id: (one.written_sire, one.written_dam) for id, one in known.items()}
     assert texts == dict.fromkeys("abegx", ("", "")) | {"c": ("Bob", ""), "d": ("", "Eva")}
     assert {one.owner_day for one in known.values()} == {OwnerDay.INFERRED}
@@ -116,7 +116,7 @@ def test_what_its_files_say_of_animals(old_desk: Desk) -> None:
         assert word in FILES["ids.csv"]
         old_desk.write("book/ids.csv", FILES["ids.csv"].replace(word, other).encode())
         with pytest.raises(Mistake, match="ids.csv is missing or was changed"):
-            old_folder.read_known(old_desk.room / "book", numbers)
+            old_folder.read(old_desk.room / "book", Herdbook())
 
 
 def test_two_first_calls_at_once(old_desk: Desk, monkeypatch: pytest.MonkeyPatch) -> None:

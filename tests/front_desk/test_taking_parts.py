@@ -11,14 +11,14 @@ from society.book.commands import birth, record_after, transfer
 from society.book.inferred import BirthBasis, BirthSource, ExitBasis, ExitSource, OwnerDay, SexSource
 from society.book.kinds import ChangeKind, CommandKind, Field, Standing
 from society.book.known import Known
+from society.book.role import Role
 from society.book.state import CELL_FIELDS
 from society.herdbook import Herdbook
 from society.reading.animal import Animal
+from society.reading.cell_findings import DayLeftOut
 from society.reading.day_cells import DayCells
 from society.reading.days import DayFault, Span, month_of, year_of
 from society.reading.unknown import UnknownParents
-from society.book.role import Role
-from society.reading.cell_findings import DayLeftOut
 from society.refusals import Refusal
 from society.taking.animal_findings import CommandRefused, KeptByHand, SexInferred
 from society.taking.found_sexes import find_sexes
@@ -28,7 +28,7 @@ from society.taking.next_book import NextBook
 from society.taking.numbers import give_numbers
 from society.taking.owner_days import OwnerDays, Owners
 from society.taking.report import Report
-from society.taking.row_findings import CommandLeftOut, OwnerDayMoved
+from society.taking.row_findings import CommandLeftOut, OwnerDayInferred, OwnerDayMoved
 from society.taking.saving import cell_rows
 from society.taking.sheet_commands import Filing, is_corrected
 
@@ -128,13 +128,14 @@ def test_what_was_filed_by_hand() -> None:
     known = Known(NUMBER, "a", "Anna", by_hand=fields, exit=ExitBasis(ExitSource.PERIOD, period.period()))
     record = record_after(None, birth(NUMBER, BORN, "", "", 4, True))._replace(left=period.last)
     before = {Field.NAME: "Ann", Field.OWNER: "3", Field.SINCE: "2003", Field.EXIT: "", Field.EMBRYO: ""}
+    now = {Field.NAME: "Ada", Field.OWNER: "7", Field.SINCE: "2004", Field.EXIT: "sold", Field.EMBRYO: "yes"}
 
     def kept(*changed: Field, lacks: frozenset[Field] = frozenset()) -> tuple[Animal, set[Field], list[Field]]:
         """The animal of a sheet after that, the fields that its cells override, and those of which it is told."""
         given = [one for one in before if one not in lacks]
-        said = {one.value: before[one] + " now" * (one in changed) for one in given}
-        name, owner = said.get(Field.NAME, ""), said.get(Field.OWNER, "")
-        one = next_book(Animal("a", 2, name, owner=owner, cells=said, since=year_of(2003)), known, *said)
+        said = {one.value: (now if one in changed else before)[one] for one in given}
+        name, owner, since = said.get(Field.NAME, ""), said.get(Field.OWNER, ""), year_of(int(said[Field.SINCE]))
+        one = next_book(Animal("a", 2, name, owner=owner, cells=said, since=since), known, *said)
         last = {("a",): ("a", *map(cast(Any, before).get, CELL_FIELDS))}
         vars(one.book).update(cells=last, records={NUMBER: record}, owner_of=str, respelt=str)
         keep_values(one)
@@ -146,8 +147,8 @@ def test_what_was_filed_by_hand() -> None:
     assert (animal.left, animal.exit_basis) == (record.left, known.exit)
     assert not overridden and {*told} == fields
     animal, overridden, told = kept(*before)
-    assert (animal.name, animal.owner, animal.left, animal.embryo) == ("Ann now", "3 now", None, False)
-    assert animal.since == year_of(2003) and overridden == fields and not told
+    assert (animal.name, animal.owner, animal.left, animal.embryo) == ("Ada", "7", None, False)
+    assert animal.since == year_of(2004) and overridden == fields and not told
     for changed in (), (Field.SINCE,):
         animal, overridden, told = kept(*changed, lacks=fields)
         assert (animal.name, animal.owner, animal.left, animal.embryo) == ("Anna", "4", record.left, True)
@@ -229,9 +230,13 @@ def test_owners_of_animals(today: datetime.date) -> None:
 
     inferred, of_day = OwnerDay.INFERRED, OwnerDay.GIVEN
     first = transfer(NUMBER, day, NO_OWNER, 4)
-    for since in None, Span(BORN, BORN), year_of(2003), Span(tomorrow, tomorrow):
+    for since in None, Span(BORN, BORN), year_of(BORN.year), Span(tomorrow, tomorrow):
         assert found("Nord", since) == ((4, [], 0, False), "Nord", inferred)
         assert found("Nord", since, is_new=True) == ((4, [], 0, False), "Nord", of_day)
+    # the last day of a year stands for it
+    last = first._replace(day="2003-12-31")
+    assert found("Nord", year_of(2003)) == ((NO_OWNER, [last], 0, True), "Nord", inferred)
+    assert found("Nord", year_of(2003), is_new=True) == ((NO_OWNER, [last], 0, False), "Nord", inferred)
     assert found("Nord", Span(day, day)) == ((NO_OWNER, [first], 0, True), "Nord", of_day)
     assert found("Nord", Span(day, day), is_new=True) == ((NO_OWNER, [first], 0, False), "Nord", of_day)
     assert found("Nord", Span(day, day), now=day) == ((4, [], 0, False), "Nord", inferred)
@@ -246,15 +251,16 @@ def test_owners_of_animals(today: datetime.date) -> None:
     assert found("Süd", Span(tomorrow, tomorrow)) == ((4, [], 0, False), "Nord", inferred)
     # behind a transfer of the book
     moved, back = given._replace(day=later.isoformat()), transfer(NUMBER, today, 5, 4)
-    assert found("Süd", Span(day, day), True) == ((4, [given], 1, False), "Süd", inferred)
+    assert found("Süd", year_of(2003), True) == ((4, [given], 1, False), "Süd", inferred)
+    assert found("Süd", Span(day, day), True) == ((4, [given], 1, False), "Süd", of_day)
     assert found("Süd", Span(later, later), True) == ((4, [moved], 1, True), "Süd", of_day)
     assert found("Nord", None, True) == ((4, [given, back], 1, False), "Nord", inferred)
     male = NUMBER.replace("F", "M")
     assert found("Süd", None, True, number=male) == ((4, [given._replace(animal=male)], 1, False), "Süd", inferred)
     # once of each animal
-    assert [entry.finding for entry in report.entries] == [
-        DayLeftOut(Field.SINCE, DayFault.AFTER_TODAY, str(tomorrow))
-    ] * 3  # fmt: skip
+    left_out = DayLeftOut(Field.SINCE, DayFault.AFTER_TODAY, str(tomorrow))
+    of_year = OwnerDayInferred(datetime.date(2003, 12, 31), year_of(2003).period())
+    assert [entry.finding for entry in report.entries] == [left_out] * 2 + [of_year] * 2 + [left_out]
 
 
 def test_a_sex_that_is_inferred_tells_of_a_cell() -> None:
