@@ -2,8 +2,10 @@
 from __future__ import annotations
 
 import contextlib
+import pathlib
 import signal
 import sqlite3
+from types import SimpleNamespace
 from typing import cast
 
 import pytest
@@ -25,6 +27,7 @@ from society.mistake import Mistake
 from society.taking import saving
 from society.taking.outcome import Outcome
 from society.taking.saving import Prepared, take
+from society.taking.suggestions import Call
 
 
 def test_folder_that_goes_away(flock_desk: Desk, monkeypatch: pytest.MonkeyPatch) -> None:
@@ -47,9 +50,9 @@ def test_what_is_told_besides(flock_desk: Desk, monkeypatch: pytest.MonkeyPatch)
     """What is found while a taking is prepared, and then of its exports; where it is prepared once more, what is found
     then."""
     monkeypatch.setenv("HERDBOOK", flock_desk.program)
-    monkeypatch.setattr(saving, "save", lambda *_: None)
+    monkeypatch.setattr(saving, "save", lambda *_: SimpleNamespace(number=7))
     monkeypatch.setattr(saving, "export", lambda _: ["of the exports"])
-    folder, notes, outcome = flock_desk.room / "book", list[str](), cast(Outcome, "outcome")
+    folder, notes, outcome = flock_desk.room / "book", list[str](), Outcome(pathlib.Path(), Call((), pathlib.Path()))
 
     def prepare(book: Book) -> tuple[Outcome, Prepared | None]:
         notes.append(f"{len(notes)}")
@@ -61,9 +64,10 @@ def test_what_is_told_besides(flock_desk: Desk, monkeypatch: pytest.MonkeyPatch)
             flock_desk.good("exit", "a0", "--day", "2012-01-01")
         return prepare(book)
 
-    assert take(folder, Herdbook(), prepare) == (outcome, ["0", "of the exports"])
-    notes.clear()
-    assert take(folder, Herdbook(), prepare_beside_another) == (outcome, ["1", "of the exports"])
+    for prepared, told in (prepare, "0"), (prepare_beside_another, "1"):
+        notes.clear()
+        taken, besides = take(folder, Herdbook(), prepared)
+        assert taken.call.change == 7 and besides == [told, "of the exports"]
 
 
 def test_no_book_is_begun_where_the_program_fails(desk: Desk) -> None:

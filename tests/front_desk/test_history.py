@@ -5,7 +5,6 @@ import contextlib
 import datetime
 import hashlib
 import os
-import pathlib
 import pwd
 import random
 import re
@@ -19,7 +18,8 @@ from front_desk.desk import Desk
 from front_desk.whole import FLOCK, GROWN, changes_of
 from society.book import backup
 from society.book.book import Book
-from society.book.last_backup import NAME, last_backup, remember
+from society.book.book_read import reading
+from society.book.last_backup import NAME, LastBackup, last_backup, remember
 from society.herdbook import Herdbook
 from society.mistake import Mistake
 
@@ -200,7 +200,8 @@ def test_backup(flock_desk: Desk) -> None:
     flock_desk.good(*CALF)
     listed = flock_desk.good("list").out
     assert flock_desk.good("backup", "copy").out == "copy has the book with its 2 changes\n"
-    last = last_backup(flock_desk.room / "book")
+    with reading(flock_desk.room / "book") as connection:
+        last = last_backup(Book(flock_desk.room / "book", connection))
     assert last and last.change == 2 and abs(last.time.timestamp() - time.time()) < 300
     # nothing is written beside it by who reads it
     assert (flock_desk.room / "copy").read_bytes()[18:20] == b"\1\1"
@@ -275,19 +276,28 @@ def test_backups_that_are_none(flock_desk: Desk, monkeypatch: pytest.MonkeyPatch
         assert not folder.exists()
 
 
-def test_last_backup(tmp_path: pathlib.Path) -> None:
-    """None where there was none, or nobody can say; a backup is good where its time can't be kept."""
-    assert last_backup(tmp_path) is None
-    for folder in tmp_path, tmp_path / "absent":
-        remember(Book(folder, None))
-    last = last_backup(tmp_path)
-    assert last and last.change == 0 and last.time.utcoffset() == datetime.timedelta()
-    for text in (
-        b"", b"time,change\n", b"time\n2001-02-03\n", b"time,change\n2001-02-03\n", b"time,change\nx,1\n",
-        b"time,change\n2001-02-03,x\n", b"time,change\n\xff,1\n",
-    ):  # fmt: skip
-        (tmp_path / NAME).write_bytes(text)
-        assert last_backup(tmp_path) is None, text
+def test_last_backup(flock_desk: Desk) -> None:
+    """None where there was none, or nobody can say, or where its last change isn't one of the book; a backup is good
+    where its time can't be kept."""
+    folder = flock_desk.room / "book"
+    remember(Book(flock_desk.room / "absent", None))
+    with reading(folder) as connection:
+        book = Book(folder, connection)
+        assert last_backup(book) is None
+        remember(book)
+        last = last_backup(book)
+        assert last and last.change == 1 and last.time.utcoffset() == datetime.timedelta()
+        assert last_backup(Book(folder, None)) is None
+        for text in (
+            b"", b"time,change\n", b"time\n2001-02-03\n", b"time,change\n2001-02-03\n", b"time,change\nx,1\n",
+            b"time,change\n2001-02-03,x\n", b"time,change\n\xff,1\n", b"time,change\n2001-02-03,2\n",
+            b"time,change,moment\n2001-02-03,1,5\n",
+        ):  # fmt: skip
+            (folder / NAME).write_bytes(text)
+            assert last_backup(book) is None, text
+        # as the version before kept it
+        (folder / NAME).write_bytes(b"time,change\n2001-02-03,1\n")
+        assert last_backup(book) == LastBackup(datetime.datetime(2001, 2, 3), 1)
 
 
 def test_kept_where_nothing_has_the_name(flock_desk: Desk) -> None:
