@@ -2,7 +2,7 @@
 from __future__ import annotations
 
 import pathlib
-from dataclasses import dataclass, replace
+from dataclasses import dataclass
 
 from society.book.book import Book
 from society.book.changes import Option
@@ -15,7 +15,7 @@ from society.mistake import MOST_NAMED
 from society.one_call import keep
 from society.reading.animal import Animal
 from society.reading.columns import Columns, find_columns
-from society.reading.given_file import GivenFile, read_file
+from society.reading.given_file import GivenFile
 from society.reading.options import read_given, read_sexes
 from society.reading.sheet_animals import Rows
 from society.reading.sheet import Sheet, read_sheet
@@ -45,17 +45,6 @@ def take_sheet(file: GivenFile, wishes: Wishes) -> list[str]:
             outcome, notes = take(wishes.book, program, lambda book: take_into(book, file, wishes, program))
         tell(outcome)
     return notes
-
-
-def preview_sheet(path: pathlib.Path, wishes: Wishes) -> Outcome:
-    """What a sheet would change, and what may be wrong of it. Nothing is written. A mistake where the file can't be
-    opened, or an option can't be understood."""
-    program, wishes = Herdbook(), replace(wishes, preview=True)
-    with to_look_at(wishes.book, program) as book:
-        try:
-            return take_into(book, read_file(path), wishes, program)[0]
-        except CantBeTaken as mistake:
-            return Outcome(book.folder, wishes.call(str(path)), about=mistake.told, obstacles=mistake.obstacles)
 
 
 def take_into(
