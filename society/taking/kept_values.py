@@ -12,6 +12,7 @@ from society.reading.animal import Animal
 from society.reading.cell_findings import ExitInferred
 from society.reading.days import Span
 from society.taking.animal_findings import KeptByHand, KeptFromBook
+from society.taking.days_of_others import DaysOfOthers
 from society.taking.faulty_parents import tried_again
 from society.taking.next_book import NextBook
 from society.taking.report import Entry
@@ -33,6 +34,7 @@ class Keeping:
     def __init__(self, next_book: NextBook) -> None:
         self.next_book, self.book = next_book, next_book.book
         self.given, self.report = next_book.given, next_book.report
+        self.days_of_others = DaysOfOthers(self.book, next_book.meanings, self.report)
         # the lines of animals whose exits keep the book's days
         self.kept_exits: set[int] = set()
 
@@ -57,6 +59,7 @@ class Keeping:
         if owner and not animal.owner:
             animal.owner = owner
             self.tell_kept(animal, Field.OWNER, owner)
+        self.days_of_others.leave_out(animal, record)
         is_within = not animal.has_day() and animal.birth.first <= record.born <= animal.birth.last
         if is_within and not known.birth.is_inferred:
             animal.birth = Span(record.born, record.born)

@@ -144,3 +144,17 @@ class OwnerDayInferred(Finding):
 
     def words(self) -> str:
         return f"owner since {self.day}, from {self.period.words()}"
+
+
+@dataclass(frozen=True, slots=True)
+class OwnerDayOfOther(Finding):
+    """The cell of the day since which the owner has the animal says what it said for another owner before."""
+
+    text: str
+    before: str
+    owner: str
+
+    what = What.INFERRED
+
+    def words(self) -> str:
+        return f"'{self.text}' isn't taken as the first day of the owner '{self.owner}': it stood there for '{self.before}' too"

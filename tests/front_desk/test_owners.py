@@ -128,6 +128,33 @@ def test_day_before_an_inferred_one(desk: Desk) -> None:
     assert desk.transfer_days() == ["2012-05-01", "2012-05-01"]
 
 
+def test_day_of_another_owner(desk: Desk, today: datetime.date) -> None:
+    """A cell that is as it was for another owner says nothing of the new one, also later, until it says something else;
+    of an owner who is only written otherwise, or renamed, it still says the day."""
+    rows = "id;sex;birth;sire;dam;owner;since\ns;M;2001-03-01;;;Meier;\nd;F;2001-03-02;;;{}\n"
+    told = "line 3: d: inferred: '{}' isn't taken as the first day of the owner 'Weiß': it stood there for 'Groß' too"
+    desk.take(rows.format("Groß;03.04.2010"))
+    other = desk.copy_to(desk.room.parent / "other")
+    for day in "03.04.2010", "2010-04-03":
+        desk.take(rows.format(f"Weiß;{day}")).tells(told.format(day))
+        assert desk.transfer_days() == ["2010-04-03", str(today)]
+        assert since(desk, "d") == f"{today} (inferred)"
+    desk.take(rows.format("Weiß;05.04.2012"))
+    assert since(desk, "d") == "2012-04-05"
+    # on the day of the taking, where that is named
+    desk.take(rows.format("Löw;05.04.2012"), "--day", "2013-01-02")
+    assert since(desk, "d") == "2013-01-02"
+    for owner, words in ("GROSS", ()), ("Gross", ()), ("Grün", ("--owner", "Gross=Grün")):
+        done = other.take(rows.format(f"{owner};03.04.2010"), *words)
+        assert "isn't taken" not in done.told and since(other, "d") == "2010-04-03"
+    # a day that comes is still that of whoever is to be the owner then
+    later = today + datetime.timedelta(9)
+    for owner in "Löw", "Weiß":
+        done = other.take(rows.format(f"{owner};{later}"))
+        done.tells(f"line 3: d: its first day with its owner is left out: {later} is after today")
+    assert other.transfer_days()[-1] == "2010-04-03"
+
+
 def test_first_owner_since_a_day(desk: Desk) -> None:
     desk.take("id;birth;sire;dam;owner;owner since\na;2001-03-02;;;Groß;2004-05-06\nb;2001-03-02;;;Groß;\n")
     assert since(desk, "a") == "2004-05-06"

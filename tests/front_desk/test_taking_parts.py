@@ -137,7 +137,7 @@ def test_what_was_filed_by_hand() -> None:
         name, owner, since = said.get(Field.NAME, ""), said.get(Field.OWNER, ""), year_of(int(said[Field.SINCE]))
         one = next_book(Animal("a", 2, name, owner=owner, cells=said, since=since), known, *said)
         last = {("a",): ("a", *map(cast(Any, before).get, CELL_FIELDS))}
-        vars(one.book).update(cells=last, records={NUMBER: record}, owner_of=str, respelt=str)
+        vars(one.book).update(cells=last, records={NUMBER: record}, owner_of=str, respelt=str, connection=None)
         keep_values(one)
         told = [entry.finding.field for entry in one.report.entries if isinstance(entry.finding, KeptByHand)]
         return one.animals["a"], {*one.overridden["a"]}, told

@@ -55,6 +55,10 @@ FINDINGS: dict[str, tuple[str, str]] = {
         "{command} am {day} ist weggelassen: {refusal}[ ({offspring})]", "{command} le {day} : omis, {refusal}[ ({offspring})]",
     ),
     "owner day inferred": ("Besitzer seit {day}, aus {period_text}", "propriétaire depuis le {day}, d'après {period_text}"),
+    "owner day of other": (
+        "„{text}“ gilt nicht als erster Tag des Besitzers „{owner}“: es stand schon bei „{before}“ da",
+        "« {text} » n'est pas pris comme premier jour du propriétaire « {owner} » : il figurait déjà pour « {before} »",
+    ),
     "owner day moved": (
         "es ist seit {now} von „{owner}“, und nicht seit {before}, was mit Geburt, Abgang oder Besitzer vorher nicht sein kann",
         "il est de « {owner} » depuis {now}, et non depuis {before}, impossible vu la naissance, la sortie ou l'ancien "
