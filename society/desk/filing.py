@@ -14,7 +14,7 @@ from society.book.search import find
 from society.desk.desk import Desk
 from society.desk.forms import change_once, made_by, token_with
 from society.desk.sentences import DeskFault
-from society.desk.shown_parents import ROLES, parents_of, shown_in
+from society.desk.shown_parents import OF_ANIMAL, ROLES, parents_of, shown_in
 from society.mistake import Mistake
 from society.reading.words import clean
 
@@ -100,10 +100,11 @@ class Form:
 
     def roles_said(self, book: Book) -> tuple[str, ...]:
         """Which parents somebody wrote otherwise than the form showed them; both where none was, or none was shown."""
-        known = self.animal(book)
-        shown = shown_in(self.given, known)
+        known, shown = self.animal(book), shown_in(self.given)
         if shown is None:
             return ROLES
+        if self.given[OF_ANIMAL] != known.id:
+            raise Mistake(DeskFault.OTHER_SHOWN.said(shown=self.given[OF_ANIMAL], id=known.id))
         if shown != parents_of(book, known):
             raise Mistake(DeskFault.PARENTS_CHANGED.said(id=known.id))
         return tuple(role for role in ROLES if self.text(role) != " ".join(shown[role].split())) or ROLES

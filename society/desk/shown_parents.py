@@ -1,5 +1,5 @@
-"""The parents that a form showed of an animal: what was left of them as it was isn't said, and where others stand in the
-book by now that is seen."""
+"""The parents that a form showed of an animal: what was left of them as it was isn't said, also of another animal, and
+where others stand in the book by now that is seen."""
 from __future__ import annotations
 
 from collections.abc import Mapping
@@ -19,15 +19,13 @@ def parents_of(book: Book, known: Known) -> dict[str, str]:
     return {role: book.by_number()[number].id if number else "" for role, number in named.items()}
 
 
-def shown_in(given: Mapping[str, str], known: Known) -> dict[str, str] | None:
-    """The parents of an animal that a form showed; none where it showed none, or another animal's."""
-    if given.get(OF_ANIMAL) != known.id:
-        return None
-    return {role: given.get(SHOWN.format(role), "") for role in ROLES}
+def shown_in(given: Mapping[str, str]) -> dict[str, str] | None:
+    """The parents that a form showed, of whichever animal; none where it showed none."""
+    return {role: given.get(SHOWN.format(role), "") for role in ROLES} if given.get(OF_ANIMAL) else None
 
 
 def with_those_of_now(book: Book, given: Mapping[str, str], known: Known) -> dict[str, str]:
     """The fields of a form that shows the parents as the book has them now, but for what somebody wrote."""
-    now, before = parents_of(book, known), shown_in(given, known) or {}
+    now, before = parents_of(book, known), shown_in(given) or {}
     left = {role: id for role, id in now.items() if role not in given or given[role] == before.get(role)}
     return {**given, **left, OF_ANIMAL: known.id, **{SHOWN.format(role): id for role, id in now.items()}}

@@ -16,6 +16,7 @@ from society.book.changes import Change, Option
 from society.book.history import EPOCH, FILED_BY_HAND
 from society.book.kinds import ChangeKind, Field
 from society.breed.meanings import MEANINGS
+from society.desk.sentences import DeskFault
 from society.desk.shown_options import given_of
 from society.desk.texts import SENTENCES, TEXTS
 from society.desk.words import Words
@@ -134,6 +135,30 @@ def test_corrected_by_two(site: Site) -> None:
     assert site.post("/file/parents", **corrected(third, sire=SIRE)).headers["Location"] == "/answer/4"
     with site.desk.opened() as book:
         assert book and book.records[book.known[DAM].number].dam == ""
+
+
+@pytest.mark.parametrize("language", LANGUAGES)
+def test_sent_for_another(site: Site, language: str) -> None:
+    """A form that showed one animal's parents files none of them for another: it comes back with that one's of now, but
+    for what was written."""
+    site.get(f"/language/{language}")
+    other, at = "GK-14/388b", [*LANGUAGES].index(language)
+    given, wanted = (written_in(site.page(f"/file/parents?id={id}")) for id in (DAM, other))
+    assert (given["sire"], given["dam"]) != (wanted["sire"], wanted["dam"])
+    answer = site.post("/file/parents", **corrected(given, id=f" {other}", sire=SIRE))
+    page, told = answer.get_data(as_text=True), SENTENCES[DeskFault.OTHER_SHOWN][at] or DeskFault.OTHER_SHOWN.value
+    assert answer.status_code == 400 and told.format(shown=DAM, id=other).casefold() in shown(page).casefold()
+    again = written_in(page)
+    assert (again["sire"], again["dam"], again["shown-id"]) == (SIRE, wanted["dam"], other)
+    assert TEXTS["in book now"][at].format(wanted["sire"]) in shown(page)
+    with site.desk.opened() as book:
+        assert book and book.change and book.change.number == 1
+    assert site.post("/file/parents", **corrected(again)).headers["Location"] == "/answer/2"
+    with site.desk.opened() as book:
+        assert book and book.change and book.change.options == (Option("--sire", SIRE),)
+    # nobody is meant: the parents are those of the animal that was shown
+    page = site.post("/file/parents", **corrected(given, id="nobody")).get_data(as_text=True)
+    assert written_in(page)["shown-id"] == DAM
 
 
 def test_settings_of_two(site: Site, society_desk: Desk) -> None:

@@ -1,11 +1,15 @@
 """The page on which a command is filed: a form for each kind, and the answer of the register in words."""
 from __future__ import annotations
 
+import contextlib
+
 from flask import Blueprint, abort, redirect, render_template, request, url_for
 
 from society.book.book import Book
 from society.book.history import change_numbered, taken_back_by
 from society.book.kinds import ChangeKind
+from society.book.known import Known
+from society.book.search import find
 from society.desk.change_lines import ChangeLine, line_of
 from society.desk.desk import Answer, the_desk, with_book
 from society.desk.filing import KINDS, Form, file_form, written_in
@@ -33,12 +37,11 @@ def filing(book: Book) -> Answer:
 @with_book
 def form(book: Book, kind: str) -> Answer:
     given = {name: text for name, text in request.args.items() if text}
-    return shown(book, kind, to_correct(book, kind, given, "id"), [])
+    return shown(book, kind, to_correct(book, kind, given, book.known.get(given.get("id", ""))), [])
 
 
-def to_correct(book: Book, kind: str, given: dict[str, str], of: str) -> dict[str, str]:
-    """With the parents of now to be corrected, of the animal that a field names, where one is meant."""
-    known = book.known.get(given.get(of, ""))
+def to_correct(book: Book, kind: str, given: dict[str, str], known: Known | None) -> dict[str, str]:
+    """With the parents of now to be corrected, of the animal that is meant, if there is one."""
     return with_those_of_now(book, given, known) if kind == ChangeKind.PARENTS.value and known else given
 
 
@@ -71,7 +74,14 @@ def file(kind: str) -> Answer:
 
 @with_book
 def form_again(book: Book, kind: str, faults: list[Sentence]) -> Answer:
-    return shown(book, kind, to_correct(book, kind, dict(request.form), OF_ANIMAL), faults)
+    """With the parents of now of the animal that is named, or else of the one whose parents the form showed."""
+    given = dict(request.form)
+    if not given.get(OF_ANIMAL):
+        return shown(book, kind, given, faults)
+    known = book.known.get(given[OF_ANIMAL])
+    with contextlib.suppress(Mistake):
+        known = find(book, given.get("id", ""), may_be_file=False)
+    return shown(book, kind, to_correct(book, kind, given, known), faults)
 
 
 @page.get("/answer/<int(max=999999999):number>")
@@ -84,7 +94,8 @@ def answer(book: Book, number: int) -> Answer:
         abort(404)
     line, kind = line_of(book.connection, change, the_words()), change.kind.value
     if line.refused and may("filing.form"):
-        return shown(book, kind, to_correct(book, kind, written_in(change, line.id), "id"), [], line)
+        given = to_correct(book, kind, written_in(change, line.id), book.known.get(line.id))
+        return shown(book, kind, given, [], line)
     looks = [one for group in told_of_change(book, number, the_words()) if group.what is What.LOOK for one in group.lines]
     by = taken_back_by(book.connection, number)
     return render_template("answer.html", kind=kind, change=line, known=book.known.get(line.id), looks=looks, by=by)

@@ -146,6 +146,11 @@ SENTENCES: dict[Sentence, tuple[str, str, str]] = {
         "{id} hat inzwischen andere Eltern bekommen: sehen Sie nach und melden Sie es noch einmal.",
         "Les parents de {id} ont été modifiés entre-temps : vérifiez et déclarez-le de nouveau.",
     ),
+    DeskFault.OTHER_SHOWN: (
+        "",
+        "Das Formular zeigte die Eltern von {shown}: sehen Sie die von {id} an und melden Sie es noch einmal.",
+        "Le formulaire montrait les parents de {shown} : regardez ceux de {id} et déclarez-le de nouveau.",
+    ),
     DeskFault.NO_ANIMAL: (
         "",
         "Das Tier fehlt: schreiben Sie seine Ohrmarke, seinen Namen oder seine Nummer.",
