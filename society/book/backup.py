@@ -62,10 +62,7 @@ def copied(connection: sqlite3.Connection) -> bytes:
     except (sqlite3.Error, OSError) as error:
         if isinstance(error, sqlite3.Error) and primary(error) in DAMAGED:
             raise
-        raise Mistake(
-            f"no copy can be made in {tempfile.tempdir}, the folder for temporary files ({error}): make room there, or "
-            "name another one by TMPDIR"
-        ) from None
+        raise Mistake(BackupFault.NO_ROOM.said(folder=tempfile.tempdir, error=str(error))) from None
 
 
 def restore(

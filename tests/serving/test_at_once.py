@@ -175,7 +175,7 @@ def test_login_over_much(served: Served) -> None:
 def test_backup(served: Served, society_desk: Desk) -> None:
     """Backups are made while others work, and the page says when the last one was made; the accounts aren't in it."""
     carl, ines = Visitor(served, "Carl"), Visitor(served, "Ines")
-    assert TEXTS["no backup yet"][0] in shown(ines.page("/history"))
+    assert TEXTS["no backup known"][0] in shown(ines.page("/history"))
     with served.desk.opened():
         society_desk.good("backup", "copy.sqlite")
     first = shown(ines.page("/history"))

@@ -6,8 +6,8 @@ import datetime
 from flask import Blueprint, abort, flash, redirect, render_template, url_for
 from werkzeug.wrappers import Response
 
+from society.book.backup import copied
 from society.book.book import Book
-from society.book.book_read import bytes_of
 from society.book.changes import Change
 from society.book.exports import report_text
 from society.book.history import change_numbered, last_changes, last_that_changed, taken_back_by
@@ -106,7 +106,7 @@ def bring_back(number: int) -> Answer:
 def backup(book: Book) -> Answer:
     """The whole book with its history, as the word `backup` writes it."""
     assert book.connection is not None
-    response = Response(bytes_of(book.connection), mimetype="application/vnd.sqlite3")
+    response = Response(copied(book.connection), mimetype="application/vnd.sqlite3")
     remember(book)
     name = f"book-{datetime.date.today()}.sqlite"
     response.headers["Content-Disposition"] = f"attachment; filename={name}"

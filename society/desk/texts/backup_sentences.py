@@ -23,6 +23,13 @@ SENTENCES: dict[Sentence, tuple[str, str, str]] = {
         "{path} hat Trigger oder Sichten, die keine Kopie hat: jemand anderes hat sie gemacht, und nichts ist geändert.",
         "{path} a des déclencheurs ou des vues, qu'aucune copie n'a : quelqu'un d'autre les a faits, et rien n'est modifié.",
     ),
+    BackupFault.NO_ROOM: (
+        "",
+        "In {folder}, dem Ordner für Zwischendateien, lässt sich keine Kopie machen ({error}): machen Sie dort Platz, oder nennen "
+        "Sie mit TMPDIR einen anderen.",
+        "Aucune copie ne peut être faite dans {folder}, le dossier des fichiers temporaires ({error}) : faites-y de la place, "
+        "ou nommez-en un autre par TMPDIR.",
+    ),
     BackupFault.NOT_RESTORED: (
         "{path} can't be restored: nothing is changed", "{path} lässt sich nicht zurückspielen: nichts ist geändert.",
         "{path} ne peut pas être restauré : rien n'est modifié.",

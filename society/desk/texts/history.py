@@ -107,8 +107,9 @@ TEXTS = {
         "The last backup was made on {}, after change {}.", "Die letzte Kopie wurde am {} gesichert, nach Änderung {}.",
         "La dernière copie a été enregistrée le {}, après la modification {}.",
     ),
-    "no backup yet": (
-        "No backup was made yet.", "Es wurde noch keine Kopie gesichert.", "Aucune copie n'a encore été enregistrée.",
+    "no backup known": (
+        "No copy is known that has the book as it is now.", "Es ist keine Kopie bekannt, die das Herdbuch hat, wie es jetzt ist.",
+        "On ne connaît aucune copie qui ait le livre tel qu'il est maintenant.",
     ),
     "restore": ("Restore a backup", "Kopie zurückspielen", "Restaurer une copie"),
     "restore how": (
