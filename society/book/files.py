@@ -66,7 +66,6 @@ def name_once(beside: pathlib.Path, path: pathlib.Path) -> None:
     """Gives a file a name that nothing has; where something has it, that stays, and this is a `FileExistsError`."""
     try:
         os.link(beside, path)
-        beside.unlink()
     except OSError as error:
         if error.errno not in NO_LINKS:
             raise
@@ -77,6 +76,10 @@ def name_once(beside: pathlib.Path, path: pathlib.Path) -> None:
         except OSError:
             path.unlink()
             raise
+        return
+    # it is written, also where the name beside it stays
+    with contextlib.suppress(OSError):
+        beside.unlink()
 
 
 def sync_folder(folder: pathlib.Path) -> None:

@@ -60,6 +60,17 @@ def test_not_in_place_of_another(tmp_path: pathlib.Path, monkeypatch: pytest.Mon
     assert {path.name: path.read_bytes() for path in tmp_path.iterdir()} == {"file": b"precious", "new": b"text"}
 
 
+@pytest.mark.parametrize("number", [errno.EPERM, errno.EIO])
+def test_name_beside_stays(tmp_path: pathlib.Path, monkeypatch: pytest.MonkeyPatch, number: int) -> None:
+    """A file that is there, and whose name beside can't be taken away any more, is written."""
+    def refused(path: pathlib.Path) -> None:
+        raise OSError(number, "no")
+
+    monkeypatch.setattr(pathlib.Path, "unlink", refused)
+    put(tmp_path / "new", b"text", replaces=False)
+    assert (tmp_path / "new").read_bytes() == b"text"
+
+
 def test_names_that_are_no_text(desk: Desk, tmp_path: pathlib.Path) -> None:
     """Nothing is begun of a word that isn't UTF-8 text, and the name of a folder that isn't is kept in other letters."""
     for name in "b\udce4r.csv", "b\udce4r":
