@@ -8,6 +8,7 @@ from society.reading.animal import Animal
 from society.reading.cell_findings import IdAgain
 from society.taking.pedigree_obstacles import IdsUsedAgain, LinksLost
 from society.taking.report import CantBeTaken, Entry, Part, Report, What
+from society.taking.row_findings import IdOfAnother, LineAfterOffspring
 from society.taking.used_tags import leave_out_used_tags
 
 
@@ -20,7 +21,7 @@ def refuse_lost_links(report: Report) -> None:
 def refuse_used_ids(animals: dict[str, Animal], book: Book) -> None:
     """A mistake where the book has ids of the pedigree for other animals: offspring would have these as parents."""
     report = Report()
-    if leave_out_used_tags(dict(animals), book, report):
+    if leave_out_used_tags(dict(animals), book, report, IdOfAnother, LineAfterOffspring):
         raise CantBeTaken(IdsUsedAgain(len(report.entries)), told=first_of(report.in_order()))
 
 

@@ -29,6 +29,8 @@ class IdUsedAgain(LeftOut):
 
     part = Part.ROW
     harm = Harm.ANIMALS
+    # how else two animals would have one id
+    otherwise = "the tag was used again"
 
     def thing(self) -> str:
         return "the row"
@@ -40,7 +42,7 @@ class IdUsedAgain(LeftOut):
         which = f"line {self.line}" if self.line else "the book"
         return (
             f"{which} has this id for another animal ({there}born {self.born_there}; here {here}born {self.born_here})"
-            f"{means}: if the tag was used again, give this one an id of its own, also where its offspring name it"
+            f"{means}: if {self.otherwise}, give this one an id of its own, also where its offspring name it"
         )
 
     def suggestions(self) -> tuple[Suggestion, ...]:
@@ -58,6 +60,7 @@ class BornAfterOffspring(LeftOut):
 
     part = Part.ROW
     harm = Harm.ANIMALS
+    otherwise = IdUsedAgain.otherwise
 
     def thing(self) -> str:
         return "the row"
@@ -65,12 +68,34 @@ class BornAfterOffspring(LeftOut):
     def why(self) -> str:
         return (
             f"born {self.born_here}, it would be younger than its offspring {self.offspring}, born {self.offspring_born}; "
-            f"the book has born {self.born_there}: if the day is mistyped, mend it; if the tag was used again, give this "
-            "animal an id of its own, also where its offspring name it"
+            f"the book has born {self.born_there}: if the day is mistyped, mend it; if {self.otherwise}, give "
+            "this animal an id of its own, also where its offspring name it"
         )
 
     def suggestions(self) -> tuple[Suggestion, ...]:
         return (Suggestion("if it is the same animal, born on this day", (ANYWAY,)),)
+
+
+@dataclass(frozen=True, slots=True)
+class IdOfAnother(IdUsedAgain):
+    """The id of a pedigree's line is that of another animal of the book."""
+
+    part = Part.LINE
+    otherwise = "these are two animals"
+
+    def thing(self) -> str:
+        return "the line"
+
+
+@dataclass(frozen=True, slots=True)
+class LineAfterOffspring(BornAfterOffspring):
+    """The same of a pedigree's line."""
+
+    part = Part.LINE
+    otherwise = IdOfAnother.otherwise
+
+    def thing(self) -> str:
+        return "the line"
 
 
 @dataclass(frozen=True, slots=True)

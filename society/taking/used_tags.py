@@ -12,8 +12,12 @@ from society.taking.row_findings import BornAfterOffspring, IdUsedAgain
 YEARS_LATER = 700
 
 
-def leave_out_used_tags(animals: dict[str, Animal], book: Book, report: Report) -> set[str]:
-    """Leaves out rows of animals that can't be those of the book which have their ids; answers these ids."""
+def leave_out_used_tags(
+    animals: dict[str, Animal], book: Book, report: Report, another: type[IdUsedAgain] = IdUsedAgain,
+    after: type[BornAfterOffspring] = BornAfterOffspring,
+) -> set[str]:  # fmt: skip
+    """Leaves out rows of animals that can't be those of the book which have their ids; answers these ids. It is told as
+    `another`, or as `after` of one that would be younger than its offspring."""
     found = set()
     apart = [(animal, known) for animal, known in animals_of_book(animals, book) if are_years_apart(animal, known, book)]
     calves = earliest_calves(book) if apart else {}
@@ -21,10 +25,10 @@ def leave_out_used_tags(animals: dict[str, Animal], book: Book, report: Report) 
         id, born, calf = animal.id, book.records[known.number].born, calves.get(known.number)
         if is_another(animal, known):
             lines = lines_that_name(animals, animal)
-            report.add(animal.line, id, IdUsedAgain(born, known.name, animal.birth.first, animal.name, lines))
+            report.add(animal.line, id, another(born, known.name, animal.birth.first, animal.name, lines))
         elif calf and calf.born <= animal.birth.first:
             first = book.by_number()[calf.number].id
-            report.add(animal.line, id, BornAfterOffspring(born, animal.birth.first, first, calf.born))
+            report.add(animal.line, id, after(born, animal.birth.first, first, calf.born))
         else:
             continue
         del animals[id]

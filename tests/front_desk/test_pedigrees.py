@@ -117,9 +117,14 @@ def test_animals_of_the_book_that_are_others(desk: Desk) -> None:
     titles, take = "id sire dam sex birth\n", ("take", "--pedigree", "p.txt")
     desk.write("p.txt", titles + "12 0 0 M 1990-01-01\na 12 0 F 2010-01-01\n")
     done = desk.wrong("1 line has an id that the book has for another animal", *take, "--leave-out")
-    assert "12: the row is left out: the book has this id for another animal ('Berta', born 2015-01-01" in done.err
+    assert "12: the line is left out: the book has this id for another animal ('Berta', born 2015-01-01" in done.err
+    own = "if these are two animals, give this one an id of its own"
+    assert own in done.err and "tag" not in done.err
     desk.typed(done.commands()[-1])
     desk.good("undo")
+    desk.write("p.txt", titles + "a 0 0 F 2014-01-01\n")
+    done = desk.wrong("a: the line is left out: born 2014-01-01, it would be younger than its offspring c0", *take)
+    assert own in done.err.replace("this animal", "this one") and "tag" not in done.err
     desk.write("p.txt", titles + "".join(f"c{at} 0 0 M 2012-02-{at + 10}\n" for at in range(9)))
     done = desk.wrong("9 of 9 animals have other birth days than in the book, the first are c0 (line 2)", *take)
     assert "9 of 9 animals have other sexes" in done.err and "9 of 9 animals have other parents, or none," in done.err
