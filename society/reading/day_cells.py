@@ -9,7 +9,9 @@ from society.book.inferred import GIVEN_EXIT, ExitBasis, ExitSource
 from society.book.kinds import Field
 from society.book.named import made
 from society.reading.cell_findings import DayLeftOut
-from society.reading.days import DayFault, Precision, Span, Unreadable, is_span, read_span, span_within, usual_day
+from society.reading.days import (
+    DayFault, Precision, Span, Unreadable, behind_since, is_span, read_span, span_within, usual_day,
+)  # fmt: skip
 from society.reading.exits import exit_word, lives, word_fault
 
 
@@ -62,18 +64,18 @@ class DayCells:
     def read_day(self, field: Field, text: str) -> DayCell:
         if (day := usual_day(text)) and text not in self.unknown:
             return self.possible(field, text, made(Span, (day, day, "", "", Precision.DAY)))
-        is_exit = field is Field.EXIT
+        is_exit, said = field is Field.EXIT, behind_since(text) if field is Field.SINCE else text
         has_left = is_exit and exit_word(text)
-        if text in self.unknown and not has_left:
+        if said in self.unknown and not has_left:
             return SAYS_NOTHING
         try:
             within = span_within(text, self.month_first) if is_exit and not is_span(text) else None
-            span = within or read_span(text, self.month_first, legible=not is_exit)
+            span = within or read_span(said, self.month_first, legible=not is_exit)
         except Unreadable as error:
             # days in the wrong order keep the whole sheet from being taken, and are told once
             if error.fault is DayFault.WRONG_ORDER:
                 return DayCell()
-            told = (word_fault(text), text) if has_left else (error.fault, error.text)
+            told = (word_fault(text), text) if has_left else (error.fault, text if error.text == said else error.text)
             return DayCell(fault=DayLeftOut(field, *told, is_exit), is_unread=True)
         return self.possible(field, text, span)
 

@@ -45,6 +45,8 @@ NOT_THAT_YEAR = re.compile(
     r"\b(before|after|since|until|till|to|from|vor|nach|seit|bis|ab|avant|après|depuis|jusqu\w*|dès)\b|[<>]",
     re.IGNORECASE,
 )
+# how a text begins that says since when
+SINCE = re.compile(r"(?:since|from|seit|ab|depuis|dès|à partir d[eu]):?(?: the| dem| le)? +(?=\S)", re.IGNORECASE)
 
 
 class DayFault(enum.Enum):
@@ -163,6 +165,12 @@ def read_span(text: str, month_first: bool = False, legible: bool = True) -> Spa
     if legible and len(years) == 1 and not NOT_THAT_YEAR.search(text):
         return year_of(int(years.pop()), text=text)
     raise Unreadable(DayFault.NO_DAY, text)
+
+
+def behind_since(text: str) -> str:
+    """What stands behind a word for since when, as in `seit 2003`; else the text."""
+    begun = SINCE.match(text)
+    return text[begun.end() :] if begun else text
 
 
 def usual_day(text: str) -> datetime.date | None:
