@@ -46,7 +46,8 @@ class Shown:
         known, row = self.known, self.row
         coefficient = self.coefficients[known.number]
         owner = self.book.owner_of(row.herd or 0)
-        since = f", since {row.owned_since}{known.owner_day.mark()}" if owner_day_known(row.giver, known.owner_day) else ""
+        is_said = owner_day_known(self.book, known, row.giver, row.owned_since)
+        since = f", since {row.owned_since}{known.owner_day.mark()}" if is_said else ""
         found = [
             ("number", known.number),
             ("sex", SEXES[known.number[6]] + known.sex.mark() + ", castrated" * known.castrated),

@@ -123,7 +123,7 @@ class Shower:
     def facts(self, row: Row, known: Known) -> list[tuple[str, str]]:
         words, line = self.words, self.line(row)
         castrated, embryo = f", {words('castrated')}", f", {words('from embryo')}"
-        is_said = owner_day_known(row.giver, known.owner_day)
+        is_said = owner_day_known(self.book, known, row.giver, row.owned_since)
         since = f" {words('since', owner_day_of(row, known, words))}" if is_said else ""
         found = [
             (words("number"), row.number),

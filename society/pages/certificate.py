@@ -135,7 +135,8 @@ class Certificate:
         return [(texts[what], fact) for what, fact in pairs.items()]
 
     def knows_owner_day(self) -> bool:
-        return owner_day_known(self.book.records[self.known.number].giver, self.known.owner_day)
+        record = self.book.records[self.known.number]
+        return owner_day_known(self.book, self.known, record.giver, record.since)
 
     def day(self, day: object, mark: Mark | None = None) -> str:
         return self.language.marked(self.language.day(day), mark)

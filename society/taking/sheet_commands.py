@@ -144,7 +144,7 @@ class Filing:
             ("castrated", YES[known.castrated], YES[animal.castrated]),
         ]
         if animal.id in self.owners.other_days:
-            since = record.since if owner_day_known(record.giver, known.owner_day) else ""
+            since = record.since if owner_day_known(self.book, known, record.giver, record.since) else ""
             pairs.append(("owner since", since, self.owners.other_days[animal.id]))
         found = [ValueChanged(name, str(after), str(before)) for name, before, after in pairs if before != after]
         if known.birth.is_invented and animal.birth_basis.is_invented:

@@ -101,8 +101,9 @@ def test_month_or_year_of_an_owner(desk: Desk) -> None:
     done = desk.take(rows.format("05.2003", "2001"))
     done.tells("line 2: s: inferred: owner since 2003-05-31, from the month 2003-05")
     assert desk.transfer_days() == ["2003-05-31"]
-    # of its first owner's days only a whole one is known
-    assert since(desk, "s") == "not known" and "owner         Meier\n" in desk.good("show", "s").out
+    # of its first owner too
+    assert since(desk, "s") == "2003-05-31 (inferred)"
+    assert "owner         Meier, since 2003-05-31 (inferred)\n" in desk.good("show", "s").out
     done = desk.take(rows.format("2003", "2002"))
     assert " 1 changed, 1 inferred," in done.last and "changed: owner since 1" in done.out
     done.tells("line 3: d: changed: owner since: 2002-12-31, before none")
@@ -159,6 +160,11 @@ def test_first_owner_since_a_day(desk: Desk) -> None:
     desk.take("id;birth;sire;dam;owner;owner since\na;2001-03-02;;;Groß;2004-05-06\nb;2001-03-02;;;Groß;\n")
     assert since(desk, "a") == "2004-05-06"
     assert since(desk, "b") == "not known"
+    # of an owner whom a later sheet names nobody knows it, until one says a month or a year
+    rows = "id;birth;sire;dam;owner;owner since\na;2001-03-02;;;Groß;\nb;2001-03-02;;;Groß;\nc;2001-03-02;;;{}\n"
+    for cells, known in (";", "not known"), ("Weiß;", "not known"), ("Weiß;seit 2010", "2010-12-31 (inferred)"):
+        desk.take(rows.format(cells))
+        assert since(desk, "c") == known
 
 
 def test_words_that_are_no_owner(desk: Desk) -> None:
