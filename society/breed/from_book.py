@@ -14,6 +14,7 @@ from society.book.known import Known
 from society.book.rows import Row, known_of
 from society.breed.pedigree import COEFFICIENT_BITS, UNKNOWN, Pedigree
 from society.mistake import Mistake
+from society.reading.words import as_known
 
 
 @dataclass(frozen=True)
@@ -85,9 +86,10 @@ def born_between(breed: Breed, first: datetime.date, last: datetime.date) -> lis
 
 def owned_by(breed: Breed, owner: str) -> list[int]:
     """The owner's living animals."""
-    herd = breed.book.owners.get(owner)
+    name = as_known(owner, breed.book.owners)
+    herd = breed.book.owners.get(name)
     if herd is None:
-        raise Mistake(Naming.NO_OWNER.said(name=owner, hint=Naming.AS_IN_SHEET.said()))
+        raise Mistake(Naming.NO_OWNER.said(name=name, hint=Naming.AS_IN_SHEET.said()))
     return [rank for rank in living(breed) if breed.rows[rank].herd == herd]
 
 

@@ -6,6 +6,7 @@ import datetime
 import io
 import itertools
 import re
+import unicodedata
 from fractions import Fraction
 
 import pytest
@@ -58,8 +59,11 @@ def test_populations(secretary_desk: Desk) -> None:
     assert int(measured(desk, "--born", "..2007-12-31")["animals"]) > len(born)
     kept = desk.write("some.txt", "id\n" + "\n".join(born[:7]))
     assert measured(desk, "--among", kept)["animals"] == "7"
-    owner = desk.owners()[0][1]
+    owner = next(name for _, name in desk.owners() if not name.isascii())
     assert 0 < int(measured(desk, "--owner", owner)["animals"]) < len(all_animals)
+    # as other programs write its letters
+    apart = unicodedata.normalize("NFD", owner)
+    assert apart != owner and measured(desk, "--owner", f" {apart}") == measured(desk, "--owner", owner)
 
 
 @pytest.mark.parametrize(("words", "told"), [
