@@ -8,6 +8,7 @@ from dataclasses import dataclass
 from fractions import Fraction
 
 from society.book.book import Book
+from society.book.changes import Mark
 from society.book.opening import only_read
 from society.breed import from_book
 from society.breed.breed_page import Words, breed_part
@@ -36,9 +37,9 @@ class Whom:
 @dataclass(frozen=True)
 class Measured:
     """The measures as a part of a page in each language, and each animal's mean kinship with the population; all of
-    the book after a change."""
+    the book with a mark."""
 
-    change: int
+    mark: Mark
     parts: dict[str, str]
     mean_kinships: dict[str, Fraction]
 
@@ -57,8 +58,7 @@ def measured(folder: pathlib.Path, whom: Whom, tell: Tell) -> Measured:
         state = state_of(breed.pedigree, population, tell)
         parts = {name: breed_part(state, breed, name, said_of(whom, Words(name))) for name in LANGUAGES}
         of_each = Kinship.of(breed.pedigree).mean_of_each(population)
-        assert book.change is not None
-        return Measured(book.change.number, parts, {row.number: of_each[at] for at, row in enumerate(breed.rows)})
+        return Measured(mark_of(book), parts, {row.number: of_each[at] for at, row in enumerate(breed.rows)})
 
 
 def population_of(breed: Breed, whom: Whom) -> Sequence[int]:

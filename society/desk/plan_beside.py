@@ -9,6 +9,7 @@ from dataclasses import dataclass
 from fractions import Fraction
 
 from society.book.book import Book
+from society.book.changes import Mark
 from society.book.opening import only_read
 from society.book.sentences import BookFault
 from society.breed.assumed import Asked, Prepared, prepared, usual_bounds
@@ -55,10 +56,10 @@ class Bounds:
 
 @dataclass(frozen=True)
 class PlanMade:
-    """The matings, which dams have none and why, and the means; `text` is the file that the word `plan` writes, with
-    commas and with semicolons."""
+    """The matings, which dams have none and why, and the means, of the book with a mark; `text` is the file that the word
+    `plan` writes, with commas and with semicolons."""
 
-    change: int
+    mark: Mark
     bounds: Bounds
     pairs: list[Pair]
     unmated: dict[Unmated, list[Mate]]
@@ -114,7 +115,7 @@ def told_of(desk: Desk, book: Book, asked: Asked) -> str:
 def compare(desk: Desk, plan: PlanMade) -> None:
     """Asks the session for each mating of a plan; a mistake where it says something else."""
     with desk.opened() as book:
-        if book is None or book.change is None or book.change.number != plan.change:
+        if book is None or mark_of(book) != plan.mark:
             raise BookMoved
         for pair in plan.pairs:
             said = desk.program.ask(["mating", "--dam", pair.dam.number, pair.sire.number], book)
@@ -138,6 +139,5 @@ def made(book: Book, found: Planned, among: Prepared) -> PlanMade:
         unmated.setdefault(why, []).append(mates[dam])
     pairs = [Pair(mates[one.dam], mates[one.sire], str(one.coefficient), one.coefficient) for one in plan.matings]
     text = {semicolons: plan_table(book, found, False).text(semicolons) for semicolons in (False, True)}
-    assert book.change is not None
     means = plan.mean, plan.allowed, plan.mean_of_allowed
-    return PlanMade(book.change.number, bounds_of(among), pairs, unmated, *means, text)
+    return PlanMade(mark_of(book), bounds_of(among), pairs, unmated, *means, text)

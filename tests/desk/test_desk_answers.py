@@ -3,6 +3,7 @@ corrected; and a session that is killed while a sheet is taken."""
 from __future__ import annotations
 
 import contextlib
+import dataclasses
 import threading
 from collections.abc import Iterator
 
@@ -13,7 +14,9 @@ from desk.test_desk_filing import BIRTH, DAM
 from desk.test_desk_sheets import EXAMPLE
 from front_desk.desk import Desk
 from society.book.book import Book
-from society.desk.office import Office
+from society.desk.kept import mark_of
+from society.desk.office import BookMoved, Office
+from society.desk.plan_beside import Bounds, PlanMade, compare
 from society.desk.session import Answer, Session
 from society.desk.texts import SENTENCES, TEXTS
 from society.desk.sentences import DeskFault
@@ -83,6 +86,19 @@ def test_plan_differs(site: Site, monkeypatch: pytest.MonkeyPatch) -> None:
     page = site.page("/matings/plan?made=1")
     said = SENTENCES[DeskFault.PLAN_DIFFERS][0] or DeskFault.PLAN_DIFFERS.value
     assert said.partition("{")[0] in shown(page) and 'scope="row"' not in page
+
+
+def test_plan_of_another_history(site: Site) -> None:
+    """A plan of a book in whose place another is restored isn't shown, though the last change of that has the same
+    number."""
+    with site.desk.opened() as book:
+        assert book
+        number, moment = mark_of(book)
+    plan = PlanMade((number, moment), Bounds(None, None, ()), [], {}, None, 0, None, {})
+    compare(site.desk, plan)
+    for other in (number, moment + 1), (number + 1, moment):
+        with pytest.raises(BookMoved):
+            compare(site.desk, dataclasses.replace(plan, mark=other))
 
 
 @contextlib.contextmanager

@@ -6,6 +6,7 @@ import concurrent.futures
 import contextlib
 import pathlib
 import sqlite3
+import tempfile
 import time
 from collections.abc import Iterator
 
@@ -15,10 +16,12 @@ from desk.site import HOST, SECONDS, Site, form_in, looked_in, shown
 from desk.test_desk_filing import BIRTH, DAM
 from desk.test_desk_sheets import EXAMPLE
 from front_desk.desk import Desk
+from society.book.backup_sentences import BackupFault
 from society.book.book_changed import changing
 from society.desk.taking_beside import Taken
-from society.desk.texts import TEXTS
+from society.desk.texts import SENTENCES, TEXTS
 from society.mistake import Mistake
+from society.pages.languages import LANGUAGES
 
 NEW_ROW = b"Lower Mill,NEW-9,f,2019-01-01,,,\n"
 
@@ -106,6 +109,18 @@ def test_same_number(site: Site, society_desk: Desk) -> None:
         assert book and book.change and book.change.number == 2 and "NEW-9" not in book.known
 
 
+def test_breed_of_another_history(site: Site, society_desk: Desk) -> None:
+    """While the breed is measured an earlier state of the book is shown, and none of a book that gave way to a backup."""
+    copy = site.get("/book.sqlite").get_data()
+    society_desk.good("exit", DAM, "--day", "2024-05-01")
+    site.page("/breed")
+    site.restore(copy)
+    assert 'class="breed"' not in site.get("/breed").get_data(as_text=True)
+    site.page("/breed")
+    society_desk.good("exit", DAM, "--day", "2024-05-02")
+    assert TEXTS["older state"][0].format(2, 3) in shown(site.get("/breed").get_data(as_text=True))
+
+
 def test_last_backup(site: Site, society_desk: Desk) -> None:
     """The history tells of one that has changes of this book, not of one whose last change went with a restored book."""
     copy = site.get("/book.sqlite").get_data()
@@ -113,9 +128,27 @@ def test_last_backup(site: Site, society_desk: Desk) -> None:
     later = site.get("/book.sqlite").get_data()
     assert "after change 2." in shown(site.page("/history"))
     site.restore(copy)
-    assert "after change 2." not in shown(site.page("/history"))
+    page = shown(site.page("/history"))
+    # nor does it say that there is none
+    assert "after change 2." not in page and TEXTS["no backup known"][0] in page
     site.restore(later)
     assert "after change 2." in shown(site.page("/history"))
+
+
+def test_no_room_for_a_copy(site: Site, society_desk: Desk, monkeypatch: pytest.MonkeyPatch) -> None:
+    """Where a copy can't be made the page says so, and what to do, as the word does; none is told as made."""
+
+    def full(_: sqlite3.Connection) -> bytes:
+        raise sqlite3.OperationalError("database or disk is full")
+
+    monkeypatch.setattr("society.book.backup.bytes_of", full)
+    for at, language in enumerate(LANGUAGES):
+        site.get(f"/language/{language}")
+        answer = site.get("/book.sqlite")
+        page, told = shown(answer.get_data(as_text=True)), SENTENCES[BackupFault.NO_ROOM][at] or BackupFault.NO_ROOM.value
+        said = told.format(folder=tempfile.tempdir, error="database or disk is full")
+        assert answer.status_code == 400 and said.casefold() in page.casefold()
+    assert not (society_desk.room / "book/last_backup.csv").exists()
 
 
 def test_no_path(site: Site, monkeypatch: pytest.MonkeyPatch) -> None:

@@ -176,6 +176,9 @@ def test_breed(site: Site, society_desk: Desk, language: str) -> None:
             assert 'class="breed"' not in site.get(f"/breed?{asked}").get_data(as_text=True)
             own = society_desk.text(name).partition("</h1>\n")[2].partition("</main>")[0]
             assert own in site.page(f"/breed?{asked}")
+        # as copied from another page
+        own = society_desk.text("owner.html").partition("</h1>\n")[2].partition("</main>")[0]
+        assert own in site.page("/breed?owner=+%C2%ADOak++Lodge")
     part = society_desk.text("breed.html").partition("</h1>\n")[2].partition("</main>")[0]
     assert part in page
     rows = society_desk.listed("list", "--columns", "number,mean_kinship")

@@ -5,6 +5,8 @@ from flask import Blueprint, render_template, request
 from markupsafe import Markup
 
 from society.book.book import Book
+from society.book.changes import Mark
+from society.book.history import change_numbered
 from society.desk.animal_rows import born_between
 from society.desk.breed_beside import BREED, Measured, Whom, measures_of
 from society.desk.desk import Answer, the_desk, with_book
@@ -13,6 +15,7 @@ from society.desk.jobs import Stage
 from society.desk.shown_mistakes import on_page
 from society.desk.words import the_words
 from society.mistake import Mistake
+from society.reading.words import as_known
 
 page = Blueprint("breed", __name__)
 
@@ -24,7 +27,7 @@ def breed(book: Book) -> Answer:
     desk, given = the_desk(), request.args
     try:
         born = born_between(given.get("from", "").strip(), given.get("to", "").strip())
-        whom = Whom(" ".join(given.get("owner", "").split()), born)
+        whom = Whom(as_known(given.get("owner", ""), book.owners), born)
         job = measures_of(desk, book, whom)
     except Mistake as mistake:
         return page_with(book, None, on_page(mistake.sentences)), 400
@@ -37,7 +40,14 @@ def breed(book: Book) -> Answer:
     # an earlier state of the same animals is shown meanwhile
     before = desk.jobs.latest(BREED)
     value = before.value if before and before.key[2] == whom else None
-    return page_with(book, value if isinstance(value, Measured) else None, [], (job.told, job.seconds))
+    earlier = value if isinstance(value, Measured) and has_had(book, value.mark) else None
+    return page_with(book, earlier, [], (job.told, job.seconds))
+
+
+def has_had(book: Book, mark: Mark) -> bool:
+    """Is it that of a state of this book? One of another history may have the number of one of its changes."""
+    change = change_numbered(book.connection, mark[0]) if book.connection else None
+    return change is not None and change.mark == mark
 
 
 def page_with(
@@ -46,6 +56,6 @@ def page_with(
     assert book.change is not None
     part = Markup(measured.parts[the_words().language.name]) if measured else ""
     return render_template(
-        "breed.html", given=request.args, part=part, of=measured.change if measured else 0, now=book.change.number,
+        "breed.html", given=request.args, part=part, of=measured.mark[0] if measured else 0, now=book.change.number,
         faults=faults, under_way=under_way, owners=sorted(book.owners),
     )  # fmt: skip
