@@ -4,10 +4,11 @@ from __future__ import annotations
 import functools
 import json
 import re
-from collections.abc import Iterable, Sequence
+from collections.abc import Iterable, Iterator, Sequence
 
+from society.answers.facts import Facts
 from society.answers.list_columns import Column, LIST_COLUMNS, parent
-from society.answers.made_columns import as_it_is, each, made_table
+from society.answers.made_columns import Made, as_it_is, each, made_table
 from society.answers.table import Kind, Table
 from society.book.book import Book
 from society.book.inferred import BirthSource, ExitSource, SexSource
@@ -22,14 +23,25 @@ from society.pedigree_order import ancestors
 # words by what a row of the table has
 STANDING_WORDS = {standing.value: words for standing, words in STANDINGS.items()}
 SEX_WORDS = {source.value: source.words() for source in SexSource}
-# what a day comes from that somebody gave
-GIVEN = (BirthSource.GIVEN.value, ExitSource.GIVEN.value)
+# what a day or a sex comes from that somebody gave
+GIVEN = (BirthSource.GIVEN.value, ExitSource.GIVEN.value, SexSource.GIVEN.value)
 # a word for a sex that a taking knows
 CASTRATED = "male castrated"
 
 
-def sex_of(number: str, castrated: int) -> str:
-    return CASTRATED if castrated else number[6]
+def sexes_said(
+    _: Facts, numbers: Sequence[str], castrated: Sequence[int], sources: Sequence[str], sires: Sequence[str],
+    dams: Sequence[str],
+) -> Iterator[str]:  # fmt: skip
+    """What a sheet says of sexes: nothing of an inferred one that a taking infers again, of a parent or a female."""
+    parents = {*sires, *dams}
+    for number, is_castrated, source in zip(numbers, castrated, sources):
+        is_inferred = source not in GIVEN and (number in parents or number[6] == "F")
+        yield CASTRATED if is_castrated else "" if is_inferred else number[6]
+
+
+def inferred_sex(number: str, source: str) -> str:
+    return "" if source in GIVEN else number[6]
 
 
 def said_of_day(day: str | None, source: str, *said: str | None) -> str:
@@ -54,7 +66,7 @@ def exit_words(source: str, period: str | None, no_such_day: str | None, text: s
 COLUMNS = (
     as_it_is("id", "id", Kind.TEXT),
     as_it_is("name", "name", Kind.TEXT),
-    each("sex", Kind.PLAIN, ("number", "castrated"), sex_of),
+    Made("sex", Kind.PLAIN, ("number", "castrated", "sex_source", "sire", "dam"), sexes_said),
     each("birth", Kind.PLAIN, ("born", "birth_source", "birth_period"), said_of_day),
     parent("sire"),
     parent("dam"),
@@ -69,6 +81,7 @@ COLUMNS = (
     each("birth_from", Kind.PLAIN, ("birth_source", "birth_period", "birth_no_such_day"), birth_words),
     each("inferred_exit", Kind.PLAIN, ("departed", "exit_source"), inferred_day),
     each("exit_from", Kind.TEXT, ("exit_source", "exit_period", "exit_no_such_day", "exit_text"), exit_words),
+    each("inferred_sex", Kind.PLAIN, ("number", "sex_source"), inferred_sex),
     each("sex_from", Kind.PLAIN, ("sex_source",), SEX_WORDS.__getitem__),
 )
 # what stands for an unknown parent: R reads it as none
@@ -86,7 +99,7 @@ def conditions_of(book: Book, kept: Iterable[Known] | None) -> tuple[list[str], 
 
 
 def export_table(book: Book, kept: Iterable[Known] | None) -> Table:
-    """A sheet that can be taken again, with the inferred days and what each of them and each sex comes from behind it."""
+    """A sheet that can be taken again, with the inferred days and sexes, and what each comes from, behind it."""
     return made_table(book, COLUMNS, *conditions_of(book, kept))
 
 

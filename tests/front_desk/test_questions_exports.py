@@ -31,15 +31,29 @@ def test_export_of_what_is_inferred(desk: Desk) -> None:
         A,f,2001-02-01,,,sold
         B,wether,2003,,A,05.2010
         C,m,,,A,
-        D,f,2008-01-01,C,A,
+        D,,2008-01-01,C,E,
+        E,,,,,
+        F,,,G,,
         """)
     desk.good("export", "--out", "all.csv")
     rows = desk.table("all.csv")
-    assert [row["birth"] for row in rows] == ["2001-02-01", "2003", "", "2008-01-01"]
-    assert [row["inferred_birth"] for row in rows] == ["", "2003-07-02", desk.born()["C"], ""]
-    assert [row["inferred_exit"] for row in rows] == ["", "2010-05-31", "", ""]
-    assert desk.good("take", "all.csv").last.startswith("book: 4 animals, 0 new, 0 changed")
+    found = {row["id"]: row for row in rows}
+    birth, sex = ("birth", "inferred_birth"), ("sex", "inferred_sex")
+    assert {id: tuple(found[id][one] for one in birth) for id in "ABCD"} == {
+        "A": ("2001-02-01", ""), "B": ("2003", "2003-07-02"), "C": ("", desk.born()["C"]), "D": ("2008-01-01", ""),
+    }  # fmt: skip
+    assert {id: row["inferred_exit"] for id, row in found.items() if row["inferred_exit"]} == {"B": "2010-05-31"}
+    assert {id: tuple(row[one] for one in sex) for id, row in found.items()} == {
+        "A": ("F", ""), "B": ("male castrated", ""), "C": ("M", ""), "D": ("", "F"), "E": ("", "F"), "F": ("", "F"),
+        "G": ("", "M"),
+    }  # fmt: skip
+    assert desk.good("take", "all.csv").last.startswith("book: 7 animals, 0 new, 0 changed")
     desk.good("take", "all.csv", "--book", "new")
+    # so are sexes, but for that of a sire that is taken without its offspring
+    bases = [[row["sex_from"] for row in desk.listed("export", "--book", book)] for book in ("book", "new")]
+    assert bases[0] == bases[1] and {*bases[0]} > {"since it is a sire", "since it is a dam", "since nothing else is known"}
+    kept = desk.listed("export", "--keep", desk.write("kept.txt", "G\n"))
+    assert [(row["id"], row["sex"], row["inferred_sex"]) for row in kept] == [("G", "M", "M")]
     shown = [desk.good("list", "--columns", "id,sex,birth,exit", "--book", book).out for book in ("book", "new")]
     assert shown[0] == shown[1] and "B,M,2003-07-02 (inferred),2010-05-31 (inferred)" in shown[0]
     assert "day unknown: 'sold'" in shown[0] and "castrated" in desk.good("show", "B", "--book", "new").out
