@@ -7,7 +7,7 @@ from typing import Iterator
 from society.book.book import NO_OWNER
 from society.book.cells import in_a_line
 from society.book.changes import Change
-from society.book.history import told_by
+from society.book.history import taken_back_by, told_by
 from society.book.kinds import ChangeKind, Standing
 from society.book.owner_names import names_now
 from society.book.rows import COLUMNS, Row, known_of
@@ -49,6 +49,8 @@ def heading(change: Change) -> str:
 def details(connection: sqlite3.Connection, change: Change) -> Iterator[str]:
     """What is kept of a change, what it changed of each animal, and what it told."""
     yield heading(change)
+    if by := taken_back_by(connection, change.number):
+        yield f"it was taken back by change {by}"
     if change.source:
         yield f"file: {in_a_line(change.source.path)}, SHA-256 {change.source.digest}"
     if change.options:

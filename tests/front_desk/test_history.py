@@ -43,7 +43,10 @@ def test_single_commands(flock_desk: Desk) -> None:
     ]
     assert "calf: owner farm 1, before Neuer Hof" in flock_desk.good("history", "4").out
     # a number is given to no other animal, and one that was in the book once has its digits again
+    assert "taken back" not in flock_desk.good("history", "4").out
     flock_desk.good("undo", "--to", "1")
+    assert flock_desk.good("history", "4").out.splitlines()[1] == "it was taken back by change 6"
+    assert not [number for number in "16" if "taken back by" in flock_desk.good("history", number).out]
     flock_desk.good("exit", "a0", "--day", "2012-01-01")
     assert "(HOLGBRF000000000018)" in flock_desk.good("birth", "other", "--sex", "f", "--day", "2012-03-04").out
     again = ["birth", "calf", "--sex", "m", "--day", "2012-03-04"]
