@@ -13,7 +13,7 @@ class BackupFault(Sentence):
     DAMAGED = "{path} is damaged, or isn't a backup ({error}): nothing is changed"
     ACTS = "{path} has triggers or views, which no backup has: somebody else made them, and nothing is changed"
     NO_ROOM = (
-        "no copy can be made in {folder}, the folder for temporary files ({error}): make room there, or name another one by "
-        "TMPDIR"
+        "no copy can be made in {folder}, the folder for temporary files ({error}): make room there, or name another one "
+        "by TMPDIR"
     )
     NOT_RESTORED = "{path} can't be restored ({error}): nothing is changed"

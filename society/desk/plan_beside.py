@@ -56,8 +56,8 @@ class Bounds:
 
 @dataclass(frozen=True)
 class PlanMade:
-    """The matings, which dams have none and why, and the means, of the book with a mark; `text` is the file that the word
-    `plan` writes, with commas and with semicolons."""
+    """The matings, which dams have none and why, and the means, of the book with a mark; `text` is the file that the
+    word `plan` writes, with commas and with semicolons."""
 
     mark: Mark
     bounds: Bounds

@@ -1,5 +1,5 @@
-"""Days since which owners have animals, in cells in which they stood for another owner before: of the one of now they say
-nothing."""
+"""Days since which owners have animals, in cells in which they stood for another owner before: of the one of now they
+say nothing."""
 from __future__ import annotations
 
 import datetime

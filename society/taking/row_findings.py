@@ -182,4 +182,5 @@ class OwnerDayOfOther(Finding):
     what = What.INFERRED
 
     def words(self) -> str:
-        return f"'{self.text}' isn't taken as the first day of the owner '{self.owner}': it stood there for '{self.before}' too"
+        what = f"'{self.text}' isn't taken as the first day of the owner '{self.owner}'"
+        return f"{what}: it stood there for '{self.before}' too"

@@ -110,7 +110,7 @@ def test_same_number(site: Site, society_desk: Desk) -> None:
 
 
 def test_breed_of_another_history(site: Site, society_desk: Desk) -> None:
-    """While the breed is measured an earlier state of the book is shown, and none of a book that gave way to a backup."""
+    """While the breed is measured an earlier state of the book is shown, none of a book that gave way to a backup."""
     copy = site.get("/book.sqlite").get_data()
     society_desk.good("exit", DAM, "--day", "2024-05-01")
     site.page("/breed")
@@ -145,7 +145,8 @@ def test_no_room_for_a_copy(site: Site, society_desk: Desk, monkeypatch: pytest.
     for at, language in enumerate(LANGUAGES):
         site.get(f"/language/{language}")
         answer = site.get("/book.sqlite")
-        page, told = shown(answer.get_data(as_text=True)), SENTENCES[BackupFault.NO_ROOM][at] or BackupFault.NO_ROOM.value
+        page = shown(answer.get_data(as_text=True))
+        told = SENTENCES[BackupFault.NO_ROOM][at] or BackupFault.NO_ROOM.value
         said = told.format(folder=tempfile.tempdir, error="database or disk is full")
         assert answer.status_code == 400 and said.casefold() in page.casefold()
     assert not (society_desk.room / "book/last_backup.csv").exists()

@@ -112,19 +112,22 @@ def test_cells_of_days(today: datetime.date) -> None:
 
 
 @pytest.mark.parametrize("word", [
-    "since", "Since the", "from", "seit", "Seit dem", "seit:", "ab", "ab dem", "depuis", "depuis le", "dès le", "à partir de",
-    "à partir du",
+    "since", "Since the", "from", "seit", "Seit dem", "seit:", "ab", "ab dem", "depuis", "depuis le", "dès le",
+    "à partir de", "à partir du",
 ])  # fmt: skip
 def test_since_when(word: str) -> None:
     """A word for that is passed over where it is asked since when, and nowhere else."""
     days, day = DayCells(UnknownParents(), False), datetime.date(2003, 5, 13)
-    spans = {"2003": year_of(2003), "05.2003": month_of(2003, 5), "Mai 2003": month_of(2003, 5), "13.05.2003": Span(day, day),
-             "about 2003": year_of(2003, text="about 2003")}  # fmt: skip
+    spans = {
+        "2003": year_of(2003), "05.2003": month_of(2003, 5), "Mai 2003": month_of(2003, 5), "13.05.2003": Span(day, day),
+        "about 2003": year_of(2003, text="about 2003"),
+    }  # fmt: skip
     for text, span in spans.items():
         assert days.day(Field.SINCE, f"{word} {text}") == DayCell(span), text
         assert days.day(Field.SINCE, text) == DayCell(span)
     assert not days.day(Field.SINCE, f"{word} ?").says_something
-    for text, fault in ("2003 or 2004", DayFault.NO_DAY), ("before 2003", DayFault.NO_DAY), ("13.05.03", DayFault.TWO_DIGITS):
+    faults = {"2003 or 2004": DayFault.NO_DAY, "before 2003": DayFault.NO_DAY, "13.05.03": DayFault.TWO_DIGITS}
+    for text, fault in faults.items():
         assert days.day(Field.SINCE, f"{word} {text}").fault == DayLeftOut(Field.SINCE, fault, f"{word} {text}")
     assert days.day(Field.SINCE, word).is_unread
     assert days.day(Field.BIRTH, "since 2003").is_unread

@@ -25,10 +25,10 @@ SENTENCES: dict[Sentence, tuple[str, str, str]] = {
     ),
     BackupFault.NO_ROOM: (
         "",
-        "In {folder}, dem Ordner für Zwischendateien, lässt sich keine Kopie machen ({error}): machen Sie dort Platz, oder nennen "
-        "Sie mit TMPDIR einen anderen.",
-        "Aucune copie ne peut être faite dans {folder}, le dossier des fichiers temporaires ({error}) : faites-y de la place, "
-        "ou nommez-en un autre par TMPDIR.",
+        "In {folder}, dem Ordner für Zwischendateien, lässt sich keine Kopie machen ({error}): machen Sie dort Platz, "
+        "oder nennen Sie mit TMPDIR einen anderen.",
+        "Aucune copie ne peut être faite dans {folder}, le dossier des fichiers temporaires ({error}) : faites-y de la "
+        "place, ou nommez-en un autre par TMPDIR.",
     ),
     BackupFault.NOT_RESTORED: (
         "{path} can't be restored: nothing is changed", "{path} lässt sich nicht zurückspielen: nichts ist geändert.",

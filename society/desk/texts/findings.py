@@ -54,15 +54,15 @@ FINDINGS: dict[str, tuple[str, str]] = {
     "id of another": (
         "die Zeile ist weggelassen: das Herdbuch hat diese Kennung für ein anderes Tier, geboren am {born_there}; hier "
         "geboren am {born_here}. Sind es zwei Tiere, geben Sie diesem eine eigene Kennung",
-        "la ligne est omise : le livre a ce numéro pour un autre animal, né le {born_there} ; ici né le {born_here}. Si ce sont "
-        "deux animaux, donnez à celui-ci un numéro à lui",
+        "la ligne est omise : le livre a ce numéro pour un autre animal, né le {born_there} ; ici né le {born_here}. Si ce "
+        "sont deux animaux, donnez à celui-ci un numéro à lui",
     ),
     "line after offspring": (
         "die Zeile ist weggelassen: geboren am {born_here}, wäre es jünger als sein Nachkomme {offspring}, geboren am "
-        "{offspring_born}; das Herdbuch hat den {born_there}. Berichtigen Sie den Tag, oder geben Sie einem anderen Tier eine "
-        "eigene Kennung",
-        "la ligne est omise : né le {born_here}, il serait plus jeune que son descendant {offspring}, né le {offspring_born} ; "
-        "le livre a le {born_there}. Corrigez la date, ou donnez à un autre animal un numéro à lui",
+        "{offspring_born}; das Herdbuch hat den {born_there}. Berichtigen Sie den Tag, oder geben Sie einem anderen "
+        "Tier eine eigene Kennung",
+        "la ligne est omise : né le {born_here}, il serait plus jeune que son descendant {offspring}, né le "
+        "{offspring_born} ; le livre a le {born_there}. Corrigez la date, ou donnez à un autre animal un numéro à lui",
     ),
     "command left out": (
         "{command} am {day} ist weggelassen: {refusal}[ ({offspring})]", "{command} le {day} : omis, {refusal}[ ({offspring})]",

@@ -108,7 +108,8 @@ TEXTS = {
         "La dernière copie a été enregistrée le {}, après la modification {}.",
     ),
     "no backup known": (
-        "No copy is known that has the book as it is now.", "Es ist keine Kopie bekannt, die das Herdbuch hat, wie es jetzt ist.",
+        "No copy is known that has the book as it is now.",
+        "Es ist keine Kopie bekannt, die das Herdbuch hat, wie es jetzt ist.",
         "On ne connaît aucune copie qui ait le livre tel qu'il est maintenant.",
     ),
     "restore": ("Restore a backup", "Kopie zurückspielen", "Restaurer une copie"),
