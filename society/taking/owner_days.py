@@ -123,9 +123,9 @@ class OwnerDays:
         """The days of the sheet since which the owner that the book has has it, where the book's isn't among them. Of an
         owner from the birth on only later ones are said."""
         since = animal.since
-        if not animal.line or since is None or not animal.owner or self.is_later(animal):
+        if since is None or not animal.owner or self.is_later(animal):
             return None
-        if self.herd_of(animal.owner) != record.herd or (not record.giver and since.first <= animal.born):
+        if not record.giver and since.first <= animal.born:
             return None
         if since.is_day:
             animal.owner_day = OwnerDay.GIVEN
@@ -159,7 +159,7 @@ class OwnerDays:
         days = [datetime.date.fromisoformat(command.day) for command in transfers]
         if days and not animal.owner_day.is_inferred:
             # what was before the last owner's day gives way to it
-            high = min(high, max(days[-1], low))
+            high = min(high, days[-1])
         found = []
         for place, (command, day) in enumerate(zip(transfers, days)):
             moved = min(max(day, low), high) if low <= high else low
