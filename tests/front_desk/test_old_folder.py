@@ -15,6 +15,8 @@ from front_desk.desk import Desk, NewDesk
 from front_desk.old_folder import FILES, LIST, SHEET, write_old
 from front_desk.whole import changes_of, ended, start
 from society.book import backup, old_folder
+from society.book.book import Book
+from society.book.book_read import reading
 from society.book.inferred import OwnerDay
 from society.book.old_names import is_old
 from society.herdbook import Herdbook
@@ -76,6 +78,38 @@ def test_commands_by_hand_after_it(old_desk: Desk) -> None:
     assert old_desk.good("list", "--columns", "id,sire,dam,owner,exit").out == filed
     assert " 1 changed" in old_desk.take(SHEET.replace("e;Eve;F;2009-01-01;x;", "e;Eve;F;2009-01-01;b;")).last
     assert old_desk.parents()["e"] == ("b", "c")
+
+
+def test_last_cells_of_its_sheet(old_desk: Desk) -> None:
+    """Those of the animals that had a row, as far as the book shows them; nothing of it is what was inferred."""
+    born = "birth,SKUGBRF000000000007,2009-01-01,SKUGBRM000000000006,SKUGBRF000000000004,,99999999,"
+    old_desk.write("book/commands.csv", FILES["commands.csv"].replace(born, f"{born}1"))
+    old_desk.good("list")
+    with reading(old_desk.room / "book") as connection:
+        cells = Book(old_desk.room / "book", connection).cells
+    assert cells == {
+        ("a",): ("a", "Anna", "F", "2001-01-01", "", "", "Nord", None, "", ""),
+        ("b",): ("b", "Bob", "M", "2001-02-01", "", "", "Süd", None, "", ""),
+        ("c",): ("c", "Cleo", "F", "", "Bob", "a", "Nord", None, "verkauft", ""),
+        ("d",): ("d", "Dan", "M", "", "b", "c", "Süd", None, "2011-05", ""),
+        ("e",): ("e", "Eve", "F", "2009-01-01", "x", "c", "", None, "", "1"),
+    }
+
+
+def test_begun_where_it_is_whole(old_desk: Desk, monkeypatch: pytest.MonkeyPatch) -> None:
+    """Else there is no book and the files stay; the next call takes them over, though they stand in `old` already."""
+    folder = old_desk.room / "book"
+
+    def fault(book: Book, program: Herdbook, path: pathlib.Path) -> None:
+        assert book.records.keys() == {line.split(",")[1] for line in FILES["commands.csv"].splitlines()[1:]}
+        raise Mistake(f"{path} is faulty")
+
+    monkeypatch.setenv("HERDBOOK", old_desk.program)
+    with monkeypatch.context() as faulty, pytest.raises(Mistake, match="book/ids.csv is faulty"):
+        faulty.setattr(old_folder, "verify", fault)
+        old_folder.take_over(folder, Herdbook())
+    assert {name: old_desk.text(f"book/{name}") for name in FILES} == FILES and is_old(folder)
+    assert old_desk.good("list").out == LIST
 
 
 def test_commands_of_others(old_desk: Desk) -> None:
