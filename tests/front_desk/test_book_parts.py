@@ -23,7 +23,7 @@ from society.book.inferred import (
 from society.book.journal import NO_JOURNAL, Step, alike
 from society.book.kinds import ChangeKind, Field, Remembered, Standing
 from society.book.known import Known
-from society.book.owner_names import renamings
+from society.book.owner_names import as_written, renamings
 from society.book.rows import known_of, record_of, row_of
 from society.book.schema import MIGRATIONS
 from society.book.state import (
@@ -146,6 +146,9 @@ def test_owners_as_they_are_written_now(connection: sqlite3.Connection, tmp_path
     for names in itertools.permutations([*came, "Meier (herd 1)"], 3):
         now = dict(zip(came.values(), names))
         assert book(*renamings(came, now)).owners == dict(zip(names, now))
+    # nobody else is written otherwise, nor by what is remembered of other things, or of owners who aren't there
+    assert renamings(came, {1: "Meier", 2: "Lang"}) == [("Huber", "Lang")]
+    assert as_written(came, [Meaning(Remembered.UNKNOWN, "Meier"), Meaning(Remembered.OWNER, "Lang", "Huber")]) == came
     one = book(("Meier", "Huber"))
     assert one.owners == {"Huber": 1, "Huber (herd 2)": 2, "Kunz": 3} and one.owner_of(2) == "Huber (herd 2)"
     one.owners["Lang"] = 4
