@@ -10,7 +10,9 @@ from society.book.kinds import Field
 from society.reading.animal_cells import AnimalCells
 from society.reading.cell_findings import DayLeftOut
 from society.reading.day_cells import DayCell, DayCells
-from society.reading.days import ANY_DAY, DayFault, Span, Unreadable, month_of, read_span, span_within, year_of
+from society.reading.days import (
+    ANY_DAY, DayFault, Span, Unreadable, month_of, read_span, span_of_period, span_within, year_of,
+)  # fmt: skip
 from society.reading.sexes import Sexes
 from society.reading.unknown import UnknownParents
 from society.reading.unread import Unread
@@ -77,9 +79,21 @@ def test_what_a_text_leaves_open() -> None:
     assert (fault("05/13/2010"), fault("13/05/2010", month_first=True)) == (DayFault.WRONG_ORDER,) * 2
 
 
+def test_days_of_a_period() -> None:
+    """A month or a year that was read before has the days that it had, from its first to its last, and no others."""
+    for span in month_of(2004, 2), month_of(2010, 2, "31.02.2010"), year_of(2010), year_of(2010, "05.13.2010"):
+        assert span_of_period(span.period()) == span
+        around = [day + datetime.timedelta(step) for day in (span.first, span.last) for step in (-1, 0, 1)]
+        assert [span.has(day) for day in around] == [False, True, True, True, True, False]
+
+
 def test_days_within_texts() -> None:
-    """Of several days none is taken, nor the year behind them; one in the other order is told."""
+    """Of several days none is taken, nor the year behind one; one in the other order is told."""
     day = datetime.date(2010, 5, 13)
+    assert span_within("sold 13.05.2010, seen 2012") == span_within("sold 13.05.2010 (2010)") == Span(day, day)
+    assert [span_within(f"sold 12.{year}") for year in (1899, 1900, 2199, 2200)] == [
+        None, month_of(1900, 12), month_of(2199, 12), None
+    ]  # fmt: skip
     assert span_within("sold 13/05/2010.") == span_within("sold 05/13/2010", True) == Span(day, day)
     assert span_within("sold 3.4.2020 or 5.6.2021, in 2022") is span_within("sold for 2010 EUR") is None
     assert span_within("sold (2010).") == year_of(2010)
