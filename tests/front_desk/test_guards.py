@@ -4,15 +4,16 @@ from __future__ import annotations
 import datetime
 import shlex
 from collections.abc import Iterable
+from dataclasses import replace
 from types import SimpleNamespace
-from typing import cast
+from typing import Any, cast
 
 import pytest
 
 from front_desk.desk import CALLED, Desk
 from society.book.book import Book
 from society.book.commands import birth, record_after
-from society.book.inferred import BirthBasis, BirthSource
+from society.book.inferred import BirthBasis, BirthSource, SexSource
 from society.book.kinds import Standing
 from society.book.known import Known
 from society.book.role import Role
@@ -20,7 +21,7 @@ from society.reading.animal import Animal
 from society.reading.columns import Columns
 from society.reading.days import Precision, Span
 from society.taking.guards import Guards
-from society.taking.obstacles import LooksLike, ManyDropped, ManyGone, ManyOthers, ParentsLack
+from society.taking.obstacles import Changed, Guard, LooksLike, ManyDropped, ManyGone, ManyOthers, ParentsLack
 
 TITLES = "Ohrmarke;Name;Geburtsdatum;Vater;Mutter"
 
@@ -298,6 +299,62 @@ def test_so_many_are_few() -> None:
     for animal in rows:
         animal.birth = Span(day(0), day(99), precision=Precision.YEAR)
     assert guards(60, rows).other_animals() is None
+
+
+def told(found: Guard | None) -> tuple[Changed, int, LooksLike] | None:
+    assert found is None or isinstance(found, ManyOthers)
+    return (found.what_changed, found.changed, found.like) if found else None
+
+
+def renamed(rows: list[Animal], *names: str) -> list[Animal]:
+    """The first ones have these names."""
+    return [replace(one, name=name) for one, name in zip(rows, names)] + rows[len(names) :]
+
+
+def test_names_of_other_animals() -> None:
+    """That of another one is seen, in capitals too. A new one is none, nor is an empty one, nor one that many have."""
+    rows, apart = [*map(row, range(60))], LooksLike.SORTED_APART
+    next_ones = [f"NAME {at}" for at in range(1, 7)]
+    assert told(guards(60, renamed(rows, *next_ones)).other_animals()) == (Changed.NAMES, 6, apart)
+    assert told(guards(60, renamed(rows, *next_ones[:5])).other_animals()) is None
+    assert told(guards(60, renamed(rows, *(f"new {at}" for at in range(60)))).other_animals()) is None
+    without = guards(60, renamed(rows, *[""] * 60))
+    without.book.known = {**without.book.known, "a7": without.book.known["a7"]._replace(name="")}
+    assert told(without.other_animals()) is None
+    several = guards(60, renamed(rows, *["BELLA"] * 60))
+    several.book.known = {id: one._replace(name="Bella") for id, one in several.book.known.items()}
+    assert told(several.other_animals()) is None
+    # with other days: another flock, or one column alone
+    later = [row(at, days=9) for at in range(60)]
+    for names, changed in ((), Changed.BIRTH_DAYS), (("",) * 60, Changed.BIRTH_DAYS), (("x",) * 5, Changed.BIRTH_DAYS):
+        assert told(guards(60, renamed(later, *names)).other_animals()) == (changed, 60, apart)
+    flock = Changed.NAMES_AND_BIRTH_DAYS, 60, LooksLike.ANOTHER_FLOCK
+    assert told(guards(60, renamed(later, *["x"] * 6)).other_animals()) == flock
+
+
+def test_sexes_and_parents_of_other_animals() -> None:
+    """What a row doesn't say, or what was inferred, is no other sex; a parent that is added, one that has no row or had
+    none, and one whose cell can't be read or has no column are no others. New animals don't count."""
+    apart, new = LooksLike.SORTED_APART, [row(at, "b") for at in range(300)]
+    males = [replace(row(at), sex="M" * (at < 6)) for at in range(60)]
+    assert told(guards(60, [*males, *new]).other_sexes()) == (Changed.SEXES, 6, apart)
+    assert [told(guard) for guard in guards(60, males).of_both()] == [(Changed.SEXES, 6, apart)]
+    assert told(guards(60, males[1:]).other_sexes()) is None
+    assert told(guards(60, males, Known("", "", sex=SexSource.DAM)).other_sexes()) is None
+
+    def parents(sire: str, before: str = number(59), **more: Any) -> tuple[Changed, int, LooksLike] | None:
+        """Of animals that all had `a59` as their sire."""
+        one = guards(60, [replace(row(at, sire=sire), unread=more.get("unread", [])) for at in range(60)])
+        one.book.records = {at: record._replace(sire=before) for at, record in one.book.records.items()}
+        sire_before = one.book.known["a59"]._replace(standing=more.get("standing", Standing.ROW))
+        one.book.known = {**one.book.known, "a59": sire_before}
+        one.given = more.get("given", one.given)
+        return told(one.other_parents())
+
+    assert parents("a58") == parents("") == parents("", standing=Standing.GONE) == (Changed.PARENTS, 60, apart)
+    assert parents("a59") is parents("x") is parents("a58", before="") is None
+    assert parents("", unread=[Role.SIRE]) is parents("", given=[Role.DAM]) is None
+    assert parents("", standing=Standing.PARENT) is None
 
 
 def test_what_a_sheet_looks_like() -> None:
