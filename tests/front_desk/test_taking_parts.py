@@ -119,6 +119,9 @@ def test_cells_after_a_pedigree() -> None:
         one.book.cells = {("a",): ("a", *(before | {Field.DAM: dam}).values())}
         one.book.renamed = []
         assert cell_rows(one) == {("a",): ("a", *(before | {Field.DAM: after}).values())}
+    # a sheet's own take their place as they are written
+    one.is_pedigree = False
+    assert cell_rows(one) == {("a",): ("a", *(before | {Field.SIRE: "", Field.DAM: "e"}).values())}
 
 
 def test_what_was_filed_by_hand() -> None:
