@@ -4,7 +4,7 @@ from __future__ import annotations
 import random
 
 from front_desk.desk import Desk
-from society.reading.unknown import KNOWN_UNKNOWN, SIGNS, UnknownParents, compared
+from society.reading.unknown import KNOWN_UNKNOWN, SIGNS, UnknownParents, compared, names_no_owner
 from society.reading.words import is_error_value
 
 TITLES = "id;sex;birth;sire;dam\n"
@@ -62,6 +62,11 @@ def test_words_of_the_book(desk: Desk) -> None:
     # what is said now holds over the settings
     done = desk.good("take", "--pedigree", pedigree, "--known", "Nemo")
     assert " 1 added, " in done.last and desk.parents()["a"] == ("Nemo", "")
+
+
+def test_words_for_no_owner() -> None:
+    """The same, also of two signs; two letters may be initials."""
+    assert [word for word in [*UNKNOWN, "", "Meier", "NB"] if not names_no_owner(word)] == ["NN", "Meier", "NB"]
 
 
 def test_error_values(desk: Desk) -> None:
