@@ -8,7 +8,10 @@ import scipy.io
 
 import reference
 from front_desk.desk import Desk
-
+from society.book.inferred import SexSource
+from society.reading.animal import Animal
+from society.taking.invented_sexes import invent_sexes
+from society.taking.report import Report
 
 MRODE = {
     "blanks": "1 0 0\n2 0 0\n3 1 2\n4 1 0\n5 4 3\n6 5 2\n",
@@ -137,6 +140,32 @@ def test_animals_of_the_book_that_are_others(desk: Desk) -> None:
 
 
 BOTH = "a 0 0\nb 0 0\nc a b\nd c a\ne d c\nf 0 d\n"
+
+
+def with_sexes(known: dict[str, str], *lines: str) -> tuple[str, list[tuple[str, str]]]:
+    """The sexes of all animals of such a pedigree, where the book has some of them, and the parents in each line."""
+    triples = [line.split() for line in lines]
+    ids = sorted({id for triple in triples for id in triple if id != "0"})
+    animals = {id: Animal(id, sex=known.get(id, "")) for id in ids}
+    for at, (id, sire, dam) in enumerate(triples, 1):
+        animals[id].line, animals[id].sire, animals[id].dam = at, sire.strip("0"), dam.strip("0")
+    invent_sexes(animals, Report())
+    assert {id for id, one in animals.items() if one.sex_source is SexSource.INVENTED} == animals.keys() - known.keys()
+    return "".join(animals[id].sex for id in ids), [(animals[id].sire, animals[id].dam) for id, _, _ in triples]
+
+
+def test_sexes_that_the_book_has() -> None:
+    """They stay, and mates are of the other one, so that parents are swapped where that makes no sire a female; but one
+    that no line fits, and that is left to the program, tells nothing of its mates."""
+    lines = "a s d", "b t d", "c t e"
+    parents = [("s", "d"), ("t", "d"), ("t", "e")]
+    assert with_sexes({}, *lines) == with_sexes({"s": "M", "e": "F"}, *lines) == ("FFFFFMM", parents)
+    assert with_sexes({"s": "F"}, *lines) == ("FFFFFFM", parents)
+    assert with_sexes({"d": "M"}, *lines) == ("FFFMFMM", parents)
+    # one that is a sire and a dam, of which one fits
+    both = "a s d", "b d t"
+    assert with_sexes({"d": "F"}, *both) == ("FFFMM", [("s", "d"), ("d", "t")])
+    assert with_sexes({}, *both) == ("FFMFF", [("d", "s"), ("d", "t")])
 
 
 def test_sires_that_are_dams(desk: Desk) -> None:
