@@ -84,6 +84,8 @@ def test_last_cells_of_its_sheet(old_desk: Desk) -> None:
     """Those of the animals that had a row, as far as the book shows them; nothing of it is what was inferred."""
     born = "birth,SKUGBRF000000000007,2009-01-01,SKUGBRM000000000006,SKUGBRF000000000004,,99999999,"
     old_desk.write("book/commands.csv", FILES["commands.csv"].replace(born, f"{born}1"))
+    of_dan = "the month 2011-05,"
+    old_desk.write("book/ids.csv", FILES["ids.csv"].replace(of_dan, f"{of_dan}since it is a sire"))
     old_desk.good("list")
     with reading(old_desk.room / "book") as connection:
         cells = Book(old_desk.room / "book", connection).cells
@@ -91,7 +93,7 @@ def test_last_cells_of_its_sheet(old_desk: Desk) -> None:
         ("a",): ("a", "Anna", "F", "2001-01-01", "", "", "Nord", None, "", ""),
         ("b",): ("b", "Bob", "M", "2001-02-01", "", "", "Süd", None, "", ""),
         ("c",): ("c", "Cleo", "F", "", "Bob", "a", "Nord", None, "verkauft", ""),
-        ("d",): ("d", "Dan", "M", "", "b", "c", "Süd", None, "2011-05", ""),
+        ("d",): ("d", "Dan", "", "", "b", "c", "Süd", None, "2011-05", ""),
         ("e",): ("e", "Eve", "F", "2009-01-01", "x", "c", "", None, "", "1"),
     }
 
