@@ -9,7 +9,7 @@ import pytest
 
 from front_desk.desk import Desk
 from society.reading.sheet import cleaned_records, is_clean, read_records
-from society.reading.words import clean
+from society.reading.words import as_known, clean
 
 PIECES = ("a", "7", "Ö", "ō", "-", ".", "\t", ",", ";", "\n", "\r\n", "\r")
 # what a cell is cleaned of, each beside a plain text that isn't
@@ -56,6 +56,11 @@ def test_options_are_cleaned(desk: Desk) -> None:
     words = ("--columns", "sire=Va\u0308", "--unknown", "Me\u0301lo", "--sexes", "Ku\u0308=f")
     done = desk.take("id,sex,birth,Vä,dam\na,Kü,2001-01-01,Mélo,\n", *words)
     assert " 1 animal, 1 new" in done.last and " 0 added" in done.last
+
+
+def test_words_that_the_book_has_stay() -> None:
+    """An id of an earlier version may have a letter in two parts."""
+    assert as_known(" o\u0308  1 ", {"o\u0308 1"}) == "o\u0308 1" and as_known(" o\u0308  1 ", {}) == "ö 1"
 
 
 def test_most_sheets_need_no_cleaning() -> None:
