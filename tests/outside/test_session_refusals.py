@@ -108,7 +108,12 @@ class TestSessionRefusals(Refusals):
         """Once a write has failed a session ends at the next request of an input that doesn't end, whoever met the failed
         write and whomever the request is for."""
         desk, inspector = b"a,desk,1,exit,%s,2000-01-01,,,,,\n" % SIRE.encode(), b"q,inspector,2,seen\n"
-        for first, next in (desk, inspector), (inspector, desk), (desk, desk), (inspector, inspector), (desk, b"\"\n\"\n"):
+        # of an animal that none is, and nothing that an inspector answers: their faults are written
+        no_exit, nothing = b"a,desk,1,exit,x,2000-01-01,,,,,\n", b"q,inspector,2,nothing\n"
+        for first, next in (
+            (desk, inspector), (inspector, desk), (desk, desk), (inspector, inspector), (desk, b"\"\n\"\n"),
+            (no_exit, inspector), (nothing, desk),
+        ):  # fmt: skip
             # the first answer may not have been written yet
             self.count(any(ended_at_next(self.program, first, next) for _ in range(5)), f"goes on: {first!r}, {next!r}")
 
