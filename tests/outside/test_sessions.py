@@ -110,7 +110,8 @@ class TestSessions(Checks):
         for at in range(5):
             client.given.write(f"q{at},inspector,1,inbreeding\nb{at},{asked}\n".encode())
         client.end()
-        places = {answer.tag: place for place, answer in enumerate(client.answers) if not answer.lines[-1].startswith("fault")}
+        told = [answer for answer in client.answers if not answer.lines[-1].startswith("fault")]
+        places = {answer.tag: place for place, answer in enumerate(told)}
         return any(places[f"b{at}"] < places[f"q{at}"] for at in range(5))
 
     def test_limits(self) -> None:
