@@ -99,13 +99,17 @@ class Form:
         return with_parents(book, self.animal(book), sire, dam)
 
     def roles_said(self, book: Book) -> tuple[str, ...]:
-        """Which parents somebody wrote otherwise than the form showed them; both where none was, or none was shown."""
+        """Which parents somebody wrote otherwise than the form showed them; both where none was, or where it showed none
+        and nothing is left empty that the book has."""
         known, shown = self.animal(book), shown_in(self.given)
+        now = parents_of(book, known)
         if shown is None:
+            if any(now[role] and not self.text(role) for role in ROLES):
+                raise Mistake(DeskFault.NONE_SHOWN.said(id=known.id))
             return ROLES
         if self.given[OF_ANIMAL] != known.id:
             raise Mistake(DeskFault.OTHER_SHOWN.said(shown=self.given[OF_ANIMAL], id=known.id))
-        if shown != parents_of(book, known):
+        if shown != now:
             raise Mistake(DeskFault.PARENTS_CHANGED.said(id=known.id))
         return tuple(role for role in ROLES if self.text(role) != " ".join(shown[role].split())) or ROLES
 

@@ -13,6 +13,7 @@ class DeskFault(Sentence):
     NO_ANIMAL = "the animal is missing: write its id, name or number"
     NO_SEX = "the sex is missing: choose male or female"
     PARENTS_CHANGED = "somebody gave {id} other parents meanwhile: look at them, and file it again"
+    NONE_SHOWN = "these are the parents that {id} has: correct what is wrong, and file it"
     OTHER_SHOWN = "the form showed the parents of {shown}: look at those of {id}, and file it again"
     NONE_OF_THESE = "the book has none of these animals: ask for others"
     CLOSING = "the desk is being closed: nothing is filed. Try again when it is open"

@@ -26,6 +26,6 @@ def shown_in(given: Mapping[str, str]) -> dict[str, str] | None:
 
 def with_those_of_now(book: Book, given: Mapping[str, str], known: Known) -> dict[str, str]:
     """The fields of a form that shows the parents as the book has them now, but for what somebody wrote."""
-    now, before = parents_of(book, known), shown_in(given) or {}
+    now, before = parents_of(book, known), shown_in(given) or dict.fromkeys(ROLES, "")
     left = {role: id for role, id in now.items() if role not in given or given[role] == before.get(role)}
     return {**given, **left, OF_ANIMAL: known.id, **{SHOWN.format(role): id for role, id in now.items()}}

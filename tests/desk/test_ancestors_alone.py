@@ -44,7 +44,7 @@ def test_as_of_the_whole_book(site: Site) -> None:
 def test_as_it_is_now(site: Site) -> None:
     """What an ancestor was before a correction or its exit counts no more, and an embryo may be born behind its dam's."""
     for kind, fields in (
-        ("parents", {"id": DAM, "sire": SIRE, "dam": ""}),
+        ("parents", {"id": DAM, "sire": SIRE, "dam": "0"}),
         ("exit", {"id": DAM, "day": "2024-05-01"}),
         ("birth", {"id": "NEW-1", "sex": "F", "day": "2024-06-01", "sire": SIRE, "dam": DAM, "embryo": "1"}),
     ):

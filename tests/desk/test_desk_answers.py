@@ -54,7 +54,7 @@ def test_few_coefficients(site: Site, society_desk: Desk, asked: list[list[str]]
     """A correction of parents asks for the coefficients of the animal and its descendants, and the others stay."""
     site.post("/file/exit", id=DAM, day="2024-05-01")
     asked.clear()
-    site.post("/file/parents", id="GK-14/388b", sire="", dam="")
+    site.post("/file/parents", id="GK-14/388b", sire="0", dam="0")
     assert TEXTS["accepted"][0] in shown(site.page("/answer/3"))
     assert asked and {one[0] for one in asked} == {"coefficient"}
     society_desk.good("verify")
@@ -65,7 +65,7 @@ def test_few_coefficients(site: Site, society_desk: Desk, asked: list[list[str]]
 def test_all_coefficients(site: Site, society_desk: Desk, monkeypatch: pytest.MonkeyPatch) -> None:
     """Of many descendants all coefficients are asked for at once."""
     monkeypatch.setattr("society.book.coefficients.MOST_ONE_BY_ONE", 0)
-    site.post("/file/parents", id="GK-14/388b", sire="", dam="")
+    site.post("/file/parents", id="GK-14/388b", sire="0", dam="0")
     assert TEXTS["accepted"][0] in shown(site.page("/answer/2"))
     society_desk.good("verify")
 

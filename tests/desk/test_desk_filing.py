@@ -30,7 +30,7 @@ COMMANDS = [
     ("birth", BIRTH, BIRTH_WORDS),
     ("exit", {"id": DAM, "day": "2024-05-01"}, ["exit", DAM, "--day", "2024-05-01"]),
     ("transfer", {"id": DAM, "day": "2024-05-01", "to": "New  owner"}, ["transfer", DAM, "--day", "2024-05-01", "--to", "New owner"]),
-    ("parents", {"id": DAM, "sire": SIRE, "dam": ""}, ["parents", DAM, "--sire", SIRE, "--dam", "0"]),
+    ("parents", {"id": DAM, "sire": SIRE, "dam": "0"}, ["parents", DAM, "--sire", SIRE, "--dam", "0"]),
     ("parents", {"id": DAM, "sire": " k. A. ", "dam": "NN"}, ["parents", DAM, "--sire", "0", "--dam", "0"]),
     ("birth", BIRTH | {"dam": "unknown", "embryo": "1"}, [*["0" if word == DAM else word for word in BIRTH_WORDS], "--embryo"]),
     # refused
@@ -145,7 +145,7 @@ def test_young_dam(site: Site, society_desk: Desk, language: str, told: str) -> 
     assert TEXTS["accepted"][("en", "de", "fr").index(language)] in shown(young)
     assert told.casefold() in shown(young).casefold() and told.casefold() in shown(site.page("/history/2")).casefold()
     # her parents are filed anew: told too
-    again = site.post("/file/parents", id="NEW-1", sire="", dam=DAM).headers["Location"]
+    again = site.post("/file/parents", id="NEW-1", sire="0", dam=DAM).headers["Location"]
     assert told.casefold() in shown(site.page(again)).casefold()
     # old enough
     later = site.page(site.post("/file/birth", **BIRTH | {"id": "NEW-2", "day": "2018-05-20"}).headers["Location"])

@@ -8,15 +8,15 @@ import re
 
 import pytest
 
+from desk.sent_forms import corrected, written_in
 from desk.site import Site, form_in, shown
 from desk.test_desk_filing import BIRTH, DAM, SIRE
 from front_desk.desk import Desk
 from front_desk.old_folder import write_old
 from society.book.changes import Change, Option
 from society.book.history import EPOCH, FILED_BY_HAND
-from society.book.kinds import ChangeKind, Field
+from society.book.kinds import ChangeKind
 from society.breed.meanings import MEANINGS
-from society.desk.sentences import DeskFault
 from society.desk.shown_options import given_of
 from society.desk.texts import SENTENCES, TEXTS
 from society.desk.words import Words
@@ -24,16 +24,6 @@ from society.pages.languages import LANGUAGES
 from society.taking.wishes import Wishes
 
 LEFT = {"id": DAM, "day": "2024-05-01"}
-
-
-def written_in(page: str) -> dict[str, str]:
-    """What the fields of a page's form have."""
-    found = {}
-    for field in re.findall(r"<input [^>]*>", page):
-        name, value = (re.search(rf'{what}="([^"]*)"', field) for what in ("name", "value"))
-        if name and value and ('type="radio"' not in field and 'type="checkbox"' not in field or " checked" in field):
-            found[name[1]] = html.unescape(value[1])
-    return found
 
 
 REFUSED = [
@@ -105,62 +95,6 @@ def test_history_has_pages(site: Site, monkeypatch: pytest.MonkeyPatch) -> None:
     assert "NEW-0" in second and "society.csv" in second
 
 
-def test_correction_of_nothing(site: Site) -> None:
-    """A correction that leaves the parents as they are has its animal in the history too."""
-    page = site.page(f"/file/parents?id={DAM}")
-    given = written_in(page)
-    site.post("/file/parents", id=DAM, sire=given["sire"], dam=given["dam"])
-    assert f"filed parents : {DAM}" in shown(site.page("/history"))
-
-
-def test_corrected_by_two(site: Site) -> None:
-    """A parent that a form showed and nobody wrote otherwise isn't said; where somebody else gave others meanwhile that
-    is told, and the form has those of now but for what was written."""
-    first, second, third = (written_in(site.page(f"/file/parents?id={DAM}")) for _ in range(3))
-    page = site.page(site.post("/file/parents", **corrected(first, dam="")).headers["Location"])
-    assert TEXTS["accepted"][0] in shown(page)
-    with site.desk.opened() as book:
-        assert book and book.change and book.change.options == (Option("--dam", "0"),)
-        assert book.known[DAM].by_hand == {Field.DAM}
-    answer = site.post("/file/parents", **corrected(second, sire=SIRE))
-    page = answer.get_data(as_text=True)
-    assert answer.status_code == 400 and f"somebody gave {DAM} other parents meanwhile" in shown(page)
-    assert TEXTS["in book now"][0].format(second["sire"]) in shown(page)
-    second = written_in(page)
-    assert (second["sire"], second["dam"]) == (SIRE, "")
-    page = site.page(site.post("/file/parents", **corrected(second, sire="GK-16/433c")).headers["Location"])
-    # refused: the other parent is there again too
-    third = written_in(page)
-    assert TEXTS["refused"][0] in shown(page) and (third["sire"], third["dam"]) == ("GK-16/433c", "")
-    assert site.post("/file/parents", **corrected(third, sire=SIRE)).headers["Location"] == "/answer/4"
-    with site.desk.opened() as book:
-        assert book and book.records[book.known[DAM].number].dam == ""
-
-
-@pytest.mark.parametrize("language", LANGUAGES)
-def test_sent_for_another(site: Site, language: str) -> None:
-    """A form that showed one animal's parents files none of them for another: it comes back with that one's of now, but
-    for what was written."""
-    site.get(f"/language/{language}")
-    other, at = "GK-14/388b", [*LANGUAGES].index(language)
-    given, wanted = (written_in(site.page(f"/file/parents?id={id}")) for id in (DAM, other))
-    assert (given["sire"], given["dam"]) != (wanted["sire"], wanted["dam"])
-    answer = site.post("/file/parents", **corrected(given, id=f" {other}", sire=SIRE))
-    page, told = answer.get_data(as_text=True), SENTENCES[DeskFault.OTHER_SHOWN][at] or DeskFault.OTHER_SHOWN.value
-    assert answer.status_code == 400 and told.format(shown=DAM, id=other).casefold() in shown(page).casefold()
-    again = written_in(page)
-    assert (again["sire"], again["dam"], again["shown-id"]) == (SIRE, wanted["dam"], other)
-    assert TEXTS["in book now"][at].format(wanted["sire"]) in shown(page)
-    with site.desk.opened() as book:
-        assert book and book.change and book.change.number == 1
-    assert site.post("/file/parents", **corrected(again)).headers["Location"] == "/answer/2"
-    with site.desk.opened() as book:
-        assert book and book.change and book.change.options == (Option("--sire", SIRE),)
-    # nobody is meant: the parents are those of the animal that was shown
-    page = site.post("/file/parents", **corrected(given, id="nobody")).get_data(as_text=True)
-    assert written_in(page)["shown-id"] == DAM
-
-
 def test_settings_of_two(site: Site, society_desk: Desk) -> None:
     """A setting that nobody wrote stays as somebody else set it since the page was shown; where both did it is told."""
     form = written_in(site.page("/settings"))
@@ -176,11 +110,6 @@ def test_settings_of_two(site: Site, society_desk: Desk) -> None:
     assert written_in(page)["shown-address"] == "Here\nThere"
     assert site.post("/settings", **corrected(written_in(page))).status_code == 302
     assert society_desk.good("settings").out == told.replace("Goats", "Sheep")
-
-
-def corrected(form: dict[str, str], **fields: str) -> dict[str, str]:
-    """What is sent of a form in which fields were written."""
-    return {name: text for name, text in {**form, **fields}.items() if name != "csrf_token"}
 
 
 @pytest.mark.parametrize("language", LANGUAGES)

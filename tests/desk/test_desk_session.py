@@ -55,7 +55,7 @@ def test_coefficients(site: Site, society_desk: Desk) -> None:
     society_desk.good("verify")
     assert "17/512" in society_desk.good("show", "NEW-0").out
     # those of all that descend from an animal change with its parents
-    site.post("/file/parents", id=DAM, sire=SIRE, dam="")
+    site.post("/file/parents", id=DAM, sire=SIRE, dam="0")
     assert TEXTS["accepted"][0] in shown(site.page(f"/answer/{len(calves) + 2}"))
     society_desk.good("verify")
 

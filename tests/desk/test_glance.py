@@ -48,7 +48,7 @@ def test_other_changes(site: Site) -> None:
         assert book and book.change
         first, before = book.change, glance_of(book)
     glance_now(site)
-    site.post("/file/parents", id=DAM, sire="", dam="")
+    site.post("/file/parents", id=DAM, sire="0", dam="0")
     site.post("/history/1/undo", looked=site.looked())
     for _ in range(2):
         here, all_of_it = glance_now(site)

@@ -76,9 +76,7 @@ def file(kind: str) -> Answer:
 def form_again(book: Book, kind: str, faults: list[Sentence]) -> Answer:
     """With the parents of now of the animal that is named, or else of the one whose parents the form showed."""
     given = dict(request.form)
-    if not given.get(OF_ANIMAL):
-        return shown(book, kind, given, faults)
-    known = book.known.get(given[OF_ANIMAL])
+    known = book.known.get(given.get(OF_ANIMAL, ""))
     with contextlib.suppress(Mistake):
         known = find(book, given.get("id", ""), may_be_file=False)
     return shown(book, kind, to_correct(book, kind, given, known), faults)

@@ -146,6 +146,11 @@ SENTENCES: dict[Sentence, tuple[str, str, str]] = {
         "{id} hat inzwischen andere Eltern bekommen: sehen Sie nach und melden Sie es noch einmal.",
         "Les parents de {id} ont été modifiés entre-temps : vérifiez et déclarez-le de nouveau.",
     ),
+    DeskFault.NONE_SHOWN: (
+        "",
+        "Das sind die Eltern, die {id} hat: berichtigen Sie, was falsch ist, und melden Sie es.",
+        "Voici les parents de {id} : corrigez ce qui est faux et déclarez-le.",
+    ),
     DeskFault.OTHER_SHOWN: (
         "",
         "Das Formular zeigte die Eltern von {shown}: sehen Sie die von {id} an und melden Sie es noch einmal.",
