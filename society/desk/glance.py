@@ -1,4 +1,4 @@
-"""The book in a glance: how many animals it has, how many of them live, and how inbred these are."""
+"""The book at a glance: how many animals it has, how many of them live, and how inbred these are."""
 from __future__ import annotations
 
 import collections

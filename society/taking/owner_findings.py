@@ -62,13 +62,13 @@ class OwnerMeant(Look):
 
 @dataclass(frozen=True, slots=True)
 class OwnersAlike(Look):
-    """Owners of the sheet whose names differ in case, accents, blanks or signs alone."""
+    """Owners of the sheet whose names differ in case, accents, umlauts, blanks or signs alone."""
 
     spellings: tuple[Spelling, ...]
 
     def words(self) -> str:
         names = " and ".join(one.words() for one in self.spellings)
         return (
-            f"the owners {names} differ in case, accents, blanks or signs alone: if they are one, write the name alike in all "
-            "rows, and take the sheet again"
+            f"the owners {names} differ in case, accents, umlauts, blanks or signs alone: if they are one, write the name alike "
+            "in all rows, and take the sheet again"
         )

@@ -14,6 +14,8 @@ from society.taking.owner_findings import OwnerMistyped, OwnerRespelt, OwnersAli
 ALIKE = 0.75
 # an owner of so few animals may be one with so many times as many whose name has a letter more, less or otherwise
 FEW, TIMES = 2, 5
+# how umlauts are written where they lack
+UMLAUTS = str.maketrans({"ä": "ae", "ö": "oe", "ü": "ue"})
 # in shorter names each letter counts
 SHORT = 4
 
@@ -34,14 +36,16 @@ def tell_respelt_owners(next_book: NextBook, owners_before: set[str]) -> None:
 
 
 def tell_owners_alike(next_book: NextBook) -> None:
-    """Names of the sheet's rows that differ in case, accents, blanks or signs alone."""
+    """Names of the sheet's rows that differ in case, accents, umlauts, blanks or signs alone."""
     animals = collections.Counter(one.owner for one in next_book.animals.values() if one.line and one.owner)
     alike = collections.defaultdict[str, list[Spelling]](list)
     for owner, count in sorted(animals.items()):
-        alike[plain(owner)].append(Spelling(owner, count))
-    for name, spellings in alike.items():
-        if name and len(spellings) > 1:
-            next_book.report.add(0, "", OwnersAlike(tuple(spellings)))
+        for name in {plain(owner), plain(owner.casefold().translate(UMLAUTS))}:
+            alike[name].append(Spelling(owner, count))
+    several = dict.fromkeys(tuple(alike[name]) for name in sorted(alike) if name and len(alike[name]) > 1)
+    for spellings in several:
+        if not any(set(spellings) < set(other) for other in several):
+            next_book.report.add(0, "", OwnersAlike(spellings))
 
 
 def tell_mistyped_owners(next_book: NextBook, owners_before: set[str]) -> None:

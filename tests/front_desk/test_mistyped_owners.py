@@ -74,6 +74,17 @@ def test_owners_that_are_only_respelt(rows: list[str], before: set[str], found: 
     assert [entry.finding for entry in report.entries] == found
 
 
+def test_owners_alike_by_umlauts() -> None:
+    """An umlaut may be written by two letters, or lack its dots; letters that are none of an umlaut tell owners apart."""
+    owners = ["Müller", "MÜLLER", "Mueller", "Weiß", "Weiss", "Bauer", "Baur", "Jäger", "Jager"]
+    animals = {owner: Animal(owner, 2, owner=owner) for owner in owners}
+    report = Report()
+    tell_owners_alike(cast(NextBook, SimpleNamespace(animals=animals, report=report)))
+    told = [entry.finding for entry in report.entries]
+    found = [[spelling.text for spelling in one.spellings] for one in told if isinstance(one, OwnersAlike)]
+    assert found == [["Jager", "Jäger"], ["MÜLLER", "Mueller", "Müller"], ["Weiss", "Weiß"]]
+
+
 def test_owners_alike_have_rows() -> None:
     """Signs alone are no names that are alike."""
     owners = [("Groß A", 2), ("gross a", 3), ("gross a", 4), ("GROSS A", 0), ("?", 5), ("!", 6), ("", 7)]

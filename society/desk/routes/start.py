@@ -1,4 +1,4 @@
-"""The start page: the book in a glance, or how one begins."""
+"""The start page: the book at a glance, or how one begins."""
 from __future__ import annotations
 
 import functools

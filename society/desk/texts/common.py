@@ -60,7 +60,7 @@ TEXTS = {
         "You have a copy of your book?", "Sie haben eine Kopie Ihres Herdbuchs?", "Vous avez une copie de votre livre ?",
     ),
     "take example": ("Look at the example", "Beispiel ansehen", "Voir l'exemple"),
-    "book": ("The book in a glance", "Das Herdbuch auf einen Blick", "Le livre en un coup d'œil"),
+    "book": ("The book at a glance", "Das Herdbuch auf einen Blick", "Le livre en un coup d'œil"),
     "animals in book": ("Animals", "Tiere", "Animaux"),
     "living animals": ("Living", "Lebende", "Vivants"),
     "of them female": ("Of these female", "Davon weiblich", "Dont femelles"),

@@ -155,10 +155,10 @@ FINDINGS: dict[str, tuple[str, str]] = {
         "autrement ?",
     ),
     "owners alike": (
-        "die Besitzer {spellings} unterscheiden sich nur in Großschreibung, Akzenten, Leerzeichen oder Zeichen: ist es einer, "
-        "schreiben Sie den Namen in allen Zeilen gleich",
-        "les propriétaires {spellings} ne diffèrent que par les majuscules, accents, espaces ou signes : si c'est le même, "
-        "écrivez le nom de la même façon dans toutes les lignes",
+        "die Besitzer {spellings} unterscheiden sich nur in Großschreibung, Akzenten, Umlauten, Leerzeichen oder Zeichen: "
+        "ist es einer, schreiben Sie den Namen in allen Zeilen gleich",
+        "les propriétaires {spellings} ne diffèrent que par les majuscules, accents, trémas, espaces ou signes : si c'est "
+        "le même, écrivez le nom de la même façon dans toutes les lignes",
     ),
     # animals
     "kept from book": (
