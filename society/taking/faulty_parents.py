@@ -15,6 +15,7 @@ from society.taking.fault_sentences import TakingFault
 from society.taking.long_paths import too_deep
 from society.taking.next_book import NextBook
 from society.taking.parent_findings import DayFact, ParentRefused
+from society.taking.parents_tried import take_back
 
 # whom a refusal is about
 ROLES = {
@@ -44,7 +45,7 @@ def leave_out_faulty_parents(next_book: NextBook, program: Herdbook) -> None:
             return
         # paths come last: without a parent that is refused they may be shorter
         deep = [animal for animal, refusal in faults if refusal is Refusal.PATH_TOO_LONG]
-        if len(deep) == len(faults):
+        if len(deep) == len(faults) and not take_back(next_book):
             raise too_deep(next_book.animals, deep, next_book.is_pedigree)
         for animal, refusal in faults:
             if refusal is not Refusal.PATH_TOO_LONG:
@@ -55,6 +56,12 @@ def leave_out_parent(next_book: NextBook, animal: Animal, refusal: Refusal) -> N
     if refusal not in ROLES:
         raise Mistake(TakingFault.PARENT_REFUSED.said(where=animal.where(), **why(refusal)))
     role = ROLES[refusal]
+    if (animal.id, role) not in next_book.tried:
+        tell_left_out(next_book, animal, role, refusal)
+    animal.set_parent(role, "")
+
+
+def tell_left_out(next_book: NextBook, animal: Animal, role: Role, refusal: Refusal) -> None:
     parent = next_book.animals[animal.parent(role)]
     found = ParentRefused(
         role, refusal, parent.id, parent.line, parent.sex, parent.sex_source,
@@ -65,7 +72,6 @@ def leave_out_parent(next_book: NextBook, animal: Animal, refusal: Refusal) -> N
     next_book.report.add(animal.line, animal.id, found)
     # of an animal without a row it is kept too
     next_book.texts.setdefault(animal.id, (animal.sire, animal.dam))
-    animal.set_parent(role, "")
 
 
 def tried_again(book: Book, known: Known, role: Role, parent: str) -> str:

@@ -33,6 +33,8 @@ class NextBook:
         self.obstacles: list[Finding] = []
         # the sire and the dam as the sheet writes them, by an animal's id; empty where it has no such column
         self.texts: dict[str, tuple[str, str]] = {}
+        # the parents of animals without a row that the book hasn't, and that are tried again
+        self.tried: set[tuple[str, Role]] = set()
         # the fields that were filed by hand and that the sheet says otherwise now than before
         self.overridden: dict[str, frozenset[Field]] = {}
         # the ids of rows that name another owner than the one by hand, who stays

@@ -10,6 +10,7 @@ from society.taking.near_ids import NearIds
 from society.taking.next_book import NextBook
 from society.taking.parent_names import Names
 from society.taking.parents_before import keep_parents_named
+from society.taking.parents_tried import try_parents_again
 from society.taking.without_row import add_gone, animals_of_book
 
 MOST_ANIMALS = 60_000
@@ -29,6 +30,7 @@ def add_others(next_book: NextBook, drop_gone: bool) -> None:
         near.find_parents(report)
         near.tell_alike(report)
     Names(all_animals, report).find_parents(animals, book)
+    try_parents_again(next_book, gone, all_animals)
     animals |= {id: gone.pop(id) for id in next_book.used_again}
     add_gone(animals, gone, book, drop_gone, report)
     leave_out_unread_sexes(next_book)

@@ -5,12 +5,10 @@ from society.book.book import Book
 from society.book.commands import Record
 from society.book.kinds import Standing
 from society.book.known import Known
-from society.book.role import Role
 from society.pedigree_order import ancestors
 from society.reading.animal import Animal
 from society.reading.days import ANY_DAY, Span, span_of_period
 from society.taking.animal_findings import RowIsGone
-from society.taking.faulty_parents import tried_again
 from society.taking.report import Report
 
 
@@ -25,9 +23,6 @@ def animals_of_book(book: Book, animals: dict[str, Animal]) -> dict[str, Animal]
         animal = Animal(id, 0, known.name, "" if known.sex.is_inferred else known.number[6])
         animal.birth = birth_in_book(known, record)
         animal.sire, animal.dam = ids.get(record.sire, ""), ids.get(record.dam, "")
-        if known.by_hand:
-            animal.sire = tried_again(book, known, Role.SIRE, animal.sire)
-            animal.dam = tried_again(book, known, Role.DAM, animal.dam)
         animal.owner, animal.embryo = book.owner_of(record.herd), record.embryo
         animal.castrated = known.castrated
         animal.left, animal.exit_basis = record.left, known.exit
