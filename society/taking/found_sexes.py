@@ -34,7 +34,9 @@ def role_of_both(next_book: NextBook, id: str, sires: int, dams: int) -> Role:
 
 def find_sexes(next_book: NextBook) -> None:
     """An animal without a sex has that of the parent that it is, or else that of the book; else it is taken for a
-    female, and stays one for that reason."""
+    female, and stays one for that reason. One that was invented stays so where no row has the animal as a parent."""
+    rows = (animal for animal in next_book.animals.values() if animal.line)
+    parents_of_rows = {parent for row in rows for parent in row.parent_ids()}
     for id, animal in next_book.animals.items():
         if animal.sex:
             continue
@@ -48,3 +50,5 @@ def find_sexes(next_book: NextBook) -> None:
         if animal.line:
             found = SexInferred(animal.sex, animal.sex_source, "sex" in animal.unread)
             next_book.report.add(animal.line, id, found)
+        if known and known.sex is SexSource.INVENTED and known.number[6] == animal.sex and id not in parents_of_rows:
+            animal.sex_source = SexSource.INVENTED

@@ -90,6 +90,17 @@ def test_invented(desk: Desk) -> None:
     assert "(invented): the pedigree has neither" in words
 
 
+def test_invented_sexes_stay_invented(desk: Desk) -> None:
+    """After a sheet that says nothing of an animal, or not its sex; as a parent of a row it has that of one."""
+    pedigree = "id sire dam\nA1 0 0\nA2 0 0\nA3 A2 A1\nA4 A2 A1\nA5 0 A4\nA6 0 A3\n"
+    desk.good("take", "--pedigree", desk.write("p.txt", pedigree))
+    done = desk.take("id,sex,birth,sire,dam\nA1,f,,,\nA3,,,A2,A1\n")
+    done.tells("line 3: A3: inferred: sex female, since it is a dam")
+    sexes = {"A1": "F", "A2": "M (inferred)", "A3": "F (invented)", "A4": "F (invented)", "A5": "F (invented)"}
+    listed = desk.listed("list", "--columns", "id,sex")
+    assert {row["id"]: row["sex"] for row in listed} == sexes | {"A6": "F (invented)"}
+
+
 def test_nothing_is_invented_over_what_the_book_was_given(desk: Desk) -> None:
     """A pedigree without sexes and days is added to a book of a sheet: only what nobody gave is found."""
     desk.take("id,sex,birth,sire,dam,owner\na,f,2001-01-01,,,Nord\nb,m,2001-02-01,,,Nord\nc,m,,,,Nord\n")
