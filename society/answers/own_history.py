@@ -29,7 +29,7 @@ def history_of(connection: sqlite3.Connection, id: str) -> Iterator[str]:
         assert change is not None
         yield heading(change)
         if number in began or number in ended:
-            yield f"  {difference(ended.get(number), began.get(number), names, owners)}"
+            yield f"  {difference(ended.get(number), began.get(number), names, owners, owners)}"
         for one in told.get(number, []):
             entry = entry_of(one)
             if entry.what not in SAID_BY_ROWS:

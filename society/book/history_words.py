@@ -9,7 +9,7 @@ from society.book.cells import in_a_line
 from society.book.changes import Change
 from society.book.history import taken_back_by, told_by
 from society.book.kinds import ChangeKind, Standing
-from society.book.owner_names import names_now
+from society.book.owner_names import names_after, names_now
 from society.book.rows import COLUMNS, Row, known_of
 from society.book.state import ANIMALS
 from society.mistake import counted
@@ -73,10 +73,27 @@ def animals_changed(connection: sqlite3.Connection, number: int) -> Iterator[str
     before, after = (rows_by_id(connection, column, number) for column in ("until", "since"))
     names = names_around(connection, number)
     owners = names_now(connection) | {NO_OWNER: ""}
+    former, then = renamed_by(connection, number)
+    same = {row.id: row for row in rows_of_herds(connection, [*then], number)}
+    before, after = same | before, same | after
     ids = sorted(before.keys() | after.keys())
     yield f"animals changed: {len(ids)}"
     for id in ids:
-        yield f"  {id}: {difference(before.get(id), after.get(id), names, owners)}"
+        yield f"  {id}: {difference(before.get(id), after.get(id), names, owners | former, owners | then)}"
+
+
+def renamed_by(connection: sqlite3.Connection, number: int) -> tuple[dict[int, str], dict[int, str]]:
+    """The names of the owners that are written otherwise since a change, by their herds: before it, and after."""
+    former, then = names_after(connection, number - 1), names_after(connection, number)
+    herds = [herd for herd in then if former.get(herd, then[herd]) != then[herd]]
+    return {herd: former[herd] for herd in herds}, {herd: then[herd] for herd in herds}
+
+
+def rows_of_herds(connection: sqlite3.Connection, herds: list[int], number: int) -> Iterator[Row]:
+    """The animals of some herds that a change left as they were."""
+    asked = f"SELECT {COLUMNS} FROM animal WHERE herd = ? AND since < ? AND (until IS NULL OR until > ?)"
+    for herd in herds:
+        yield from map(Row._make, connection.execute(asked, (herd, number, number)))
 
 
 def rows_by_id(connection: sqlite3.Connection, column: str, number: int) -> dict[str, Row]:
@@ -93,10 +110,12 @@ def names_around(connection: sqlite3.Connection, number: int) -> dict[str, str]:
     return dict(rows)
 
 
-def difference(before: Row | None, after: Row | None, names: dict[str, str], owners: dict[int, str]) -> str:
+def difference(
+    before: Row | None, after: Row | None, names: dict[str, str], owners: dict[int, str], owners_after: dict[int, str]
+) -> str:
     if after is None:
         return "isn't in the book any more"
-    said = facts(after, names, owners)
+    said = facts(after, names, owners_after)
     if before is None:
         return "new: " + "; ".join(f"{what} {value}" for what, value in said.items() if value)
     former = facts(before, names, owners)

@@ -35,6 +35,12 @@ def names_now(connection: sqlite3.Connection) -> dict[int, str]:
     return {herd: name for name, herd in owners.items()}
 
 
+def names_after(connection: sqlite3.Connection, change: int) -> dict[int, str]:
+    """The owners' names as they were written after a change, by their herds."""
+    owners = as_written(owners_came(connection), read_remembered(connection, change))
+    return {herd: name for name, herd in owners.items()}
+
+
 def free_name(name: str, herd: int, taken: Collection[str]) -> str:
     """The name, or where it is taken one that tells the herd."""
     while name in taken:

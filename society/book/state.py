@@ -84,8 +84,11 @@ def bring_back(connection: sqlite3.Connection, change: int, earlier: int) -> Non
         write_rows(connection, table, change, rows_now(connection, table), rows_then(connection, table, earlier))
 
 
-def read_remembered(connection: sqlite3.Connection) -> list[Meaning]:
-    found = connection.execute(f"SELECT what, word, meaning FROM remembered WHERE {NOW} ORDER BY what, place")
+def read_remembered(connection: sqlite3.Connection, change: int | None = None) -> list[Meaning]:
+    """What is remembered now, or was after a change."""
+    when = NOW if change is None else THEN
+    asked = f"SELECT what, word, meaning FROM remembered WHERE {when} ORDER BY what, place"
+    found = connection.execute(asked, {"change": change})
     return [Meaning(Remembered(what), word, meaning) for what, word, meaning in found]
 
 

@@ -9,7 +9,7 @@ from society.answers.own_history import SAID_BY_ROWS, names_of_parents, rows_by_
 from society.book.book import NO_OWNER, Book
 from society.book.changes import Told
 from society.book.history import change_numbered
-from society.book.history_words import facts
+from society.book.history_words import facts, renamed_by, rows_of_herds
 from society.book.owner_names import names_now
 from society.book.rows import COLUMNS, Row
 from society.desk.change_lines import ChangeLine, line_of
@@ -38,6 +38,8 @@ class Difference(NamedTuple):
     values: list[Value]
 
 
+# the owners' names by their herds, before a change and after it
+Owners = tuple[dict[int, str], dict[int, str]]
 # the animals whose row began or ended with a change
 CHANGED = "FROM (SELECT id FROM animal WHERE since = :change UNION SELECT id FROM animal WHERE until = :change)"
 
@@ -46,12 +48,15 @@ def differences_of(book: Book, number: int, words: Words, most: int) -> tuple[in
     """How many animals a change changed, and the first of them."""
     assert book.connection is not None
     ask, asked = book.connection.execute, {"change": number, "most": most}
-    count = ask(f"SELECT count(*) {CHANGED}", asked).fetchone()[0]
-    ids = [id for (id,) in ask(f"SELECT id {CHANGED} ORDER BY id LIMIT :most", asked)]
-    before, after = (rows_of(book, ids, column, number) for column in ("until", "since"))
+    former, then = renamed_by(book.connection, number)
+    same = {row.id: row for row in rows_of_herds(book.connection, [*then], number)}
+    count = ask(f"SELECT count(*) {CHANGED}", asked).fetchone()[0] + len(same)
+    ids = sorted({*same, *(id for (id,) in ask(f"SELECT id {CHANGED} ORDER BY id LIMIT :most", asked))})[:most]
+    before, after = (same | rows_of(book, ids, column, number) for column in ("until", "since"))
     names = names_of_parents(book.connection, [*before.values(), *after.values()])
     owners = names_now(book.connection) | {NO_OWNER: ""}
-    return count, [difference(id, before.get(id), after.get(id), names, owners, words) for id in ids]
+    both = owners | former, owners | then
+    return count, [difference(id, before.get(id), after.get(id), names, both, words) for id in ids]
 
 
 def rows_of(book: Book, ids: list[str], column: str, number: int) -> dict[str, Row]:
@@ -62,11 +67,11 @@ def rows_of(book: Book, ids: list[str], column: str, number: int) -> dict[str, R
 
 
 def difference(
-    id: str, before: Row | None, after: Row | None, names: dict[str, str], owners: dict[int, str], words: Words
+    id: str, before: Row | None, after: Row | None, names: dict[str, str], owners: Owners, words: Words
 ) -> Difference:
-    former = facts(before, names, owners) if before else {}
-    now = facts(after, names, owners) if after else {}
-    said = [facts_said(row, names, owners, words) if row else {} for row in (before, after)]
+    both = tuple(zip((before, after), owners))
+    former, now = (facts(row, names, its) if row else {} for row, its in both)
+    said = [facts_said(row, names, its, words) if row else {} for row, its in both]
     changed = (what for what in now or former if now.get(what, "") != former.get(what, ""))
     values = [Value(words(f"fact {what}"), *(one.get(what, "") for one in said)) for what in changed]
     return Difference(id, before is None, after is None, values)
@@ -110,6 +115,7 @@ def own_changes(book: Book, id: str, words: Words) -> list[OwnChange]:
         entries = [entry_of(one) for one in told.get(number, [])]
         sentences = [sentence_of(entry.finding, words) for entry in entries if entry.what not in SAID_BY_ROWS]
         is_changed = number in began or number in ended
-        changed = difference(id, ended.get(number), began.get(number), names, owners, words) if is_changed else None
+        rows = ended.get(number), began.get(number)
+        changed = difference(id, *rows, names, (owners, owners), words) if is_changed else None
         found.append(OwnChange(line_of(book.connection, change, words), changed, sentences))
     return found

@@ -22,7 +22,9 @@ from society.taking.outcome import BookAfter, Outcome
 from society.taking.owner_days import OwnerDays
 from society.taking.parent_names import may_be_unknown
 from society.taking.report import CantBeTaken, What
-from society.taking.respelt_owners import tell_mistyped_owners, tell_owners_alike, tell_respelt_owners
+from society.taking.respelt_owners import (
+    tell_mistyped_owners, tell_owners_alike, tell_renamed_owners, tell_respelt_owners,
+)  # fmt: skip
 from society.taking.saving import Prepared, prepared_of
 from society.taking.screen import lines_of
 from society.taking.sentences import sentences_of
@@ -83,6 +85,7 @@ def file(next_book: NextBook, program: Herdbook, wishes: Wishes, about: About) -
     tell_withdrawn_exits(next_book)
     if wishes.strict and any(entry.what is What.LEFT_OUT for entry in report.entries):
         refuse_left_out(next_book, wishes)
+    tell_renamed_owners(next_book)
     filing.tell_changes()
     tell_most_changed(next_book)
     after = book_after(next_book, filed, wishes, about)

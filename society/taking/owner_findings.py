@@ -6,6 +6,7 @@ from dataclasses import dataclass
 from society.book.changes import Option
 from society.mistake import counted
 from society.taking.look_findings import Look
+from society.taking.report import Finding, What
 from society.taking.suggestions import Suggestion
 
 
@@ -25,6 +26,20 @@ class OwnerRespelt(Look):
     def suggestions(self) -> tuple[Suggestion, ...]:
         option = Option("--owner", f"{self.before}={self.now}")
         return (Suggestion("if the name is only written otherwise", (option,), undoes=True),)
+
+
+@dataclass(frozen=True, slots=True)
+class OwnerRenamed(Finding):
+    """An owner of so many animals is written otherwise from now on, as was wished."""
+
+    before: str
+    now: str
+    animals: int
+
+    what = What.CHANGED
+
+    def words(self) -> str:
+        return f"the owner '{self.before}' of {counted(self.animals, 'animal')} is written '{self.now}' from now on"
 
 
 @dataclass(frozen=True, slots=True)

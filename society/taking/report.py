@@ -147,6 +147,8 @@ class Report:
 
     def __init__(self) -> None:
         self.entries: list[Entry] = []
+        # the animals whose owner is written otherwise from now on
+        self.renamed: set[str] = set()
 
     def add(self, line: int, id: str, finding: Finding) -> None:
         self.entries.append(Entry(line, id, finding))
@@ -158,7 +160,11 @@ class Report:
         return f"{counts.total()} left out" + (f" ({', '.join(parts)})" if parts else "")
 
     def counts(self) -> collections.Counter[What]:
-        return collections.Counter(entry.what for entry in self.entries)
+        """How many entries there are of each kind; of what is changed, how many animals are."""
+        counts = collections.Counter(entry.what for entry in self.entries)
+        changed = {entry.id for entry in self.entries if entry.what is What.CHANGED} - {""}
+        counts[What.CHANGED] = len(changed | self.renamed)
+        return counts
 
     def in_order(self) -> list[Entry]:
         """By what they are about, and by line."""

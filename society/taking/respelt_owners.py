@@ -8,7 +8,7 @@ import difflib
 from society.reading.animal import Animal
 from society.reading.words import plain
 from society.taking.next_book import NextBook
-from society.taking.owner_findings import OwnerMistyped, OwnerRespelt, OwnersAlike, Spelling
+from society.taking.owner_findings import OwnerMistyped, OwnerRenamed, OwnerRespelt, OwnersAlike, Spelling
 
 # how much alike two names are, of which one may stand for the other
 ALIKE = 0.75
@@ -33,6 +33,20 @@ def tell_respelt_owners(next_book: NextBook, owners_before: set[str]) -> None:
         is_new = len(now) == 1 and owner not in owners_before
         if is_new and difflib.SequenceMatcher(None, before.casefold(), owner.casefold()).ratio() >= ALIKE:
             next_book.report.add(0, "", OwnerRespelt(before, owner, count))
+
+
+def tell_renamed_owners(next_book: NextBook) -> None:
+    """The owners that are written otherwise from now on, as was wished, each by its first name and its last one."""
+    book, found = next_book.book, dict[str, str]()
+    for before, _ in book.renamed:
+        now = book.respelt(before)
+        if before != now and now not in found.values():
+            found[before] = now
+    for before, now in found.items():
+        its = {animal.id: next_book.record(animal.id) for animal in next_book.animals.values() if animal.owner == now}
+        those = {id for id, record in its.items() if record and book.owner_of(record.herd) == now}
+        next_book.report.renamed |= those
+        next_book.report.add(0, "", OwnerRenamed(before, now, len(those)))
 
 
 def tell_owners_alike(next_book: NextBook) -> None:

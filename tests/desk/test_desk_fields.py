@@ -110,3 +110,21 @@ def test_counts_of_a_change(empty_site: Site, language: str, told: str) -> None:
     site.take(address)
     site.get(f"/language/{language}")
     assert told in shown(site.page("/history/1")).replace("  ", " ")
+
+
+def test_owner_written_otherwise(desk: Desk, empty_site: Site) -> None:
+    """A change by which an owner is only written otherwise tells whose animals' owner that is, in each language."""
+    rows = "id;sex;birth;sire;dam;owner\ns;M;2001-03-01;;;{}\nd;F;2001-03-02;;;Groß\n"
+    desk.take(rows.format("Meier"))
+    desk.take(rows.format("Meyer"), "--owner", "Meier=Meyer")
+    for language, counts, told, owner in (
+        ("en", "2 animals: 1 changed", "the owner 'Meier' of 1 animal is written 'Meyer' from now on",
+         "s owner: Meyer (before: Meier )"),
+        ("de", "2 Tiere: 1 geändert", "der Besitzer „Meier“ von 1 Tier wird von jetzt an „Meyer“ geschrieben",
+         "s Besitzer: Meyer (vorher: Meier )"),
+        ("fr", "2 animaux : 1 modifié", "le propriétaire « Meier » de 1 animal s'écrit désormais « Meyer »",
+         "s propriétaire : Meyer (avant : Meier )"),
+    ):  # fmt: skip
+        empty_site.get(f"/language/{language}")
+        page = " ".join(shown(empty_site.page("/history/2")).split()).replace("’", "'")
+        assert [one for one in (counts, told, owner) if one not in page] == [], page[:1500]

@@ -33,6 +33,7 @@ from society.refusals import Refusal
 from society.taking.animal_findings import BirthDayInferred, CommandRefused, SexInferred, ValueChanged
 from society.taking.fault_sentences import TakingFault
 from society.taking.look_findings import ExitsWithdrawn
+from society.taking.owner_findings import OwnerRenamed
 from society.taking.report import KINDS
 from society.taking.stored_findings import kind_named, kinds_of, modules_of_findings
 
@@ -217,6 +218,8 @@ DAY = datetime.date(2001, 2, 3)
     "finding, german, french",
     [
         (ValueChanged("birth day", "2001-02-03", ""), "Geburtstag: 03.02.2001, vorher –", "date de naissance\u00a0: 03/02/2001, avant –"),
+        (OwnerRenamed("Meier", "Meyer", 2), "der Besitzer „Meier“ von 2 Tieren wird von jetzt an „Meyer“ geschrieben",
+         "le propriétaire «\u00a0Meier\u00a0» de 2 animaux s'écrit désormais «\u00a0Meyer\u00a0»"),
         (SexInferred("F", SexSource.DAM, False), "Geschlecht weiblich, da es Mutter ist", "sexe femelle, car elle est mère"),
         (CommandRefused(ChangeKind.EXIT, "2001-02-03", Refusal.LEFT_ALREADY), "Abgang am 03.02.2001 ist abgelehnt: es ist schon abgegangen",
          "Sortie le 03/02/2001\u00a0: refusé, il est déjà sorti"),

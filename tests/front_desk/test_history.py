@@ -170,7 +170,7 @@ def test_what_is_kept_of_a_change(flock_desk: Desk) -> None:
     login, digest = pwd.getpwuid(os.getuid()).pw_name, hashlib.sha256(GROWN.encode()).hexdigest()
     flock_desk.take(GROWN, "--sexes", "x=m", "--strict")
     shown = flock_desk.good("history", "2").out.splitlines()
-    told = f"{login}: took the sheet sheet.csv (17 animals, 3 changed, 1 new)"
+    told = f"{login}: took the sheet sheet.csv (17 animals, 1 changed, 1 new)"
     assert re.fullmatch(r"2  \S+ \S+", shown[0].removesuffix(f"  {told}"))
     assert shown[1:3] == [f"file: {flock_desk.room / 'sheet.csv'}, SHA-256 {digest}", "options: --sexes x=m --strict"]
 

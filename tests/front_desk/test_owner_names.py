@@ -27,9 +27,13 @@ def test_names_that_go_from_owner_to_owner(desk: Desk) -> None:
         ("x", "Kern"), ("Bauer", "x"), ("Kern", "Bauer"), ("x", "Kern"),
     ]:  # fmt: skip
         now[now.index(before)] = after
-        assert " 0 changed" in desk.take(owners_sheet(*now), "--owner", f"{before}={after}").last
+        done = desk.take(owners_sheet(*now), "--owner", f"{before}={after}")
+        assert " 1 changed" in done.last
+        done.tells(f"changed: the owner '{before}' of 1 animal is written '{after}' from now on")
         assert owners_listed(desk) == now
     assert desk.transfer_days() == []
+    shown = desk.good("history", "3").out.splitlines()
+    assert "animals changed: 1" in shown and "  a2: owner Meier, before Huber" in shown
     desk.good("undo", "--to", "1")
     assert owners_listed(desk) == list(OWNERS)
 
@@ -38,7 +42,10 @@ def test_names_for_a_while(desk: Desk) -> None:
     """None is one by which another owner came, though that one is written otherwise now."""
     desk.take(owners_sheet("A", "B", "A (herd 1)"))
     desk.take(owners_sheet("A", "B", "C"), "--owner", "A (herd 1)=C")
-    desk.take(owners_sheet("B", "A", "C"), "--owner", "A=x", "--owner", "B=A", "--owner", "x=B")
+    desk.take(owners_sheet("B", "A", "C"), "--owner", "A=x", "--owner", "B=A", "--owner", "x=B").tells(
+        "changed: the owner 'A' of 1 animal is written 'B' from now on",
+        "changed: the owner 'B' of 1 animal is written 'A' from now on",
+    )
     assert owners_listed(desk) == ["B", "A", "C"] and desk.transfer_days() == []
 
 

@@ -201,7 +201,7 @@ def test_owner_is_written_otherwise(desk: Desk) -> None:
     other.wrong("change 2 isn't the last that changed something, which is 3", "undo", "--change", "2")
     assert f"{CALLED} undo --change 2 && " in done.commands()[0]
     done = desk.typed(done.commands()[0])
-    assert " 0 changed" in done.last
+    assert " 2 changed" in done.last
     assert desk.transfer_days() == []
     assert " 0 changed" in desk.take(renamed).last
     desk.good("certificate", "s", "--out", "page.html")

@@ -20,14 +20,15 @@ from society.reading.day_cells import DayCells
 from society.reading.days import DayFault, Span, month_of, year_of
 from society.reading.unknown import UnknownParents
 from society.refusals import Refusal
-from society.taking.animal_findings import CommandRefused, KeptByHand, SexInferred
+from society.taking.animal_findings import CommandRefused, KeptByHand, SexInferred, ValueChanged
 from society.taking.found_sexes import find_sexes
 from society.taking.kept_values import keep_values
 from society.taking.known_after import known_after, written_parents
 from society.taking.next_book import NextBook
 from society.taking.numbers import give_numbers
 from society.taking.owner_days import OwnerDays, Owners
-from society.taking.report import Report
+from society.taking.owner_findings import OwnerRenamed
+from society.taking.report import Report, What
 from society.taking.row_findings import CommandLeftOut, OwnerDayInferred, OwnerDayMoved
 from society.taking.saving import cell_rows
 from society.taking.sheet_commands import Filing, is_corrected
@@ -330,3 +331,14 @@ def test_commands_that_are_left_out_are_told_by_what_refuses_them() -> None:
     for kind, of_day, on in (ChangeKind.EXIT, day, f"exit on {day}"), (ChangeKind.PARENTS, "", "parents"):
         refused = CommandRefused(kind, of_day, Refusal.LATER_OFFSPRING)
         assert refused.words() == f"the {on} is refused: {Refusal.LATER_OFFSPRING.words()} (refusal 16)"
+
+
+def test_animals_that_are_changed() -> None:
+    """Each counts once, however much of it is changed, or its owner is only written otherwise."""
+    report = Report()
+    for id, name in ("a", "name"), ("a", "birth day"), ("b", "dam"):
+        report.add(2, id, ValueChanged(name, "now", "before"))
+    report.add(0, "", OwnerRenamed("Meier", "Meyer", 2))
+    assert report.counts()[What.CHANGED] == 2
+    report.renamed |= {"b", "c"}
+    assert report.counts()[What.CHANGED] == 3

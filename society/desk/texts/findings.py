@@ -154,6 +154,10 @@ FINDINGS: dict[str, tuple[str, str]] = {
         "les {animals} animaux de « {before} » sont maintenant de « {now} », inconnu du livre : est-ce le même, écrit "
         "autrement ?",
     ),
+    "owner renamed": (
+        "der Besitzer „{before}“ von {animals} Tieren wird von jetzt an „{now}“ geschrieben",
+        "le propriétaire « {before} » de {animals} animaux s'écrit désormais « {now} »",
+    ),
     "owners alike": (
         "die Besitzer {spellings} unterscheiden sich nur in Großschreibung, Akzenten, Umlauten, Leerzeichen oder Zeichen: "
         "ist es einer, schreiben Sie den Namen in allen Zeilen gleich",

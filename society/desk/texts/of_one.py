@@ -34,6 +34,12 @@ OF_ONE: dict[str, tuple[str, str, str, str]] = {
         "geschrieben?",
         "le seul animal de « {before} » est maintenant de « {now} », inconnu du livre : est-ce le même, écrit autrement ?",
     ),
+    "owner renamed": (
+        "animals",
+        "",
+        "der Besitzer „{before}“ von {animals} Tier wird von jetzt an „{now}“ geschrieben",
+        "le propriétaire « {before} » de {animals} animal s'écrit désormais « {now} »",
+    ),
     "no order shown": (
         "count",
         "",
