@@ -15,10 +15,12 @@ from typing import Iterator
 from society.book.book import Book
 from society.book.book_read import begin_to_read
 from society.book.changes import Change
+from society.book.database import NAME as BOOK
 from society.book.database import connect, path_of
-from society.book.files import put, table
+from society.book.files import put, table, take_away_left
 from society.book.history import told_by
 from society.book.inferred import GIVEN_BIRTH, GIVEN_EXIT, BirthSource, ExitSource, SexSource
+from society.book.last_backup import NAME as LAST_BACKUP
 from society.book.old_beside import keep_old_files
 from society.book.old_words import STANDINGS
 from society.book.rows import birth_basis, exit_basis
@@ -94,6 +96,8 @@ def write_exports(book: Book) -> None:
     if change is None or are_fresh(book.folder, change):
         return
     keep_old_files(book.folder)
+    # nobody else writes exports now
+    take_away_left(book.folder, NAMES, (BOOK, LAST_BACKUP))
     with book.journal_read_beside():
         put(book.folder / IDS, ids_text(book, change), change.moment)
         put(book.folder / REPORT, report_text(book, change), change.moment)

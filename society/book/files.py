@@ -5,6 +5,9 @@ import contextlib
 import errno
 import os
 import pathlib
+import re
+import time
+from collections.abc import Collection
 from typing import Iterable, Sequence
 
 from society.book.cells import column_for_spreadsheets
@@ -15,6 +18,11 @@ from society.mistake import Mistake
 
 # what a disk says that can't give a file two names, as memory sticks and some shares can't
 NO_LINKS = (errno.EPERM, errno.EOPNOTSUPP, errno.ENOSYS)
+# so many make the name beside a place that nobody knows before
+RANDOM_BYTES = 8
+BESIDE = re.compile(rf"\.(.+)\.[0-9a-f]{{{2 * RANDOM_BYTES}}}")
+# so old, in seconds, is no file there that somebody still writes
+LEFT = 3600
 
 
 def table(
@@ -42,7 +50,7 @@ def put(path: pathlib.Path, text: bytes, changed: int | None = None, replaces: b
     # whoever asks the book would wait for it
     import secrets
 
-    beside = path.with_name(f".{path.name[:100]}.{secrets.token_hex(8)}")
+    beside = path.with_name(f".{path.name[:100]}.{secrets.token_hex(RANDOM_BYTES)}")
     try:
         descriptor = os.open(beside, os.O_WRONLY | os.O_CREAT | os.O_EXCL | os.O_NOFOLLOW | os.O_CLOEXEC, 0o666)
         with open(descriptor, "wb") as file:
@@ -60,6 +68,19 @@ def put(path: pathlib.Path, text: bytes, changed: int | None = None, replaces: b
             beside.unlink()
         raise
     sync_folder(path.parent)
+
+
+def take_away_left(folder: pathlib.Path, mine: Collection[str], others: Collection[str]) -> None:
+    """Takes away what calls that were killed left beside the places of some files: of those that nobody but the caller
+    writes now, and of others what is old."""
+    with contextlib.suppress(OSError), os.scandir(folder) as entries:
+        for entry in entries:
+            found = BESIDE.fullmatch(entry.name)
+            if not found or found[1] not in (*mine, *others) or not entry.is_file(follow_symlinks=False):
+                continue
+            # the time at which a file was changed may be given to it; this one can't be
+            if found[1] in mine or time.time() - entry.stat(follow_symlinks=False).st_ctime > LEFT:
+                os.unlink(entry.path)
 
 
 def name_once(beside: pathlib.Path, path: pathlib.Path) -> None:

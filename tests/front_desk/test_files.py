@@ -5,13 +5,14 @@ import errno
 import os
 import pathlib
 import secrets
+import time
 from typing import Callable
 
 import pytest
 
 from front_desk.desk import CALLED, Desk
 from front_desk.old_folder import LIST, write_old
-from society.book.files import digest_of, put, source_of
+from society.book.files import digest_of, put, source_of, take_away_left
 
 
 def test_synced_before_it_has_its_name(tmp_path: pathlib.Path, monkeypatch: pytest.MonkeyPatch) -> None:
@@ -42,6 +43,30 @@ def test_planted(tmp_path: pathlib.Path, monkeypatch: pytest.MonkeyPatch) -> Non
     with pytest.raises(FileExistsError):
         put(tmp_path / "file", b"text")
     assert (tmp_path / "precious").read_bytes() == b"precious" and not (tmp_path / "file").exists()
+
+
+def test_left_by_kills(desk: Desk, monkeypatch: pytest.MonkeyPatch) -> None:
+    """What calls that were killed left beside the book's files goes with a later change, and nothing else."""
+    desk.take("id,birth,sire,dam\na,2001-01-01,,\n")
+    book, random = desk.room / "book", "0123456789abcdef"
+    left = [book / f".{name}.{random}" for name in ("commands.csv", "ids.csv", "report.csv")]
+    others = [book / name for name in (f".list.csv.{random}", f"commands.csv.{random}", ".ids.csv.0123", ".ids.csv")]
+    # those may be written now
+    young = [book / f".{name}.{random}" for name in ("book.sqlite", "last_backup.csv")]
+    for path in (*left, *others, *young):
+        path.write_bytes(b"begun")
+        os.utime(path, (0, 0))
+    link, folder = book / ".ids.csv.aaaaaaaaaaaaaaaa", book / ".ids.csv.bbbbbbbbbbbbbbbb"
+    link.symlink_to(others[0])
+    folder.mkdir()
+    desk.good("exit", "a", "--day", "2005-01-01")
+    assert not any(path.exists() for path in left) and link.is_symlink() and folder.is_dir()
+    assert {path.read_bytes() for path in (*others, *young)} == {b"begun"}
+    # an hour later
+    now = time.time()
+    monkeypatch.setattr(time, "time", lambda: now + 3700)
+    take_away_left(book, (), ("book.sqlite", "last_backup.csv"))
+    assert not any(path.exists() for path in young) and all(path.exists() for path in others)
 
 
 @pytest.mark.parametrize("has_links", [True, False])
