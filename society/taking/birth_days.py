@@ -56,13 +56,17 @@ class Days:
             animal = self.animals[id]
             animal.born, animal.birth_basis = self.day_for(animal)
             is_kept = self.stays(animal, animal.born.toordinal())
-            found = BirthDayInferred(animal.born, animal.birth_basis, is_kept, animal.named_in, animal.birth.text)
+            text = "" if is_kept else animal.birth.text
+            found = BirthDayInferred(animal.born, animal.birth_basis, is_kept, animal.named_in, text)
             report.add(animal.line, id, found)
 
     def stays(self, animal: Animal, day: int) -> bool:
-        """Is it the day that was inferred for the book, where no cell has a month or a year?"""
-        says_period = animal.line and animal.birth != ANY_DAY
-        return not says_period and animal.id in self.kept and self.kept[animal.id][0] == day
+        """Is it the day that was inferred for the book, where no cell has a month or a year, or one has this day as a list
+        marks it?"""
+        kept, basis = self.kept.get(animal.id, (0, GIVEN_BIRTH))
+        if kept != day or not animal.line or animal.birth == ANY_DAY:
+            return kept == day
+        return animal.birth.text == f"{datetime.date.fromordinal(day)}{basis.mark()}"
 
     def day_of(self, id: str, open_days: dict[str, int]) -> int:
         """The day of an animal, or of one that has none that which is found of it."""

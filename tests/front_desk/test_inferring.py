@@ -158,6 +158,25 @@ def test_reasons_that_stay(desk: Desk) -> None:
     done.tells(f"line 5: mother: inferred: birth day 2005-01-01, {why}")
 
 
+def test_listed(desk: Desk) -> None:
+    """A list that is taken back says nothing new of a day that it marks; with another day its cell has a year."""
+    desk.take("id,sex,born,sire,dam\nmonth,F,2006-03,,\nyear,F,2007,,\ncalf,F,2012-03-16,,month\n")
+    before = desk.ids()
+    columns = ["--columns", "id,birth,sire,dam"]
+    listed = desk.good("list", *columns).out
+    assert "2006-03-16 (inferred)" in listed and "2007-07-02 (inferred)" in listed
+    done = desk.take(listed)
+    assert " 0 changed, 2 inferred" in done.last and desk.ids() == before
+    done.tells("line 2: month: inferred: birth day 2006-03-16, as in the book, where it was inferred: from the month 2006-03")
+    done = desk.take(listed.replace("2006-03-16", "2006-04-16"))
+    done.tells("line 2: month: inferred: birth day 2006-03-16, from the year 2006 of '2006-04-16 (inferred)'")
+    # days that were invented stay that too
+    desk.good("take", "--pedigree", desk.write("p.txt", "x 0 0\ny x 0\n"), "--book", "p")
+    listed = desk.good("list", "--book", "p", *columns).out
+    desk.take(listed, "--book", "p")
+    assert desk.good("list", "--book", "p", *columns).out == listed and "(invented)" in listed
+
+
 def test_year_of_an_animal_that_is_gone(desk: Desk) -> None:
     """A year that an earlier sheet said holds, whatever offspring other parts of the flock have."""
     desk.take("id,sex,born,sire,dam\ndam,F,2015,,\nc1,F,2018-01-01,,dam\n")
