@@ -157,6 +157,15 @@ class Book:
         """
         return dict(self.connection.execute(former))
 
+    def first_number(self) -> str:
+        """That with the least digits, or in an empty book the first that it had; empty where there was none."""
+        if self.connection is None:
+            return ""
+        # SQLite answers the number of the row that has the least
+        least = f"SELECT number, min(substr(number, 8)) FROM {ALL_ROWS} WHERE {NOW} AND {IN_BOOK}"
+        first = self.connection.execute(least).fetchone()[0]
+        return str(first) if first else next(iter(self.former_numbers().values()), "")
+
     def number_before(self, id: str) -> str:
         """The number of an animal that was dropped, or else its last one; empty where there was none."""
         if self.connection is None:

@@ -11,10 +11,10 @@ from society.book.commands import Command, Record, birth, leave, parents, record
 from society.book.inferred import GIVEN_EXIT, OwnerDay
 from society.book.journal import Step
 from society.book.kinds import ChangeKind, Field, Standing
-from society.book.known import BREED, COUNTRY, Known
+from society.book.known import Known
+from society.book.letters import letters_for
 from society.book.rows import row_of
 from society.book.search import find
-from society.book.settings import Setting, settings_of
 from society.book.state import select_rows
 from society.book.unknown_parents import unknown_parents
 from society.book.writing import Filed, Rows, State, write
@@ -106,18 +106,12 @@ def refuse_to_come(day: datetime.date) -> None:
 
 
 def number_for(book: Book, calf: Calf) -> str:
-    """With the digits that it had before, or else the next ones; breed and country are those that are wished, and of a
-    new one else those of the settings, or of the last number."""
+    """With the digits that it had before, or else the next ones; breed and country are those that are wished, or else
+    those that it had, and of a new one those of all new ones."""
     former = book.number_before(calf.id)
     if former:
         return (calf.breed or former[:3]) + (calf.country or former[3:6]) + calf.sex + former[7:]
-    row = (
-        book.connection and book.connection.execute("SELECT number FROM animal ORDER BY animal DESC LIMIT 1").fetchone()
-    )
-    last, settings = row[0] if row else BREED + COUNTRY, settings_of(book)
-    breed = calf.breed or settings[Setting.BREED] or last[:3]
-    country = calf.country or settings[Setting.COUNTRY] or last[3:6]
-    return f"{breed}{country}{calf.sex}{book.greatest_digits() + 1:012}"
+    return f"{letters_for(book, calf.breed, calf.country)}{calf.sex}{book.greatest_digits() + 1:012}"
 
 
 def herd_of(book: Book, owner: str) -> tuple[int, dict[str, int]]:

@@ -21,9 +21,10 @@ class Setting(enum.StrEnum):
     # the society's
     NAME = "name"
     ADDRESS = "address"
-    # of the numbers that the next sheets get, and words for an unknown parent in them
+    # with which new numbers begin
     BREED = "breed"
     COUNTRY = "country"
+    # words for an unknown parent, in the next sheets and in what is filed by hand
     UNKNOWN = "unknown"
     # of the desk in a browser
     LANGUAGE = "language"

@@ -16,7 +16,7 @@ from society.taking.lost_links import refuse_lost_links
 from society.taking.looks import Limits, Looks
 from society.taking.many_changes import tell_most_changed, tell_withdrawn_exits
 from society.taking.next_book import NextBook
-from society.taking.numbers import give_numbers
+from society.taking.numbers import give_numbers, numbers_begin
 from society.taking.obstacles import StrictlyNothing
 from society.taking.outcome import BookAfter, Outcome
 from society.taking.owner_days import OwnerDays
@@ -99,12 +99,9 @@ def book_after(next_book: NextBook, filed: Filed, wishes: Wishes, about: About) 
     with_row = [animal for animal in animals if animal.line]
     new = sum(animal.id not in book.known for animal in with_row)
     added = sum(not animal.line and animal.id not in book.known for animal in animals)
-    is_first = not book.records and not next_book.is_pedigree and not (wishes.breed and wishes.country)
-    # a state that was undone may have given them other letters than new ones have
-    begin = next((animal.number[:6] for animal in animals), "")
     return BookAfter(
-        len(animals), new, about.invented, bool(book.records) and filed.keeps is not None, begin * is_first,
-        wishes.drop_gone, len(with_row), added,
+        len(animals), new, about.invented, bool(book.records) and filed.keeps is not None,
+        numbers_begin(next_book, wishes.breed, wishes.country), wishes.drop_gone, len(with_row), added,
     )  # fmt: skip
 
 

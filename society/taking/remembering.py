@@ -26,15 +26,11 @@ OPTIONS = {Remembered.TOLD: "--no-animal"}
 
 
 def with_settings(book: Book, wishes: Wishes) -> Wishes:
-    """The wishes, and for those that aren't given what the society's settings say."""
+    """The wishes, with the words for unknown parents of the society's settings where none are given. The letters of its
+    numbers are no wish: they are for new numbers alone."""
     settings = settings_of(book)
     unknown = [settings[Setting.UNKNOWN]] * bool(settings[Setting.UNKNOWN])
-    return replace(
-        wishes,
-        breed=wishes.breed or settings[Setting.BREED],
-        country=wishes.country or settings[Setting.COUNTRY],
-        unknown=wishes.unknown or unknown,
-    )
+    return replace(wishes, unknown=wishes.unknown or unknown)
 
 
 def remember(book: Book, wishes: Wishes) -> Words:

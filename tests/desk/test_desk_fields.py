@@ -32,6 +32,7 @@ def test_wrong_country(empty_site: Site, language: str) -> None:
     site.take(address)
     # settings have what the numbers begin with, and tell what is wrong beside its field
     page = site.page("/settings")
+    assert words("breed of new") in shown(page) and words("country of new") in shown(page)
     assert re.search(r'name="breed"[^>]*value="SKU"', page) and re.search(r'name="country"[^>]*value="DEU"', page)
     page = site.post("/settings", country="DE").get_data(as_text=True)
     assert re.search(r'<input id="country"[^>]*aria-invalid="true"[^>]*>\s*<strong class="is-wrong"', page)

@@ -216,13 +216,14 @@ def test_history(site: Site, society_desk: Desk, today: datetime.date) -> None:
 
 
 def test_settings(site: Site, society_desk: Desk) -> None:
-    """What is set on the page is what `settings` says, and the other way round; the next sheet's numbers have the
-    breed and country."""
+    """What is set on the page is what `settings` says, and the other way round; new numbers have the breed and country,
+    and others stay."""
     assert re.search(r'name="breed"[^>]* value="HOL"', site.page("/settings"))
     assert '<html lang="fr">' in site.get("/settings", {"Accept-Language": "en;q=0.8, de;q=0, it, FR-ch"}).get_data(as_text=True)
     assert '<html lang="en">' in site.get("/settings", {"Accept-Language": "it, de;q=0"}).get_data(as_text=True)
     society_desk.good("birth", "NEW-1", "--sex", "f", "--day", "2024-03-01", "--breed", "ABC", "--country", "DEU")
-    assert re.search(r'name="breed"[^>]* value="ABC"', site.page("/settings"))
+    # an import's letters are its own
+    assert re.search(r'name="breed"[^>]* value="HOL"', site.page("/settings"))
     site.post(
         "/settings",
         name="Goats & <Kids>",
@@ -244,4 +245,6 @@ def test_settings(site: Site, society_desk: Desk) -> None:
     assert answer.status_code == 400 and "drei Buchstaben" in answer.get_data(as_text=True)
     sheet = pathlib.Path(__file__).parent.parent.parent / "examples/society.csv"
     society_desk.good("take", str(sheet))
-    assert society_desk.numbers()[INBRED] == "SKUDEUM000000000402"
+    society_desk.good("birth", "NEW-2", "--sex", "f", "--day", "2024-03-01")
+    numbers = society_desk.numbers()
+    assert numbers[INBRED] == "HOLGBRM000000000402" and numbers["NEW-2"] == "SKUDEUF000000000504"

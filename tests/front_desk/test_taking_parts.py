@@ -51,8 +51,9 @@ def test_numbers_of_a_taking() -> None:
 
     def book(former: dict[str, str], *known: Known, dropped: tuple[Known, ...] = ()) -> Book:
         parts = ({one.id: one for one in some} for some in (known, dropped))
+        first = next(iter([*(one.number for one in known), *former.values()]), "")
         found = dict(zip(("known", "dropped"), parts), former_numbers=lambda: former, greatest_digits=lambda: 7)
-        return cast(Book, SimpleNamespace(**found))
+        return cast(Book, SimpleNamespace(**found, connection=None, first_number=lambda: first))
 
     new = ("b", 2001), ("c", 2000), ("a", 2001)
     digits = {"c": 8, "a": 9, "b": 10}

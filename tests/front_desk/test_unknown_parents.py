@@ -57,7 +57,8 @@ def test_words_of_the_book(desk: Desk) -> None:
     pedigree = desk.write("p.txt", "id sire dam sex birth\na Nemo fremd F 2005-01-01\nb extern NN M 2005-02-01\n")
     assert " 0 added, " in desk.good("take", "--pedigree", pedigree).last
     assert desk.parents() | {"n": ("", "NN"), "a": ("", ""), "b": ("", "NN")} == desk.parents()
-    assert {number[:6] for number in desk.numbers().values()} == {"SKUCHE"}
+    begun = {id: number[:6] for id, number in desk.numbers().items()}
+    assert begun == {"s": "HOLGBR", "NN": "HOLGBR", "c": "HOLGBR", "n": "SKUCHE", "a": "SKUCHE", "b": "SKUCHE"}
     assert " 0 changed" in desk.good("take", "sheet.csv").last
     # what is said now holds over the settings
     done = desk.good("take", "--pedigree", pedigree, "--known", "Nemo")

@@ -37,7 +37,7 @@ def add_words(words: Words) -> None:
     birth.add_argument("--embryo", action="store_true", help="it comes from a stored embryo")
     for option in "--breed", "--country":
         birth.add_argument(
-            option, type=three_letters, metavar="ABC", help=f"the number's {option[2:]} [as in the book]"
+            option, type=three_letters, metavar="ABC", help=f"the number's {option[2:]} [as set, or as in the book]"
         )
     parents = words.add("parents", does(wished_parents), "file other parents of an animal", kept)
     add_parents(parents, "or 0 for an unknown one [as in the book]")

@@ -93,11 +93,11 @@ def add_words(words: Words) -> None:
     take.add_argument(
         "--apart", type=days, metavar="DAYS", help="report births of one dam that are nearer, also later [100]"
     )
-    take.add_argument("--breed", type=three_letters, metavar="ABC", help="the numbers' breed [HOL, or as in the book]")
-    take.add_argument(
-        "--country", type=three_letters, metavar="ABC",
-        help="the numbers' country [GBR, or as in the book]",
-    )  # fmt: skip
+    for option, otherwise in ("breed", "HOL"), ("country", "GBR"):
+        take.add_argument(
+            f"--{option}", type=three_letters, metavar="ABC",
+            help=f"the {option} of all numbers, the book's too [as they are; new ones as set, as in the book, or {otherwise}]",
+        )  # fmt: skip
     take.add_argument("--day", type=day_until_today, help="the day on which owners changed [today, which is inferred]")
     take.add_argument(
         "--preview", action="store_true", help="report what would change and what may be wrong, and write nothing"

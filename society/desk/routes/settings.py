@@ -5,6 +5,7 @@ from flask import Blueprint, flash, redirect, render_template, request, url_for
 
 from society.book.book import Book
 from society.book.kinds import Remembered
+from society.book.letters import letters_for
 from society.book.settings import Setting, change_settings, checked, lines_of, settings_of
 from society.desk.desk import Answer, the_desk, with_book
 from society.desk.finding_words import Sentence
@@ -17,8 +18,8 @@ MOST_LETTERS = 2_000
 # the field that says what the page had
 SHOWN = "shown-{}"
 LABELS = {
-    Setting.NAME: "society name", Setting.ADDRESS: "address", Setting.BREED: "option breed",
-    Setting.COUNTRY: "option country", Setting.UNKNOWN: "option unknown", Setting.LANGUAGE: "language of book",
+    Setting.NAME: "society name", Setting.ADDRESS: "address", Setting.BREED: "breed of new",
+    Setting.COUNTRY: "country of new", Setting.UNKNOWN: "option unknown", Setting.LANGUAGE: "language of book",
 }  # fmt: skip
 
 
@@ -31,18 +32,10 @@ def settings(book: Book) -> Answer:
 
 
 def as_shown(book: Book) -> dict[Setting, str]:
-    """The settings as the page has them."""
+    """The settings as the page has them, with the letters with which new numbers begin."""
     given = settings_of(book)
-    begin = numbers_begin(book)
-    given[Setting.BREED] = given[Setting.BREED] or begin[:3]
-    given[Setting.COUNTRY] = given[Setting.COUNTRY] or begin[3:6]
-    return given
-
-
-def numbers_begin(book: Book) -> str:
-    """The breed and the country of the newest number: those of the next sheet, where nothing else is said."""
-    newest = next(iter(book.rows("true ORDER BY substr(number, 8) DESC LIMIT 1")), None)
-    return newest.number[:6] if newest else ""
+    begin = letters_for(book)
+    return given | {Setting.BREED: begin[:3], Setting.COUNTRY: begin[3:]}
 
 
 @page.post("/settings")

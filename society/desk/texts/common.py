@@ -99,7 +99,9 @@ TEXTS = {
     "on certificates": ("On certificates", "Auf Abstammungsnachweisen", "Sur les certificats"),
     "society name": ("Name of the society", "Name des Verbands", "Nom de l'association"),
     "address": ("Address", "Anschrift", "Adresse"),
-    "for sheets": ("For the next sheets", "Für die nächsten Tabellen", "Pour les prochains tableaux"),
+    "for later": ("For what comes next", "Für alles Weitere", "Pour la suite"),
+    "breed of new": ("Breed in new numbers", "Rasse in neuen Nummern", "Race dans les nouveaux numéros"),
+    "country of new": ("Country in new numbers", "Land in neuen Nummern", "Pays dans les nouveaux numéros"),
     "language of book": (
         "Language of these pages, where nobody chose one", "Sprache dieser Seiten, wo niemand eine gewählt hat",
         "Langue de ces pages, si personne n'en a choisi",
