@@ -2,6 +2,8 @@
 hand."""
 from __future__ import annotations
 
+import datetime
+
 from society.book.commands import Record
 from society.book.inferred import Period
 from society.book.kinds import Field
@@ -9,13 +11,17 @@ from society.book.known import Known
 from society.book.role import Role
 from society.book.state import CELL_FIELDS
 from society.reading.animal import Animal
-from society.reading.cell_findings import ExitInferred
-from society.reading.days import Span
+from society.reading.cell_findings import DayLeftOut, ExitInferred
+from society.reading.days import DayFault, Span
 from society.taking.animal_findings import KeptByHand, KeptFromBook
 from society.taking.days_of_others import DaysOfOthers
+from society.taking.early_exits import Exit, exit_in_book, given_day
 from society.taking.faulty_parents import tried_again
 from society.taking.next_book import NextBook
 from society.taking.report import Entry
+
+# what is told of an exit before the birth
+TOO_EARLY = (DayFault.BEFORE_BIRTH, DayFault.WITHIN_BEFORE_BIRTH)
 
 
 def keep_values(next_book: NextBook) -> None:
@@ -46,9 +52,11 @@ class Keeping:
         for role in Role:
             if role not in self.given or role in animal.unread:
                 animal.set_parent(role, self.next_book.id_of(record.parent(role)))
-        if "exit" not in self.given or ("exit" in animal.unread and record.left):
-            animal.left, animal.exit_basis = record.left, known.exit
-            self.tell_kept(animal, Field.EXIT, str(record.left))
+        exit = exit_in_book(known, record, animal.birth.first)
+        if "exit" not in self.given or ("exit" in animal.unread and self.may_keep_exit(animal, exit)):
+            self.keep_exit(animal, exit)
+            if exit.day:
+                self.tell_kept(animal, Field.EXIT, str(exit.day))
         elif animal.exit_basis.period and has_day_within(animal.exit_basis.period, record, known):
             animal.left, animal.exit_basis = record.left, known.exit
             self.kept_exits.add(animal.line)
@@ -69,6 +77,19 @@ class Keeping:
         if not animal.sex and not known.sex.is_inferred:
             animal.sex = record.number[6]
             self.tell_kept(animal, Field.SEX, animal.sex)
+
+    def keep_exit(self, animal: Animal, exit: Exit) -> None:
+        animal.left, animal.exit_basis = exit
+        self.next_book.exits_of_book.add(animal.id)
+
+    def may_keep_exit(self, animal: Animal, exit: Exit) -> bool:
+        """Has the book a day for the exit, though it may be left out? One before the birth isn't kept where it is told that
+        the day of the cell is one too."""
+        day = exit.day or given_day(exit.basis)
+        if day is None or day >= animal.birth.first:
+            return day is not None
+        found = (one.finding for one in self.report.entries if one.line == animal.line)
+        return not any(isinstance(one, DayLeftOut) and one.field is Field.EXIT and one.fault in TOO_EARLY for one in found)
 
     def tell_kept(self, animal: Animal, field: Field, value: str) -> None:
         if field.value in self.given:
@@ -100,7 +121,7 @@ class Keeping:
         if Field.OWNER in known.by_hand:
             self.keep_owner(animal, owner, Field.OWNER in stays, Field.SINCE in as_before)
         if Field.EXIT in stays:
-            animal.left, animal.exit_basis = record.left, known.exit
+            self.keep_exit(animal, exit_in_book(known, record, animal.birth.first))
         if Field.EMBRYO in stays:
             animal.embryo = record.embryo
         if Field.NAME in stays:

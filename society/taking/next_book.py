@@ -39,6 +39,8 @@ class NextBook:
         self.overridden: dict[str, frozenset[Field]] = {}
         # the ids of rows that name another owner than the one by hand, who stays
         self.kept_owners: set[str] = set()
+        # the ids of animals whose exits are those of the book, or were left out there
+        self.exits_of_book: set[str] = set()
 
     def record(self, id: str) -> Record | None:
         known = self.book.known.get(id)

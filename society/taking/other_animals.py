@@ -23,6 +23,7 @@ def add_others(next_book: NextBook, drop_gone: bool) -> None:
     has_sires, has_dams = Role.SIRE in next_book.given, Role.DAM in next_book.given
     next_book.texts = {id: (one.sire * has_sires, one.dam * has_dams) for id, one in animals.items()}
     gone = animals_of_book(book, animals)
+    next_book.exits_of_book |= gone.keys()
     all_animals = animals | gone
     keep_parents_named(next_book, all_animals)
     if not next_book.is_pedigree:

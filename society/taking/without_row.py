@@ -9,6 +9,7 @@ from society.pedigree_order import ancestors
 from society.reading.animal import Animal
 from society.reading.days import ANY_DAY, Span, span_of_period
 from society.taking.animal_findings import RowIsGone
+from society.taking.early_exits import exit_in_book
 from society.taking.report import Report
 
 
@@ -25,7 +26,7 @@ def animals_of_book(book: Book, animals: dict[str, Animal]) -> dict[str, Animal]
         animal.sire, animal.dam = ids.get(record.sire, ""), ids.get(record.dam, "")
         animal.owner, animal.embryo = book.owner_of(record.herd), record.embryo
         animal.castrated = known.castrated
-        animal.left, animal.exit_basis = record.left, known.exit
+        animal.left, animal.exit_basis = exit_in_book(known, record, animal.birth.first)
         gone[id] = animal
     return gone
 
