@@ -11,7 +11,8 @@ from society.book.history import change_numbered
 from society.book.history_words import difference, heading
 from society.book.owner_names import names_now
 from society.book.rows import COLUMNS, Row
-from society.taking.report import What
+from society.taking.report import Entry, What
+from society.taking.row_findings import OwnerDayBack
 from society.taking.stored_findings import entry_of
 
 # what the rows before and after a change say too
@@ -32,9 +33,14 @@ def history_of(connection: sqlite3.Connection, id: str) -> Iterator[str]:
             yield f"  {difference(ended.get(number), began.get(number), names, owners, owners)}"
         for one in told.get(number, []):
             entry = entry_of(one)
-            if entry.what not in SAID_BY_ROWS:
+            if not is_said_by_rows(entry):
                 said = entry.why if entry.part else f"{entry.what}: {entry.why}"
                 yield f"  {f'line {one.line}: ' if one.line else ''}{said}"
+
+
+def is_said_by_rows(entry: Entry) -> bool:
+    """Do the rows before and after say it? They have no owners before the last."""
+    return entry.what in SAID_BY_ROWS and not isinstance(entry.finding, OwnerDayBack)
 
 
 def rows_by_change(connection: sqlite3.Connection, id: str, column: str) -> dict[int, Row]:

@@ -105,6 +105,17 @@ def change_numbered(connection: sqlite3.Connection, number: int) -> Change | Non
     return change_of(connection, row) if row else None
 
 
+def changes_behind(connection: sqlite3.Connection) -> set[int]:
+    """The changes that made the last state, without those that were undone."""
+    undone_to = dict(connection.execute("SELECT change, undone_to FROM change ORDER BY change"))
+    found, at = set[int](), max(undone_to, default=0)
+    while at:
+        found.add(at)
+        to = undone_to[at]
+        at = at - 1 if to is None else to
+    return found
+
+
 def change_by_form(connection: sqlite3.Connection, form: str) -> Change | None:
     """The change that a form made; none where it made none yet."""
     row = connection.execute(f"SELECT {COLUMNS} FROM change WHERE form = ?", (form,)).fetchone()

@@ -5,7 +5,7 @@ import collections
 import json
 from typing import NamedTuple
 
-from society.answers.own_history import SAID_BY_ROWS, names_of_parents, rows_by_change, told_of_animal
+from society.answers.own_history import is_said_by_rows, names_of_parents, rows_by_change, told_of_animal
 from society.book.book import NO_OWNER, Book
 from society.book.changes import Told
 from society.book.history import change_numbered
@@ -113,7 +113,7 @@ def own_changes(book: Book, id: str, words: Words) -> list[OwnChange]:
         change = change_numbered(book.connection, number)
         assert change is not None
         entries = [entry_of(one) for one in told.get(number, [])]
-        sentences = [sentence_of(entry.finding, words) for entry in entries if entry.what not in SAID_BY_ROWS]
+        sentences = [sentence_of(entry.finding, words) for entry in entries if not is_said_by_rows(entry)]
         is_changed = number in began or number in ended
         rows = ended.get(number), began.get(number)
         changed = difference(id, *rows, names, (owners, owners), words) if is_changed else None

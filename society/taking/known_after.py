@@ -41,7 +41,7 @@ def known_animals(next_book: NextBook) -> dict[str, Known]:
             sire,
             dam,
             by_hand,
-            animal.owner_day if animal.line or before is None else before.owner_day,
+            animal.owner_day,
         )
         kept[id] = made(Known, values)
     return kept

@@ -4,6 +4,7 @@ from __future__ import annotations
 
 import datetime
 import functools
+from collections.abc import Sequence
 from typing import NamedTuple
 
 from society.book.book import NO_OWNER, Book
@@ -12,11 +13,13 @@ from society.book.inferred import OwnerDay
 from society.book.journal import accepted_commands
 from society.book.kinds import Field
 from society.book.named import made
+from society.book.owner_day import has_period
 from society.reading.animal import Animal
 from society.reading.days import DayFault, Span
 from society.reading.cell_findings import DayLeftOut
+from society.taking.given_days import GivenDays
 from society.taking.report import Finding, Report
-from society.taking.row_findings import OwnerDayInferred, OwnerDayMoved
+from society.taking.row_findings import OwnerDayBack, OwnerDayInferred, OwnerDayMoved
 
 
 class Owners(NamedTuple):
@@ -45,6 +48,7 @@ class OwnerDays:
         self.refused: set[str] = set()
         # the first days with owners that stay, where the sheet says others than the book's, by the animals' ids
         self.other_days: dict[str, str] = {}
+        self.given_days = GivenDays(book)
 
     @functools.cached_property
     def before(self) -> tuple[dict[str, int], dict[str, list[Command]]]:
@@ -84,23 +88,38 @@ class OwnerDays:
         since = None if has_other_owner else self.other_days_of(animal, record)
         if not (before or has_other_owner or since):
             return Owners(first, [], 0, False)
-        first_herd, transfers = first, [one._replace(animal=animal.number) for one in before]
-        if has_other_owner and animal.id not in self.refused:
+        has_new_owner = has_other_owner and animal.id not in self.refused
+        before = [one._replace(animal=animal.number) for one in before]
+        transfers = given = self.as_given(animal, record, before, not has_new_owner)
+        first_herd = first
+        if has_new_owner:
             since = animal.since
-            transfers.append(self.change(animal, record))
+            transfers = [*given, self.change(animal, record)]
         elif since:
             day = self.day_said(animal, since)
-            if transfers:
-                transfers[-1] = transfers[-1]._replace(day=day.isoformat())
+            if given:
+                transfers = [*given[:-1], given[-1]._replace(day=day.isoformat())]
             else:
                 first_herd, transfers = NO_OWNER, [transfer(animal.number, day, NO_OWNER, first)]
-        transfers = self.in_order(animal, transfers, since)
-        if since and not has_other_owner and transfers[-1].day != record.since.isoformat():
-            self.other_days[animal.id] = transfers[-1].day
-        is_kept = [one[1:] for one in transfers[: len(before)]] == [
-            one._replace(animal=animal.number)[1:] for one in before
-        ]
+        transfers = self.in_order(animal, transfers, since, before)
+        if not has_other_owner and transfers[-1].day != record.since.isoformat():
+            # one that was moved is told by itself
+            if since or transfers[-1].day == given[-1].day:
+                self.other_days[animal.id] = transfers[-1].day
+        is_kept = [one[1:] for one in transfers[: len(before)]] == [one[1:] for one in before]
         return Owners(first_herd, transfers, len(before), not is_kept or first_herd != first)
+
+    def as_given(self, animal: Animal, record: Record, before: list[Command], stays: bool) -> list[Command]:
+        """The book's transfers on the days that were given, also where takings moved them. The last owner keeps the
+        book's day where the sheet says it too."""
+        given = self.given_days.of(animal.id, before) if before else before
+        if not stays or given == before or given[-1] == before[-1]:
+            return given
+        if animal.since and animal.since.has(record.since):
+            return [*given[:-1], before[-1]]
+        is_of_period = has_period(self.book, animal.id, datetime.date.fromisoformat(given[-1].day))
+        animal.owner_day = OwnerDay.INFERRED if is_of_period else OwnerDay.GIVEN
+        return given
 
     def of_new(self, animal: Animal) -> Owners:
         """A new animal has its owner from its birth on, but where the sheet says since when."""
@@ -151,10 +170,12 @@ class OwnerDays:
             day = self.day_said(animal, animal.since)
         return transfer(animal.number, day, record.herd, self.herd_of(animal.owner))
 
-    def in_order(self, animal: Animal, transfers: list[Command], since: Span | None = None) -> list[Command]:
+    def in_order(
+        self, animal: Animal, transfers: list[Command], since: Span | None = None, before: Sequence[Command] = ()
+    ) -> list[Command]:
         """The transfers with no day before the birth, before that of the owner before, or after the exit. Days that
-        were inferred give way; where a day that was given does, it is told, and so is that of a month or a year, which
-        the sheet says of the last one by `since`."""
+        were inferred give way; where a day that was given does, it is told, unless the book has it so by `before`, and so
+        is that of a month or a year, which the sheet says of the last one by `since`."""
         low, high = animal.born, animal.left or datetime.date.max
         days = [datetime.date.fromisoformat(command.day) for command in transfers]
         if days and not animal.owner_day.is_inferred:
@@ -164,10 +185,17 @@ class OwnerDays:
         for place, (command, day) in enumerate(zip(transfers, days)):
             moved = min(max(day, low), high) if low <= high else low
             is_last = place == len(transfers) - 1
+            in_book = datetime.date.fromisoformat(before[place].day) if place < len(before) else None
+            owner = self.book.owner_of(int(command.taker))
             if is_last and since and not since.is_day and since.has(moved):
                 self.tell(animal, OwnerDayInferred(moved, since.period()))
-            elif moved != day and (since or not is_last or not animal.owner_day.is_inferred):
-                self.tell(animal, OwnerDayMoved(self.book.owner_of(int(command.taker)), day, moved))
+            elif moved != day:
+                # what no sheet says of the last owner is inferred, or was told before
+                is_said = since if is_last else None
+                if is_said or (moved != in_book and not (is_last and animal.owner_day.is_inferred)):
+                    self.tell(animal, OwnerDayMoved(owner, day, moved))
+            elif in_book and moved != in_book and not is_last:
+                self.tell(animal, OwnerDayBack(owner, in_book, moved))
             if moved != day and is_last:
                 animal.owner_day = OwnerDay.INFERRED
             found.append(command._replace(day=moved.isoformat()))

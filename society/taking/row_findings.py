@@ -159,6 +159,21 @@ class OwnerDayMoved(Finding):
 
 
 @dataclass(frozen=True, slots=True)
+class OwnerDayBack(Finding):
+    """The day since which an owner before the last had an animal is the one that was given again: what made it impossible
+    is mended."""
+
+    owner: str
+    before: datetime.date
+    now: datetime.date
+
+    what = What.CHANGED
+
+    def words(self) -> str:
+        return f"its first day with '{self.owner}' is {self.now} again, as was given, and not {self.before}"
+
+
+@dataclass(frozen=True, slots=True)
 class OwnerDayInferred(Finding):
     """Of the day since which an owner has the animal the sheet says the month or the year alone."""
 

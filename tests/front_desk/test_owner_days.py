@@ -42,7 +42,9 @@ def found(
     owners = {"Nord": NORD, "Süd": SUED}
     names = {herd: name for name, herd in owners.items()} | {NO_OWNER: ""}
     known = {"a": Known(NUMBER, "a", owner_day=INFERRED)}
-    book = SimpleNamespace(known=known, records={NUMBER: record}, owners=owners, owner_of=names.get)
+    book = SimpleNamespace(
+        known=known, records={NUMBER: record}, owners=owners, owner_of=names.get, connection=None
+    )  # fmt: skip
     report = Report()
     days = OwnerDays(cast(Book, book), report, None)
     days.before = {NUMBER: first}, {NUMBER: [*before]}

@@ -100,7 +100,10 @@ def test_what_an_animal_is_after_a_taking() -> None:
     found: dict[Standing, list[Standing]] = {}
     for standing in Standing.ROW, Standing.GONE, Standing.PARENT, Standing.FILED:
         known = Known(NUMBER, "a", "Anna", standing, by_hand=frozenset({Field.SIRE}), owner_day=OwnerDay.INFERRED)
-        row, none, left_out = (next_book(Animal("a", line, number=NUMBER), known) for line in (2, 0, 0))
+        row, none, left_out = (
+            next_book(Animal("a", line, number=NUMBER, owner_day=OwnerDay.GIVEN if line else OwnerDay.INFERRED), known)
+            for line in (2, 0, 0)
+        )
         left_out.used_again = {"a"}
         assert known_after(next_book(None, known)) == {"a": known._replace(standing=Standing.DROPPED)}
         row.overridden = {"a": frozenset({Field.SIRE})}
@@ -226,7 +229,9 @@ def test_owners_of_animals(today: datetime.date) -> None:
         known = {} if is_new else {"a": Known(NUMBER, "a", owner_day=OwnerDay.INFERRED)}
         owners = {"Nord": 4, "Süd": 5}
         names = {herd: name for name, herd in owners.items()} | {NO_OWNER: ""}
-        book = SimpleNamespace(known=known, records={NUMBER: record}, owners=owners, owner_of=names.get)
+        book = SimpleNamespace(
+            known=known, records={NUMBER: record}, owners=owners, owner_of=names.get, connection=None
+        )  # fmt: skip
         days = OwnerDays(cast(Book, book), report, None)
         days.before = {NUMBER: 4}, {NUMBER: [given]}
         animal = Animal("a", 2, number=number, owner=owner, since=since, born=now)

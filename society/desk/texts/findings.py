@@ -72,6 +72,10 @@ FINDINGS: dict[str, tuple[str, str]] = {
         "„{text}“ gilt nicht als erster Tag des Besitzers „{owner}“: es stand schon bei „{before}“ da",
         "« {text} » n'est pas pris comme premier jour du propriétaire « {owner} » : il figurait déjà pour « {before} »",
     ),
+    "owner day back": (
+        "sein erster Tag bei „{owner}“ ist wieder {now}, wie angegeben, und nicht {before}",
+        "son premier jour chez « {owner} » est de nouveau {now}, comme indiqué, et non {before}",
+    ),
     "owner day moved": (
         "es ist seit {now} von „{owner}“, und nicht seit {before}, was mit Geburt, Abgang oder Besitzer vorher nicht sein kann",
         "il est de « {owner} » depuis {now}, et non depuis {before}, impossible vu la naissance, la sortie ou l'ancien "
