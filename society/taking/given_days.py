@@ -16,8 +16,8 @@ from society.taking.row_findings import OwnerDayMoved
 
 
 class Said(NamedTuple):
-    """What a change says of the day since which a herd has an animal: that it stands for the day `given`, or that it is
-    that itself."""
+    """What a change says of the day since which a herd has an animal: that it stands for the day `given`, or that it
+    is that itself."""
 
     change: int
     place: int

@@ -83,13 +83,14 @@ class Keeping:
         self.next_book.exits_of_book.add(animal.id)
 
     def may_keep_exit(self, animal: Animal, exit: Exit) -> bool:
-        """Has the book a day for the exit, though it may be left out? One before the birth isn't kept where it is told that
-        the day of the cell is one too."""
+        """Has the book a day for the exit, though it may be left out? One before the birth isn't kept where it is told
+        that the day of the cell is one too."""
         day = exit.day or given_day(exit.basis)
         if day is None or day >= animal.birth.first:
             return day is not None
-        found = (one.finding for one in self.report.entries if one.line == animal.line)
-        return not any(isinstance(one, DayLeftOut) and one.field is Field.EXIT and one.fault in TOO_EARLY for one in found)
+        found = [one.finding for one in self.report.entries if one.line == animal.line]
+        days = [one for one in found if isinstance(one, DayLeftOut) and one.field is Field.EXIT]
+        return not any(one.fault in TOO_EARLY for one in days)
 
     def tell_kept(self, animal: Animal, field: Field, value: str) -> None:
         if field.value in self.given:

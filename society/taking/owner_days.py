@@ -174,8 +174,8 @@ class OwnerDays:
         self, animal: Animal, transfers: list[Command], since: Span | None = None, before: Sequence[Command] = ()
     ) -> list[Command]:
         """The transfers with no day before the birth, before that of the owner before, or after the exit. Days that
-        were inferred give way; where a day that was given does, it is told, unless the book has it so by `before`, and so
-        is that of a month or a year, which the sheet says of the last one by `since`."""
+        were inferred give way; where a day that was given does, it is told, unless the book has it so by `before`, and
+        so is that of a month or a year, which the sheet says of the last one by `since`."""
         low, high = animal.born, animal.left or datetime.date.max
         days = [datetime.date.fromisoformat(command.day) for command in transfers]
         if days and not animal.owner_day.is_inferred:

@@ -160,8 +160,8 @@ class OwnerDayMoved(Finding):
 
 @dataclass(frozen=True, slots=True)
 class OwnerDayBack(Finding):
-    """The day since which an owner before the last had an animal is the one that was given again: what made it impossible
-    is mended."""
+    """The day since which an owner before the last had an animal is the one that was given again: what made it
+    impossible is mended."""
 
     owner: str
     before: datetime.date

@@ -11,8 +11,8 @@ GIVEN = ["2015-01-01", "2015-06-01"]
 
 def moved(owner: str, now: str, before: str) -> str:
     return (
-        f"line 3: A3: to look at: it has been of '{owner}' since {now}, and not since {before}, which can't be with its "
-        "birth, its exit or its owner before"
+        f"line 3: A3: to look at: it has been of '{owner}' since {now}, and not since {before}, which can't be with "
+        "its birth, its exit or its owner before"
     )
 
 
@@ -43,7 +43,8 @@ def test_days_of_owners_by_hand(desk: Desk) -> None:
         *(moved(one, "2016-12-01", day) for one, day in zip(("Tierpark", "Hill"), GIVEN))
     )
     between = desk.take(SHEET.replace("2014-12-01", "2015-03-01"))
-    between.tells(moved("Tierpark", "2015-03-01", GIVEN[0]), "line 3: A3: changed: owner since: 2015-06-01, before 2016-12-01")
+    last = "line 3: A3: changed: owner since: 2015-06-01, before 2016-12-01"
+    between.tells(moved("Tierpark", "2015-03-01", GIVEN[0]), last)
     assert desk.transfer_days() == ["2015-03-01", GIVEN[1]] and owner_shown(desk) == "Hill, since 2015-06-01"
     desk.take(SHEET).tells(back("Tierpark", GIVEN[0], "2015-03-01"))
     assert desk.transfer_days() == GIVEN
@@ -79,8 +80,8 @@ def test_days_that_the_society_changed_meanwhile(desk: Desk) -> None:
     """What a sheet says now holds, or another owner by hand; what was undone counts as little as what it told."""
     file_owners(desk)
     desk.take(TYPO)
-    said = TYPO.replace("owner,", "owner,since,").replace("Mill,\nA3", "Mill,,\nA3").replace("Mill,\n", "Hill,2015-12-01,\n")
-    desk.take(said)
+    said = TYPO.replace("owner,", "owner,since,").replace("Mill,\nA3", "Mill,,\nA3")
+    desk.take(said.replace("Mill,\n", "Hill,2015-12-01,\n"))
     assert owner_shown(desk) == "Hill, since 2015-12-01"
     desk.take(SHEET.replace("A2,,Mill", "A2,,Hill"))
     assert desk.transfer_days() == [GIVEN[0], "2015-12-01"]

@@ -1,4 +1,5 @@
-"""Exits that a sheet's mistake made impossible: they are tried again at each taking, and come back when it is mended."""
+"""Exits that a sheet's mistake made impossible: they are tried again at each taking, and come back when it is
+mended."""
 from __future__ import annotations
 
 import pytest
@@ -11,16 +12,16 @@ TYPO, OTHER = (SHEET.replace("2014-12-01", day) for day in ("2015-12-01", "2016-
 
 @pytest.mark.parametrize("cell", ["", "sold"])
 def test_exit_by_hand(desk: Desk, cell: str) -> None:
-    """It comes back with the birth day, or with another one that allows it. Nothing says that it stays where it is left
-    out."""
+    """It comes back with the birth day, or with another one that allows it. Nothing says that it stays where it is
+    left out."""
     sheet, typo, other = (one.replace("A2,,Mill,", f"A2,,Mill,{cell}") for one in (SHEET, TYPO, OTHER))
     desk.take(SHEET)
     desk.good("exit", "A3", "--day", "2015-01-01")
     if cell:
         desk.take(sheet)
     left_out = (
-        "line 3: A3: its exit on 2015-01-01 is left out: the day is before its birth, or before its owner got it (refusal "
-        "14); the animal counts as gone"
+        "line 3: A3: its exit on 2015-01-01 is left out: the day is before its birth, or before its owner got it "
+        "(refusal 14); the animal counts as gone"
     )
     done = desk.take(typo)
     done.tells(left_out)
