@@ -191,7 +191,8 @@ def test_ten_more_rows(her: Secretary, secretary_desk: Desk) -> None:
     assert "owner: Neuer Hof, Übersee, before " in done.told
     assert "exit: 2020-12-31, before none" in done.told
     counts = re.findall(r"(\d+) (?:new|changed|inferred|left|added|gone)", done.last)
-    # what is to be looked at is told, and not counted
-    counted = [row for row in desk.table("book/report.csv") if row["what"] != "to look at"]
-    assert len(counted) == sum(map(int, counts))
+    # what is to be looked at is told, and not counted; of what is changed the animals are
+    counted = [row for row in desk.table("book/report.csv") if row["what"] not in ("to look at", "changed")]
+    changed = {row["id"] for row in desk.table("book/report.csv") if row["what"] == "changed"}
+    assert len(counted) + len(changed) == sum(map(int, counts))
     assert reference.replies(desk.text("book/commands.csv")).count("accepted") == len(more)

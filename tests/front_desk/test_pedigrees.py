@@ -143,7 +143,7 @@ def test_animals_of_the_book_that_are_others(desk: Desk) -> None:
     done = desk.wrong("9 of 9 animals have other birth days than in the book, the first are c0 (line 2)", *take)
     assert "9 of 9 animals have other sexes" in done.err and "9 of 9 animals have other parents, or none," in done.err
     assert "9 of 9 animals have other birth days" in desk.good(*take, "--preview").out
-    assert " 36 changed" in desk.typed(done.commands()[-1]).last
+    assert " 9 changed" in desk.typed(done.commands()[-1]).last
     desk.write("p.txt", "x 0 anna\n")
     done = desk.wrong("1 parent has no line and is the name of an animal of the book: anna (of x in line 1; is a meant?)", *take)
     desk.typed(done.commands()[-1])
