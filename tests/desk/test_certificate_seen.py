@@ -1,0 +1,67 @@
+"""Certificates in Chromium, on paper and on a telephone: nothing of a box is cut but a long name."""
+from __future__ import annotations
+
+import base64
+import re
+
+from selenium import webdriver
+
+from desk.screen import PHONE, Screen, chromium
+from front_desk.desk import Desk
+from society.pages.languages import LANGUAGES
+
+__all__ = ["chromium"]
+NAME = "Wilhelmine Charlotte Friederike von der hohen Wiese am Wald und an der Heide"
+OWNER = "Arbeitsgemeinschaft der Halter alter Rassen im Landkreis Sonstwo"
+SOCIETY = "Landesverband der Züchter und Halter alter und gefährdeter Nutztierrassen im Südwesten und in Gebieten daneben"
+ADDRESS = "Wilhelmine Huber\nAm Hang 17\n12345 Hintertupfingen\ninfo@example.org"
+# ids of a word, a line and two
+BEFORE = ("k-", "de-09-2765-", "de-09-2765-0000123456-zv")
+# what leaves its box, or is itself cut
+CUT = """[...document.querySelectorAll('.box')].flatMap(box => {
+    const edge = box.getBoundingClientRect();
+    return [...box.querySelectorAll('small, b, .line, .inbred')].filter(one => {
+        const part = one.getBoundingClientRect();
+        const [wide, high] = [one.scrollWidth - one.clientWidth, one.scrollHeight - one.clientHeight];
+        const isCut = one.clientHeight && (wide > 0 || high > 1);
+        return isCut || part.left < edge.left || part.right > edge.right || part.bottom > edge.bottom;
+    }).map(one => one.innerText);
+})"""
+WIDTH = "document.documentElement.scrollWidth"
+# boxes, those of common ancestors, and coefficients
+COUNTS = "['.box', '.common', '.inbred'].map(one => document.querySelectorAll(one).length)"
+
+
+def full_sibs(before: str) -> str:
+    """Full sibs over seven generations: each birth day is inferred, and each parent written in other letters."""
+    rows = ""
+    for at in range(7):
+        parents = f"{before.upper()}{at - 1}M,{before.upper()}{at - 1}F" if at else ","
+        rows += "".join(f"{before}{at}{sex},{NAME},{sex},{2000 + 3 * at},{parents},{OWNER}\n" for sex in "mf")
+    return rows
+
+
+def test_boxes(chromium: webdriver.Chrome, desk: Desk) -> None:
+    desk.take("id,name,sex,birth,sire,dam,owner\n" + "".join(map(full_sibs, BEFORE)))
+    desk.good("settings", "--name", SOCIETY, "--address", ADDRESS)
+    screen = Screen(chromium, "")
+    for language in LANGUAGES:
+        name = f"{language}.html"
+        desk.good("certificate", *(f"{before}6f" for before in BEFORE), "--language", language, "--out", name)
+        address = (desk.room / name).as_uri()
+        screen.opens(address)
+        assert screen.reads(COUNTS) == [14 * 3, 12 * 3, 14 * 3]
+        assert screen.reads(CUT) == []
+        chromium.execute_cdp_cmd("Emulation.setEmulatedMedia", {"media": "print"})
+        assert screen.reads(CUT) == []
+        chromium.execute_cdp_cmd("Emulation.setEmulatedMedia", {"media": ""})
+        assert sheets_printed(chromium) == 3
+        screen.becomes_small()
+        screen.opens(address)
+        assert screen.reads(CUT) == [] and screen.reads(WIDTH) == PHONE["width"]
+        chromium.execute_cdp_cmd("Emulation.clearDeviceMetricsOverride", {})
+
+
+def sheets_printed(chromium: webdriver.Chrome) -> int:
+    done = chromium.execute_cdp_cmd("Page.printToPDF", {"preferCSSPageSize": True, "printBackground": True})
+    return len(re.findall(rb"/Type\s*/Page\b", base64.b64decode(done["data"])))
