@@ -124,7 +124,11 @@ class OwnerDays:
     def of_new(self, animal: Animal) -> Owners:
         """A new animal has its owner from its birth on, but where the sheet says since when."""
         herd = self.herd_of(animal.owner)
-        if animal.since is None or herd == NO_OWNER or self.is_later(animal) or animal.since.first <= animal.born:
+        if animal.since is None or herd == NO_OWNER or self.is_later(animal):
+            return made(Owners, (herd, [], 0, False))
+        if animal.since.first <= animal.born:
+            if animal.since.last < animal.born:
+                self.tell(animal, OwnerDayMoved(animal.owner, animal.since.last, animal.born))
             return made(Owners, (herd, [], 0, False))
         only = [transfer(animal.number, self.day_said(animal, animal.since), NO_OWNER, herd)]
         return Owners(NO_OWNER, self.in_order(animal, only, animal.since), 0, False)

@@ -98,6 +98,19 @@ def test_days_before_the_birth() -> None:
         assert found(owner, on(DAY), first=NO_OWNER).owners == wanted
 
 
+def test_new_animal_before_its_birth() -> None:
+    """Of a new animal a day, a month or a year that ends before its birth is told: its owner has it from the birth on."""
+    early = datetime.date(2000, 12, 31)
+    for since, told in (
+        (on(early), [OwnerDayMoved("Nord", early, BORN)]), (year_of(2000), [OwnerDayMoved("Nord", early, BORN)]),
+        (year_of(BORN.year), []), (on(BORN), []), (None, []),
+    ):  # fmt: skip
+        report, book = Report(), SimpleNamespace(known={}, owners={"Nord": NORD})
+        animal = Animal("b", 2, number=NUMBER, owner="Nord", since=since, born=BORN)
+        assert OwnerDays(cast(Book, book), report, None).of(animal) == (NORD, [], 0, False)
+        assert [one.finding for one in report.entries] == told
+
+
 def test_periods_of_an_owner(today: datetime.date) -> None:
     """The last day of one stands for it, or that of an exit within it, or today; it is inferred, and told of the last
     owner alone. A day that isn't of the period is told as one that is moved."""
