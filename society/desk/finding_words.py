@@ -6,7 +6,8 @@ import re
 from collections.abc import Iterator, Sequence
 from typing import NamedTuple
 
-from society.desk.texts import SENTENCES, findings, sheet_findings
+from society.desk.made_values import YES, made_values
+from society.desk.texts import SENTENCES, findings, parent_findings, sheet_findings
 from society.desk.texts.members import MEMBERS
 from society.desk.texts.of_one import OF_ONE
 from society.desk.texts.sheet_findings import ENGLISH, WITHIN
@@ -17,12 +18,10 @@ from society.reading.sentences import Where
 from society.sentence import Said, Some
 from society.taking.report import Entry, Finding, kind_of
 
-FINDINGS = findings.FINDINGS | sheet_findings.FINDINGS
+FINDINGS = findings.FINDINGS | parent_findings.FINDINGS | sheet_findings.FINDINGS
 # what is left out where one of its values is empty
 PART = re.compile(r"\[([^\]]*)\]")
 VALUE = re.compile(r"\{(\w+)\}")
-# what is only asked, as whether it is gone, says nothing itself
-YES = "\0"
 
 
 class Sentence(NamedTuple):
@@ -34,7 +33,7 @@ class Sentence(NamedTuple):
 
 def sentence_of(finding: Finding, words: Words) -> Sentence:
     """What is found, without what is suggested for the command line; in English where the language has no words."""
-    values = dict(values_of("", finding, words))
+    values = dict(values_of("", finding, words)) | made_values(finding, words)
     text = text_of_one(finding.kind(), values, words) or text_for(finding.kind(), words)
     if text is None:
         return Sentence(finding.words(), "" if words.at == 0 else "en")

@@ -21,7 +21,7 @@ from society.book.inferred import BirthBasis, BirthSource, Period, SexSource
 from society.book.kinds import ChangeKind
 from society.book.sentences import BookFault
 from society.desk import texts
-from society.desk.finding_words import FINDINGS, VALUE, Sentence, sentence_in, sentence_of
+from society.desk.finding_words import FINDINGS, VALUE, Sentence, sentence_in, sentence_of, text_for
 from society.desk.member_words import NAMES, word_for
 from society.desk.texts import SENTENCES
 from society.desk.texts.members import MEMBERS
@@ -103,6 +103,8 @@ def test_findings(name: str) -> None:
         assert told.language == "" and not re.search(r"[\[\]{}\0]", told.text), told
         asked = set(VALUE.findall(FINDINGS[name][Words(language).at - 1]))
         assert ("GK-1" in told.text) or not {"id", "parent", "dam", "sire", "text", "title", "worksheet"} & asked
+    if english := text_for(name, Words("en")):
+        assert "--" not in english and "--" not in sentence_of(finding, Words("en")).text
 
 
 @pytest.mark.parametrize("kind", OF_ONE)

@@ -14,12 +14,16 @@ FINDINGS: dict[str, tuple[str, str]] = {
     ),
     "titles again": ("die Zeile ist weggelassen: sie wiederholt die Titel", "la ligne est omise : elle répète les titres"),
     "id again": (
-        "die Zeile ist weggelassen: Zeile {line} hat diese Ohrmarke auch[, mit {differing}]",
-        "la ligne est omise : la ligne {line} a aussi cette boucle[, avec {differing}]",
+        "die Zeile ist weggelassen: Zeile {line} hat diese Ohrmarke auch[, mit anderen Eltern, die gelten (dort {parents_there}; "
+        "hier {parents_here})][; {differing}]",
+        "la ligne est omise : la ligne {line} a aussi cette boucle[, avec d'autres parents, qui valent (là {parents_there} ; "
+        "ici {parents_here})][ ; {differing}]",
     ),
     "line again": (
-        "die Zeile ist weggelassen: Zeile {line} hat diese Kennung auch[, mit {differing}]",
-        "la ligne est omise : la ligne {line} a aussi ce numéro[, avec {differing}]",
+        "die Zeile ist weggelassen: Zeile {line} hat diese Kennung auch[, mit anderen Eltern, die gelten (dort {parents_there}; "
+        "hier {parents_here})][; {differing}]",
+        "la ligne est omise : la ligne {line} a aussi ce numéro[, avec d'autres parents, qui valent (là {parents_there} ; "
+        "ici {parents_here})][ ; {differing}]",
     ),
     "sex unread": (
         "das Geschlecht ist weggelassen: „{text}“ ist nicht bekannt: schreiben Sie M oder W",
@@ -37,12 +41,17 @@ FINDINGS: dict[str, tuple[str, str]] = {
         "die Zelle „{title}“ ist weggelassen: „{text}“ ist ein Fehler der Tabelle und kein Wert",
         "la cellule « {title} » est omise : « {text} » est une erreur du tableur, pas une valeur",
     ),
-    "exit inferred": ("Abgang am {day}[, aus „{text}“]", "sortie le {day}[, d'après « {text} »]"),
+    "exit inferred": (
+        "Abgang am {day}[, dem letzten Tag von {basis_period_text}][, aus „{text}“]",
+        "sortie le {day}[, dernier jour de {basis_period_text}][, d'après « {text} »]",
+    ),
     "id used again": (
-        "die Zeile ist weggelassen: das Herdbuch hat diese Ohrmarke für ein anderes Tier, geboren am {born_there}; hier "
-        "geboren am {born_here}. Ist es ein anderes, geben Sie ihm eine andere Ohrmarke",
-        "la ligne est omise : le livre a cette boucle pour un autre animal, né le {born_there} ; ici né le {born_here}. Si "
-        "c'en est un autre, donnez-lui une autre boucle",
+        "die Zeile ist weggelassen: [das Herdbuch{is_of_book}][Zeile {line}] hat diese Ohrmarke für ein anderes Tier, "
+        "geboren am {born_there}[ („{name_there}“)]; hier geboren am {born_here}[ („{name_here}“)][; bei den Nachkommen in Zeile "
+        "{named_in} ist das erste gemeint]. Ist es ein anderes, geben Sie ihm eine andere Ohrmarke, auch bei seinen Nachkommen",
+        "la ligne est omise : [le livre{is_of_book}][la ligne {line}] a cette boucle pour un autre animal, né le "
+        "{born_there}[ (« {name_there} »)] ; ici né le {born_here}[ (« {name_here} »)][ ; pour les descendants, ligne "
+        "{named_in}, c'est le premier]. Si c'en est un autre, donnez-lui une autre boucle, aussi chez ses descendants",
     ),
     "born after offspring": (
         "die Zeile ist weggelassen: geboren am {born_here}, wäre es jünger als sein Nachkomme {offspring}, geboren am "
@@ -52,10 +61,10 @@ FINDINGS: dict[str, tuple[str, str]] = {
         "le livre a le {born_there}. Corrigez la date, ou donnez une autre boucle à un autre animal",
     ),
     "id of another": (
-        "die Zeile ist weggelassen: das Herdbuch hat diese Kennung für ein anderes Tier, geboren am {born_there}; hier "
-        "geboren am {born_here}. Sind es zwei Tiere, geben Sie diesem eine eigene Kennung",
-        "la ligne est omise : le livre a ce numéro pour un autre animal, né le {born_there} ; ici né le {born_here}. Si ce "
-        "sont deux animaux, donnez à celui-ci un numéro à lui",
+        "die Zeile ist weggelassen: [das Herdbuch{is_of_book}][Zeile {line}] hat diese Kennung für ein anderes Tier, geboren am "
+        "{born_there}; hier geboren am {born_here}. Sind es zwei Tiere, geben Sie diesem eine eigene Kennung",
+        "la ligne est omise : [le livre{is_of_book}][la ligne {line}] a ce numéro pour un autre animal, né le "
+        "{born_there} ; ici né le {born_here}. Si ce sont deux animaux, donnez à celui-ci un numéro à lui",
     ),
     "line after offspring": (
         "die Zeile ist weggelassen: geboren am {born_here}, wäre es jünger als sein Nachkomme {offspring}, geboren am "
@@ -65,7 +74,8 @@ FINDINGS: dict[str, tuple[str, str]] = {
         "{offspring_born} ; le livre a le {born_there}. Corrigez la date, ou donnez à un autre animal un numéro à lui",
     ),
     "command left out": (
-        "{command} am {day} ist weggelassen: {refusal}[ ({offspring})]", "{command} le {day} : omis, {refusal}[ ({offspring})]",
+        "{command} am {day} ist weggelassen: {refusal}[ ({offspring})][; das Tier zählt als abgegangen{is_gone}]",
+        "{command} le {day} : omis, {refusal}[ ({offspring})][ ; l'animal compte comme sorti{is_gone}]",
     ),
     "owner day inferred": ("Besitzer seit {day}, aus {period_text}", "propriétaire depuis le {day}, d'après {period_text}"),
     "owner day of other": (
@@ -178,11 +188,16 @@ FINDINGS: dict[str, tuple[str, str]] = {
     ),
     "sex inferred": ("Geschlecht {sex}, {source}", "sexe {sex}, {source}"),
     "birth day inferred": (
-        "Geburtstag {day}, {basis_source}[: {basis_period_text}][ (aus „{text}“)]",
-        "date de naissance {day}, {basis_source}[ : {basis_period_text}][ (d'après « {text} »)]",
+        "Geburtstag {day}[, wie im Herdbuch{is_kept}], {basis_source}[: {basis_period_text}][ (aus „{text}“)]"
+        "[ (Zeile {named_in} nennt es)]",
+        "date de naissance {day}[, comme dans le livre{is_kept}], {basis_source}[ : {basis_period_text}]"
+        "[ (d'après « {text} »)][ (la ligne {named_in} le nomme)]",
     ),
     "row is gone": (
-        "es hat keine Zeile mehr[ und wird gestrichen{is_dropped}]", "il n'a plus de ligne[ et est retiré{is_dropped}]",
+        "[es hat keine Zeile mehr{had_row}][kein Tier hat es mehr als Elterntier{was_parent}][: es wird aus dem Herdbuch "
+        "gestrichen{is_dropped}][, und es bleibt im Herdbuch{stays}]",
+        "[il n'a plus de ligne{had_row}][aucun animal ne l'a plus pour parent{was_parent}][ : il est retiré du livre{is_dropped}]"
+        "[ ; il reste dans le livre{stays}]",
     ),
     "new animal": ("ein neues Tier mit der Nummer {number}", "un nouvel animal, avec le numéro {number}"),
     "value changed": ("{name}: {after}, vorher {before}", "{name} : {after}, avant {before}"),
@@ -191,51 +206,5 @@ FINDINGS: dict[str, tuple[str, str]] = {
         "weicht dem einer Tabelle]",
         "{command}[ le {day}] : refusé, {refusal}[ ; le premier jour du propriétaire, {owner_since}, est déduit et cède à "
         "celui d'un tableau]",
-    ),
-    # parents
-    "found by name": (
-        "{role} „{written}“ ist dem Namen nach {id}: ist ein anderes gemeint, schreiben Sie dessen Ohrmarke",
-        "{role} « {written} » est {id} par son nom : si un autre est voulu, écrivez sa boucle",
-    ),
-    "found in book": (
-        "{role} „{written}“ ist wie zuvor {id}, das jetzt anders heißt: ist ein anderes gemeint, schreiben Sie dessen Ohrmarke",
-        "{role} « {written} » est {id} comme avant, qui a un autre nom : si un autre est voulu, écrivez sa boucle",
-    ),
-    "found by near id": (
-        "{role} „{written}“ ist {id}, dessen Ohrmarke sich nur in Großschreibung, Leerzeichen oder Nullen unterscheidet",
-        "{role} « {written} » est {id}, dont la boucle ne diffère que par les majuscules, espaces ou zéros",
-    ),
-    "added as parent": (
-        "{role} von {calf} ohne Zeile: hinzugefügt ohne Eltern[; ist {meant} gemeint?][; so heißen {named}: schreiben Sie die "
-        "Ohrmarke]",
-        "{role} de {calf} sans ligne : ajouté sans parents[ ; s'agit-il de {meant} ?][ ; {named} portent ce nom : écrivez la "
-        "boucle]",
-    ),
-    "own ancestor": (
-        "{role} {parent} ist weggelassen: das Tier wäre sein eigener Ahn ({path})",
-        "{role} {parent} : omis, l'animal serait son propre ancêtre ({path})",
-    ),
-    "same parent twice": (
-        "die Mutter {parent} ist weggelassen: {parent} ist auch der Vater", "la mère {parent} est omise : {parent} est aussi le père",
-    ),
-    "columns swapped": (
-        "{refused} von {links} Eltern sind wegen ihres Geschlechts weggelassen: stehen die Väter in „{dams}“, und die Mütter in "
-        "„{sires}“?",
-        "{refused} des {links} parents sont omis à cause de leur sexe : les pères sont-ils dans « {dams} », et les mères dans "
-        "« {sires} » ?",
-    ),
-    "parent refused": (
-        "{role} {parent}[ (Zeile {line})] ist weggelassen: {refusal}", "{role} {parent}[ (ligne {line})] : omis, {refusal}",
-    ),
-    # pedigrees
-    "no sexes fit": (
-        "die Mutter {dam} ist weggelassen: keine Wahl der Geschlechter passt zu allen Paaren {couples}[ und {more} weiteren]",
-        "la mère {dam} est omise : aucun choix des sexes ne convient à tous les couples {couples}[ et {more} autres]",
-    ),
-    "parents swapped": (
-        "mit vertauschten Eltern übernommen[ (Vater {sire})][ (Mutter {dam})], denn {both}[, das Paare mit {joined_to} verbinden,] "
-        "ist[ in Zeile {sire_line}] Vater und[ in Zeile {dam_line}] Mutter",
-        "importé avec les parents échangés[ (père {sire})][ (mère {dam})], car {both}[, que des couples joignent à {joined_to},] est "
-        "père[ à la ligne {sire_line}] et mère[ à la ligne {dam_line}]",
     ),
 }  # fmt: skip

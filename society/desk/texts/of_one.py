@@ -49,8 +49,10 @@ OF_ONE: dict[str, tuple[str, str, str, str]] = {
     "cells unread": (
         "cells_count",
         "",
-        "{cells_count} Zelle der Spalte „{cells_title}“ ist nicht lesbar, in Zeile {cells_line}: {cells_texts}",
-        "{cells_count} cellule de la colonne « {cells_title} » est illisible, à la ligne {cells_line} : {cells_texts}",
+        "{cells_count} Zelle der Spalte „{cells_title}“ ist nicht lesbar, in Zeile {cells_line}: {cells_texts}"
+        "[: {advice}]",
+        "{cells_count} cellule de la colonne « {cells_title} » est illisible, à la ligne {cells_line} : {cells_texts}"
+        "[ : {advice}]",
     ),
     "exits without day": (
         "cells_count",

@@ -49,9 +49,10 @@ FINDINGS: dict[str, tuple[str, str]] = {
         "{count} dates avec / pourraient commencer par le mois, et aucune ne le montre : le jour est lu d'abord",
     ),
     "cells unread": (
-        "{cells_count} Zellen der Spalte „{cells_title}“ sind nicht lesbar, die erste in Zeile {cells_line}: {cells_texts}",
+        "{cells_count} Zellen der Spalte „{cells_title}“ sind nicht lesbar, die erste in Zeile {cells_line}: {cells_texts}[ und {cells_more} "
+        "weitere][: {advice}]",
         "{cells_count} cellules de la colonne « {cells_title} » sont illisibles, la première à la ligne {cells_line} : "
-        "{cells_texts}",
+        "{cells_texts}[ et {cells_more} autres][ : {advice}]",
     ),
     "exits without day": (
         "{cells_count} Abgänge ohne Tag in der Spalte „{cells_title}“, der erste in Zeile {cells_line}: {cells_texts}. Die Tiere "
@@ -204,6 +205,13 @@ ENGLISH: dict[str, str] = {
     ),
     "parents lack": "{lost} of {links} parents have no row, the first are {texts}: {like}",
     "worksheet unclear": "which worksheet is meant: {worksheets}?",
+    "cells unread": (
+        "{cells_count} of {cells_said} cells of the column '{cells_title}' that say something can't be read, the first in "
+        "line {cells_line}: {cells_texts}[ and {cells_more} more][: {advice}]"
+    ),
+    "sex unread": "its sex is left out: '{text}' isn't known: write M or F",
+    "pedigree titles lack": "line {line}: no title is known for {fields}; the titles are {titles}",
+    "strictly nothing": "nothing is taken, since something would be left out",
     "worksheet lacks": "there is no worksheet '{named}', but {worksheets}",
     "like a sum": "this row looks like a total[ ('{word}')] and not like an animal",
     "no animal": "the row is left out: one with '{word}' is no animal, as was said",
