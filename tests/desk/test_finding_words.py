@@ -36,8 +36,9 @@ def findings_with_words() -> Iterator[Any]:
         yield IdAgain(3, ("", "A-1"), ("A-1", ""), ((field.value, "x", "2001-02-03"),))
     yield KeptByHand(Field.EMBRYO, "yes")
     yield from (KeptFromBook(Field.SEX, sex, False) for sex in "MF")
-    for source in {*BirthSource} - {BirthSource.PERIOD}:
-        yield BirthDayInferred(DAY, BirthBasis(source), True, 2)
+    for source in BirthSource:
+        if source is not BirthSource.PERIOD:
+            yield BirthDayInferred(DAY, BirthBasis(source), True, 2)
     yield BirthDayInferred(DAY, BirthBasis(BirthSource.PERIOD, Period("2001-02", "31.02.2001")), False, 0)
     yield OwnerDayInferred(DAY, Period("2001-02", "31.02.2001"))
     yield ExitInferred(DAY, ExitBasis(ExitSource.PERIOD, Period("2001-02", "31.02.2001")), "")
