@@ -1,0 +1,109 @@
+"""What is told before a sheet is taken: refused exits, the numbers of a first taking, and previews."""
+from __future__ import annotations
+
+from front_desk.desk import Desk
+from front_desk.test_owners import PARENTS, TITLES
+
+
+def test_exit_that_is_refused(desk: Desk) -> None:
+    """It costs that cell, and the rest is taken; `--strict` takes nothing."""
+    calves = "b;F;2004-01-01;s;d;Meier;\nc;F;2005-01-01;s;d;Meier;\n"
+    rows = PARENTS.replace("d;F;2001-03-02;;;Meier;", "d;F;2001-03-02;;;Meier;{}") + calves
+    told = (
+        "line 3: d: its exit on 2003-01-01 is left out: it has offspring born after the day (c in line 5) (refusal 16); "
+        "the animal counts as gone"
+    )
+    for cell in "2003-01-01", "sold 01.01.2003":
+        desk.wrong("1 left out (1 cell): with --strict nothing is taken", "take",
+                   desk.write("strict.csv", TITLES + rows.format(cell)), "--strict", "--book", cell)  # fmt: skip
+        done = desk.good("take", desk.write("sheet.csv", TITLES + rows.format(cell)), "--book", f"book of {cell}")
+        done.tells(told)
+        assert "4 animals, 4 new, " in done.last
+
+
+def test_exit_against_the_book(desk: Desk) -> None:
+    """An exit that contradicts what the book has costs no link; a new calf after an exit costs its own."""
+    rows = PARENTS + "c;F;2004-01-01;s;d;Meier;\n"
+    desk.take(TITLES + rows)
+    done = desk.take(TITLES + rows.replace("d;F;2001-03-02;;;Meier;", "d;F;2001-03-02;;;Meier;2003-01-01"))
+    assert "(c in line 4) (refusal 16)" in done.out
+    assert desk.parents()["c"] == ("s", "d")
+    # on the day of a birth a dam may leave
+    for day in "2004-02-01", "2004-01-01":
+        left = rows.replace("d;F;2001-03-02;;;Meier;", f"d;F;2001-03-02;;;Meier;{day}")
+        done = desk.take(TITLES + left + "e;F;2005-01-01;s;d;Meier;\n")
+        assert desk.parents()["e"] == ("s", "")
+        assert desk.commands()[-1].split(",")[2] == day
+    # an exit that is moved before a birth costs no link either
+    done = desk.take(TITLES + left.replace("Meier;2004-01-01", "Meier;2003-01-01"))
+    assert "(c in line 4) (refusal 16)" in done.out
+    assert desk.parents()["c"] == ("s", "d")
+
+
+def test_many_refusals_of_one_cause(desk: Desk) -> None:
+    """One ram of the wrong sex is told in one sentence, with its line first; the report has each."""
+    rows = "s;F;2001-03-01;;;;\n" + "".join(f"c{at};F;2004-01-01;s;;;\n" for at in range(10))
+    rows += "t;F;2001-03-01;;;;\n" + "".join(f"d{at};F;2004-01-01;t;;;\n" for at in range(3))
+    done = desk.take(TITLES + rows)
+    done.tells(
+        "line 2: s: it isn't male (refusal 5): it is left out as the sire of 10 animals (lines 3, 4, 5, 6, 7, 8, 9, 10, 11 "
+        "and 1 more): if it is, mend its sex",
+        "line 13: t: it isn't male (refusal 5): it is left out as the sire of 3 animals (lines 14, 15, 16): if it is, mend its "
+        "sex",
+    )
+    assert done.out.count("refusal 5") == 2
+    assert sum(row["what"] == "left out" for row in desk.table("book/report.csv")) == 13
+
+
+def test_numbers_of_a_first_taking(desk: Desk) -> None:
+    """The first taking says which breed and country the numbers get; giving them later begins an edition."""
+    done = desk.take(TITLES + PARENTS)
+    assert (
+        "the animals' numbers begin with HOLGBR (breed HOL, country GBR), since --breed and --country aren't both"
+        in done.out
+    )
+    assert "the numbers begin" not in desk.take(TITLES + PARENTS).out
+    done = desk.take(TITLES + PARENTS, "--breed", "SKU", "--country", "DEU")
+    assert list(desk.numbers().values()) == ["SKUDEUM000000000001", "SKUDEUF000000000002"]
+    assert "written anew" in done.out
+    assert "edition 2" in desk.good("history", "3").out
+    assert list(desk.numbers().values()) == ["SKUDEUM000000000001", "SKUDEUF000000000002"]
+    # they keep their letters where all of it is undone, and that is told
+    desk.good("undo", "--to", "0")
+    assert "numbers begin with SKUDEU (breed SKU, country DEU)" in desk.take(TITLES + PARENTS).out
+    assert list(desk.numbers().values()) == ["SKUDEUM000000000001", "SKUDEUF000000000002"]
+    assert (
+        "the numbers begin"
+        not in desk.take(TITLES + PARENTS, "--breed", "A" * 3, "--country", "B" * 3, "--book", "o").out
+    )
+
+
+def test_preview(desk: Desk) -> None:
+    """It tells what would change, by kind, and what may be wrong, and writes nothing."""
+    sheet = desk.write("sheet.csv", TITLES + PARENTS)
+    before = desk.files()
+    assert "a preview, nothing is written: book: 2 animals, 2 new" in desk.good("take", sheet, "--preview").last
+    assert desk.files() == before
+    desk.good("take", sheet)
+    history = desk.good("history").out
+    changed = desk.write(
+        "sheet.csv", TITLES + PARENTS.replace("d;F;2001-03-02", "d;F;2002-03-02") + "c;F;2002-05-01;s;d;;\n"
+    )
+    commands = desk.commands()
+    done = desk.good("take", changed, "--preview")
+    done.tells(
+        "line 4: c: to look at: its dam d (line 3) was 60 days old at its birth, less than 180",
+        "line 3: d: changed: birth day: 2002-03-02, before 2001-03-02",
+    )
+    assert "a preview, nothing is written: book: 3 animals, 1 new, 1 changed" in done.last
+    assert (desk.commands(), desk.good("history").out) == (commands, history)
+
+
+def test_preview_of_another_flock(desk: Desk) -> None:
+    rows = "".join(f"a{at};F;2001-01-01;;;;\n" for at in range(20))
+    desk.take(TITLES + rows)
+    other = rows.replace("a", "b").replace("2001", "2002")
+    done = desk.good("take", desk.write("other.csv", TITLES + other), "--preview")
+    assert "it looks like the sheet of another flock" in done.out
+    done.shows("nothing is taken", "  if it is right all the same:")
+    assert "a preview, nothing is written: book: 40 animals, 20 new, " in done.last
