@@ -9,6 +9,7 @@ import time
 import pytest
 
 from front_desk.desk import TOP, Desk, NewDesk
+from front_desk.old_folder import write_old
 from front_desk.sheet import Secretary, sheet_text
 from front_desk.whole import FLOCK
 
@@ -95,4 +96,11 @@ def society_desk(taken_society: Desk, tmp_path: pathlib.Path) -> Desk:
 def flock_desk(desk: Desk) -> Desk:
     """With a flock in its book."""
     desk.take(FLOCK)
+    return desk
+
+
+@pytest.fixture
+def old_desk(desk: Desk) -> Desk:
+    """With a book of version 0.11."""
+    write_old(desk)
     return desk

@@ -1,10 +1,11 @@
 """Sheets that look like another one than the book's aren't taken, but by `--anyway`."""
 from __future__ import annotations
 
+import shlex
+
 import pytest
 
 from front_desk.desk import CALLED, Desk
-import shlex
 
 TITLES = "Ohrmarke;Name;Geburtsdatum;Vater;Mutter"
 

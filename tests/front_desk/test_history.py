@@ -3,6 +3,7 @@ from __future__ import annotations
 
 import hashlib
 import os
+import pwd
 import random
 import re
 
@@ -10,7 +11,6 @@ import pytest
 
 from front_desk.desk import Desk
 from front_desk.whole import FLOCK, GROWN, changes_of
-import pwd
 
 CALF = ["birth", "calf", "--sex", "f", "--day", "2012-03-04", "--sire", "a8", "--dam", "a9", "--owner", "Neuer Hof"]
 

@@ -1,18 +1,17 @@
 """A folder of version 0.11 is taken over on the first call, with the same numbers."""
 from __future__ import annotations
 
-import fcntl
 import hashlib
 import os
 import pathlib
-import shutil
 import subprocess
 from typing import cast
 
 import pytest
 
-from front_desk.desk import Desk, NewDesk
-from front_desk.old_folder import FILES, LIST, SHEET, write_old
+import fcntl
+from front_desk.desk import Desk
+from front_desk.old_folder import FILES, LIST, SHEET
 from front_desk.whole import changes_of, ended, start
 from society.book import backup, old_folder
 from society.book.book import Book
@@ -21,12 +20,6 @@ from society.book.inferred import OwnerDay
 from society.book.old_names import is_old
 from society.herdbook import Herdbook
 from society.mistake import Mistake
-
-
-@pytest.fixture
-def old_desk(desk: Desk) -> Desk:
-    write_old(desk)
-    return desk
 
 
 def test_taken_over(old_desk: Desk) -> None:
@@ -216,48 +209,3 @@ def test_exports_alone(desk: Desk, is_there: bool) -> None:
         desk.write("book/book.sqlite", b"")
     for words in ["list"], ["take", "sheet.csv"], ["birth", "b", "--sex", "m", "--day", "2001-01-01"]:
         desk.wrong("book/book.sqlite, the book, is missing or empty: book/ids.csv was only written from it", *words)
-
-
-@pytest.mark.parametrize("name", [*FILES, "none"])
-def test_restored_in_its_place(old_desk: Desk, name: str) -> None:
-    """A backup takes the place of its book only where that is wished, and then the files stay in `old`, also where one
-    of them is lost."""
-    (old_desk.room / "book" / name).unlink(missing_ok=True)
-    files = {one: text for one, text in FILES.items() if one != name}
-    old_desk.write("other.csv", "id,born,sire,dam\na,2001-01-01,,\n")
-    old_desk.good("take", "other.csv", "--book", "other")
-    old_desk.good("backup", "copy", "--book", "other")
-    old_desk.wrong(
-        "to restore copy in its place say --anyway; the one that is there goes to book/old then", "restore", "copy"
-    )
-    assert {path.name: path.read_text() for path in (old_desk.room / "book").iterdir()} == files
-    old_desk.good("restore", "copy", "--anyway")
-    assert old_desk.good("list").out.splitlines()[1:] == ["a,,HOLGBRF000000000001,2001-01-01,0,0,0.00"]
-    assert {path.name: path.read_text() for path in (old_desk.room / "book/old").iterdir()} == files
-
-
-def test_exports_give_way(desk: Desk) -> None:
-    """Beside a database that is lost the exports are no book, and a backup is restored in their place."""
-    desk.take("id,born,sire,dam\na,2001-01-01,,\n")
-    desk.good("backup", "copy")
-    (desk.room / "book/book.sqlite").unlink()
-    desk.good("restore", "copy")
-    assert not (desk.room / "book/old").exists()
-
-
-@pytest.mark.parametrize("is_damaged", [False, True])
-def test_beside_a_book(old_desk: Desk, new_desk: NewDesk, is_damaged: bool) -> None:
-    """The files are kept as a whole before the exports of a book that was copied there, or restored, replace them."""
-    other = new_desk()
-    other.take(SHEET)
-    other.good("backup", str(old_desk.room / "backup.sqlite"))
-    if is_damaged:
-        old_desk.write("book/book.sqlite", "damaged" * 1000)
-        old_desk.good("restore", "backup.sqlite", "--anyway")
-    else:
-        shutil.copy(old_desk.room / "backup.sqlite", old_desk.room / "book/book.sqlite")
-    assert old_desk.good("list").out == other.good("list").out
-    kept = next((old_desk.room / "book/old").glob("version-0.11-*"))
-    assert {path.name: path.read_text() for path in kept.iterdir()} == FILES
-    assert not is_old(old_desk.room / "book") and len(old_desk.numbers()) == len(other.numbers())
-    assert old_desk.good("list", "--book", str(kept)).out == LIST

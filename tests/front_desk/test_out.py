@@ -19,12 +19,6 @@ from society.reading.sheet import Row
 ODD = "id,name,sex,born,sire,dam\n@SUM(A1),+x,F,2001-01-01,,\nA 1,\x1b[31mred,F,2001-01-01,,\nA-1,,F,2001-01-01,,\nA/1,,M,2001-01-01,,\n"
 
 
-@pytest.fixture
-def flock_desk(desk: Desk) -> Desk:
-    desk.take(FLOCK)
-    return desk
-
-
 @pytest.mark.parametrize(
     "name",
     [
