@@ -1,3 +1,3 @@
 #!/bin/sh
-# beyond.sh [options]: the native method on books larger than the program takes; beyond.py says more.
+# beyond.sh PROGRAM [options]: a herd book program beside native ones on large books; beyond.py says more.
 exec python3 "$(dirname "$0")/beyond.py" "$@"

@@ -15,6 +15,13 @@ def work_folder() -> str:
     return os.environ.get("BENCH_WORK", os.path.join(tempfile.gettempdir(), "herdbook-bench"))
 
 
+def limit_words(animals: int, commands: int) -> list[str]:
+    """The words by which the program takes so many, where it doesn't by itself."""
+    if animals <= 60_000 and commands <= 1_000_000:
+        return []
+    return ["--limit-animals", str(animals), "--limit-steps", str(commands)]
+
+
 def command_file(work: str, name: str, *words: object) -> str:
     """The path of the file of that name, made with these words of generate.py where it isn't there yet."""
     made = os.path.join(work, name)

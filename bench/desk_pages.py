@@ -1,9 +1,9 @@
 #!/usr/bin/env python3
 """Times the pages of the desk in a browser of a narrow book, and a command that is filed by a form.
 
-    desk_pages.py PROGRAM [SOCIETY] [--animals 60000] [--runs 5] [--work FOLDER]
+    desk_pages.py PROGRAM [SCRIPT] [--animals 60000] [--runs 5] [--work FOLDER]
 
-PROGRAM is the built herdbook, SOCIETY the script `society` of a clone, that of this one where none is named. The sheet
+PROGRAM is the built herdbook, SCRIPT the script `gudokeyi` of a clone, that of this one where none is named. The sheet
 of `front_desk.py` is taken once into the folder FOLDER/desk-pages, and the desk opens a copy. Each page is asked for
 by a request of its own, as often as runs are asked for, once all of them were asked for. For each stands there the
 median of the seconds by the clock and the most, and what the server and its session took of the processor for one; at
@@ -39,8 +39,8 @@ TICKS = os.sysconf("SC_CLK_TCK")
 class Desk:
     """The word `open` in a folder, asked as a browser asks."""
 
-    def __init__(self, society: str, program: str, room: pathlib.Path) -> None:
-        command = [society, "open", "--no-browser"]
+    def __init__(self, script: str, program: str, room: pathlib.Path) -> None:
+        command = [script, "open", "--no-browser"]
         self.process = subprocess.Popen(
             command, cwd=room, env=os.environ | {"HERDBOOK": program}, stdout=subprocess.PIPE, text=True
         )
@@ -146,7 +146,7 @@ def wait(desk: Desk, path: str) -> None:
         time.sleep(1)
 
 
-def book_in(work: str, society: str, program: str, animals: int) -> tuple[pathlib.Path, str, str]:
+def book_in(work: str, script: str, program: str, animals: int) -> tuple[pathlib.Path, str, str]:
     """A folder with a copy of the book, which is taken where it wasn't; the youngest dam, and an animal from which many
     descend."""
     path = sheet(work, animals)
@@ -154,7 +154,7 @@ def book_in(work: str, society: str, program: str, animals: int) -> tuple[pathli
     if not (taken / "book/book.sqlite").exists():
         taken.mkdir(exist_ok=True)
         subprocess.run(
-            [society, "take", str(path.absolute())], cwd=taken, env=os.environ | {"HERDBOOK": program}, check=True,
+            [script, "import", str(path.absolute())], cwd=taken, env=os.environ | {"HERDBOOK": program}, check=True,
             stdout=subprocess.DEVNULL,
         )  # fmt: skip
     room = pathlib.Path(work) / "desk-pages"
@@ -201,15 +201,15 @@ def main() -> None:
     parser = argparse.ArgumentParser(description=__doc__, formatter_class=argparse.RawDescriptionHelpFormatter)
     parser.add_argument("program", metavar="PROGRAM", type=os.path.abspath)
     parser.add_argument(
-        "society", metavar="SOCIETY", nargs="?", default=str(HERE.parent / "society/society"), type=os.path.abspath
+        "script", metavar="SCRIPT", nargs="?", default=str(HERE.parent / "gudokeyi"), type=os.path.abspath
     )
     parser.add_argument("--animals", type=int, default=60_000)
     parser.add_argument("--runs", type=int, default=5)
     parser.add_argument("--work", default=work_folder())
     given = parser.parse_args()
     os.makedirs(given.work, exist_ok=True)
-    room, dam, ancestor = book_in(given.work, given.society, given.program, given.animals)
-    desk = Desk(given.society, given.program, room)
+    room, dam, ancestor = book_in(given.work, given.script, given.program, given.animals)
+    desk = Desk(given.script, given.program, room)
     try:
         measure(desk, dam, ancestor, given.runs)
     finally:

@@ -1,9 +1,9 @@
 #!/usr/bin/env python3
 """Takes a narrow book by the front desk and asks it, and prints what each word takes of the processor.
 
-    front_desk.py PROGRAM [SOCIETY..] [--animals 60000] [--runs 3] [--words take,list,..] [--work FOLDER]
+    front_desk.py PROGRAM [SCRIPT..] [--animals 60000] [--runs 3] [--words take,list,..] [--work FOLDER]
 
-PROGRAM is the built herdbook. SOCIETY is the script `society` of a clone, that of this one where none is named: of
+PROGRAM is the built herdbook. SCRIPT is the script `gudokeyi` of a clone, or `society/society` of version 0.12, that of this one where none is named: of
 several each takes the same sheet into a book of its own, and they are asked in turn, so that two versions are compared
 on a machine that others use too. The sheet has ids, names, sexes, days, parents and owners, none of its days after
 today. For each word and clone the seconds of the processor (user and system) stand there of the run with the least: of
@@ -32,10 +32,13 @@ NAMES = ("Berta", "Anna", "Löwe", "Gräfin", "Max", "Flora", "Kira", "Hugo", "E
 # runs the front desk's words in this process, and tells what the process and its children took
 ASKING = """
 import json, os, resource, sys
-society = sys.argv[1]
-sys.path.insert(0, os.path.dirname(os.path.dirname(os.path.realpath(society))))
+here = os.path.dirname(os.path.realpath(sys.argv[1]))
+sys.path[:0] = [os.path.join(here, "src"), os.path.dirname(here)]
 sys.argv = sys.argv[1:]
-from society.command_line.main import main
+try:
+    from gudokeyi.cli.main import main
+except ImportError:  # a clone of version 0.12
+    from society.command_line.main import main
 told = os.dup(2)
 status = main(sys.argv[1:])
 sys.stdout.flush()
@@ -92,8 +95,8 @@ def words_of(work: str, path: pathlib.Path) -> dict[str, list[str]]:
 class Clone:
     """A front desk with a book in a folder of its own, which is new."""
 
-    def __init__(self, at: int, society: str, given: argparse.Namespace) -> None:
-        self.society = society
+    def __init__(self, at: int, script: str, given: argparse.Namespace) -> None:
+        self.script = script
         self.room = pathlib.Path(given.work) / f"front-desk-{at}"
         shutil.rmtree(self.room, ignore_errors=True)
         self.room.mkdir()
@@ -102,12 +105,12 @@ class Clone:
 
     def asked(self, words: list[str]) -> tuple[float, float, int]:
         """Seconds of the front desk and of what it runs, and the most memory of either in megabytes."""
-        command = ["/usr/bin/python3", "-c", ASKING, self.society, *words]
+        command = ["/usr/bin/python3", "-c", ASKING, self.script, *words]
         done = subprocess.run(command, cwd=self.room, env=self.env, capture_output=True)
         told = done.stderr.decode().splitlines()
         status, used = json.loads(told[-1]) if told and told[-1].startswith("[") else (1, [])
         if status:
-            sys.exit(f"{self.society} {' '.join(words)}: {done.stderr.decode()[-500:]}")
+            sys.exit(f"{self.script} {' '.join(words)}: {done.stderr.decode()[-500:]}")
         (own, most), (others, most_of_others) = used
         return own, others, max(most, most_of_others) // 1024
 
@@ -115,7 +118,7 @@ class Clone:
 def main() -> None:
     parser = argparse.ArgumentParser(description=__doc__, formatter_class=argparse.RawDescriptionHelpFormatter)
     parser.add_argument("program", metavar="PROGRAM", type=os.path.abspath)
-    parser.add_argument("clones", metavar="SOCIETY", nargs="*", default=[str(HERE.parent / "society/society")])
+    parser.add_argument("clones", metavar="SCRIPT", nargs="*", default=[str(HERE.parent / "gudokeyi")])
     parser.add_argument("--animals", type=int, default=60_000)
     parser.add_argument("--runs", type=int, default=3)
     parser.add_argument("--words", default="")
@@ -125,7 +128,7 @@ def main() -> None:
     path = sheet(given.work, given.animals)
     clones = [Clone(at, os.path.abspath(one), given) for at, one in enumerate(given.clones)]
     words = words_of(given.work, path)
-    tell("take", [clone.asked(["take", str(path)]) for clone in clones])
+    tell("import", [clone.asked(["import", str(path)]) for clone in clones])
     for word in given.words.split(",") if given.words else words:
         runs = [[clone.asked(words[word]) for clone in clones] for _ in range(given.runs)]
         tell(word, [min(of_clone) for of_clone in zip(*runs)])

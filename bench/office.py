@@ -5,8 +5,7 @@
               [--births 59000] [--transfers 20000]
 
 PROGRAM is the executable of the crate office_timing, HERDBOOK that of herdbook, as `rt run` leaves
-them; nothing is proved or built. The births are of founders. `--million` adds a million calls: a
-book has 60,000 animals at most, so the same births are filed again, and each refusal is a step too.
+them; nothing is proved or built. The births are of founders. `--million` adds a million births.
 
 `calls a second` is by the clock, the best of several runs, each a whole run of the program: opening
 the office, starting threads and closing count. `cpu` is the least processor time of a call, that of
@@ -33,7 +32,7 @@ import tempfile
 import time
 from typing import IO
 
-MOST_ANIMALS = 60_000
+from command_file import limit_words
 
 # so many freezings at least are to fall among the transfers
 FEWEST_BOOKS = 10
@@ -57,7 +56,7 @@ def measured(words: list[str], given: int | IO[bytes] = subprocess.DEVNULL) -> t
 
 def counts(births: int) -> str:
     """What a run with so many births is to print."""
-    return f"{min(births, MOST_ANIMALS)} accepted, {births} steps\n"
+    return f"{births} accepted, {births} steps\n"
 
 
 def write_births(path: str, births: int) -> None:
@@ -65,7 +64,7 @@ def write_births(path: str, births: int) -> None:
     with open(path, "w", encoding="ascii") as file:
         file.write("kind,animal,day,sire,dam,from,to\n")
         for place in range(births):
-            file.write(f"birth,HOLGBRM{place % MOST_ANIMALS:012},2000-01-01,0,0,,1\n")
+            file.write(f"birth,HOLGBRM{place:012},2000-01-01,0,0,,1\n")
 
 
 def filed(herdbook: str, births: int, runs: int) -> float:
@@ -76,7 +75,7 @@ def filed(herdbook: str, births: int, runs: int) -> float:
         least = float("inf")
         for _ in range(runs):
             with open(path, "rb") as given:
-                least = min(least, measured([herdbook, "file"], given)[3])
+                least = min(least, measured([herdbook, "file", *limit_words(births, births)], given)[3])
     return least
 
 
@@ -131,7 +130,7 @@ def main() -> int:
     well = True
     print("| births | desks | inspectors | calls a second | cpu, µs | by file | memory, MB |")
     print("|--:|--:|--:|--:|--:|--:|--:|")
-    for births in [MOST_ANIMALS, 1_000_000] if given.million else [MOST_ANIMALS]:
+    for births in [60_000, 1_000_000] if given.million else [60_000]:
         well &= crowds(given, births)
     print("\n| births | transfers | inspectors | a call, µs | the longest, µs | books | memory, MB |")
     print("|--:|--:|--:|--:|--:|--:|--:|")

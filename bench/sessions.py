@@ -25,6 +25,7 @@ import threading
 import time
 from typing import IO
 
+from command_file import limit_words
 from office import measured, write_births
 
 ABSENT = "HOLGBRM999999999999"
@@ -51,12 +52,13 @@ def least_of(words: list[str], path: str, runs: int) -> tuple[float, int, str]:
 def births_table(herdbook: str, births: int, runs: int, desks: list[int]) -> None:
     with tempfile.NamedTemporaryFile(suffix=".csv") as file:
         write_births(file.name, births)
-        by_file, memory, _ = least_of([herdbook, "file"], file.name, runs)
+        by_file, memory, _ = least_of([herdbook, "file", *limit_words(births, births)], file.name, runs)
         print(f"{births} births                 cpu  by file   memory")
         print(f"file              {by_file:14.3f} s        {memory / 1e6:6.0f} MB")
         for count in desks:
             write_requests(file.name, births, count)
-            cpu, memory, out = least_of([herdbook, "session", "--desks", str(count)], file.name, runs)
+            words = [herdbook, "session", "--desks", str(count), *limit_words(births, births)]
+            cpu, memory, out = least_of(words, file.name, runs)
             if not out.endswith(f"closed,{births},{births}\n"):
                 sys.exit(f"the session ended with {out[-80:]!r}")
             print(f"session, {count:2} desks {cpu:14.3f} s {cpu / by_file:6.2f} {memory / 1e6:6.0f} MB")
@@ -95,7 +97,8 @@ class Listing:
 
 def waits(herdbook: str, births: int, asked: int, beside: bool) -> tuple[list[float], int]:
     """How long each command waits, sorted, and how many lists were read beside them."""
-    words = [herdbook, "session", "--desks", "1", "--inspectors", "1"]
+    limits = limit_words(births, births + asked + 1)
+    words = [herdbook, "session", "--desks", "1", "--inspectors", "1", *limits]
     process = subprocess.Popen(words, stdin=subprocess.PIPE, stdout=subprocess.PIPE, bufsize=1 << 20)
     listing = Listing(process)
     for one in range(births):

@@ -7,7 +7,7 @@ from __future__ import annotations
 import sys
 import tomllib
 
-from society.packages import PROJECT, requirement
+from gudokeyi.packages import PROJECT, requirement
 
 
 def lacking() -> list[str]:

@@ -144,17 +144,17 @@ class TestFirstCall:
     def test_fails(self) -> None:
         """A crate that isn't proved: no other is begun, those proved are kept, and the next call goes on."""
         here = Repository(next(self.rooms))
-        (here.notes / "herd_kinship.fails").touch()
+        (here.notes / "herd_advice.fails").touch()
         (here.notes / "herd_pedigree.seconds").write_text("5", encoding="utf-8")
         status, out, err = here.call()
         begun = {name for what, name in here.noted() if what == "begin"}
         self.count((status, out) == (1, ""), f"a crate that fails: {status} {out!r}")
-        why = "herd_kinship is not proved: rt check in crates/herd_kinship says why"
+        why = "herd_advice is not proved: rt check in crates/herd_advice says why"
         self.count(tells(err, "a contract isn't met", why, "still proving herd_pedigree"), err)
-        proved = {"herd_animal", "herd_frozen", "herd_pedigree"}
-        self.count(begun == proved | {"herd_kinship"}, f"begun in spite of a crate that failed: {begun}")
+        proved = {"herd_animal", "herd_lineage", "herd_frozen", "herd_kinship", "herd_pool", "herd_pedigree"}
+        self.count(begun == proved | {"herd_advice"}, f"begun in spite of a crate that failed: {begun}")
         self.count(here.kept() == proved, f"kept: {here.kept()}")
-        (here.notes / "herd_kinship.fails").unlink()
+        (here.notes / "herd_advice.fails").unlink()
         self.count(here.call()[:2] == (0, "is built\n"), "the call after one that failed")
 
     def test_ends(self) -> None:
@@ -165,7 +165,7 @@ class TestFirstCall:
             slow.write_text(f"{10 * SECONDS}", encoding="utf-8")
             is_key = number == signal.SIGINT
             call = here.begin_program() if is_key else here.begin(sys.executable, str(here.top / "build.py"), PROGRAM)
-            wait_until(lambda: "herd_kinship" in here.kept())
+            wait_until(lambda: {"herd_animal", "herd_frozen", "herd_kinship"} <= here.kept())
             os.killpg(call.pid, number) if is_key else call.send_signal(number)
             status, _, err = ended(call)
             self.count(status if is_key else status == 1, f"{number.name}: status {status}")

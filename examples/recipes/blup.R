@@ -1,5 +1,5 @@
 # Breeding values by Henderson's mixed model equations in R: Rscript blup.R FILE RECORDS ALPHA, where FILE is the
-# inverse relationship matrix that `society/society inverse --matrix-market FILE` writes, RECORDS has a line
+# inverse relationship matrix that `./gudokeyi inverse --matrix-market FILE` writes, RECORDS has a line
 # `id,sex,gain` for each animal with a record, and ALPHA is the residual variance by the additive one.
 library(Matrix)
 words <- commandArgs(TRUE)

@@ -1,5 +1,5 @@
 # blup_scipy.py FILE RECORDS ALPHA: breeding values by Henderson's mixed model equations, in SciPy, from the inverse
-# relationship matrix that `society/society inverse --matrix-market FILE` writes. RECORDS has a line `id,sex,gain` for
+# relationship matrix that `./gudokeyi inverse --matrix-market FILE` writes. RECORDS has a line `id,sex,gain` for
 # each animal with a record; ALPHA is the residual variance by the additive one. The sex is the fixed effect.
 import csv
 import sys

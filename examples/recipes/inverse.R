@@ -1,4 +1,4 @@
-# The inverse relationship matrix in R, sparse, from what `society/society inverse --matrix-market FILE` writes:
+# The inverse relationship matrix in R, sparse, from what `./gudokeyi inverse --matrix-market FILE` writes:
 # Rscript inverse.R FILE
 library(Matrix)
 file <- commandArgs(TRUE)[1]

@@ -1,5 +1,5 @@
 # inverse_scipy.py FILE: the inverse relationship matrix in SciPy, sparse, from what
-# `society/society inverse --matrix-market FILE` writes
+# `./gudokeyi inverse --matrix-market FILE` writes
 import sys
 from scipy.io import mmread
 inverse = mmread(sys.argv[1]).tocsr()

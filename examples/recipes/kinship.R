@@ -1,4 +1,4 @@
-# The kinship of some animals in R, from the inverse relationship matrix that `society/society inverse --matrix-market
+# The kinship of some animals in R, from the inverse relationship matrix that `./gudokeyi inverse --matrix-market
 # FILE` writes: Rscript kinship.R FILE ID.. Kinship is half of the relationship.
 library(Matrix)
 words <- commandArgs(TRUE)

@@ -1,5 +1,5 @@
 # kinship_scipy.py FILE ID..: the kinship of each pair of animals, in SciPy, from the inverse relationship matrix that
-# `society/society inverse --matrix-market FILE` writes. Kinship is half of the relationship.
+# `./gudokeyi inverse --matrix-market FILE` writes. Kinship is half of the relationship.
 import sys
 import numpy
 from scipy.io import mmread

@@ -6,8 +6,8 @@ import random
 from collections.abc import Sequence
 from fractions import Fraction
 
-from society.breed.founders import FoundedPedigree
-from society.breed.pedigree import COEFFICIENT_BITS, UNKNOWN, Pedigree
+from gudokeyi.genetics.founders import FoundedPedigree
+from gudokeyi.genetics.pedigree import COEFFICIENT_BITS, UNKNOWN, Pedigree
 
 Matrix = list[list[Fraction]]
 

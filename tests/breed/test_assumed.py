@@ -9,16 +9,16 @@ from typing import cast
 
 import pytest
 
-from society.answers.candidates import Candidate, Candidates
-from society.book.asking_sentences import Mating
-from society.book.book import Book
-from society.book.known import Known
-from society.book.role import Role
-from society.breed.assumed import (
-    YEAR, Asked, UsualAge, ages_at_first_offspring, born_at_latest, grown_up, old_enough, prepared, told_of_age, usual_age,
-    usual_bounds, usual_most,
+from gudokeyi.domain.animals import SocietyRecord
+from gudokeyi.domain.kinds import Role
+from gudokeyi.domain.messages import Count
+from gudokeyi.services.matings import Candidate, Candidates
+from gudokeyi.services.plans import (
+    YEAR, Asked, UsualAge, ages_at_first_offspring, born_at_latest, grown_up, old_enough, prepared, told_of_age,
+    usual_age, usual_bounds, usual_most,
 )  # fmt: skip
-from society.sentence import Count
+from gudokeyi.store.book import Book
+from gudokeyi.store.messages import Mating
 
 # a number, how many days ago it was born, its parents, and where the day comes from
 Born = tuple[str, int, str, str, str]
@@ -103,8 +103,8 @@ def test_old_enough() -> None:
 def test_named(monkeypatch: pytest.MonkeyPatch) -> None:
     """Young ones that are named stay, unless an age is asked; what is asked is passed on, and what isn't is told."""
     found = candidates(YEAR, YEAR - 1)
-    monkeypatch.setattr("society.breed.assumed.candidates_of", lambda book, role, named: found)
-    named = {Role.DAM: [Known(female(0), "a"), Known(female(1), "b")], Role.SIRE: None}
+    monkeypatch.setattr("gudokeyi.services.plans.candidates_of", lambda book, role, named: found)
+    named = {Role.DAM: [SocietyRecord(female(0), "a"), SocietyRecord(female(1), "b")], Role.SIRE: None}
     asked = Asked(at_most=Fraction(1, 8), kinship_weight=Fraction(1, 3))
     plan = prepared(book_of([]), asked, named)
     assert (plan.dams.animals, plan.sires.animals) == (found.animals, found.animals[:1])

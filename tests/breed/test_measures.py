@@ -9,21 +9,17 @@ from fractions import Fraction
 import pytest
 
 from breed.drawn import ancestors_in_turn, drawn, generations_back, path_shares, pedigree_of, tabular
-from society.breed.completeness import completeness_by_generation, generations_of, maccluer_indices
-from society.breed.effective_size import individual_increase, yearly_rate
-from society.breed.founders import (
-    Ancestors,
-    FoundedPedigree,
-    effective_ancestors,
-    effective_number,
-    founder_contributions,
-)
-from society.breed.intervals import generation_interval, intervals_of
-from society.breed.kinship import Kinship
-from society.breed.measures import Lack, Name
-from society.breed.pedigree import UNKNOWN, Pedigree
-from society.breed.breed_state import state_of
-from society.breed.years import years_of
+from gudokeyi.genetics.breed_state import state_of, years_of
+from gudokeyi.genetics.effective_size import individual_increase, yearly_rate
+from gudokeyi.genetics.founders import (
+    Ancestors, FoundedPedigree, effective_ancestors, effective_number, founder_contributions,
+)  # fmt: skip
+from gudokeyi.genetics.generations import (
+    completeness_by_generation, generation_interval, generations_of, intervals_of, maccluer_indices,
+)  # fmt: skip
+from gudokeyi.genetics.kinship import Kinship
+from gudokeyi.genetics.measures import Lack, Name
+from gudokeyi.genetics.pedigree import UNKNOWN, Pedigree
 
 SEEDS = range(8)
 POPULATION = range(22, 40)

@@ -7,7 +7,7 @@ from fractions import Fraction
 
 import pytest
 
-from society.breed.plan import Pair, Plan, Rules, Unmated, plan_of
+from gudokeyi.genetics.plans import Pair, Plan, Rules, Unmated, plan_of
 
 Coefficients = dict[Pair, Fraction]
 

@@ -4,7 +4,7 @@ from __future__ import annotations
 import re
 
 from desk.site import Site, shown
-from society.desk.words import Words
+from gudokeyi.web.language import PageLanguage
 
 TITLES = "Ohrmarke;Name;Geschlecht;geb;Vater;Mutter;Besitzer\n"
 PAIR = "001;Max;m;2001-01-01;;;Huber\n002;Eva;w;2001-02-01;;;Huber\n018;Rex;m;2001-03-01;;;Huber\n"
@@ -18,7 +18,7 @@ class Says:
     """The texts of a language as `shown` has them."""
 
     def __init__(self, language: str) -> None:
-        self.words = Words(language)
+        self.words = PageLanguage(language)
 
     def __call__(self, what: str, *values: object) -> str:
         return " ".join(self.words(what, *values).split())
@@ -50,5 +50,5 @@ def press(site: Site, address: str, page: str, label: str) -> str:
 
 def part(page: str, what: str, language: str = "en") -> str:
     """A part of what is found, from its title to the next one."""
-    found = re.search(rf"<details[^>]*>\s*<summary><h3>{Words(language)(what)} .*?</table>", page, re.DOTALL)
+    found = re.search(rf"<details[^>]*>\s*<summary><h3>{PageLanguage(language)(what)} .*?</table>", page, re.DOTALL)
     return found[0] if found else ""

@@ -78,7 +78,7 @@ class Server(Running):
     """The word `open`, until it is ended from the keyboard. Its link is the first that it prints."""
 
     def __init__(self, room: pathlib.Path, program: str, *words: str) -> None:
-        super().__init__(room, program, [str(TOP / "society/society"), "open", "--no-browser", *words])
+        super().__init__(room, program, [str(TOP / "gudokeyi"), "open", "--no-browser", *words])
         self.link = self.said.strip()
         self.base = self.link.partition("/enter")[0]
 

@@ -14,17 +14,15 @@ from contextlib import contextmanager
 from flask import Flask
 from werkzeug.test import TestResponse
 
-from society.desk.app import desk_app
-from society.book.changes import NO_MARK
-from society.desk.desk import Desk
-from society.desk.exporting import Exports
-from society.desk.forms import new_form
-from society.desk.jobs import Jobs
-from society.desk.kept import mark_of
-from society.desk.office import Office
-from society.desk.link import LinkGate
-from society.desk.looked import written
-from society.desk.uploads import Uploads
+from gudokeyi.domain.changes import NO_MARK
+from gudokeyi.services.book_session import BookSession
+from gudokeyi.services.cache import mark_of
+from gudokeyi.web.access import LinkLogins
+from gudokeyi.web.app import web_app
+from gudokeyi.web.files import Uploads
+from gudokeyi.web.forms import mark_text, new_form
+from gudokeyi.web.served_book import ServedBook
+from gudokeyi.web.workers import Exports, Jobs
 
 SECRET, PORT = "a secret", 4711
 HOST = f"127.0.0.1:{PORT}"
@@ -35,7 +33,7 @@ SECONDS = 120
 class Site:
     """The application with a browser that came by the link."""
 
-    def __init__(self, desk: Desk, app: Flask, secret: str = SECRET) -> None:
+    def __init__(self, desk: ServedBook, app: Flask, secret: str = SECRET) -> None:
         self.desk, self.app = desk, app
         self.client = app.test_client()
         self.get(f"/enter/{secret}")
@@ -83,7 +81,7 @@ class Site:
     def looked(self) -> str:
         """What a form has of the book as it is now."""
         with self.desk.opened() as book:
-            return written(mark_of(book) if book else NO_MARK)
+            return mark_text(mark_of(book) if book else NO_MARK)
 
     def drop_backup(self, copy: bytes) -> str:
         """Drops a backup, and answers the address of its page."""
@@ -122,9 +120,9 @@ def site_of(
 ) -> Iterator[Site]:
     os.environ["HERDBOOK"] = program
     room.mkdir(mode=0o700)
-    desk = Desk(folder, Office(), read_only, Uploads(room), Jobs(), Exports(folder))
+    desk = ServedBook(folder, BookSession(), read_only, Uploads(room), Jobs(), Exports(folder))
     try:
-        yield Site(desk, desk_app(desk, LinkGate(secret, PORT, read_only)), secret)
+        yield Site(desk, web_app(desk, LinkLogins(secret, PORT, read_only)), secret)
     finally:
         # a change of this process may have it ignored, and whoever is started later would ignore it too
         signal.signal(signal.SIGINT, signal.default_int_handler)

@@ -9,14 +9,14 @@ import pytest
 
 from desk.site import Site
 from front_desk.desk import TOP
-from society.pages.picture import DAM, GREY, INBRED, INBRED_INK, INK, PAPER, SIRE
+from gudokeyi.render.drawing import DAM, GREY, INBRED, INBRED_INK, INK, PAPER, SIRE
 
 PAGES = [
     "/", "/animals", "/animals?words=nothing", "/animal/HOLGBRM000000000402", "/sheet", "/file", "/file/birth",
     "/file/parents?id=GK-17/472c", "/file/transfer", "/file/exit", "/matings?dam=GK-17/472c", "/matings/plan", "/breed",
     "/history", "/history/1", "/history/0/undo", "/settings", "/nothing",
 ]  # fmt: skip
-STYLE = (TOP / "society/desk/static/desk.css").read_text(encoding="utf-8")
+STYLE = (TOP / "src/gudokeyi/web/static/desk.css").read_text(encoding="utf-8")
 
 
 class Outline(html.parser.HTMLParser):
@@ -121,7 +121,7 @@ def test_contrast_of_pictures(ink: str, grounds: tuple[str, ...]) -> None:
 
 def test_nothing_from_elsewhere() -> None:
     """Pages, styles and the script name no other site."""
-    desk = TOP / "society/desk"
+    desk = TOP / "src/gudokeyi/web"
     files: list[pathlib.Path] = [*desk.glob("templates/*"), *desk.glob("static/*")]
     for path in files:
         text = path.read_text(encoding="utf-8").replace("http://www.w3.org/2000/svg", "")

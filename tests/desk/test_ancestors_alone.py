@@ -9,10 +9,9 @@ import pytest
 
 from desk.site import Site
 from front_desk.desk import Desk
-from society.book.book import Book
-from society.desk.ancestors_alone import BOTH_KNOWN, Expected, lines_alone
-from society.desk.office import Office
-from society.herdbook import Herdbook
+from gudokeyi.engine.program import Herdbook
+from gudokeyi.services.book_session import BOTH_KNOWN, BookSession, Expected, lines_alone
+from gudokeyi.store.book import Book
 
 DAM, SIRE = "GK-17/472c", "GK-10/294b"
 
@@ -73,7 +72,7 @@ def test_refused(site: Site) -> None:
 
 def test_last_expected(site: Site, monkeypatch: pytest.MonkeyPatch) -> None:
     """Of more calves than are kept the first goes."""
-    monkeypatch.setattr("society.desk.ancestors_alone.MOST_CALVES", 1)
+    monkeypatch.setattr("gudokeyi.services.book_session.MOST_CALVES", 1)
     expected = Expected()
     with site.desk.opened() as book:
         assert book
@@ -85,15 +84,15 @@ def test_last_expected(site: Site, monkeypatch: pytest.MonkeyPatch) -> None:
 
 def test_births(site: Site, society_desk: Desk, monkeypatch: pytest.MonkeyPatch) -> None:
     """In a large book the session isn't asked for a coefficient where a birth is filed; the book is whole."""
-    asked = Office.asked
+    asked = BookSession.asked
 
-    def but_coefficients(office: Office, question: Sequence[str], book: Book) -> list[str]:
+    def but_coefficients(office: BookSession, question: Sequence[str], book: Book) -> list[str]:
         assert question[0] not in ("coefficient", "inbreeding")
         return asked(office, [*question], book)
 
     site.post("/file/exit", id="GK-16/433c", day="2024-05-01")
-    monkeypatch.setattr("society.desk.office.LARGE", 0)
-    monkeypatch.setattr(Office, "asked", but_coefficients)
+    monkeypatch.setattr("gudokeyi.services.book_session.LARGE", 0)
+    monkeypatch.setattr(BookSession, "asked", but_coefficients)
     for at, (sire, dam) in enumerate([(SIRE, DAM), ("", DAM), ("", "")]):
         answer = site.post("/file/birth", id=f"NEW-{at}", sex="F", day="2024-03-01", sire=sire, dam=dam)
         assert answer.status_code == 302
@@ -103,14 +102,14 @@ def test_births(site: Site, society_desk: Desk, monkeypatch: pytest.MonkeyPatch)
 
 def test_expected(site: Site, society_desk: Desk, monkeypatch: pytest.MonkeyPatch) -> None:
     """The coefficient of a calf is asked for before others wait, and once more where parents were corrected since."""
-    monkeypatch.setattr("society.desk.office.LARGE", 0)
+    monkeypatch.setattr("gudokeyi.services.book_session.LARGE", 0)
     asked = list[str]()
 
     def alone(program: Herdbook, book: Book, numbers: Sequence[str]) -> list[str]:
         asked.append("alone")
         return lines_alone(program, book, numbers)
 
-    monkeypatch.setattr("society.desk.office.lines_alone", alone)
+    monkeypatch.setattr("gudokeyi.services.book_session.lines_alone", alone)
     calf = {"sex": "F", "day": "2024-03-01", "sire": SIRE, "dam": DAM}
     site.post("/file/birth", id="NEW-1", **calf)
     assert not asked and "17/512" in society_desk.good("show", "NEW-1").out
@@ -119,13 +118,13 @@ def test_expected(site: Site, society_desk: Desk, monkeypatch: pytest.MonkeyPatc
         both = [book.known[id].number for id in ("NEW-1", DAM)]
         assert site.desk.program.coefficients(both, book) == [kept(book)[number] for number in both]
     assert asked.pop() == "alone"
-    expect = Office.expect
+    expect = BookSession.expect
 
-    def and_corrected(program: Office, book: Book, sire: str, dam: str, day: datetime.date) -> None:
+    def and_corrected(program: BookSession, book: Book, sire: str, dam: str, day: datetime.date) -> None:
         expect(program, book, sire, dam, day)
         society_desk.good("parents", DAM, "--sire", "0", "--dam", "0")
 
-    monkeypatch.setattr(Office, "expect", and_corrected)
+    monkeypatch.setattr(BookSession, "expect", and_corrected)
     site.post("/file/birth", id="NEW-2", **calf)
     assert asked == ["alone"] and "17/512" not in society_desk.good("show", "NEW-2").out
     society_desk.good("verify")

@@ -13,7 +13,7 @@ from selenium.webdriver.support.ui import Select
 from desk.screen import PHONE, Screen, chromium
 from desk.server import Server
 from front_desk.desk import TOP, Desk
-from society.desk.texts import TEXTS
+from gudokeyi.locale import TEXTS
 
 __all__ = ["chromium"]
 LANGUAGES = ("en", "de", "fr")

@@ -8,7 +8,7 @@ from selenium import webdriver
 
 from desk.screen import PHONE, Screen, chromium
 from front_desk.desk import Desk
-from society.pages.languages import LANGUAGES
+from gudokeyi.store.settings import LANGUAGES
 
 __all__ = ["chromium"]
 NAME = "Wilhelmine Charlotte Friederike von der hohen Wiese am Wald und an der Heide"

@@ -13,13 +13,13 @@ from desk.site import Site, shown
 from desk.test_desk_filing import BIRTH, DAM
 from desk.test_desk_sheets import EXAMPLE
 from front_desk.desk import Desk
-from society.book.book import Book
-from society.desk.kept import mark_of
-from society.desk.office import BookMoved, Office
-from society.desk.plan_beside import Bounds, PlanMade, compare
-from society.desk.session import Answer, Session
-from society.desk.texts import SENTENCES, TEXTS
-from society.desk.sentences import DeskFault
+from gudokeyi.engine.session import Answer, Session
+from gudokeyi.locale import SENTENCES, TEXTS
+from gudokeyi.services.book_session import BookMoved, BookSession
+from gudokeyi.services.cache import mark_of
+from gudokeyi.store.book import Book
+from gudokeyi.web.mating_work import Bounds, PlanMade, compare
+from gudokeyi.web.messages import WebFault
 
 NEW_ROW = b"Lower Mill,NEW-9,f,2019-01-01,,,\n"
 
@@ -38,14 +38,14 @@ def asked(monkeypatch: pytest.MonkeyPatch) -> list[list[str]]:
         raise AssertionError("the program is run")
 
     monkeypatch.setattr(Session, "ask", noted)
-    monkeypatch.setattr("society.herdbook.Herdbook.run", run)
+    monkeypatch.setattr("gudokeyi.engine.program.Herdbook.run", run)
     return questions
 
 
 def test_looked_at_by_the_session(site: Site, society_desk: Desk, asked: list[list[str]]) -> None:
     """Whether the book is whole is seen by the session too, also where a terminal changed it."""
     society_desk.good("exit", DAM, "--day", "2024-05-01")
-    site.desk.whole = (0, 0)
+    site.desk.trusted = ()
     assert site.post("/file/birth", **BIRTH).headers["Location"] == "/answer/3"
     assert ["inbreeding"] in asked
 
@@ -64,7 +64,7 @@ def test_few_coefficients(site: Site, society_desk: Desk, asked: list[list[str]]
 
 def test_all_coefficients(site: Site, society_desk: Desk, monkeypatch: pytest.MonkeyPatch) -> None:
     """Of many descendants all coefficients are asked for at once."""
-    monkeypatch.setattr("society.book.coefficients.MOST_ONE_BY_ONE", 0)
+    monkeypatch.setattr("gudokeyi.store.coefficients.MOST_ONE_BY_ONE", 0)
     site.post("/file/parents", id="GK-14/388b", sire="0", dam="0")
     assert TEXTS["accepted"][0] in shown(site.page("/answer/2"))
     society_desk.good("verify")
@@ -79,12 +79,12 @@ def test_plan_by_the_session(site: Site, asked: list[list[str]]) -> None:
 def test_plan_differs(site: Site, monkeypatch: pytest.MonkeyPatch) -> None:
     """Where the session says something else of a mating, no plan is shown."""
 
-    def other(office: Office, words: list[str], book: Book) -> list[str]:
+    def other(office: BookSession, words: list[str], book: Book) -> list[str]:
         return [f"{words[-1]},1/2,50.00"]
 
-    monkeypatch.setattr(Office, "ask", other)
+    monkeypatch.setattr(BookSession, "ask", other)
     page = site.page("/matings/plan?made=1")
-    said = SENTENCES[DeskFault.PLAN_DIFFERS][0] or DeskFault.PLAN_DIFFERS.value
+    said = SENTENCES[WebFault.PLAN_DIFFERS][0] or WebFault.PLAN_DIFFERS.value
     assert said.partition("{")[0] in shown(page) and 'scope="row"' not in page
 
 

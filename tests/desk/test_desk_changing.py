@@ -5,8 +5,10 @@ from __future__ import annotations
 import concurrent.futures
 import contextlib
 import pathlib
+import re
 import sqlite3
 import tempfile
+import threading
 import time
 from collections.abc import Iterator
 
@@ -16,12 +18,12 @@ from desk.site import HOST, SECONDS, Site, form_in, looked_in, shown
 from desk.test_desk_filing import BIRTH, DAM
 from desk.test_desk_sheets import EXAMPLE
 from front_desk.desk import Desk
-from society.book.backup_sentences import BackupFault
-from society.book.book_changed import changing
-from society.desk.taking_beside import Taken
-from society.desk.texts import SENTENCES, TEXTS
-from society.mistake import Mistake
-from society.pages.languages import LANGUAGES
+from gudokeyi.domain.messages import Mistake
+from gudokeyi.locale import SENTENCES, TEXTS
+from gudokeyi.store.messages import BackupFault
+from gudokeyi.store.settings import LANGUAGES
+from gudokeyi.store.transactions import changing
+from gudokeyi.web.sheet_work import Imported
 
 NEW_ROW = b"Lower Mill,NEW-9,f,2019-01-01,,,\n"
 
@@ -43,7 +45,7 @@ def test_two_tabs(site: Site, society_desk: Desk) -> None:
     assert all(one.result().status_code == 302 for one in sent)
     taken = []
     for job in jobs:
-        assert job and job.is_over.wait(SECONDS) and isinstance(job.value, Taken)
+        assert job and job.is_over.wait(SECONDS) and isinstance(job.value, Imported)
         taken.append(job.value.book_changed)
     assert sorted(taken) == [False, True]
     assert [line.split()[0] for line in society_desk.good("history").out.splitlines()] == ["1", "2"]
@@ -71,7 +73,7 @@ def test_in_turn(site: Site, monkeypatch: pytest.MonkeyPatch) -> None:
             yield connection
         turns.append(site.desk.jobs.turn.locked())
 
-    monkeypatch.setattr("society.desk.changing.changing", noted)
+    monkeypatch.setattr("gudokeyi.web.changing.changing", noted)
     site.post("/file/birth", **BIRTH)
     assert site.post("/file/exit", id=DAM, day="1999-05-01").headers["Location"] == "/answer/3"
     assert turns == [True] * 4 and not site.desk.jobs.turn.locked()
@@ -135,13 +137,60 @@ def test_last_backup(site: Site, society_desk: Desk) -> None:
     assert "after change 2." in shown(site.page("/history"))
 
 
+def test_no_backup(site: Site) -> None:
+    """What isn't a whole copy for a page of this desk doesn't count as a backup."""
+    before = shown(site.page("/history"))
+    head = site.client.head("/book.sqlite", headers={"Host": HOST})
+    assert head.status_code == 200 and not head.get_data()
+    other = site.get("/book.sqlite", headers={"Sec-Fetch-Site": "cross-site"})
+    assert other.status_code == 403 and TEXTS["refused other site"][0] in shown(other.get_data(as_text=True))
+    broken = site.get("/book.sqlite")
+    assert next(iter(broken.response)) and int(broken.headers["Content-Length"]) > 8192
+    broken.close()
+    assert shown(site.page("/history")) == before and TEXTS["no backup known"][0] in before
+    whole = site.get("/book.sqlite")
+    assert len(whole.get_data()) == int(whole.headers["Content-Length"])
+    whole.close()
+    assert "after change 1." in shown(site.page("/history"))
+
+
+def test_restored_while_clerks_file(site: Site) -> None:
+    """However often somebody files meanwhile the backup is restored, and what is filed while that is done is filed
+    behind it."""
+    copy = site.get("/book.sqlite").get_data()
+    address = site.drop_backup(copy)
+    page, statuses, is_over = site.page(address), list[int](), threading.Event()
+
+    def file() -> None:
+        clerk = Site(site.desk, site.app)
+        while not is_over.is_set():
+            statuses.append(clerk.post("/file/exit", id=DAM, day="2024-05-01").status_code)
+
+    clerk = threading.Thread(target=file)
+    clerk.start()
+    try:
+        while len(statuses) < 2:
+            time.sleep(0.01)
+        answer = shown(site.page(site.post(address, **looked_in(page)).headers["Location"]))
+    finally:
+        is_over.set()
+        clerk.join()
+    assert TEXTS["backup restored"][0].format("copy.sqlite") in answer
+    assert re.search(r"\d+ changes? that came meanwhile (is|are) in the folder old", answer), answer
+    assert set(statuses) == {302}
+    with site.desk.opened() as book:
+        assert book and book.connection
+        kinds = [kind for (kind,) in book.connection.execute("SELECT kind FROM change ORDER BY change")]
+    assert kinds[:2] == ["take", "restore"] and {*kinds[2:]} <= {"exit"}
+
+
 def test_no_room_for_a_copy(site: Site, society_desk: Desk, monkeypatch: pytest.MonkeyPatch) -> None:
     """Where a copy can't be made the page says so, and what to do, as the word does; none is told as made."""
 
     def full(_: sqlite3.Connection) -> bytes:
         raise sqlite3.OperationalError("database or disk is full")
 
-    monkeypatch.setattr("society.book.backup.bytes_of", full)
+    monkeypatch.setattr("gudokeyi.store.backup.file_of", full)
     for at, language in enumerate(LANGUAGES):
         site.get(f"/language/{language}")
         answer = site.get("/book.sqlite")
@@ -161,7 +210,7 @@ def test_no_path(site: Site, monkeypatch: pytest.MonkeyPatch) -> None:
     def wrong(*_: object) -> int:
         raise Mistake(*[f"{folder}/file-{at} and {folder} are wrong" for at, folder in enumerate(folders)])
 
-    monkeypatch.setattr("society.desk.routes.history.last_that_changed", wrong)
+    monkeypatch.setattr("gudokeyi.web.routes.history.last_that_changed", wrong)
     page = site.get("/history").get_data(as_text=True)
     assert all(f"file-{at} and {folder.name} are wrong" in shown(page) for at, folder in enumerate(folders))
     assert not [folder for folder in folders if str(folder.parent) in page or f"{folder.name}/" in shown(page)]

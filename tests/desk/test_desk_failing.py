@@ -16,12 +16,12 @@ import pytest
 from desk.site import Site, shown, site_of
 from desk.test_desk_filing import BIRTH, DAM, SIRE
 from front_desk.desk import TOP, Desk
-from society.book.sentences import BookFault
-from society.desk.sentences import DeskFault
-from society.desk.session import Places, Session, SessionEnded
-from society.desk.texts import SENTENCES, TEXTS
-from society.herdbook import Herdbook
-from society.mistake import Mistake
+from gudokeyi.domain.messages import Mistake
+from gudokeyi.engine.program import Herdbook
+from gudokeyi.engine.session import Places, Session, SessionEnded
+from gudokeyi.locale import SENTENCES, TEXTS
+from gudokeyi.store.messages import BookFault
+from gudokeyi.web.messages import WebFault
 
 
 def test_session_killed(site: Site) -> None:
@@ -65,7 +65,7 @@ def test_not_stored(site: Site, monkeypatch: pytest.MonkeyPatch) -> None:
     """A reply that can't be stored isn't shown, and the next one is of a session that doesn't have it."""
     site.post("/file/birth", **BIRTH)
     with monkeypatch.context() as patched:
-        patched.setattr("society.book.writing.commit", lambda *_: 1 / 0)
+        patched.setattr("gudokeyi.store.writing.commit", lambda *_: 1 / 0)
         assert site.post("/file/exit", id="NEW-1", day="2024-06-01").status_code == 500
     page = shown(site.page(site.post("/file/exit", id="NEW-1", day="2024-06-02").headers["Location"]))
     assert TEXTS["accepted"][0] in page and "Change 3" in page
@@ -94,13 +94,13 @@ def test_killed_before_storing(society_desk: Desk, tmp_path: pathlib.Path) -> No
         sys.path[:0] = sys.argv[1:3]
         import pathlib
         from desk.site import site_of
-        import society.book.writing
-        society.book.writing.commit = lambda *_: os.kill(os.getpid(), signal.SIGKILL)
+        import gudokeyi.store.writing
+        gudokeyi.store.writing.commit = lambda *_: os.kill(os.getpid(), signal.SIGKILL)
         with site_of(pathlib.Path(sys.argv[3]), sys.argv[4], pathlib.Path(sys.argv[5])) as site:
             site.post("/file/exit", id=sys.argv[6], day="2024-05-01")
     """
     folder, program = society_desk.room / "book", society_desk.program
-    words = [str(TOP), str(TOP / "tests"), str(folder), program, str(tmp_path / "killed"), DAM]
+    words = [str(TOP / "src"), str(TOP / "tests"), str(folder), program, str(tmp_path / "killed"), DAM]
     done = subprocess.run([sys.executable, "-c", textwrap.dedent(killed), *words], capture_output=True, text=True)
     assert done.returncode == -signal.SIGKILL, done.stderr
     assert len(society_desk.good("history").out.splitlines()) == 1
@@ -118,7 +118,7 @@ def test_disk_full(site: Site, monkeypatch: pytest.MonkeyPatch) -> None:
         raise Mistake(BookFault.NO_ROOM.said(path=site.desk.folder))
 
     with monkeypatch.context() as patched:
-        patched.setattr("society.book.writing.commit", full)
+        patched.setattr("gudokeyi.store.writing.commit", full)
         site.get("/language/de")
         page = shown(site.post("/file/exit", id=DAM, day="2024-05-01").get_data(as_text=True))
         assert SENTENCES[BookFault.NO_ROOM][1] in page
@@ -137,4 +137,4 @@ def test_closed(site: Site) -> None:
     assert site.desk.program.session is None
     site.desk.is_closing = True
     answer = site.post("/file/exit", id=SIRE, day="2024-05-01")
-    assert answer.status_code == 400 and DeskFault.CLOSING.value in shown(answer.get_data(as_text=True))
+    assert answer.status_code == 400 and WebFault.CLOSING.value in shown(answer.get_data(as_text=True))

@@ -11,8 +11,8 @@ import pytest
 
 from desk.site import SECONDS, Site, form_in, looked_in, shown
 from front_desk.desk import Desk
-from society.desk.texts import TEXTS
-from society.refusals import Refusal
+from gudokeyi.domain.refusals import Refusal
+from gudokeyi.locale import TEXTS
 
 DAM, SIRE = "GK-17/472c", "GK-10/294b"
 BIRTH = {

@@ -8,8 +8,8 @@ import pytest
 
 from desk.looks import PAIR, TITLES, Says, buttons_of, calves, look_at, part, press
 from desk.site import Site, shown
-from society.desk.texts import TEXTS
-from society.pages.languages import LANGUAGES
+from gudokeyi.locale import TEXTS
+from gudokeyi.store.settings import LANGUAGES
 
 
 @pytest.mark.parametrize("total", ["Summe;;;;;;", "Summe;;;63;;;", "63;Summe;;;;;", "63;;;;;;Gesamt"])
@@ -122,7 +122,7 @@ def test_back_to_the_findings(empty_site: Site, monkeypatch: pytest.MonkeyPatch)
     """Whoever presses a button waits on a page that asks again by its address, since one with a place in it wouldn't, and
     comes back to what is found."""
     address, _ = look_at(empty_site, TITLES + PAIR)
-    monkeypatch.setattr("society.desk.jobs.SOON", 0)
+    monkeypatch.setattr("gudokeyi.web.workers.SOON", 0)
     to = empty_site.post(f"{address}/suggested", option="--youngest", word="300").headers["Location"]
     assert "#" not in to and f'content="1; url={to}"' in empty_site.get(to).get_data(as_text=True)
     assert '<div id="findings">' in empty_site.page(to)

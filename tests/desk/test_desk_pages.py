@@ -13,15 +13,15 @@ from desk.site import Site, form_in, shown
 from desk.test_desk_filing import BIRTH, DAM, SIRE
 from front_desk.desk import Desk
 from front_desk.old_folder import write_old
-from society.book.changes import Change, Option
-from society.book.history import EPOCH, FILED_BY_HAND
-from society.book.kinds import ChangeKind
-from society.breed.meanings import MEANINGS
-from society.desk.shown_options import given_of
-from society.desk.texts import SENTENCES, TEXTS
-from society.desk.words import Words
-from society.pages.languages import LANGUAGES
-from society.taking.wishes import Wishes
+from gudokeyi.domain.changes import Change, Option
+from gudokeyi.domain.kinds import ChangeKind
+from gudokeyi.locale import SENTENCES, TEXTS
+from gudokeyi.locale.breed import MEANINGS
+from gudokeyi.reconcile.import_options import ImportOptions
+from gudokeyi.store.history import EPOCH, FILED_BY_HAND
+from gudokeyi.store.settings import LANGUAGES
+from gudokeyi.web.language import PageLanguage
+from gudokeyi.web.views.changes import given_of
 
 LEFT = {"id": DAM, "day": "2024-05-01"}
 
@@ -87,7 +87,7 @@ def test_history_of_refused(site: Site, society_desk: Desk) -> None:
 
 def test_history_has_pages(site: Site, monkeypatch: pytest.MonkeyPatch) -> None:
     """A long history is shown in parts."""
-    monkeypatch.setattr("society.desk.paging.ON_A_PAGE", 2)
+    monkeypatch.setattr("gudokeyi.web.paging.ON_A_PAGE", 2)
     for at in range(3):
         site.post("/file/birth", **BIRTH | {"id": f"NEW-{at}"})
     first, second = site.page("/history"), site.page("/history?page=2")
@@ -115,7 +115,7 @@ def test_settings_of_two(site: Site, society_desk: Desk) -> None:
 @pytest.mark.parametrize("language", LANGUAGES)
 def test_options_in_words(language: str) -> None:
     """No option of a terminal is shown to somebody who never saw one."""
-    wishes = Wishes(
+    wishes = ImportOptions(
         pathlib.Path(), ["id=Ohrmarke,dam=Mutter"], ["Leih"], ["Aue=f"], "SKU", "DEU", EPOCH.date(), True, True, True,
         pathlib.Path("keep.txt"), True, "Blatt 2", True, True, True, 300, 200, ["x"], ["Meier=Meyer"], True,
         no_animal=["Summe"], animal=["Total"],
@@ -124,7 +124,7 @@ def test_options_in_words(language: str) -> None:
     assert {one.option for one in options} >= {"--drop-gone", "--columns", "--leave-out", "--semicolons", "--anyway"}
     filed = [Option("--day", "2024-03-01"), Option("--sex", "f"), Option("--sire", "0"), Option("--embryo"), Option("--from", "x")]
     changes = [Change(1, kind, EPOCH, "me", 1, 1, None, tuple(filed)) for kind in FILED_BY_HAND]
-    words = Words(language)
+    words = PageLanguage(language)
     said = [one for change in [Change(1, ChangeKind.TAKE, EPOCH, "me", 1, 1, None, options), *changes] for one in given_of(change, words)]
     assert len(said) == len(options) + 1 + 5 * len(FILED_BY_HAND)
     assert not [one for one in said if "--" in one.what or "--" in one.value]

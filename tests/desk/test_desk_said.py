@@ -9,22 +9,21 @@ import sqlite3
 
 import pytest
 
-from society.book.book import NO_OWNER, Book
-from society.book.changes import Change, Option
-from society.book.kinds import ChangeKind
-from society.book.rows import Row
-from society.book.schema import FIRST, SECOND
-from society.desk.change_lines import counts_of, id_in_journal, what_of, why
-from society.desk.shown_facts import facts_said
-from society.desk.shown_options import Given, given_of
-from society.desk.texts import TEXTS
-from society.desk.words import Words
-from society.desk.wrong_fields import cleaned, owners_of, wrong_fields
-from society.refusals import Refusal
-from society.taking.animal_findings import CommandRefused
+from gudokeyi.domain.changes import Change, Option
+from gudokeyi.domain.kinds import ChangeKind
+from gudokeyi.domain.refusals import Refusal
+from gudokeyi.locale import TEXTS
+from gudokeyi.reconcile.findings.animals import CommandRefused
+from gudokeyi.store.animal_rows import COLUMNS, AnimalRow
+from gudokeyi.store.book import NO_OWNER, Book
+from gudokeyi.store.schema import FIRST, SECOND
+from gudokeyi.web.forms import cleaned, owners_of, wrong_fields
+from gudokeyi.web.language import PageLanguage
+from gudokeyi.web.views.animals import facts_said
+from gudokeyi.web.views.changes import Given, counts_of, given_of, id_in_journal, what_of, why
 
 DAY = datetime.datetime(2024, 3, 1, tzinfo=datetime.timezone.utc)
-EMBRYO = Row(
+EMBRYO = AnimalRow(
     "E-7", "HOLGBRF000000000007", "Else", "e-7", "else", "gone", "period", "2001-02", "2001-02-30", "period", "2009", None,
     None, "dam", 0, "Leihbock", "Oma", "name exit", "given", "2001-02-15", "HOLGBRM000000000001", "HOLGBRF000000000002",
     1, 5, "2003-04-05", None, "2009-07-01",
@@ -47,10 +46,11 @@ def change_of(kind: ChangeKind, options: tuple[Option, ...] = (), **values: obje
 
 def test_facts() -> None:
     """Each fact is of its own field, in the page's language; one that isn't there is empty."""
-    words, names, owners = Words("de"), {"HOLGBRM000000000001": "V-1"}, {5: "Huber", NO_OWNER: ""}
+    words, names, owners = PageLanguage("de"), {"HOLGBRM000000000001": "V-1"}, {5: "Huber", NO_OWNER: ""}
     assert facts_said(EMBRYO, names, owners, words) == FACTS
     plain = EMBRYO._replace(
-        birth_source="given", birth_period=None, birth_no_such_day=None, sex_source="given", embryo=0, herd=NO_OWNER,
+        birth_source="given", birth_period=None, birth_no_such_day=None, sex_source="given", embryo=0,
+        owner_code=NO_OWNER,
         sire=None, dam=None, exit_source="given", exit_period=None, departed=None, by_hand="", written_sire="",
     )  # fmt: skip
     said = facts_said(plain, names, owners, words)
@@ -61,13 +61,13 @@ def test_facts() -> None:
     assert said["birth day"] == "15.02.2001"
     invented = EMBRYO._replace(birth_source="invented", birth_period=None, birth_no_such_day=None)
     assert facts_said(invented, names, owners, words)["basis of the birth day"] == "erfunden"
-    transferred = EMBRYO._replace(owner_day="inferred", giver=3)
+    transferred = EMBRYO._replace(owner_day="inferred", from_owner=3)
     assert facts_said(transferred, names, owners, words)["owner since"] == "05.04.2003 (erschlossen)"
 
 
 def test_refusal_of_an_inferred_day() -> None:
     """Where only an inferred day of its owner's forbids a command that is said."""
-    refused, words = CommandRefused(ChangeKind.EXIT, "2001-01-01", Refusal.DAY_TOO_EARLY), Words("de")
+    refused, words = CommandRefused(ChangeKind.EXIT, "2001-01-01", Refusal.DAY_TOO_EARLY), PageLanguage("de")
     assert why(refused, words) == TEXTS["refusal 14"][1]
     told = why(dataclasses.replace(refused, owner_since=DAY.date()), words)
     assert told.endswith("bekam; der erste Tag des Besitzers, 01.03.2024, ist erschlossen und weicht dem einer Tabelle")
@@ -75,7 +75,7 @@ def test_refusal_of_an_inferred_day() -> None:
 
 def test_options() -> None:
     """A value that stands for something is said in words: a sex, an unknown parent, and a field without a column."""
-    words = Words("fr")
+    words = PageLanguage("fr")
     birth = change_of(ChangeKind.BIRTH, (Option("--day", "2024-03-01"), Option("--sex", "m"), Option("--sire", "SIR1"),
                                          Option("--dam", "Inconnue"), Option("--owner", "nn"), Option("--breed", "ABC")))  # fmt: skip
     assert given_of(birth, words) == [
@@ -95,15 +95,15 @@ def test_counts() -> None:
     """All animals come first, then what is counted in one order, and nothing that there is none of."""
     counts = {"gone": 2, "animals": 9, "left out": 1, "changed": 0, "new": 1_000, "to look at": 4}
     take = change_of(ChangeKind.TAKE, counts=counts)
-    assert counts_of(take, Words("de")) == "9 Tiere: 1.000 neu, 2 nicht mehr da, 1 weggelassen"
-    assert counts_of(change_of(ChangeKind.TAKE, counts={"animals": 1}), Words("en")) == "1 animal"
-    assert counts_of(change_of(ChangeKind.TAKE, counts={"gone": 1}), Words("fr")) == "1 disparu"
+    assert counts_of(take, PageLanguage("de")) == "9 Tiere: 1.000 neu, 2 nicht mehr da, 1 weggelassen"
+    assert counts_of(change_of(ChangeKind.TAKE, counts={"animals": 1}), PageLanguage("en")) == "1 animal"
+    assert counts_of(change_of(ChangeKind.TAKE, counts={"gone": 1}), PageLanguage("fr")) == "1 disparu"
     # as a folder of an earlier version was taken over
-    assert counts_of(change_of(ChangeKind.TAKE, counts={"animals": 9, "commands": 12}), Words("de")) == "9 Tiere"
+    assert counts_of(change_of(ChangeKind.TAKE, counts={"animals": 9, "commands": 12}), PageLanguage("de")) == "9 Tiere"
 
 
 def test_what() -> None:
-    words = Words("en")
+    words = PageLanguage("en")
     undone = [what_of(change_of(ChangeKind.UNDO, undone_to=to), words) for to in (0, 3)]
     assert undone == [words("change to empty"), words("change undo", 3)] and undone[0] != words("change undo", 0)
 
@@ -116,10 +116,9 @@ def test_animal_of_a_command() -> None:
         command = "INSERT INTO command VALUES (1, ?, 'parents', ?, NULL, NULL, NULL, NULL, NULL, 0, 0)"
         for place, number in enumerate(("HOLGBRF000000000009", EMBRYO.number, "HOLGBRF000000000008"), 2):
             connection.execute(command, (place, number))
-        names = ", ".join(EMBRYO._fields)
         for since, until, id in (1, 4, "earlier"), (4, None, "E-7"):
             values = (since, until, *EMBRYO._replace(id=id))
-            connection.execute(f"INSERT INTO animal (since, until, {names}) VALUES ({', '.join('?' * len(values))})", values)
+            connection.execute(f"INSERT INTO animal (since, until, {COLUMNS}) VALUES ({', '.join('?' * len(values))})", values)
         assert id_in_journal(connection, change_of(ChangeKind.PARENTS)) == "E-7"
         assert id_in_journal(connection, change_of(ChangeKind.PARENTS, length=2)) == ""
 

@@ -9,7 +9,7 @@ import pytest
 from desk.server import Server
 from desk.site import HOST, PORT, SECRET, Site, form_in, shown, site_of
 from front_desk.desk import Desk
-from society.desk.texts import TEXTS
+from gudokeyi.locale import TEXTS
 
 COOKIE, OTHER = f"desk-{PORT}", "another secret"
 

@@ -10,10 +10,10 @@ import pytest
 from werkzeug.routing import Rule
 
 from desk.site import HOST, PORT, SECRET, Site, shown
-from society.desk.here import is_here
-from society.desk.rules import OPEN_TO_ALL
-from society.desk.texts import TEXTS
-from society.desk.uploads import harmless
+from gudokeyi.locale import TEXTS
+from gudokeyi.web.access import OPEN_TO_ALL
+from gudokeyi.web.addresses import is_safe_redirect
+from gudokeyi.web.files import harmless
 
 # what an address of a page may be made of
 VALUES = {
@@ -211,12 +211,16 @@ def test_hostile_names(site: Site) -> None:
         assert "<script>alert" not in text
     assert not list(site.desk.folder.parent.glob("*script*"))
     assert harmless("../a\u202e\nb\x00\x1b.csv") == "ab.csv"
+    # a very long one is cut at once
+    assert harmless("ä" * 800_000 + ".xlsx") == "ä" * 57 + ".xlsx" and harmless("a" * 800_000 + ".x" * 9)[-2:] == ".x"
 
 
 @pytest.mark.parametrize(
     "address",
     ["/animal/../../etc/passwd", "/animal/%2e%2e%2f", "/static/../app.py", "/static/%2e%2e/app.py", "/sheet/..%2f..",
-     "/animal/' OR 1=1 --", "/history/99999999999999999999", "/answer/1", "/file/nothing", "/language/xx?to=//evil.example"],
+     "/animal/' OR 1=1 --", "/history/99999999999999999999", "/answer/1",
+     f"/history/{'1' * 5000}", f"/answer/{'1' * 5000}", f"/history/{'1' * 5000}/undo", "/file/nothing",
+     "/language/xx?to=//evil.example"],
 )  # fmt: skip
 def test_addresses(site: Site, address: str) -> None:
     """No address reaches a file or a fault, and no page tells paths or traces."""
@@ -230,12 +234,12 @@ def test_addresses(site: Site, address: str) -> None:
 @pytest.mark.parametrize("to", ["//evil.example", "/\\evil.example", "https://evil.example", "/\t/evil.example", ""])
 def test_here(to: str) -> None:
     """What a browser takes for another server's address isn't led to."""
-    assert not is_here(to) and is_here("/animals?words=mill")
+    assert not is_safe_redirect(to) and is_safe_redirect("/animals?words=mill")
 
 
 def test_faults(site: Site, monkeypatch: pytest.MonkeyPatch) -> None:
     """A fault of the desk itself is told without what it was."""
-    monkeypatch.setattr("society.desk.routes.history.last_that_changed", lambda connection: 1 / 0)
+    monkeypatch.setattr("gudokeyi.web.routes.history.last_that_changed", lambda connection: 1 / 0)
     answer = site.get("/history")
     assert answer.status_code == 500
     assert TEXTS["fault"][0] in shown(answer.get_data(as_text=True))

@@ -11,12 +11,11 @@ import pytest
 from desk.site import Site, shown
 from desk.test_desk_filing import BIRTH, DAM, SIRE
 from front_desk.desk import Desk
-from society.book.book import Book
-from society.book.changes import NO_MARK
-from society.book.history import last_that_changed
-from society.desk.office import BookMoved, Office
-from society.desk.session import Answer
-from society.desk.texts import TEXTS
+from gudokeyi.engine.session import Answer
+from gudokeyi.locale import TEXTS
+from gudokeyi.services.book_session import BookMoved, BookSession
+from gudokeyi.store.book import Book
+from gudokeyi.store.history import last_that_changed
 
 
 def test_by_the_session(site: Site, monkeypatch: pytest.MonkeyPatch) -> None:
@@ -28,7 +27,7 @@ def test_by_the_session(site: Site, monkeypatch: pytest.MonkeyPatch) -> None:
     def run(*_: object) -> str:
         raise AssertionError("the program is run")
 
-    monkeypatch.setattr("society.herdbook.Herdbook.run", run)
+    monkeypatch.setattr("gudokeyi.engine.program.Herdbook.run", run)
     for at, (kind, fields) in enumerate(
         (
             ("birth", BIRTH),
@@ -40,6 +39,12 @@ def test_by_the_session(site: Site, monkeypatch: pytest.MonkeyPatch) -> None:
     assert "it has left already" in shown(site.page("/answer/5"))
     assert "sires, the least related first" in shown(site.page(f"/matings?dam={DAM}"))
     assert site.desk.program.session is session
+
+
+def test_too_long_for_the_session(site: Site, monkeypatch: pytest.MonkeyPatch) -> None:
+    """A report that is longer than the session makes them is the program's own."""
+    monkeypatch.setattr("gudokeyi.engine.session.Session.ask", lambda *_: Answer(fault="TooLong"))
+    assert "sires, the least related first" in shown(site.page(f"/matings?dam={DAM}"))
 
 
 def test_coefficients(site: Site, society_desk: Desk) -> None:
@@ -77,7 +82,7 @@ def test_beside_a_terminal(site: Site, society_desk: Desk) -> None:
 def test_longer_without_it(site: Site, society_desk: Desk, words: list[str], monkeypatch: pytest.MonkeyPatch) -> None:
     """What a terminal took back isn't in the session any more, also where more was filed since than before; a long journal
     is filed in parts."""
-    monkeypatch.setattr("society.desk.office.AT_ONCE", 100)
+    monkeypatch.setattr("gudokeyi.services.book_session.AT_ONCE", 100)
     society_desk.good("backup", "copy.sqlite")
     site.post("/file/exit", id=DAM, day="2024-05-01")
     society_desk.good(*words)
@@ -115,7 +120,7 @@ def test_book_moved(site: Site, monkeypatch: pytest.MonkeyPatch) -> None:
         assert earlier
         with pytest.raises(BookMoved):
             site.desk.program.ask(["certificate", "HOLGBRM000000000402"], earlier)
-    monkeypatch.setattr("society.desk.routes.history.last_that_changed", raising_once(BookMoved()))
+    monkeypatch.setattr("gudokeyi.web.routes.history.last_that_changed", raising_once(BookMoved()))
     answer = site.get("/history")
     assert answer.status_code == 302
     assert "3 filed a birth" in shown(site.page(answer.headers["Location"]))
@@ -123,14 +128,14 @@ def test_book_moved(site: Site, monkeypatch: pytest.MonkeyPatch) -> None:
 
 def test_book_moved_behind_the_question(site: Site, monkeypatch: pytest.MonkeyPatch) -> None:
     """An answer of a longer history than the book that was asked of isn't shown."""
-    answer_of = Office.answer_of
+    answer_of = BookSession.answer_of
 
-    def of_later(office: Office, question: list[str], book: Book) -> Answer:
+    def of_later(office: BookSession, question: list[str], book: Book) -> Answer:
         found = answer_of(office, question, book)
         found.steps += 1
         return found
 
-    monkeypatch.setattr(Office, "answer_of", of_later)
+    monkeypatch.setattr(BookSession, "answer_of", of_later)
     with site.desk.opened() as book, pytest.raises(BookMoved):
         assert book
         site.desk.program.ask(["certificate", "HOLGBRM000000000402"], book)
@@ -150,13 +155,12 @@ def raising_once(error: Exception) -> Callable[[sqlite3.Connection], int]:
 
 def test_seen_in_a_process_beside(site: Site, monkeypatch: pytest.MonkeyPatch) -> None:
     """A large book is seen to be whole in a process beside the server, and one that isn't is changed by nobody."""
-    monkeypatch.setattr("society.desk.changing.MOST_HERE", 0)
+    monkeypatch.setattr("gudokeyi.web.changing.MOST_LOOKED_AT_HERE", 0)
     assert site.post("/file/exit", id=DAM, day="2024-05-01").status_code == 302
     with contextlib.closing(sqlite3.connect(site.desk.folder / "book.sqlite")) as connection:
         connection.execute("UPDATE coefficient SET percent = '9.99' WHERE place = 7")
         connection.commit()
-    site.desk.whole = NO_MARK
     answer = site.post("/file/exit", id=SIRE, day="2024-05-01")
-    assert answer.status_code == 400 and "the program has 1 otherwise" in shown(answer.get_data(as_text=True))
+    assert answer.status_code == 400 and "The program has 1 of the kept coefficients otherwise" in shown(answer.get_data(as_text=True))
     with site.desk.opened() as book:
         assert book and book.change and book.change.number == 2

@@ -10,10 +10,10 @@ import pytest
 
 from desk.site import HOST, Site, form_in, looked_in, shown
 from front_desk.desk import TOP, Desk
-from society.book.exports import refresh
-from society.desk.jobs import TAKING, Job
-from society.desk.taking_beside import Chosen, wishes_of
-from society.desk.texts import TEXTS
+from gudokeyi.locale import TEXTS
+from gudokeyi.store.exports import refresh
+from gudokeyi.web.sheet_work import Chosen, import_options_of
+from gudokeyi.web.workers import TAKING, Job
 
 EXAMPLE = (TOP / "examples/society.csv").read_bytes()
 FLOCK = b"Tag,Geschlecht,geb,V,M\na,m,2001-01-01,,\nb,w,2001-02-01,,\nc,w,2003-01-01,a,b\n"
@@ -41,7 +41,7 @@ def test_first_sheet(empty_site: Site, program: str, tmp_path: pathlib.Path) -> 
     page = site.take(address)
     assert TEXTS["sheet taken"][0].format("society.csv") in shown(page)
     by_word = Desk(tmp_path / "by word", program)
-    by_word.good("take", str(TOP / "examples/society.csv"))
+    by_word.good("import", str(TOP / "examples/society.csv"))
     by_page = Desk(site.desk.folder.parent, program)
     # the files beside the database may not be written yet
     assert refresh(site.desk.folder, 60) == ""
@@ -127,7 +127,7 @@ def test_options(empty_site: Site) -> None:
         assert book.known["c"].number == "SKUDEUF000000000003"
         assert book.records[book.known["c"].number].sire == ""
     for first in ("month_first", "day_first"):
-        wishes = wishes_of(site.desk.folder, Chosen.of({}, {first: "1"}))
+        wishes = import_options_of(site.desk.folder, Chosen.of({}, {first: "1"}))
         assert (wishes.month_first, wishes.day_first) == (first == "month_first", first == "day_first")
 
 

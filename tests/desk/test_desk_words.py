@@ -15,8 +15,8 @@ import pytest
 
 from desk.site import Site, shown
 from front_desk.desk import Desk
-from society.desk.animal_rows import Asked, Order, asked_by, fields_of, found_by, turned
-from society.desk.routes.matings import level_of
+from gudokeyi.web.routes.matings import level_of
+from gudokeyi.web.views.animals import Asked, Order, asked_by, fields_of, found_by, turned
 
 INBRED, DAM, LEFT = "GK-14/388b", "GK-17/472c", "GK-10/294b"
 NUMBER = "HOLGBRM000000000402"
@@ -100,7 +100,7 @@ def test_asked_again(site: Site, monkeypatch: pytest.MonkeyPatch) -> None:
     assert not upwards.is_downwards and turned(upwards, Order.ID).is_downwards and not turned(asked, Order.BIRTH).is_downwards
     # what an animal was before a change is no animal more
     site.post("/file/exit", id=DAM, day="2024-05-01")
-    monkeypatch.setattr("society.desk.animal_rows.ON_A_PAGE", 251)
+    monkeypatch.setattr("gudokeyi.web.views.animals.ON_A_PAGE", 251)
     with site.desk.opened() as book:
         assert book
         found = found_by(book, Asked(page=9))
@@ -244,7 +244,7 @@ def test_settings(site: Site, society_desk: Desk) -> None:
     answer = site.post("/settings", breed="sk")
     assert answer.status_code == 400 and "drei Buchstaben" in answer.get_data(as_text=True)
     sheet = pathlib.Path(__file__).parent.parent.parent / "examples/society.csv"
-    society_desk.good("take", str(sheet))
+    society_desk.good("import", str(sheet))
     society_desk.good("birth", "NEW-2", "--sex", "f", "--day", "2024-03-01")
     numbers = society_desk.numbers()
     assert numbers[INBRED] == "HOLGBRM000000000402" and numbers["NEW-2"] == "SKUDEUF000000000504"

@@ -8,17 +8,16 @@ from typing import Any
 
 import pytest
 
-from society.book.inferred import BirthBasis, BirthSource, ExitBasis, ExitSource, Period, SexSource
-from society.book.kinds import Field
-from society.book.role import Role
-from society.desk.finding_words import sentence_of
-from society.desk.words import Words
-from society.pages.languages import LANGUAGES
-from society.reading.cell_findings import ExitInferred, IdAgain
-from society.refusals import Refusal
-from society.taking.animal_findings import BirthDayInferred, KeptByHand, KeptFromBook, RowIsGone, ValueChanged
-from society.taking.parent_findings import DayFact, ParentRefused
-from society.taking.row_findings import OwnerDayInferred
+from gudokeyi.domain.kinds import Field, Role
+from gudokeyi.domain.provenance import BirthBasis, BirthSource, ExitBasis, ExitSource, Period, SexSource
+from gudokeyi.domain.refusals import Refusal
+from gudokeyi.ingest.findings.cells import ExitInferred, IdAgain
+from gudokeyi.reconcile.findings.animals import BirthDayInferred, KeptByHand, KeptFromBook, RowIsGone, ValueChanged
+from gudokeyi.reconcile.findings.parents import DayFact, ParentRefused
+from gudokeyi.reconcile.findings.rows import OwnerDayInferred
+from gudokeyi.store.settings import LANGUAGES
+from gudokeyi.web.language import PageLanguage
+from gudokeyi.web.views.messages import sentence_of
 
 DAY = datetime.date(2001, 2, 3)
 QUOTED = re.compile("[«„].*?[»“]")
@@ -51,7 +50,7 @@ def test_words_of_book(finding: Any) -> None:
     english = {*Field, "day unknown", "yes", "male", "female", "castrated", "2001-02", "owner since", "birth day"}
     english -= {Field.NAME, Field.EMBRYO}
     for language in LANGUAGES[1:]:
-        told = QUOTED.sub("", sentence_of(finding, Words(language)).text)
+        told = QUOTED.sub("", sentence_of(finding, PageLanguage(language)).text)
         pattern = rf"(?<!\w)({'|'.join(map(re.escape, english))})(?!\w)|\b[MF]\b"
         assert not re.search(pattern, told), told
 
@@ -85,4 +84,4 @@ def test_words_of_book(finding: Any) -> None:
     ],
 )  # fmt: skip
 def test_sentences(finding: Any, german: str, french: str) -> None:
-    assert [sentence_of(finding, Words(language)).text for language in ("de", "fr")] == [german, french]
+    assert [sentence_of(finding, PageLanguage(language)).text for language in ("de", "fr")] == [german, french]

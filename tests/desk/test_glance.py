@@ -4,9 +4,9 @@ from __future__ import annotations
 import pytest
 
 from desk.site import Site
-from society.book.book import Book
-from society.desk import glance
-from society.desk.glance import Glance, glance_of, later
+from gudokeyi.services import overview
+from gudokeyi.services.overview import Overview, later, overview_of
+from gudokeyi.store.book import Book
 
 DAM, SIRE = "GK-17/472c", "GK-10/294b"
 FORMS = [
@@ -17,11 +17,11 @@ FORMS = [
 ]  # fmt: skip
 
 
-def glance_now(site: Site) -> tuple[Glance, Glance]:
+def glance_now(site: Site) -> tuple[Overview, Overview]:
     """As the desk has it, and that of the whole book."""
     with site.desk.opened() as book:
         assert book
-        return site.desk.glances.of(book), glance_of(book)
+        return site.desk.overviews.of(book), overview_of(book)
 
 
 def test_commands(site: Site, monkeypatch: pytest.MonkeyPatch) -> None:
@@ -29,11 +29,11 @@ def test_commands(site: Site, monkeypatch: pytest.MonkeyPatch) -> None:
     found = {glance_now(site)[1]}
     whole = list[bool]()
 
-    def looked_at(book: Book) -> Glance:
+    def looked_at(book: Book) -> Overview:
         whole.append(True)
-        return glance_of(book)
+        return overview_of(book)
 
-    monkeypatch.setattr(glance, "glance_of", looked_at)
+    monkeypatch.setattr(overview, "overview_of", looked_at)
     for kind, fields in FORMS:
         assert site.post(f"/file/{kind}", **fields).status_code == 302
         here, all_of_it = glance_now(site)
@@ -46,7 +46,7 @@ def test_other_changes(site: Site) -> None:
     """Other parents and another state change more than one animal: the whole book is looked at."""
     with site.desk.opened() as book:
         assert book and book.change
-        first, before = book.change, glance_of(book)
+        first, before = book.change, overview_of(book)
     glance_now(site)
     site.post("/file/parents", id=DAM, sire="0", dam="0")
     site.post("/history/1/undo", looked=site.looked())

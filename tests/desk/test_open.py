@@ -18,8 +18,8 @@ import pytest
 from desk.server import SECONDS, Server, free_port
 from desk.site import looked_in
 from front_desk.desk import Desk
-from society.desk.forms import new_form
-from society.desk.serving import ADDRESS, bound, room
+from gudokeyi.web.forms import new_form
+from gudokeyi.web.server import ADDRESS, bound, room
 
 
 class Browser:

@@ -6,11 +6,11 @@ import pytest
 from desk.sent_forms import corrected, written_in
 from desk.site import Site, shown
 from desk.test_desk_filing import DAM, SIRE
-from society.book.changes import Option
-from society.book.kinds import Field
-from society.desk.sentences import DeskFault
-from society.desk.texts import SENTENCES, TEXTS
-from society.pages.languages import LANGUAGES
+from gudokeyi.domain.changes import Option
+from gudokeyi.domain.kinds import Field
+from gudokeyi.locale import SENTENCES, TEXTS
+from gudokeyi.store.settings import LANGUAGES
+from gudokeyi.web.messages import WebFault
 
 
 def test_correction_of_nothing(site: Site) -> None:
@@ -54,7 +54,7 @@ def test_sent_for_another(site: Site, language: str) -> None:
     given, wanted = (written_in(site.page(f"/file/parents?id={id}")) for id in (DAM, other))
     assert (given["sire"], given["dam"]) != (wanted["sire"], wanted["dam"])
     answer = site.post("/file/parents", **corrected(given, id=f" {other}", sire=SIRE))
-    page, told = answer.get_data(as_text=True), SENTENCES[DeskFault.OTHER_SHOWN][at] or DeskFault.OTHER_SHOWN.value
+    page, told = answer.get_data(as_text=True), SENTENCES[WebFault.OTHER_SHOWN][at] or WebFault.OTHER_SHOWN.value
     assert answer.status_code == 400 and told.format(shown=DAM, id=other).casefold() in shown(page).casefold()
     again = written_in(page)
     assert (again["sire"], again["dam"], again["shown-id"]) == (SIRE, wanted["dam"], other)
@@ -76,7 +76,7 @@ def test_sent_without_parents(site: Site, language: str) -> None:
     site.get(f"/language/{language}")
     now, at = written_in(site.page(f"/file/parents?id={DAM}")), [*LANGUAGES].index(language)
     answer = site.post("/file/parents", id=f" {DAM.lower()}", sire=SIRE, dam="")
-    page, told = answer.get_data(as_text=True), SENTENCES[DeskFault.NONE_SHOWN][at] or DeskFault.NONE_SHOWN.value
+    page, told = answer.get_data(as_text=True), SENTENCES[WebFault.NONE_SHOWN][at] or WebFault.NONE_SHOWN.value
     assert answer.status_code == 400 and told.format(id=DAM).casefold() in shown(page).casefold()
     again = written_in(page)
     assert (again["sire"], again["dam"], again["shown-id"]) == (SIRE, now["dam"], DAM) and now["dam"]

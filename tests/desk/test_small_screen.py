@@ -7,7 +7,7 @@ from selenium import webdriver
 from desk.screen import PHONE, Screen, chromium
 from desk.server import Server
 from front_desk.desk import Desk
-from society.desk.texts import TEXTS
+from gudokeyi.locale import TEXTS
 
 __all__ = ["chromium"]
 # with known ancestors of six generations

@@ -9,8 +9,8 @@ import pytest
 from werkzeug.datastructures import FileStorage
 
 from desk.site import HOST, Site, shown
-from society.desk import uploads
-from society.desk.texts import TEXTS
+from gudokeyi.locale import TEXTS
+from gudokeyi.web import files
 
 FLOCK = b"Tag,Geschlecht,geb\na,m,2001-01-01\n"
 
@@ -18,7 +18,7 @@ FLOCK = b"Tag,Geschlecht,geb\na,m,2001-01-01\n"
 def test_too_large(empty_site: Site) -> None:
     data = {"csrf_token": empty_site.token(), "sheet": (io.BytesIO(b"x" * 51_000_000), "large.csv")}
     answer = empty_site.client.post("/sheet", data=data, headers={"Host": HOST})
-    assert answer.status_code == 413 and TEXTS["refused size"][0] in shown(answer.get_data(as_text=True))
+    assert answer.status_code == 413 and TEXTS["refused size of sheet.drop"][0] in shown(answer.get_data(as_text=True))
     assert not any(empty_site.desk.uploads.room.iterdir())
 
 
@@ -26,15 +26,15 @@ def test_an_hour(empty_site: Site, monkeypatch: pytest.MonkeyPatch) -> None:
     """A file that isn't taken goes after an hour, and of very many the oldest go."""
     site = empty_site
     first = site.drop("flock.csv", FLOCK)
-    monkeypatch.setattr(uploads, "MOST", 3)
+    monkeypatch.setattr(files, "MOST", 3)
     for _ in range(3):
         last = site.drop("flock.csv", FLOCK)
     assert site.get(first).status_code == 404
     assert site.get(last).status_code == 200
     now = time.monotonic()
-    monkeypatch.setattr(time, "monotonic", lambda: now + uploads.SECONDS - 60)
+    monkeypatch.setattr(time, "monotonic", lambda: now + files.SECONDS - 60)
     assert site.get(last).status_code == 200
-    monkeypatch.setattr(time, "monotonic", lambda: now + uploads.SECONDS + 60)
+    monkeypatch.setattr(time, "monotonic", lambda: now + files.SECONDS + 60)
     assert site.get(last).status_code == 404
     assert not any(site.desk.uploads.room.iterdir())
 
@@ -57,10 +57,10 @@ def test_odd_names(tmp_path: pathlib.Path, monkeypatch: pytest.MonkeyPatch, name
     """Were a name cut badly, its file would lie in the folder made for it all the same, and only that one ever goes."""
     other = tmp_path / "other"
     other.mkdir()
-    monkeypatch.setattr(uploads, "harmless", lambda _: name.format(other=other))
-    dropped = uploads.Uploads(tmp_path)
+    monkeypatch.setattr(files, "harmless", lambda _: name.format(other=other))
+    dropped = files.Uploads(tmp_path)
     one = dropped.add(FileStorage(io.BytesIO(FLOCK), "flock.csv"), "Kim")
-    assert one.path == tmp_path / one.token / uploads.NAMELESS and one.path.read_bytes() == FLOCK
+    assert one.path == tmp_path / one.token / files.NAMELESS and one.path.read_bytes() == FLOCK
     one.path = other / "flock.csv"
     dropped.drop(one.token)
     assert list(tmp_path.iterdir()) == [other]

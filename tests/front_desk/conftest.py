@@ -62,7 +62,7 @@ def taken_secretary(program: str, tmp_path_factory: pytest.TempPathFactory) -> D
 def taken_mrode(program: str, tmp_path_factory: pytest.TempPathFactory) -> Desk:
     """The desk that took Mrode's pedigree, `examples/mrode.txt`, before any test, to be copied."""
     kept = Desk(tmp_path_factory.mktemp("mrode"), program)
-    kept.good("take", "--pedigree", str(TOP / "examples/mrode.txt"))
+    kept.good("import", "--pedigree", str(TOP / "examples/mrode.txt"))
     return kept
 
 
@@ -70,7 +70,7 @@ def taken_mrode(program: str, tmp_path_factory: pytest.TempPathFactory) -> Desk:
 def taken_society(program: str, tmp_path_factory: pytest.TempPathFactory) -> Desk:
     """The desk that took the society's sheet, `examples/society.csv`, before any test, to be copied."""
     kept = Desk(tmp_path_factory.mktemp("society"), program)
-    kept.good("take", str(TOP / "examples/society.csv"))
+    kept.good("import", str(TOP / "examples/society.csv"))
     return kept
 
 

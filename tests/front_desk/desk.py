@@ -17,7 +17,7 @@ from typing import Callable
 
 TOP = pathlib.Path(__file__).resolve().parent.parent.parent
 # how the front desk is called
-CALLED = shlex.quote(str(TOP / "society/society"))
+CALLED = shlex.quote(str(TOP / "gudokeyi"))
 SECONDS = 300
 
 
@@ -75,12 +75,12 @@ class Desk:
         known = {
             "PATH": os.environ["PATH"], "HERDBOOK": program or self.program, "LANG": "C", "PYTHONPATH": str(self.room)
         }  # fmt: skip
-        command = [str(TOP / "society/society"), *words]
+        command = [str(TOP / "gudokeyi"), *words]
         done = subprocess.run(command, cwd=self.room, env=known, capture_output=True, timeout=SECONDS)
         found = Done(done.returncode, done.stdout.decode(), done.stderr.decode(), self.report(words))
         is_well = "Traceback" not in found.err and "fault of the front desk" not in found.err
         assert is_well, f"{words}: {found}"
-        if words[:1] == ("take",) and not {"--help", "--preview"} & {*words}:
+        if words[:1] == ("import",) and not {"--help", "--preview"} & {*words}:
             rows = sum(-(-len(line) // 80) for line in found.out.splitlines())
             assert rows <= 24, f"{words}: {rows} rows of 80 letters are more than a screen: {found.out}"
         return found
@@ -88,7 +88,7 @@ class Desk:
     def report(self, words: tuple[str, ...]) -> tuple[str, ...]:
         """The sentences of the report of the book that the words name."""
         path = self.room / (words[words.index("--book") + 1] if "--book" in words else "book") / "report.csv"
-        if words[:1] != ("take",) or not path.is_file():
+        if words[:1] != ("import",) or not path.is_file():
             return ()
         text = path.read_text(encoding="utf-8-sig")
         rows = csv.DictReader(io.StringIO(text), delimiter=text[4])
@@ -117,7 +117,7 @@ class Desk:
         return name
 
     def take(self, text: str | bytes, *words: str) -> Done:
-        return self.good("take", self.write("sheet.csv", text), *words)
+        return self.good("import", self.write("sheet.csv", text), *words)
 
     def wrong(self, told: str, *words: str) -> Done:
         """The words are a mistake: it is told in a sentence, and no file is changed."""

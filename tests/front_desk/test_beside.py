@@ -10,12 +10,12 @@ from collections.abc import Callable, Iterator
 import pytest
 
 from front_desk.desk import Desk
-from society.book.beside import Beside, Pieces
-from society.book.book import Book
-from society.book.book_read import reading
-from society.book.journal import Part
-from society.herdbook import Herdbook
-from society.mistake import Mistake
+from gudokeyi.domain.messages import Mistake
+from gudokeyi.engine.program import Herdbook
+from gudokeyi.engine.workers import Background, Pieces
+from gudokeyi.store.book import Book
+from gudokeyi.store.journal import Part
+from gudokeyi.store.transactions import reading
 
 # the program that a script stands for
 Program = Callable[[str], Herdbook]
@@ -40,7 +40,7 @@ def test_the_value_is_waited_for() -> None:
         assert may_end.wait(20)
         return 7
 
-    beside = Beside(find)
+    beside = Background(find)
     # nobody who ends waits for it
     assert beside.thread.daemon
     may_end.set()
@@ -53,7 +53,7 @@ def test_what_goes_wrong_is_raised_where_the_value_is_asked_for(error: BaseExcep
     def find() -> int:
         raise error
 
-    beside = Beside(find)
+    beside = Background(find)
     for _ in range(2):
         with pytest.raises(type(error), match="no"):
             beside.value()
@@ -76,7 +76,7 @@ def test_a_journal_of_many_pieces_is_whole(mrode_desk: Desk, monkeypatch: pytest
     with reading(mrode_desk.room / "book") as connection:
         wanted = Book(mrode_desk.room / "book", connection).command_file()
         for most in 1, 2, 3, wanted.count(b"\n") - 1:
-            monkeypatch.setattr("society.book.journal.IN_A_PIECE", most)
+            monkeypatch.setattr("gudokeyi.store.journal.IN_A_PIECE", most)
             book = Book(mrode_desk.room / "book", connection)
             with book.journal_read_beside():
                 assert book.beside is not None and book.beside.value() == wanted
@@ -144,7 +144,7 @@ def test_a_program_reads_pieces_as_they_are_found(text: str, herdbook: Program) 
             assert not at or may_end.wait(20)
             yield at, (text[half:] if at else text[:half]).encode()
 
-    answer = Beside(lambda: herdbook("#!/bin/sh\ncat\n").run_meanwhile([], Pieces(b"", 2, [find])))
+    answer = Background(lambda: herdbook("#!/bin/sh\ncat\n").run_meanwhile([], Pieces(b"", 2, [find])))
     answer.thread.join(0.1)
     assert answer.thread.is_alive()
     may_end.set()
@@ -189,7 +189,7 @@ def test_a_journal_is_read_though_it_can_not_be_read_beside(
     def closed(path: pathlib.Path, mode: str) -> sqlite3.Connection:
         raise sqlite3.OperationalError("unable to open database file")
 
-    monkeypatch.setattr("society.book.beside.connect", closed)
+    monkeypatch.setattr("gudokeyi.store.journal.connect", closed)
     with reading(mrode_desk.room / "book") as connection:
         book = Book(mrode_desk.room / "book", connection)
         with book.journal_read_beside():
@@ -207,7 +207,7 @@ def test_nothing_is_left_beside_a_book_where_a_call_is_mistaken(
         ended.append(True)
         return b""
 
-    monkeypatch.setattr("society.book.beside.piece_of", late)
+    monkeypatch.setattr("gudokeyi.store.journal.piece_of", late)
     with reading(mrode_desk.room / "book") as connection, pytest.raises(Mistake, match="mistaken"):
         with Book(mrode_desk.room / "book", connection).journal_read_beside():
             raise Mistake("mistaken")

@@ -11,29 +11,27 @@ from typing import cast
 
 import pytest
 
-from society.book.book import NO_OWNER, Book
-from society.book.by_hand import herd_of, transferred, with_parents
-from society.book.changes import Made, Told
-from society.book.coefficients import few_descendants, kept_lines, write_coefficients
-from society.book.commands import Record, birth, leave, record_after, replay, transfer
-from society.book.history import all_changes, changed_one_by_one, told_by, write_change
-from society.book.inferred import (
-    BirthBasis, BirthSource, ExitBasis, ExitSource, OwnerDay, Period, SexSource,
+from gudokeyi.domain.animals import SocietyRecord
+from gudokeyi.domain.changes import ChangeDetails, StoredFinding
+from gudokeyi.domain.commands import RegisterRecord, birth, leave, record_after, replay, transfer
+from gudokeyi.domain.kinds import ChangeKind, Field, Remembered, Standing
+from gudokeyi.domain.messages import Mistake
+from gudokeyi.domain.provenance import BirthBasis, BirthSource, ExitBasis, ExitSource, OwnerDay, Period, SexSource
+from gudokeyi.ingest.animals import SheetAnimal
+from gudokeyi.reconcile.next_book import NextBook
+from gudokeyi.services.filing import owner_code_of, transferred, with_parents
+from gudokeyi.services.saving import cell_rows
+from gudokeyi.store.animal_rows import known_of, record_of, row_of
+from gudokeyi.store.book import NO_OWNER, Book
+from gudokeyi.store.coefficients import few_descendants, kept_lines, write_coefficients
+from gudokeyi.store.history import all_changes, changed_one_by_one, told_by, write_change
+from gudokeyi.store.journal import NO_JOURNAL, Step, alike
+from gudokeyi.store.schema import MIGRATIONS
+from gudokeyi.store.state import (
+    ANIMALS, CELL_FIELDS, REMEMBERED, Meaning, as_written, bring_back, read_remembered, remembered_rows, renamings,
+    write_rows,
 )  # fmt: skip
-from society.book.journal import NO_JOURNAL, Step, alike
-from society.book.kinds import ChangeKind, Field, Remembered, Standing
-from society.book.known import Known
-from society.book.owner_names import as_written, renamings
-from society.book.rows import known_of, record_of, row_of
-from society.book.schema import MIGRATIONS
-from society.book.state import (
-    ANIMALS, CELL_FIELDS, REMEMBERED, Meaning, bring_back, read_remembered, remembered_rows, write_rows,
-)  # fmt: skip
-from society.book.writing import Rows, State, animal_rows, write_owners
-from society.mistake import Mistake
-from society.reading.animal import Animal
-from society.taking.next_book import NextBook
-from society.taking.saving import cell_rows
+from gudokeyi.store.writing import Rows, State, animal_rows, write_owners
 
 NUMBER = "HOLGBRF000000000001"
 BORN, GIVEN, LEFT = (datetime.date(year, 1, 2) for year in (2001, 2003, 2005))
@@ -50,10 +48,18 @@ def connection() -> sqlite3.Connection:
 
 def test_a_record_names_its_giver_and_the_day() -> None:
     first = record_after(None, birth(NUMBER, BORN, "", "", 4, False))
-    assert (first.herd, first.since, first.giver, first.left) == (4, BORN, 0, None)
+    assert (first.owner_code, first.since, first.from_owner, first.left) == (4, BORN, 0, None)
     then = record_after(first, transfer(NUMBER, GIVEN, 4, 7))
-    assert then == first._replace(herd=7, since=GIVEN, giver=4)
+    assert then == first._replace(owner_code=7, since=GIVEN, from_owner=4)
     assert record_after(then, leave(NUMBER, LEFT)) == then._replace(left=LEFT)
+
+
+def test_a_kind_of_command_that_is_not_known() -> None:
+    """It is a mistake, and no exit."""
+    first = record_after(None, birth(NUMBER, BORN, "", "", 4, False))
+    for record, kind in (first, "marker"), (first, ""), (None, "exit"), (None, "parents"):
+        with pytest.raises(Mistake, match=f"of the kind '{kind}', which this front desk doesn't know"):
+            record_after(record, leave(NUMBER, LEFT)._replace(kind=kind))
 
 
 def test_journals_that_begin_alike() -> None:
@@ -66,7 +72,7 @@ def test_journals_that_begin_alike() -> None:
 def test_changed_one_by_one(connection: sqlite3.Connection) -> None:
     """Not since a change of another book, as before a restoring, nor since parents were changed."""
     for number, kind in enumerate((ChangeKind.TAKE, ChangeKind.BIRTH, ChangeKind.PARENTS, ChangeKind.EXIT), 1):
-        write_change(connection, number, 1000 * number, NO_JOURNAL, Made(kind))
+        write_change(connection, number, 1000 * number, NO_JOURNAL, ChangeDetails(kind))
     changes = all_changes(connection)
     assert [changed_one_by_one(connection, one) for one in changes] == [False, False, True, True]
     last = changes[-1]
@@ -92,28 +98,32 @@ def test_few_descendants(connection: sqlite3.Connection, monkeypatch: pytest.Mon
     parents = {one: ("", "") for one in (sire, dam, other)}
     parents |= {son: (sire, dam), daughter: ("", dam), calf: (son, daughter)}
     records = replay(birth(number, BORN, *both, 1, False) for number, both in parents.items())
-    rows = animal_rows({number: Known(number, number) for number in parents}, records)
+    rows = animal_rows({number: SocietyRecord(number, number) for number in parents}, records)
     write_rows(connection, ANIMALS, 1, {}, rows)
     every = {number: sorted(few_descendants(connection, number)) for number in parents}
     assert every[dam] == sorted([dam, son, daughter, calf]) and every[other] == [other]
     assert every[sire] == sorted([sire, son, calf]) and every[daughter] == sorted([daughter, calf])
-    monkeypatch.setattr("society.book.coefficients.MOST_ONE_BY_ONE", 3)
+    monkeypatch.setattr("gudokeyi.store.coefficients.MOST_ONE_BY_ONE", 3)
     assert few_descendants(connection, dam) == [] and sorted(few_descendants(connection, sire)) == every[sire]
     bring_back(connection, 2, 0)
     assert few_descendants(connection, sire) == [sire]
 
 
 @pytest.mark.parametrize("known", [
-    Known(NUMBER, "ẞ 1", "Straße", Standing.GONE, BirthBasis(BirthSource.PERIOD, Period("2001-02", "31.02.2001")),
-          ExitBasis(ExitSource.PERIOD, Period("2005", "15.13.2005")), SexSource.SIRE, True, "Bob", "Eva",
-          frozenset({Field.SIRE, Field.NAME}), OwnerDay.INFERRED),
-    Known(NUMBER, "a", standing=Standing.FILED, birth=BirthBasis(BirthSource.NEAREST),
-          exit=ExitBasis(ExitSource.UNKNOWN_DAY, text="sold"), sex=SexSource.INVENTED),
-    Known(NUMBER, "a"),
+    SocietyRecord(
+        NUMBER, "ẞ 1", "Straße", Standing.GONE, BirthBasis(BirthSource.PERIOD, Period("2001-02", "31.02.2001")),
+        ExitBasis(ExitSource.PERIOD, Period("2005", "15.13.2005")), SexSource.SIRE, True, "Bob", "Eva",
+        frozenset({Field.SIRE, Field.NAME}), OwnerDay.INFERRED,
+    ),
+    SocietyRecord(
+        NUMBER, "a", standing=Standing.FILED, birth=BirthBasis(BirthSource.NEAREST),
+        exit=ExitBasis(ExitSource.UNKNOWN_DAY, text="sold"), sex=SexSource.INVENTED,
+    ),
+    SocietyRecord(NUMBER, "a"),
 ])  # fmt: skip
-def test_what_is_known_of_an_animal_is_had_again_from_its_row(known: Known) -> None:
+def test_what_is_known_of_an_animal_is_had_again_from_its_row(known: SocietyRecord) -> None:
     """So is its record; it is looked for by letters without their case, as `ss` for `ß`."""
-    whole = Record(NUMBER, BORN, NUMBER[:-1] + "2", NUMBER[:-1] + "3", True, 4, GIVEN, LEFT, 7)
+    whole = RegisterRecord(NUMBER, BORN, NUMBER[:-1] + "2", NUMBER[:-1] + "3", True, 4, GIVEN, LEFT, 7)
     for record in whole, record_after(None, birth(NUMBER, BORN, "", "", 4, False)):
         row = row_of(known, record)
         assert known_of(row) == known and record_of(row) == record
@@ -173,7 +183,9 @@ def test_former_numbers(connection: sqlite3.Connection, tmp_path: pathlib.Path) 
         ("HOLGBR", "F", 1), ("HOLGBR", "M", 1), ("HOLGBR", "M", 2), ("SKUGBR", "M", 2)))  # fmt: skip
     records = replay(birth(number, BORN, "", "", 1, False) for number in (first, male, other))
     before, after = (animal_rows({one.id: one for one in known}, records) for known in (
-        (Known(first, "a"), Known(other, "b")), (Known(male, "a"), Known(dropped, "b", standing=Standing.DROPPED))
+        (SocietyRecord(first, "a"), SocietyRecord(other, "b")), (
+            SocietyRecord(male, "a"), SocietyRecord(dropped, "b", standing=Standing.DROPPED)
+        )
     ))  # fmt: skip
     write_rows(connection, ANIMALS, 1, {}, before)
     write_rows(connection, ANIMALS, 2, before, after)
@@ -185,17 +197,19 @@ def test_former_numbers(connection: sqlite3.Connection, tmp_path: pathlib.Path) 
 
 
 def test_what_is_told_keeps_its_order(connection: sqlite3.Connection) -> None:
-    told = tuple(Told("kind", "part", line, id, (("b", "1"), ("a", "2"))) for line, id in ((7, "b"), (0, ""), (3, "a")))
+    told = tuple(
+        StoredFinding("kind", "part", line, id, (("b", "1"), ("a", "2"))) for line, id in ((7, "b"), (0, ""), (3, "a"))
+    )
     for number in 1, 2:
-        write_change(connection, number, number, NO_JOURNAL, Made(ChangeKind.TAKE, told=told[: number + 1]))
+        write_change(connection, number, number, NO_JOURNAL, ChangeDetails(ChangeKind.TAKE, told=told[: number + 1]))
     assert told_by(connection, 1) == [*told[:2]] and told_by(connection, 2) == [*told]
 
 
 def test_last_cells() -> None:
     """A row gives an animal its cells; those of a column that the sheet lacks stay, and so do those without a row."""
     before = {(id,): (id, *(f"{field} of {id}" for field in CELL_FIELDS)) for id in "ab"}
-    rows = Animal("a", 2, cells={Field.NAME: "A", Field.OWNER: ""}), Animal("c", 3, cells={Field.NAME: "C"})
-    animals = {one.id: one for one in (*rows, Animal("b", cells={Field.NAME: "B"}))}
+    rows = SheetAnimal("a", 2, cells={Field.NAME: "A", Field.OWNER: ""}), SheetAnimal("c", 3, cells={Field.NAME: "C"})
+    animals = {one.id: one for one in (*rows, SheetAnimal("b", cells={Field.NAME: "B"}))}
     book = SimpleNamespace(cells=before, renamed=[])
     cells = cell_rows(cast(NextBook, SimpleNamespace(book=book, animals=animals, is_pedigree=False)))
     changed = {Field.NAME: "A", Field.OWNER: ""}
@@ -213,12 +227,12 @@ def test_parents_and_owners_by_hand() -> None:
     behind all others."""
     records = {NUMBER: record_after(None, birth(NUMBER, BORN, "", "", 1, False))}
     book = cast(Book, SimpleNamespace(records=records, remembered=[], owners={"Nord": 2, "Süd": 5}))
-    known = Known(NUMBER, "a", written_sire="Bob", written_dam="Eva")
+    known = SocietyRecord(NUMBER, "a", written_sire="Bob", written_dam="Eva")
     of_sire, of_dam = with_parents(book, known, "", None), with_parents(book, known, None, "")
     assert of_sire.known == known._replace(written_sire="", by_hand=frozenset({Field.SIRE})) and not of_sire.findings
     assert of_dam.known == known._replace(written_dam="", by_hand=frozenset({Field.DAM})) and not of_dam.findings
     with pytest.raises(Mistake, match="the book has no owner 'Nort'"):
         transferred(book, known, GIVEN, "Süd", "Nort")
-    assert (herd_of(book, "West"), herd_of(book, "Süd"), herd_of(book, "")) == (
+    assert (owner_code_of(book, "West"), owner_code_of(book, "Süd"), owner_code_of(book, "")) == (
         (6, {"West": 6}), (5, {}), (NO_OWNER, {})
     )  # fmt: skip

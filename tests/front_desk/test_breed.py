@@ -13,7 +13,7 @@ import pytest
 
 import reference
 from front_desk.desk import Desk
-from society.breed.measures import Name
+from gudokeyi.genetics.measures import Name
 
 TITLES = {
     "years.csv": "year,animals,sires,",
@@ -27,7 +27,6 @@ TITLES = {
 
 def measured(desk: Desk, *words: str) -> dict[str, str]:
     """The exact values of the measures."""
-    (desk.room / "tables").mkdir(exist_ok=True)
     desk.good("breed", *words, "--csv", "tables", "--force")
     return {row["measure"]: row["exact"] for row in desk.table("tables/measures.csv")}
 
@@ -70,7 +69,8 @@ def test_populations(secretary_desk: Desk) -> None:
     (["--owner", "nobody"], "the book has no owner 'nobody'"),
     (["--born", "1900..1901"], "the book has none of the animals born 1900-01-01 – 1901-12-31"),
     (["--born", "lately"], "'lately' isn't written as 2010..2019"),
-    (["--csv", "absent"], "there is no folder absent"),
+    (["--csv", "absent/tables"], "absent/tables can't be made: there is no folder absent: make it first"),
+    (["--csv", "sheet.csv"], "sheet.csv is a file: name a folder"),
     (["--among", "none.txt"], "there is no file none.txt: write the ids into one"),
 ])  # fmt: skip
 def test_mistakes(secretary_desk: Desk, words: list[str], told: str) -> None:
@@ -91,7 +91,7 @@ def test_page(desk: Desk, language: str, title: str) -> None:
 
 def test_tables_of_a_pedigree_without_days(desk: Desk) -> None:
     """What needs birth days can't be had, and the other measures can."""
-    desk.good("take", "--pedigree", desk.write("pedigree.txt", "a 0 0\nb 0 0\nc a b\nd a b\ne c d\n"))
+    desk.good("import", "--pedigree", desk.write("pedigree.txt", "a 0 0\nb 0 0\nc a b\nd a b\ne c d\n"))
     found = measured(desk)
     assert found["mean_inbreeding"] == "1/20" and found["generation_interval"] == ""
     assert desk.table("tables/years.csv") == []
@@ -125,7 +125,7 @@ def test_plan_with_bounds(secretary_desk: Desk) -> None:
     desk = secretary_desk
     done = desk.good("plan", "--at-most", "0", "--most-for-a-sire", "1")
     assert all(row["coefficient"] == "0" for row in csv.DictReader(io.StringIO(done.out)))
-    assert "society: not mated, since " in done.err
+    assert "gudokeyi: not mated, since " in done.err
     assert " matings: the mean coefficient of the offspring is 0.00%" in done.err
     old = {row["id"] for row in desk.listed("list") if row["birth"] < "1999"}
     assert {row["dam"] for row in planned(desk, "--minimum-age", "9999")} <= old
@@ -171,5 +171,5 @@ def test_plan_assumes_an_age(desk: Desk, today: datetime.date) -> None:
 def test_plan_of_days_after_today(desk: Desk) -> None:
     """Invented days of a long pedigree go on after today, and no age is asked unless that is wished."""
     text = "id sire dam sex birth\ns 0 0 M 2190-01-01\nd 0 0 F 2190-01-02\n"
-    desk.good("take", "--pedigree", desk.write("ahead.txt", text))
+    desk.good("import", "--pedigree", desk.write("ahead.txt", text))
     assert "1 mating" in desk.good("plan").err

@@ -8,8 +8,8 @@ import random
 import pytest
 
 from front_desk.desk import Desk
-from society.reading.sheet import cleaned_records, is_clean, read_records
-from society.reading.words import as_known, clean
+from gudokeyi.ingest.sheets import cleaned_records, is_clean, read_records
+from gudokeyi.ingest.words import as_known, clean
 
 PIECES = ("a", "7", "Ö", "ō", "-", ".", "\t", ",", ";", "\n", "\r\n", "\r")
 # what a cell is cleaned of, each beside a plain text that isn't
@@ -45,7 +45,7 @@ def test_words_by_hand_are_cleaned(desk: Desk) -> None:
     assert [owner for _, owner in desk.owners()] == ["Käthe", "Käther"]
     assert desk.parents() == {"ö1": ("", ""), "C1": ("", "ö1"), "ö2": ("", "ö1")}
     lines = desk.write("lines", "id sire dam sex birth\no\u03082 R1 o\u03081 F 2012-01-01\no\u03081 R1 0 F 2001-01-01\n")
-    desk.good("take", "--pedigree", lines, "--keep", desk.write("keep", "o\u03082\n"))
+    desk.good("import", "--pedigree", lines, "--keep", desk.write("keep", "o\u03082\n"), "--anyway")
     assert desk.parents() == {"ö1": ("R1", ""), "C1": ("", "ö1"), "ö2": ("R1", "ö1"), "R1": ("", "")}
     assert [row["id"] for row in desk.listed("list", "--owner", "ka\u0308the")] == ["ö1", "ö2"]
 

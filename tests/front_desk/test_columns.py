@@ -49,7 +49,7 @@ def test_likelier_column_comes_later(desk: Desk) -> None:
     desk.take("id;birth;sire;dam;Abgang\na;2001-01-01;;;01.02.2010\n")
     done = desk.take("id;birth;sire;dam;Abgangsdatum;Abgang\na;2001-01-01;;;;01.02.2010\n")
     done.shows("to look at: exit is read from 'Abgang', as at the last time, and 'Abgangsdatum' isn't")
-    assert done.commands() == [f"{CALLED} take sheet.csv --columns exit=Abgangsdatum"]
+    assert done.commands() == [f"{CALLED} import sheet.csv --columns exit=Abgangsdatum"]
     assert sum(line.startswith("exit") for line in desk.commands()) == 1
     desk.typed(done.commands()[0])
     assert "and 'Abgang' isn't" not in desk.take("id;birth;sire;dam;Abgangsdatum;Abgang\na;2001-01-01;;;;\n").out
@@ -92,14 +92,14 @@ def test_columns_that_may_be_meant(desk: Desk) -> None:
     """Of an unknown sheet the ids are all different, parents are ids, and most cells of birth days are days."""
     rows = "b;a;x;2001;;\na;b;2004;2002;;\nd;c;y;2004-05-06;a;b\nd;d;z;2005;a;b\n"
     sheet = desk.write("sheet.csv", f"Gruppe;Marke;Note;gz, neu;V1;M1\n{rows}")
-    done = desk.wrong("no column for id or birth or sire or dam is found", "take", sheet)
+    done = desk.wrong("no column for id or birth or sire or dam is found", "import", sheet)
     assert len(done.commands()) == 1
     read = "columns: id from 'Marke', birth from 'gz, neu', sire from 'V1', dam from 'M1'; not read: 'Gruppe', 'Note'"
     assert read in desk.typed(done.commands()[0]).out
     # one day of three cells is that of a note
     without = rows.replace("2001", "u").replace("2002", "v").replace("2004-05-06", "w").replace("2005", "z")
     other = desk.write("other.csv", "Gruppe;id;Note;g;sire;dam\n" + without)
-    done = desk.wrong("no column for birth", "take", other, "--book", "other")
+    done = desk.wrong("no column for birth", "import", other, "--book", "other")
     assert [one.partition("--columns ")[2] for one in done.commands()] == ["birth="]
 
 
@@ -110,7 +110,7 @@ def test_ids_that_count_rows(desk: Desk) -> None:
         "to look at: the ids are read from 'Nr', which counts the rows: sorted otherwise, another animal would have each number"
     )
     desk.write("sheet.csv", "Nr;Kürzel;birth;sire;dam\n1;DE4;2001-01-01;;\n2;DE3;2002-01-01;;\n")
-    assert "counts the rows" not in desk.typed(done.commands()[0].replace("take", "take --book other")).out
+    assert "counts the rows" not in desk.typed(done.commands()[0].replace("import", "take --book other")).out
     rows = "1;x;2001;;\n2;y;2002;;\n3;z;2004;1;2\n"
     assert "counts the rows" not in desk.take("Nr;Kürzel;birth;sire;dam\n" + rows, "--book", "numbers").out
     # nor is another column that counts them, or that has empty cells, better

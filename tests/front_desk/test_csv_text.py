@@ -8,9 +8,8 @@ import unicodedata
 
 import pytest
 
-from society.answers.table import Kind, Table
-from society.book.cells import ACTING, column_for_spreadsheets, escape, for_spreadsheets, for_terminals
-from society.book.csv_text import csv_text
+from gudokeyi.domain.cells import ACTING, column_for_spreadsheets, csv_text, escape, for_spreadsheets, for_terminals
+from gudokeyi.services.tables import Kind, Table
 
 # pieces of which cells are drawn
 PLAIN = ("a", "Löwe", "7", " ", ".", "'", "ō", "=", "-", "＝")
@@ -61,8 +60,14 @@ def test_a_table_without_rows_has_its_titles() -> None:
 
 def test_each_formula_of_a_column_is_seen() -> None:
     for sign in "=+-@\t\r＝＋－＠":
-        assert column_for_spreadsheets(["a", f"{sign}1", "b"]) == ["a", f"'{sign}1", "b"]
-        assert column_for_spreadsheets([f"{sign}1", 7]) == [f"'{sign}1", 7]
+        assert column_for_spreadsheets(["a", f"{sign}a1", "b"]) == ["a", f"'{sign}a1", "b"]
+        assert column_for_spreadsheets([f"{sign}1+1", 7]) == [f"'{sign}1+1", 7]
+
+
+def test_a_number_with_a_sign_is_no_formula() -> None:
+    numbers = ["-2", "+5", "-007", "-2.5", "+2,5"]
+    assert column_for_spreadsheets(numbers) == numbers
+    assert for_spreadsheets("-٢") == "'-٢"
 
 
 def test_columns_are_as_their_cells_one_by_one() -> None:

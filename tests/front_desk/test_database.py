@@ -10,10 +10,10 @@ import pytest
 
 from front_desk.desk import Desk
 from front_desk.whole import changes_of
-from society.book import book_changed, database, schema
-from society.book.exports import refresh
-from society.book.sentences import BookFault
-from society.mistake import Mistake
+from gudokeyi.domain.messages import Mistake
+from gudokeyi.store import database, schema, transactions
+from gudokeyi.store.exports import refresh
+from gudokeyi.store.messages import BookFault
 
 
 def change_file(desk: Desk, *statements: str) -> None:
@@ -22,7 +22,7 @@ def change_file(desk: Desk, *statements: str) -> None:
             connection.execute(statement)
 
 
-CALLS = (["list"], ["take", "sheet.csv"], ["verify"], ["undo"], ["backup", "copy"])
+CALLS = (["list"], ["import", "sheet.csv"], ["verify"], ["undo"], ["backup", "copy"])
 
 
 def test_no_database(flock_desk: Desk) -> None:
@@ -80,7 +80,7 @@ def test_a_book_that_comes_meanwhile(tmp_path: pathlib.Path) -> None:
             done = super().execute(statement, *values)
             if not made:
                 made.append(True)
-                with book_changed.creating(tmp_path) as other:
+                with transactions.creating(tmp_path) as other:
                     other.execute("COMMIT")
             return done
 
@@ -94,39 +94,39 @@ def test_folders_of_new_books(tmp_path: pathlib.Path, monkeypatch: pytest.Monkey
     """One that was made goes again where the book can't be begun, and none else does."""
     there, file = tmp_path / "there", tmp_path / "file"
     file.touch()
-    assert [book_changed.make_folder(there) for _ in range(2)] == [True, False]
+    assert [transactions.make_folder(there) for _ in range(2)] == [True, False]
     for folder, fault in [
         (file, BookFault.FOLDER_IS_FILE.said(folder=file)),
         (file / "new", BookFault.FOLDER_CLOSED.said(folder=file / "new", error="Not a directory")),
         (tmp_path / "absent/new", BookFault.NO_FOLDER.said(folder=tmp_path / "absent")),
     ]:
         with pytest.raises(Mistake) as raised:
-            book_changed.make_folder(folder)
+            transactions.make_folder(folder)
         assert str(raised.value) == str(Mistake(fault))
 
     def connect(*_: object) -> sqlite3.Connection:
         raise sqlite3.OperationalError("disk I/O error")
 
-    monkeypatch.setattr(book_changed, "connect", connect)
+    monkeypatch.setattr(transactions, "connect", connect)
     for folder in there, tmp_path / "new":
-        with pytest.raises(Mistake, match="disk I/O error"), book_changed.creating(folder):
+        with pytest.raises(Mistake, match="disk I/O error"), transactions.creating(folder):
             pass
     assert {path.name for path in tmp_path.iterdir()} == {"there", "file"}
 
 
 def test_begun_anew_while_books_come() -> None:
     """As often as another one makes it."""
-    came = [book_changed.BookCame(), book_changed.BookCame()]
+    came = [transactions.BookCame(), transactions.BookCame()]
 
     def change() -> str:
         if came:
             raise came.pop()
         return "made"
 
-    assert book_changed.anew_where_a_book_came(change) == "made" and not came
+    assert transactions.anew_where_a_book_came(change) == "made" and not came
 
 
-TAKE = ["take", "sheet.csv"]
+TAKE = ["import", "sheet.csv"]
 
 
 @pytest.mark.parametrize(("statement", "told", "words"), [
@@ -155,12 +155,12 @@ def test_migration(flock_desk: Desk, monkeypatch: pytest.MonkeyPatch) -> None:
         ("CREATE TABLE added (one TEXT) STRICT;", True),
     ):
         monkeypatch.setattr(database, "MIGRATIONS", (*schema.MIGRATIONS, script))
-        for module in database, book_changed:
+        for module in database, transactions:
             monkeypatch.setattr(module, "VERSION", schema.VERSION + 1)
         with contextlib.ExitStack() as stack:
             if not is_made:
                 stack.enter_context(pytest.raises(Exception, match="nothing is changed"))
-            book_changed.up_to_date(folder)
+            transactions.up_to_date(folder)
         with contextlib.closing(sqlite3.connect(folder / "book.sqlite")) as connection:
             version = connection.execute("PRAGMA user_version").fetchone()[0]
             tables = connection.execute("SELECT count(*) FROM sqlite_schema WHERE name = 'added'").fetchone()[0]
@@ -189,7 +189,7 @@ def test_commit_of_which_the_end_fails(flock_desk: Desk, is_made: bool) -> None:
         with contextlib.ExitStack() as stack:
             if not is_made:
                 stack.enter_context(pytest.raises(Mistake, match="nothing is changed"))
-            book_changed.commit(connection, folder, 1, moment if is_made else moment + 1)
+            transactions.commit(connection, folder, 1, moment if is_made else moment + 1)
 
 
 def test_exports(flock_desk: Desk) -> None:

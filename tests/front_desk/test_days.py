@@ -6,25 +6,16 @@ import datetime
 import pytest
 
 from front_desk.desk import Desk
-from society.book.kinds import Field
-from society.reading.animal_cells import AnimalCells
-from society.reading.cell_findings import DayLeftOut
-from society.reading.day_cells import DayCell, DayCells
-from society.reading.days import (
-    ANY_DAY,
-    DayFault,
-    Span,
-    Unreadable,
-    month_of,
-    read_span,
-    span_of_period,
-    span_within,
-    year_of,
-)
-from society.reading.sexes import Sexes
-from society.reading.unknown import UnknownParents
-from society.reading.unread import Unread
-from society.taking.report import Report
+from gudokeyi.domain.findings import Report
+from gudokeyi.domain.kinds import Field
+from gudokeyi.ingest.animal_cells import AnimalCells, Unread
+from gudokeyi.ingest.day_cells import DayCell, DayCells
+from gudokeyi.ingest.days import (
+    ANY_DAY, DayFault, Span, Unreadable, is_span, month_of, read_span, span_of_period, span_within, year_of,
+)  # fmt: skip
+from gudokeyi.ingest.findings.cells import DayLeftOut
+from gudokeyi.ingest.sexes import Sexes
+from gudokeyi.ingest.unknown_parents import UnknownParents
 
 TITLES = "id;sex;birth;sire;dam;exit\n"
 DAYS = {
@@ -43,6 +34,7 @@ DAYS = {
     "2010?": "2010-07-02",
     "2.5.2010 oder 3.5.2010": "2010-07-02",
     "15.13.2010": "2010-07-02",
+    "20010315": "2001-03-15",
 }
 UNREADABLE = ["before 2010", "vor 2010", "2009 oder 2010", "03-Mar-05", "01.02.98", "37800", "Mai"]
 
@@ -84,6 +76,15 @@ def test_what_a_text_leaves_open() -> None:
     assert read_span("about 2010") == year_of(2010, text="about 2010")
     assert fault("about 2010", legible=False) is DayFault.NO_DAY
     assert (fault("05/13/2010"), fault("13/05/2010", month_first=True)) == (DayFault.WRONG_ORDER,) * 2
+
+
+def test_days_as_numbers() -> None:
+    """Of eight digits, also as programs write them; zeros stand for what isn't known. Others are numbers."""
+    day = datetime.date(2001, 3, 15)
+    assert read_span("20010315") == read_span("20010315.0") == Span(day, day) and is_span("20010315")
+    assert (read_span("20010000"), read_span("20010231")) == (year_of(2001), month_of(2001, 2, "20010231"))
+    assert {fault(text) for text in ("20011315", "18990101", "22000101", "200103151")} == {DayFault.NO_DAY}
+    assert span_within("sold to 20010315") is None
 
 
 def test_days_of_a_period() -> None:
@@ -159,12 +160,14 @@ def test_month_first(desk: Desk) -> None:
     sheet = TITLES + "a;F;12/25/2001;;;\nb;F;12/05/2004;;;\nc;F;05.04.2004;;;\n"
     done = desk.wrong(
         "line 2: a: birth day: '12/25/2001' has the month first, so days with / can't be told from months",
-        "take",
+        "import",
         desk.write("sheet.csv", sheet),
     )
     desk.typed(done.commands()[0])
     # what is remembered can be taken back
-    done = desk.wrong("'25/03/2001' has the day first", "take", desk.write("days.csv", TITLES + "a;F;25/03/2001;;;\n"))
+    done = desk.wrong(
+        "'25/03/2001' has the day first", "import", desk.write("days.csv", TITLES + "a;F;25/03/2001;;;\n")
+    )
     desk.copy_to(desk.room.parent / "taken back").typed(done.commands()[0])
     born = {"a": "2001-12-25", "b": "2004-12-05", "c": "2004-04-05"}
     assert desk.born() == born
@@ -175,8 +178,8 @@ def test_month_first(desk: Desk) -> None:
 def test_both_orders(desk: Desk) -> None:
     sheet = desk.write("sheet.csv", TITLES + "a;F;03/25/2001;;;\nb;F;25/03/2004;;;\n")
     told = "others have the day first (line 3: b: birth day: '25/03/2004'): write all days as 2001-03-01"
-    desk.wrong(told, "take", sheet)
-    desk.wrong("others have the month first (line 2: a: birth day: '03/25/2001')", "take", sheet, "--month-first")
+    desk.wrong(told, "import", sheet)
+    desk.wrong("others have the month first (line 2: a: birth day: '03/25/2001')", "import", sheet, "--month-first")
 
 
 def test_no_day_shows_the_order(desk: Desk) -> None:

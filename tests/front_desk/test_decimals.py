@@ -7,10 +7,9 @@ from fractions import Fraction
 
 import pytest
 
-from society.answers.inverse import scaled
-from society.book.coefficients import UNIT_BITS, decimals_of_units, of_calf
-from society.decimals import fixed, percent
-from society.decimals import decimal as shown
+from gudokeyi.domain.decimals import decimal as shown, fixed, percent
+from gudokeyi.services.exports import scaled
+from gudokeyi.store.coefficients import UNIT_BITS, decimals_of_units, of_offspring
 
 
 @pytest.mark.parametrize(("value", "text"), [
@@ -41,7 +40,7 @@ def test_beside_decimals_of_python(seed: int) -> None:
 ])  # fmt: skip
 def test_calf(relationship: str, coefficient: tuple[str, str]) -> None:
     """Half of the parents' relationship in lowest terms, with the percentage that the program writes."""
-    assert of_calf(relationship) == coefficient
+    assert of_offspring(relationship) == coefficient
 
 
 def test_decimals_of_units() -> None:

@@ -204,7 +204,7 @@ def test_title_and_another_language(secretary: Secretary, secretary_desk: Desk) 
 
 
 def test_invented_in_german(desk: Desk) -> None:
-    desk.good("take", "--pedigree", desk.write("one.txt", "x 0 0\n"))
+    desk.good("import", "--pedigree", desk.write("one.txt", "x 0 0\n"))
     desk.good("certificate", "x", "--out", "x.html", "--language", "de")
     words = words_of(desk, "x.html")
     assert words.count(" (erfunden)") == 2

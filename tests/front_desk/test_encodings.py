@@ -4,12 +4,11 @@ from __future__ import annotations
 import pytest
 
 from front_desk.desk import Desk
-from society.book.kinds import Field
-from society.reading.animal_cells import AnimalCells
-from society.reading.sexes import Sexes
-from society.reading.unknown import UnknownParents
-from society.reading.unread import Unread
-from society.taking.report import Report
+from gudokeyi.domain.findings import Report
+from gudokeyi.domain.kinds import Field
+from gudokeyi.ingest.animal_cells import AnimalCells, Unread
+from gudokeyi.ingest.sexes import Sexes
+from gudokeyi.ingest.unknown_parents import UnknownParents
 
 SHEET = "Ohrmarke;Name;Geschlecht;Geburtsdatum;Vater;Mutter\nÄ1;Müller;m;01.03.2001;;\nB2;Süße;w;02.03.2004;Ä1;\n"
 
@@ -17,7 +16,7 @@ SHEET = "Ohrmarke;Name;Geschlecht;Geburtsdatum;Vater;Mutter\nÄ1;Müller;m;01.03
 def test_stray_byte(desk: Desk) -> None:
     """A sheet that is UTF-8 but for a byte isn't taken: its line and its place are told."""
     sheet = desk.write("sheet.csv", SHEET.encode().replace("Süße".encode(), b"S\xfc\xc3\x9fe"))
-    desk.wrong("sheet.csv: line 3, byte 5 of the line, behind 'B2;S': the byte FC isn't UTF-8", "take", sheet)
+    desk.wrong("sheet.csv: line 3, byte 5 of the line, behind 'B2;S': the byte FC isn't UTF-8", "import", sheet)
 
 
 def test_stray_byte_with_other_obstacles(desk: Desk) -> None:
@@ -25,9 +24,9 @@ def test_stray_byte_with_other_obstacles(desk: Desk) -> None:
     data = (
         SHEET.encode().replace("Süße".encode(), b"S\xfc\xc3\x9fe").replace(b"Mutter", b"M").replace(b"02.03", b"03/25/")
     )
-    done = desk.wrong("the byte FC isn't UTF-8", "take", desk.write("sheet.csv", data))
+    done = desk.wrong("the byte FC isn't UTF-8", "import", desk.write("sheet.csv", data))
     assert "line 1: no column for dam is found" in done.err
-    assert len(done.err.partition("society: nothing is taken")[0].splitlines()) == 2
+    assert len(done.err.partition("gudokeyi: nothing is taken")[0].splitlines()) == 2
 
 
 def test_windows_letters_stay(desk: Desk) -> None:
@@ -62,10 +61,10 @@ def test_titles_decoded_twice(desk: Desk) -> None:
     """Titles are told too, and nobody is asked to take the sheet without the columns that they name."""
     french = "N° SIRE;Né le;Père;Mère;Propriétaire\n1;2001;;;Lefèvre\n"
     sheet = desk.write("sheet.csv", french.encode().decode("cp1252").encode())
-    done = desk.wrong("letters were decoded twice in 5 texts: 'NÂ° SIRE' for 'N° SIRE' (line 1)", "take", sheet)
+    done = desk.wrong("letters were decoded twice in 5 texts: 'NÂ° SIRE' for 'N° SIRE' (line 1)", "import", sheet)
     assert "no column" not in done.err and not done.commands()
     done = desk.wrong(
-        "decoded twice", "take", desk.write("sheet.csv", french.replace("Père", "X").encode().decode("cp1252"))
+        "decoded twice", "import", desk.write("sheet.csv", french.replace("Père", "X").encode().decode("cp1252"))
     )
     assert "no column for sire is found" in done.err
     done = desk.take("id;birth;sire;dam;PropriÃ©taire\na;2001;;;Groß\n")

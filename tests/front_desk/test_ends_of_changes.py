@@ -12,22 +12,21 @@ import pytest
 
 from front_desk.desk import Desk
 from front_desk.whole import FLOCK
-from society.book import backup
-from society.book.beside import Beside
-from society.book.book import Book
-from society.book.book_changed import Overtaken, changing, stop_no_more
-from society.book.book_read import copy_of
-from society.book.changes import NO_MARK, Change, Made
-from society.book.kinds import ChangeKind
-from society.book.settings import Setting, change_settings
-from society.book.state import Meaning, read_remembered
-from society.book.writing import Filed, Rows, State, write
-from society.herdbook import Herdbook
-from society.mistake import Mistake
-from society.taking import saving
-from society.taking.outcome import Outcome
-from society.taking.saving import Prepared, take
-from society.taking.suggestions import Call
+from gudokeyi.domain.changes import NO_MARK, Change, ChangeDetails
+from gudokeyi.domain.findings import Call
+from gudokeyi.domain.kinds import ChangeKind
+from gudokeyi.domain.messages import Mistake
+from gudokeyi.engine.program import Herdbook
+from gudokeyi.engine.workers import Background
+from gudokeyi.reconcile.outcome import Outcome
+from gudokeyi.services import saving
+from gudokeyi.services.saving import Prepared, save_import
+from gudokeyi.store import backup
+from gudokeyi.store.book import Book
+from gudokeyi.store.settings import Setting, change_settings
+from gudokeyi.store.state import Meaning, read_remembered
+from gudokeyi.store.transactions import Overtaken, changing, copy_of, stop_no_more
+from gudokeyi.store.writing import Filed, Rows, State, write
 
 
 def test_folder_that_goes_away(flock_desk: Desk, monkeypatch: pytest.MonkeyPatch) -> None:
@@ -41,7 +40,7 @@ def test_folder_that_goes_away(flock_desk: Desk, monkeypatch: pytest.MonkeyPatch
         return cast(Outcome, None), None
 
     with pytest.raises(Mistake, match="there is no book in the folder"):
-        take(folder, Herdbook(), prepare)
+        save_import(folder, Herdbook(), prepare)
     assert len(seen) == 1 and not folder.exists()
     assert "is whole: 1 change" in flock_desk.good("verify", "--book", "moved").out
 
@@ -66,7 +65,7 @@ def test_what_is_told_besides(flock_desk: Desk, monkeypatch: pytest.MonkeyPatch)
 
     for prepared, told in (prepare, "0"), (prepare_beside_another, "1"):
         notes.clear()
-        taken, besides = take(folder, Herdbook(), prepared)
+        taken, besides = save_import(folder, Herdbook(), prepared)
         assert taken.call.change == 7 and besides == [told, "of the exports"]
 
 
@@ -75,7 +74,7 @@ def test_no_book_is_begun_where_the_program_fails(desk: Desk) -> None:
     fails = desk.write("fails", f'#!/bin/sh\n[ "$1" != inbreeding ] && exec {desk.program} "$@"\necho no >&2\nexit 3\n')
     (desk.room / fails).chmod(0o755)
     desk.program = str(desk.room / fails)
-    desk.wrong("the program `herdbook inbreeding` can't do it: no", "take", desk.write("sheet.csv", FLOCK))
+    desk.wrong("the program `herdbook inbreeding` can't do it: no", "import", desk.write("sheet.csv", FLOCK))
     assert not (desk.room / "book").exists()
 
 
@@ -87,7 +86,7 @@ def test_nothing_is_remembered_any_more(flock_desk: Desk, monkeypatch: pytest.Mo
         for remembered in None, list[Meaning]():
             with changing(folder) as connection:
                 state = State(Rows({}, {}), remembered=remembered, keeps_coefficients=True)
-                write(Book(folder, connection), Herdbook(), Filed([]), lambda: state, Made(ChangeKind.TAKE))
+                write(Book(folder, connection), Herdbook(), Filed([]), lambda: state, ChangeDetails(ChangeKind.TAKE))
             with contextlib.closing(sqlite3.connect(folder / "book.sqlite")) as connection:
                 found.append(bool(read_remembered(connection)))
     finally:
@@ -102,7 +101,7 @@ def test_stopped_when_it_is_made(flock_desk: Desk, monkeypatch: pytest.MonkeyPat
     folder, handlers = flock_desk.room / "book", list[object]()
     monkeypatch.setattr(backup, "keep_old", lambda folder: handlers.append(signal.getsignal(signal.SIGINT)))
     # whoever changes a book beside others, as a desk does, is stopped with these
-    Beside(stop_no_more).value()
+    Background(stop_no_more).value()
     try:
         for text in None, b"no database " * 999:
             if text is not None:

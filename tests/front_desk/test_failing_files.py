@@ -11,7 +11,7 @@ import pytest
 
 from front_desk.desk import TOP, Desk
 from front_desk.whole import FLOCK, GROWN, changes_of, run, told_truly
-from society.book.book_read import copy_of
+from gudokeyi.store.transactions import copy_of
 
 # so many calls of a kind a taking makes at most
 MOST_CALLS = 400
@@ -51,7 +51,7 @@ def test_each_call_fails(taken_flock: Desk, failing: str, tmp_path: pathlib.Path
     for nth in range(1, MOST_CALLS):
         desk = desk_for(taken_flock, tmp_path / str(nth), is_new)
         met = desk.room / "met"
-        done = run(desk, "take", "grown.csv", FAIL=call, FAIL_NTH=str(nth), FAIL_MET=str(met), LD_PRELOAD=failing)
+        done = run(desk, "import", "grown.csv", FAIL=call, FAIL_NTH=str(nth), FAIL_MET=str(met), LD_PRELOAD=failing)
         told_truly(done, int(not is_new), changes_of(desk.room / "book"))
         refused, later = refused + done.status, later + ("a later call writes them" in done.out + done.err)
         if not met.exists():
@@ -66,7 +66,7 @@ def test_calls_fail_from_one_on(taken_flock: Desk, failing: str, tmp_path: pathl
     """As on a disk that is full, or that is broken, from a moment on."""
     for nth in (1, 2, 4, 8, 16):
         desk = taken_flock.copy_to(tmp_path / str(nth))
-        done = run(desk, "take", "grown.csv", FAIL=call, FAIL_NTH=str(nth), FAIL_LAST="1000000", LD_PRELOAD=failing)
+        done = run(desk, "import", "grown.csv", FAIL=call, FAIL_NTH=str(nth), FAIL_LAST="1000000", LD_PRELOAD=failing)
         told_truly(done, 1, changes_of(desk.room / "book"))
         assert "is whole" in desk.good("verify").out
 
@@ -75,13 +75,13 @@ def test_calls_fail_from_one_on(taken_flock: Desk, failing: str, tmp_path: pathl
 def test_a_taking_is_killed_at_each_call(taken_flock: Desk, failing: str, tmp_path: pathlib.Path, call: str) -> None:
     """A new book isn't there then, or it is as it is taken, also for whoever may only read it."""
     whole = desk_for(taken_flock, tmp_path / "whole", True)
-    whole.good("take", "grown.csv")
+    whole.good("import", "grown.csv")
     made = list[int]()
     for nth in range(1, MOST_CALLS):
         desk = desk_for(taken_flock, tmp_path / str(nth), True)
         met, path = desk.room / "met", desk.room / "book/book.sqlite"
         done = run(
-            desk, "take", "grown.csv", FAIL=call, FAIL_NTH=str(nth), FAIL_MET=str(met), FAIL_KILLS="yes",
+            desk, "import", "grown.csv", FAIL=call, FAIL_NTH=str(nth), FAIL_MET=str(met), FAIL_KILLS="yes",
             LD_PRELOAD=failing,
         )  # fmt: skip
         if not met.exists():
@@ -95,7 +95,7 @@ def test_a_taking_is_killed_at_each_call(taken_flock: Desk, failing: str, tmp_pa
         made.append(changes_of(path.parent))
         assert made[-1] == seen and made == sorted(made)
         if not seen and nth % 5 == 1:
-            desk.good("take", "grown.csv")
+            desk.good("import", "grown.csv")
             assert desk.numbers() == whole.numbers() and "is whole" in desk.good("verify").out
     pytest.fail("a taking makes more calls than are tried")
 
@@ -110,7 +110,7 @@ def test_short_files(taken_flock: Desk, tmp_path: pathlib.Path, is_new: bool) ->
     for size in SIZES:
         desk = desk_for(taken_flock, tmp_path / str(size), is_new)
         before = changes_of(desk.room / "book")
-        done = run(desk, "take", "grown.csv", before=functools.partial(limit_files, size))
+        done = run(desk, "import", "grown.csv", before=functools.partial(limit_files, size))
         told_truly(done, before, changes_of(desk.room / "book"))
 
 

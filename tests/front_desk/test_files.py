@@ -12,7 +12,7 @@ import pytest
 
 from front_desk.desk import CALLED, Desk
 from front_desk.old_folder import LIST, write_old
-from society.book.files import digest_of, put, source_of, take_away_left
+from gudokeyi.store.files import digest_of, put, source_of, take_away_left
 
 
 def test_synced_before_it_has_its_name(tmp_path: pathlib.Path, monkeypatch: pytest.MonkeyPatch) -> None:
@@ -100,8 +100,8 @@ def test_names_that_are_no_text(desk: Desk, tmp_path: pathlib.Path) -> None:
     """Nothing is begun of a word that isn't UTF-8 text, and the name of a folder that isn't is kept in other letters."""
     for name in "b\udce4r.csv", "b\udce4r":
         (desk.room / name).write_text("id,born\nA 1,2001-01-01\n", encoding="utf-8")
-        desk.wrong(r"b\udce4r", "take", name)
-    desk.wrong("isn't UTF-8 text: write it otherwise", "take", "b\udce4r.csv", "--book", "another")
+        desk.wrong(r"b\udce4r", "import", name)
+    desk.wrong("isn't UTF-8 text: write it otherwise", "import", "b\udce4r.csv", "--book", "another")
     folder = tmp_path / "f\udce4l"
     folder.mkdir()
     assert source_of(folder / "a.csv", b"").path == rf"{tmp_path.resolve()}/f\xe4l/a.csv"
@@ -130,8 +130,8 @@ def test_read_once(desk: Desk) -> None:
     """A sheet, a pedigree or a backup may come through a pipe, and the history has the digest of what was read."""
     desk.write("sheet", "id,sex,birth,sire,dam\nA,f,2001-01-01,,\n")
     desk.write("lines", "id sire dam\nB 0 A\n")
-    desk.typed(f"cat sheet | {CALLED} take /dev/stdin")
-    desk.typed(f"cat lines | {CALLED} take --pedigree /dev/stdin")
+    desk.typed(f"cat sheet | {CALLED} import /dev/stdin")
+    desk.typed(f"cat lines | {CALLED} import --pedigree /dev/stdin")
     desk.good("backup", "copy")
     desk.typed(f"cat copy | {CALLED} restore /dev/stdin --book again")
     assert desk.good("list", "--columns", "id,dam", "--book", "again").out == "id,dam\nA,\nB,A\n"

@@ -39,7 +39,7 @@ def test_her_sheet(her: Secretary, desk: Desk) -> None:
 def test_her_list(her: Secretary, secretary_desk: Desk) -> None:
     desk = secretary_desk
     told = desk.good("list").err
-    assert told == f"society: animals without a row in the sheet: 1 ({her.imported}): added as parents, or gone\n"
+    assert told == f"gudokeyi: animals without a row in the sheet: 1 ({her.imported}): added as parents, or gone\n"
     rows = desk.listed("list")
     assert list(rows[0]) == ["id", "name", "number", "birth", "coefficient", "decimal", "percent"]
     wanted = her.coefficients()
@@ -136,13 +136,13 @@ def test_who_is_passed_over_in_her_advice(her: Secretary, secretary_desk: Desk) 
     """Males that left, and one that was added, aren't listed, but may be named."""
     desk, dam, left = secretary_desk, young_dam(her), males(her, True) - males(her, False)
     assert desk.good("mating", "--dam", dam).err == (
-        f"society: males that left: {len(left)} aren't listed: --left lists them too\n"
-        f"society: males without a row in the sheet: 1 ({her.imported}) aren't listed: name one, if it lives\n"
+        f"gudokeyi: males that left: {len(left)} aren't listed: --left lists them too\n"
+        f"gudokeyi: males without a row in the sheet: 1 ({her.imported}) aren't listed: name one, if it lives\n"
     )
     assert [row["id"] for row in desk.listed("mating", "--dam", dam, her.imported)] == [her.imported]
     done = desk.good("mating", "--dam", dam, min(left), her.cow, "Löwe 2")
     assert len(done.out.splitlines()) == 3
-    assert done.err == f"society: {her.cow}: refused: the sire isn't male (fault 3)\n"
+    assert done.err == f"gudokeyi: {her.cow}: refused: the sire isn't male (fault 3)\n"
 
 
 def test_ten_more_rows(her: Secretary, secretary_desk: Desk) -> None:

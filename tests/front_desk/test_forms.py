@@ -118,7 +118,7 @@ def test_workbook(desk: Desk, first_book: Book) -> None:
         ["B2", "Rößl", "m", "02.04.2001", "-", None, "Groß", None], [None] * 8,
         ["K3", None, "w", datetime.date(2003, 5, 6), "B2", "K1", "Weiß", "05.2004"],
     ])  # fmt: skip
-    desk.good("take", "sheet.xlsx")
+    desk.good("import", "sheet.xlsx")
     assert book_of(desk) == first_book
 
 
@@ -130,7 +130,7 @@ def test_workbook_of_numbers(desk: Desk) -> None:
         [276001234567803, None, "w", 3.2004, 276001234567802, 276001234567801.0, 2009, True],
         [17, None, "w", 37800, None, None],
     ])  # fmt: skip
-    done = desk.good("take", "sheet.xlsx")
+    done = desk.good("import", "sheet.xlsx")
     done.tells(
         "line 6: 17: its birth day is left out: '37800' is a number: give the column the format of a date, and "
         "save the sheet again"
@@ -146,7 +146,7 @@ def test_workbook_of_numbers(desk: Desk) -> None:
 def test_broken_workbook(desk: Desk) -> None:
     """A file that openpyxl can't read, for whatever reason."""
     desk.write("openpyxl.py", "def load_workbook(*_, **__): raise KeyError('no workbook')")
-    desk.wrong("broken.xlsx can't be read as an .xlsx file", "take", desk.write("broken.xlsx", b"PK\3\4"))
+    desk.wrong("broken.xlsx can't be read as an .xlsx file", "import", desk.write("broken.xlsx", b"PK\3\4"))
 
 
 def test_numbers_of_others(desk: Desk) -> None:
@@ -199,13 +199,13 @@ def test_named_words_for_sexes(desk: Desk) -> None:
         "3 of 4 cells that say something in the column 'sex' can't be read, the first in line 2: 'Schf' (2 "
         "times), 'Bk': write M or F, or say which sex each word is by --sexes"
     )
-    done = desk.wrong(told, "take", sheet, "--book", "own")
-    assert done.commands() == [f"{CALLED} take own.csv --book own --sexes Schf={sex}" for sex in "mf"]
-    done = desk.good("take", sheet, "--book", "own", "--sexes", "bk=m,Schf=F", "--sexes", "0=m")
+    done = desk.wrong(told, "import", sheet, "--book", "own")
+    assert done.commands() == [f"{CALLED} import own.csv --book own --sexes Schf={sex}" for sex in "mf"]
+    done = desk.good("import", sheet, "--book", "own", "--sexes", "bk=m,Schf=F", "--sexes", "0=m")
     sexes = [row["number"][6] for row in desk.table("own/ids.csv")]
     assert sorted(sexes) == list("FFFMM")
     assert " 0 left out" in done.last
     desk.take("id,sex,born,sire,dam\n1,M,2001,,\n", "--sexes", "M=f")
     assert desk.numbers()["1"][6] == "F"
-    desk.wrong("--sexes Bk: write WORD=m for males and WORD=f for females", "take", sheet, "--sexes", "Bk")
-    desk.wrong("--sexes is for a sheet", "take", "--pedigree", sheet, "--sexes", "Bk=m")
+    desk.wrong("--sexes Bk: write WORD=m for males and WORD=f for females", "import", sheet, "--sexes", "Bk")
+    desk.wrong("--sexes is for a sheet", "import", "--pedigree", sheet, "--sexes", "Bk=m")

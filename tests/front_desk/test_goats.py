@@ -79,8 +79,8 @@ def test_advice_for_goats(goats: Desk) -> None:
     """Males that left, and one that was added, aren't listed, but may be named."""
     done = goats.good("mating", "--dam", "Clara")
     assert [line.split(",")[0] for line in done.out.splitlines()] == ["id", "CH 120.1150.1", "CH 120.1160.2"]
-    passed = "society: males without a row in the sheet: 1 (CH 120.1150.8) aren't listed: name one, if it lives\n"
-    assert done.err == "society: males that left: 2 aren't listed: --left lists them too\n" + passed
+    passed = "gudokeyi: males without a row in the sheet: 1 (CH 120.1150.8) aren't listed: name one, if it lives\n"
+    assert done.err == "gudokeyi: males that left: 2 aren't listed: --left lists them too\n" + passed
     assert len(goats.listed("mating", "--dam", "Clara", "CH 120.1150.8")) == 1
 
 

@@ -7,19 +7,20 @@ from dataclasses import replace
 from types import SimpleNamespace
 from typing import Any, cast
 
-from society.book.book import Book
-from society.book.commands import birth, record_after
-from society.book.inferred import BirthBasis, BirthSource, SexSource
-from society.book.kinds import Standing
-from society.book.known import Known
-from society.book.role import Role
-from society.reading.animal import Animal
-from society.reading.columns import Columns
-from society.reading.days import Precision, Span
-from society.taking.guards import Guards
-from society.taking.obstacles import Changed, Guard, LooksLike, ManyDropped, ManyGone, ManyOthers, ParentsLack
+from gudokeyi.domain.animals import SocietyRecord
+from gudokeyi.domain.commands import birth, record_after
+from gudokeyi.domain.kinds import Role, Standing
+from gudokeyi.domain.provenance import BirthBasis, BirthSource, SexSource
+from gudokeyi.ingest.animals import SheetAnimal
+from gudokeyi.ingest.columns import Columns
+from gudokeyi.ingest.days import Precision, Span
+from gudokeyi.reconcile.findings.obstacles import (
+    Changed, Guard, LooksLike, ManyDropped, ManyGone, ManyOthers, ParentsLack,
+)  # fmt: skip
+from gudokeyi.reconcile.guards import Guards
+from gudokeyi.store.book import Book
 
-INFERRED = Known("", "", birth=BirthBasis(BirthSource.PARENTS))
+INFERRED = SocietyRecord("", "", birth=BirthBasis(BirthSource.PARENTS))
 
 
 def number(at: int) -> str:
@@ -30,7 +31,7 @@ def day(at: int) -> datetime.date:
     return datetime.date(2001, 1, 1) + datetime.timedelta(at)
 
 
-def guards(had: int, rows: Iterable[Animal], alike: Known = Known("", "")) -> Guards:
+def guards(had: int, rows: Iterable[SheetAnimal], alike: SocietyRecord = SocietyRecord("", "")) -> Guards:
     """Of a sheet beside a book of so many animals, from `a0` on, each born a day after the one before; the rest is
     known alike."""
     known = {f"a{at}": alike._replace(number=number(at), id=f"a{at}", name=f"name {at}") for at in range(had)}
@@ -41,9 +42,9 @@ def guards(had: int, rows: Iterable[Animal], alike: Known = Known("", "")) -> Gu
     return Guards(cast(Book, book), {one.id: one for one in rows}, cast(Columns, columns))
 
 
-def row(at: int, letter: str = "a", days: int = 0, sire: str = "") -> Animal:
+def row(at: int, letter: str = "a", days: int = 0, sire: str = "") -> SheetAnimal:
     """That of the animal which was born so many days after the first one, with so many days more."""
-    return Animal(f"{letter}{at}", 2 + at, f"name {at}", birth=Span(day(at + days), day(at + days)), sire=sire)
+    return SheetAnimal(f"{letter}{at}", 2 + at, f"name {at}", birth=Span(day(at + days), day(at + days)), sire=sire)
 
 
 def test_so_many_are_few() -> None:
@@ -53,7 +54,7 @@ def test_so_many_are_few() -> None:
         told = ManyGone(gone, had, LooksLike.OLDER_SHEET)
         one = guards(had, rows)
         assert (one.gone(), one.dropped(one.rows)) == ((told, None) if is_told else (None, None))
-        one = guards(had, rows, Known("", "", standing=Standing.GONE))
+        one = guards(had, rows, SocietyRecord("", "", standing=Standing.GONE))
         dropped = one.dropped(one.rows)
         assert isinstance(dropped, ManyDropped) == is_told and one.gone() is None
     # five that are others, and two of a hundred
@@ -74,7 +75,7 @@ def told(found: Guard | None) -> tuple[Changed, int, LooksLike] | None:
     return (found.what_changed, found.changed, found.like) if found else None
 
 
-def renamed(rows: list[Animal], *names: str) -> list[Animal]:
+def renamed(rows: list[SheetAnimal], *names: str) -> list[SheetAnimal]:
     """The first ones have these names."""
     return [replace(one, name=name) for one, name in zip(rows, names)] + rows[len(names) :]
 
@@ -108,7 +109,7 @@ def test_sexes_and_parents_of_other_animals() -> None:
     assert told(guards(60, [*males, *new]).other_sexes()) == (Changed.SEXES, 6, apart)
     assert [told(guard) for guard in guards(60, males).of_both()] == [(Changed.SEXES, 6, apart)]
     assert told(guards(60, males[1:]).other_sexes()) is None
-    assert told(guards(60, males, Known("", "", sex=SexSource.DAM)).other_sexes()) is None
+    assert told(guards(60, males, SocietyRecord("", "", sex=SexSource.DAM)).other_sexes()) is None
 
     def parents(sire: str, before: str = number(59), **more: Any) -> tuple[Changed, int, LooksLike] | None:
         """Of animals that all had `a59` as their sire."""

@@ -26,10 +26,10 @@ def sheet(rows: list[str], titles: str = TITLES) -> str:
 def refused(desk: Desk, text: str, *told: str, words: tuple[str, ...] = ()) -> None:
     """The sheet isn't taken, with these sentences, and is by `--anyway`."""
     name = desk.write("other.csv", text)
-    done = desk.wrong(told[0], "take", name, *words)
+    done = desk.wrong(told[0], "import", name, *words)
     assert all(one in done.err for one in told), done
     anyway = done.commands()[-1]
-    assert anyway == f"{CALLED} take {shlex.join([name, *words])} --anyway"
+    assert anyway == f"{CALLED} import {shlex.join([name, *words])} --anyway"
     desk.typed(anyway)
 
 
@@ -81,7 +81,7 @@ def test_older_sheet(taken: Desk) -> None:
     by_age = sorted(flock("A"), key=lambda row: row.split(";")[2])
     told = "15 of the 60 animals that had a row in the last sheet have none in this one: it looks like "
     without = taken.write("youngest.csv", sheet(by_age[15:]))
-    taken.wrong(f"{told}a part of the flock", "take", without)
+    taken.wrong(f"{told}a part of the flock", "import", without)
     refused(
         taken, sheet(by_age[:45]), f"{told}an older sheet: each of its animals is in the book, and the youngest lack"
     )
@@ -230,6 +230,6 @@ def test_parents_with_id_and_name(desk: Desk) -> None:
     rows = [f"A{at};2004-01-{1 + at % 28:02};Max (A{at % 9});A{at % 7} Eva" for at in range(30)]
     desk.wrong(
         "60 of 60 parents have no row, the first are 'Max (A0)', 'A0 Eva', 'Max (A1)': it looks like cells that have an id and "
-        "a name: write the ids alone into the parents' columns", "take",
+        "a name: write the ids alone into the parents' columns", "import",
         desk.write("sheet.csv", sheet(rows, "Ohrmarke;Geburtsdatum;Vater;Mutter")),
     )  # fmt: skip

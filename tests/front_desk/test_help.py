@@ -4,7 +4,7 @@ from __future__ import annotations
 import pytest
 
 from front_desk.desk import CALLED, Desk
-from society.command_line.families import FAMILIES, words_for
+from gudokeyi.cli.words import FAMILIES, words_for
 
 WORDS = [word for words in FAMILIES.values() for word in words]
 

@@ -107,7 +107,7 @@ def test_cells_that_say_the_same(desk: Desk) -> None:
     desk.good("birth", "c", "--sex", "f", "--day", "2012-01-01", "--sire", "b", "--dam", "e")
     filed = desk.good("list", "--columns", "id,sire,dam,owner,exit").out
     pedigree = "id sire dam sex birth\nb 0 0 m 2000-02-01\ne 0 0 f 2000-03-01\na 0 0 f 2003-01-01\nd b e f 2005-01-01\n"
-    desk.good("take", "--pedigree", desk.write("pedigree.txt", pedigree))
+    desk.good("import", "--pedigree", desk.write("pedigree.txt", pedigree))
     again = rows.format("?", "2001-03-01", "Süd,2004-05-01,", "b,e,,") + "c,,f,2012-01-01,nn,?,,,\n"
     for text in sheet, again, sheet.replace("Nord", "Süd"):
         assert " 0 changed" in desk.take(text).last
@@ -170,7 +170,7 @@ def test_undo_of_what_is_remembered(flock_desk: Desk) -> None:
     flock_desk.take(other, "--columns", "birth=day of tag")
     assert "=day of tag' (the book remembers these)" in flock_desk.take(other).out
     flock_desk.good("undo", "--to", "1")
-    flock_desk.wrong("no column for birth is found", "take", "sheet.csv")
+    flock_desk.wrong("no column for birth is found", "import", "sheet.csv")
     # a cell that a sheet wrote which was undone isn't the one of the last sheet
     flock_desk.take(FLOCK.replace("a5,F,2001-01-06,,,farm 2", "a5,F,2001-01-06,,,Hof"))
     flock_desk.good("undo")
@@ -184,7 +184,7 @@ def test_line_of_a_change(desk: Desk) -> None:
     folder = desk.room / "in\nfolder"
     folder.mkdir()
     sheet = desk.write("in\nfolder/a\nb.csv", FLOCK.replace(",sire,", ',"the\nsire",', 1))
-    desk.good("take", sheet, "--columns", "sire=the\nsire")
+    desk.good("import", sheet, "--columns", "sire=the\nsire")
     assert "took the sheet a\\x0ab.csv (" in desk.good("history").out.splitlines()[0]
     lines = desk.good("history", "1").out.splitlines()
     assert lines[1].startswith("file: ") and "in\\x0afolder/a\\x0ab.csv, SHA-256 " in lines[1]

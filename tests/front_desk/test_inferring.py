@@ -4,12 +4,12 @@ from __future__ import annotations
 import datetime
 
 from front_desk.desk import Desk
-from society.book.inferred import BirthBasis, BirthSource
-from society.reading.animal import Animal
-from society.reading.days import read_span, year_of
-from society.taking.animal_findings import BirthDayInferred
-from society.taking.birth_days import Days
-from society.taking.report import Report
+from gudokeyi.domain.findings import Report
+from gudokeyi.domain.provenance import BirthBasis, BirthSource
+from gudokeyi.ingest.animals import SheetAnimal
+from gudokeyi.ingest.days import read_span, year_of
+from gudokeyi.reconcile.birth_days import Days
+from gudokeyi.reconcile.findings.animals import BirthDayInferred
 
 NEAREST = BirthBasis(BirthSource.NEAREST)
 
@@ -57,7 +57,7 @@ def test_inferred_days(desk: Desk) -> None:
     assert all(listed[id] == born[id] + (" (inferred)" if id in wanted else "") for id in born)
 
 
-def found_days(*animals: Animal, kept: dict[str, str] | None = None) -> dict[str, tuple[str, bool]]:
+def found_days(*animals: SheetAnimal, kept: dict[str, str] | None = None) -> dict[str, tuple[str, bool]]:
     """The days that are found for those that have none, of which parents stand before their offspring, and whether
     each is told as the book's; `kept` are those that were found for the book."""
     before = {id: (datetime.date.fromisoformat(day).toordinal(), NEAREST) for id, day in (kept or {}).items()}
@@ -71,16 +71,16 @@ def test_days_that_cells_and_the_book_leave_open() -> None:
     """A cell's month or year holds whatever calves and the book say, and so its reason does; a stored embryo may be
     born behind its dam's exit."""
     day = datetime.date.fromisoformat
-    calf = Animal("calf", 2, birth=read_span("2004-03-04"), dam="cow")
-    assert found_days(Animal("cow", 3, birth=year_of(2005)), calf) == {"cow": ("2005-01-01", False)}
-    one = Animal("one", 2, birth=year_of(2003))
+    calf = SheetAnimal("calf", 2, birth=read_span("2004-03-04"), dam="cow")
+    assert found_days(SheetAnimal("cow", 3, birth=year_of(2005)), calf) == {"cow": ("2005-01-01", False)}
+    one = SheetAnimal("one", 2, birth=year_of(2003))
     assert found_days(one, kept={"one": "2003-04-05"}) == {"one": ("2003-04-05", False)}
     assert found_days(one, kept={"one": "2004-04-05"}) == {"one": ("2003-07-02", False)}
-    assert found_days(Animal("one", 2), kept={"one": "2004-04-05"}) == {"one": ("2004-04-05", True)}
-    dam = Animal("dam", 2, birth=read_span("2001-01-01"), left=day("2006-03-04"))
-    later = Animal("later", 4, birth=read_span("2010-01-01"), sire="bull")
+    assert found_days(SheetAnimal("one", 2), kept={"one": "2004-04-05"}) == {"one": ("2004-04-05", True)}
+    dam = SheetAnimal("dam", 2, birth=read_span("2001-01-01"), left=day("2006-03-04"))
+    later = SheetAnimal("later", 4, birth=read_span("2010-01-01"), sire="bull")
     for embryo, born in (True, "2008-01-02"), (False, "2006-03-04"):
-        assert found_days(dam, Animal("bull", 3, dam="dam", embryo=embryo), later) == {"bull": (born, False)}
+        assert found_days(dam, SheetAnimal("bull", 3, dam="dam", embryo=embryo), later) == {"bull": (born, False)}
 
 
 def test_inferred_days_of_those_that_left(desk: Desk) -> None:
@@ -171,7 +171,7 @@ def test_listed(desk: Desk) -> None:
     done = desk.take(listed.replace("2006-03-16", "2006-04-16"))
     done.tells("line 2: month: inferred: birth day 2006-03-16, from the year 2006 of '2006-04-16 (inferred)'")
     # days that were invented stay that too
-    desk.good("take", "--pedigree", desk.write("p.txt", "x 0 0\ny x 0\n"), "--book", "p")
+    desk.good("import", "--pedigree", desk.write("p.txt", "x 0 0\ny x 0\n"), "--book", "p")
     listed = desk.good("list", "--book", "p", *columns).out
     desk.take(listed, "--book", "p")
     assert desk.good("list", "--book", "p", *columns).out == listed and "(invented)" in listed
@@ -190,7 +190,7 @@ def test_year_of_an_animal_that_is_gone(desk: Desk) -> None:
 def test_invented_days(desk: Desk) -> None:
     """A day that was invented for a pedigree stays marked as that once the animal is gone, or has a row without
     a day."""
-    desk.good("take", "--pedigree", desk.write("pedigree.txt", "x 0 0\ny x 0\n"))
+    desk.good("import", "--pedigree", desk.write("pedigree.txt", "x 0 0\ny x 0\n"))
     done = desk.take("id,born,sire,dam\nz,2020-01-01,x,\n")
     in_book = "as in the book, where it was invented"
     done.tells(

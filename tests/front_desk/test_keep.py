@@ -13,9 +13,9 @@ def test_keep(desk: Desk) -> None:
     rows = drawn_rows(1, 1_000, 200)
     kept = [f"i{family * 200 + 150}" for family in range(10, 20)]
     pedigree = desk.write("many.txt", "".join(" ".join(row) + "\n" for row in rows))
-    done = desk.wrong("the pedigree and the book have 200,000 animals together", "take", "--pedigree", pedigree)
+    done = desk.wrong("the pedigree and the book have 200,000 animals together", "import", "--pedigree", pedigree)
     assert "by --keep FILE: their coefficients stay as they are" in done.err
-    done = desk.good("take", "--pedigree", pedigree, "--keep", desk.write("kept.txt", "\n".join(kept)))
+    done = desk.good("import", "--pedigree", pedigree, "--keep", desk.write("kept.txt", "\n".join(kept)))
     wanted = ancestry(rows, kept)
     done.tells(f"kept: 10 animals of kept.txt with their ancestors, {len(wanted):,} of 200,000 lines")
     found = {row["id"]: Fraction(row["coefficient"]) for row in desk.listed("list")}
@@ -40,16 +40,18 @@ def test_keep_names_an_animal_that_is_not_there(desk: Desk) -> None:
     pedigree = desk.write("few.txt", "a 0 0\nb a 0\n")
     kept = desk.write("kept.txt", "b\nx\n")
     told = "kept.txt names animals that have no line in the pedigree: x"
-    desk.wrong(told, "take", "--pedigree", pedigree, "--keep", kept)
-    desk.wrong("--keep and --leave-out are for a pedigree", "take", pedigree, "--keep", kept)
+    desk.wrong(told, "import", "--pedigree", pedigree, "--keep", kept)
+    desk.wrong("--keep and --leave-out are for a pedigree", "import", pedigree, "--keep", kept)
 
 
 def test_long_path_cut_by_keep(desk: Desk) -> None:
     pedigree = desk.write("deep.txt", "".join(f"a{at} {f'a{at - 1}' if at else 0} 0\n" for at in range(70)))
     told = "That changes coefficients: an unknown parent counts as unrelated."
-    done = desk.wrong(told, "take", "--pedigree", pedigree)
+    done = desk.wrong(told, "import", "--pedigree", pedigree)
     assert "--keep FILE takes those that the file names" in done.err
-    assert " 31 animals, " in desk.good("take", "--pedigree", pedigree, "--keep", desk.write("kept.txt", "a30\n")).last
+    assert " 31 animals, " in desk.good(
+        "import", "--pedigree", pedigree, "--keep", desk.write("kept.txt", "a30\n")
+    ).last
 
 
 def drawn_rows(seed: int, families: int, size: int) -> list[tuple[str, str, str]]:

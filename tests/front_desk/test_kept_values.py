@@ -6,37 +6,37 @@ import datetime
 from types import SimpleNamespace
 from typing import Any, cast
 
-from society.book.book import Book
-from society.book.commands import Record, birth, record_after
-from society.book.inferred import GIVEN_EXIT, BirthBasis, BirthSource, ExitBasis, ExitSource, SexSource
-from society.book.kinds import Field
-from society.book.known import Known
-from society.book.state import CELL_FIELDS
-from society.reading.animal import Animal
-from society.reading.cell_findings import ExitInferred
-from society.reading.day_cells import DayCells
-from society.reading.days import Span, month_of, year_of
-from society.reading.unknown import UnknownParents
-from society.taking.animal_findings import KeptByHand, KeptFromBook, SexInferred
-from society.taking.kept_values import keep_values
-from society.taking.next_book import NextBook
-from society.taking.report import Finding, Report
+from gudokeyi.domain.animals import SocietyRecord
+from gudokeyi.domain.commands import RegisterRecord, birth, record_after
+from gudokeyi.domain.findings import Finding, Report
+from gudokeyi.domain.kinds import Field
+from gudokeyi.domain.provenance import GIVEN_EXIT, BirthBasis, BirthSource, ExitBasis, ExitSource, SexSource
+from gudokeyi.ingest.animals import SheetAnimal
+from gudokeyi.ingest.day_cells import DayCells
+from gudokeyi.ingest.days import Span, month_of, year_of
+from gudokeyi.ingest.findings.cells import ExitInferred
+from gudokeyi.ingest.unknown_parents import UnknownParents
+from gudokeyi.reconcile.findings.animals import KeptByHand, KeptFromBook, SexInferred
+from gudokeyi.reconcile.kept_values import keep_values
+from gudokeyi.reconcile.next_book import NextBook
+from gudokeyi.store.book import Book
+from gudokeyi.store.state import CELL_FIELDS
 
 NUMBER, SIRE, DAM = "HOLGBRM000000000001", "HOLGBRM000000000002", "HOLGBRF000000000003"
 BORN, LEFT = datetime.date(2001, 3, 31), datetime.date(2005, 6, 1)
 # what the book has of `a`: a castrated male of a stored embryo, of the herd of `Nord`, which left
 RECORD = record_after(None, birth(NUMBER, BORN, SIRE, DAM, 4, True))._replace(left=LEFT)
-KNOWN = Known(NUMBER, "a", "Anna", castrated=True)
+KNOWN = SocietyRecord(NUMBER, "a", "Anna", castrated=True)
 OWNERS = {0: "", 4: "Nord", 5: "Süd"}
 
 
 def kept(
-    animal: Animal, known: Known = KNOWN, record: Record = RECORD, lacks: tuple[Field, ...] = (),
+    animal: SheetAnimal, known: SocietyRecord = KNOWN, record: RegisterRecord = RECORD, lacks: tuple[Field, ...] = (),
     last: dict[Field, str] | None = None, found: tuple[Finding, ...] = (),
 ) -> NextBook:  # fmt: skip
     """The book that is to come, which has the animal after that. `last` are the cells of the last sheet, and `found` is
     what was told of the animal before."""
-    names = {SIRE: Known(SIRE, "s"), DAM: Known(DAM, "d"), NUMBER: known}
+    names = {SIRE: SocietyRecord(SIRE, "s"), DAM: SocietyRecord(DAM, "d"), NUMBER: known}
     cells = {("a",): ("a", *map(cast(Any, last).get, CELL_FIELDS))} if last is not None else {}
     book = SimpleNamespace(
         known={one.id: one for one in names.values()}, records={NUMBER: record}, by_number=lambda: names, cells=cells,
@@ -60,8 +60,8 @@ def test_cells_that_cannot_be_read() -> None:
     said = {Field.OWNER: "Nord", Field.SEX: "M", Field.BIRTH: str(BORN)}
     basis = ExitBasis(ExitSource.UNKNOWN_DAY, text="sold")
 
-    def animal(*unread: Field) -> Animal:
-        return Animal(
+    def animal(*unread: Field) -> SheetAnimal:
+        return SheetAnimal(
             "a", 2, owner="Nord", sex="M", birth=Span(BORN, BORN), cells=cast(Any, said), exit_basis=basis,
             unread=[*unread],
         )  # fmt: skip
@@ -80,18 +80,18 @@ def test_cells_that_cannot_be_read() -> None:
 
 def test_cells_that_say_nothing() -> None:
     """An owner, a sex and the word for a castrated one stay, but for a sex that was inferred."""
-    empty = Animal("a", 2, birth=Span(BORN, BORN))
+    empty = SheetAnimal("a", 2, birth=Span(BORN, BORN))
     one = kept(empty)
     assert (empty.owner, empty.sex, empty.castrated) == ("Nord", "M", True)
     assert told(one) == [KeptFromBook(Field.OWNER, "Nord", False), KeptFromBook(Field.SEX, "M", False)]
-    empty = Animal("a", 2, birth=Span(BORN, BORN))
+    empty = SheetAnimal("a", 2, birth=Span(BORN, BORN))
     one = kept(empty, KNOWN._replace(sex=SexSource.SIRE), lacks=(Field.OWNER,))
     assert (empty.owner, empty.sex) == ("Nord", "") and not told(one)
     for word, castrated in (("M", False), ("", True)):
-        animal = Animal("a", 2, sex="M", cells={"sex": word})
+        animal = SheetAnimal("a", 2, sex="M", cells={"sex": word})
         kept(animal)
         assert animal.castrated is castrated
-    animal = Animal("a", 2, sex="M", cells={"sex": "M"})
+    animal = SheetAnimal("a", 2, sex="M", cells={"sex": "M"})
     kept(animal, lacks=(Field.SEX,))
     assert animal.castrated
 
@@ -104,7 +104,7 @@ def test_birth_days_that_a_period_leaves_open() -> None:
         (BORN, year_of(2002), KNOWN, False), (BORN, year_of(2000), KNOWN, False),
         (BORN, year_of(2001), KNOWN._replace(birth=inferred), False),
     ):  # fmt: skip
-        animal = Animal("a", 2, sex="M", owner="Nord", birth=period)
+        animal = SheetAnimal("a", 2, sex="M", owner="Nord", birth=period)
         one = kept(animal, known, RECORD._replace(born=born))
         assert animal.birth == (Span(born, born) if stays else period)
         assert told(one) == [KeptFromBook(Field.BIRTH, str(born), False)] * stays
@@ -120,7 +120,7 @@ def test_exits_that_a_period_leaves_open() -> None:
     ):  # fmt: skip
         basis = ExitBasis(ExitSource.PERIOD, period.period())
         found = ExitInferred(period.last, basis, "")
-        animal = Animal("a", 2, sex="M", owner="Nord", birth=Span(BORN, BORN), left=period.last, exit_basis=basis)
+        animal = SheetAnimal("a", 2, sex="M", owner="Nord", birth=Span(BORN, BORN), left=period.last, exit_basis=basis)
         one = kept(animal, known, found=(found, other))
         assert (animal.left, animal.exit_basis) == ((LEFT, GIVEN_EXIT) if stays else (period.last, basis))
         assert told(one) == ([other, KeptFromBook(Field.EXIT, str(LEFT), False)] if stays else [found, other])
@@ -143,7 +143,7 @@ def test_owners_by_hand() -> None:
         ("", "", None, ("Nord", False, set(), set())),
     ):  # fmt: skip
         cells = {"owner": owner, "since": since}
-        animal = Animal("a", 2, sex="M", owner=owner, cells=cells, since=year if since else None)
+        animal = SheetAnimal("a", 2, sex="M", owner=owner, cells=cells, since=year if since else None)
         last = dict(zip((Field.OWNER, Field.SINCE), before)) if before else None
         one = kept(animal, known, last=last)
         found = animal.owner, animal.since is not None, {*one.overridden["a"]}, one.kept_owners
@@ -154,13 +154,13 @@ def test_told_of_what_was_filed_by_hand() -> None:
     """Each value that another one of the sheet gives way to, and no other; a column that lacks overrides nothing."""
     fields = frozenset({Field.NAME, Field.SIRE, Field.DAM, Field.EXIT, Field.EMBRYO})
     cells = {"name": "Anna", "sire": "x", "dam": "y", "exit": "", "embryo": ""}
-    animal = Animal("a", 2, "Anna", sex="M", owner="Nord", sire="x", dam="y", cells=cells, birth=Span(BORN, BORN))
+    animal = SheetAnimal("a", 2, "Anna", sex="M", owner="Nord", sire="x", dam="y", cells=cells, birth=Span(BORN, BORN))
     one = kept(animal, KNOWN._replace(by_hand=fields), last=cast(Any, cells))
     values = {Field.SIRE: "s", Field.DAM: "d", Field.EXIT: str(LEFT), Field.EMBRYO: "yes"}
     assert told(one) == [KeptByHand(field, value) for field, value in values.items()]
     assert (animal.sire, animal.dam, animal.left, animal.embryo) == ("s", "d", LEFT, True) and not one.overridden["a"]
     # in a row of now other cells
-    animal = Animal("a", 2, "Anna", sex="M", owner="Nord", sire="x", dam="y", cells=cells, birth=Span(BORN, BORN))
+    animal = SheetAnimal("a", 2, "Anna", sex="M", owner="Nord", sire="x", dam="y", cells=cells, birth=Span(BORN, BORN))
     one = kept(animal, KNOWN._replace(by_hand=fields), last={}, lacks=(Field.DAM,))
     assert one.overridden["a"] == {Field.NAME, Field.SIRE} and (animal.sire, animal.dam) == ("x", "d")
 
@@ -172,6 +172,6 @@ def test_parent_by_hand_that_was_left_out() -> None:
         ({Field.SIRE, Field.DAM}, "s", "s"), ({Field.DAM}, "s", ""), ({Field.SIRE, Field.DAM}, "gone", ""),
     ):  # fmt: skip
         known = KNOWN._replace(by_hand=frozenset(by_hand), written_sire=written, written_dam="s")
-        animal = Animal("a", 2, sex="M", owner="Nord", birth=Span(BORN, BORN))
+        animal = SheetAnimal("a", 2, sex="M", owner="Nord", birth=Span(BORN, BORN))
         kept(animal, known, record, last={})
         assert (animal.sire, animal.dam) == (sire, "d")

@@ -14,7 +14,7 @@ from front_desk.whole import FLOCK, GROWN, changes_of, ended, kill_within, run, 
 
 # what is killed
 CALLS = [
-    ["take", "grown.csv"],
+    ["import", "grown.csv"],
     ["birth", "calf", "--sex", "f", "--day", "2012-01-01", "--sire", "a8", "--dam", "a9"],
     ["undo"],
     ["list", "--book", "old"],
@@ -83,7 +83,7 @@ def test_many_kills(before: Before, tmp_path: pathlib.Path) -> None:
 def pair(desk: Desk, first: str, second: str) -> None:
     """Two sheets of a flock at once, each with animals of its own: both are taken, whoever comes first."""
     before = changes_of(desk.room / "book")
-    done = [ended(one) for one in [start(desk, "take", first), start(desk, "take", second)]]
+    done = [ended(one) for one in [start(desk, "import", first), start(desk, "import", second)]]
     assert [one.status for one in done] == [0, 0], f"{done}"
     assert changes_of(desk.room / "book") == before + 2
     numbers = desk.numbers()

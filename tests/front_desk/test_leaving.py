@@ -55,8 +55,8 @@ def test_faulty_parents(desk: Desk) -> None:
 def test_strict(desk: Desk) -> None:
     """With --strict nothing is taken where something is left out."""
     sheet = desk.write("sheet.csv", FAULTY_PARENTS)
-    done = desk.wrong("7 left out (7 parents): with --strict nothing is taken", "take", sheet, "--strict")
-    assert "society: line 4: self: its sire self is left out: self would be its own ancestor" in done.err
+    done = desk.wrong("7 left out (7 parents): with --strict nothing is taken", "import", sheet, "--strict")
+    assert "gudokeyi: line 4: self: its sire self is left out: self would be its own ancestor" in done.err
     desk.take("id,born,sire,dam\na,2001,,\nb,2003-01-01,a,c\n", "--strict")
 
 

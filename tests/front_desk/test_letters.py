@@ -30,7 +30,7 @@ def test_settings(desk: Desk) -> None:
     wanted = {"A1": "SKUDEU", "A2": "SKUDEU", "I1": "SKBDEU", "A3": "SKBDEU"}
     assert letters(desk) == wanted
     pedigree = desk.write("p.txt", "id sire dam\nA4 A2 A1\n")
-    desk.good("take", "--pedigree", pedigree)
+    desk.good("import", "--pedigree", pedigree)
     assert letters(desk) == wanted | {"A4": "SKBDEU"}
     done = desk.take(LATER, "--country", "CHE")
     assert "changed: number 5\n" in done.out and "written anew" in done.out

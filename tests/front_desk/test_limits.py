@@ -13,8 +13,8 @@ from typing import Any
 import pytest
 
 from front_desk.desk import TOP, Desk
-from society import herdbook
-from society.mistake import Mistake
+from gudokeyi.domain.messages import Mistake
+from gudokeyi.engine import program as herdbook
 
 LIMITS = (herdbook.MOST_BYTES, herdbook.MOST_SECONDS)
 # they are set from outside, and waited for
@@ -42,7 +42,7 @@ WAITING = "import time; time.sleep(600)"
 BUSY = "while True: pass"
 # a call of each kind that asks the program
 CALLS = [
-    ["take", "--pedigree", str(TOP / "examples/mrode.txt"), "--book", "other"],
+    ["import", "--pedigree", str(TOP / "examples/mrode.txt"), "--book", "other"],
     ["parents", "3", "--dam", "0"],
     ["mating", "--dam", "2"],
     ["inverse", "--matrix-market", "inverse.mtx"],
@@ -79,7 +79,7 @@ def test_a_new_book_is_not_begun_where_the_program_fails(desk: Desk, program: st
     fails = "import os, sys\nif 'inbreeding' in sys.argv:\n    sys.exit('herdbook: no memory')\n"
     failing = stand_in(desk.room, f"{fails}os.execv({program!r}, [{program!r}, *sys.argv[1:]])")
     desk.write("sheet.csv", "id;sex;birth;sire;dam\na;F;2001-01-01;;\n")
-    done = desk.run("take", "sheet.csv", program=failing)
+    done = desk.run("import", "sheet.csv", program=failing)
     assert done.status == 1 and "the program `herdbook inbreeding` can't do it: no memory" in done.err
     assert not (desk.room / "book").exists()
 

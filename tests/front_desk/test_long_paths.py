@@ -9,8 +9,8 @@ import pytest
 
 from front_desk.desk import Desk
 from front_desk.test_triples import Rows, text_of
-from society.reading.animal import Animal
-from society.taking.long_paths import Paths
+from gudokeyi.ingest.animals import SheetAnimal
+from gudokeyi.reconcile.impossible_parents import Paths
 
 
 def test_long_paths(desk: Desk) -> None:
@@ -18,7 +18,7 @@ def test_long_paths(desk: Desk) -> None:
     rows = [[f"a{at}", f"a{at - 1}" if at else "0", "0"] for at in range(77)]
     done = desk.wrong(
         "line 62: a61: a path of parents would be longer than 60 steps",
-        "take",
+        "import",
         "--pedigree",
         desk.write("line.txt", text_of(rows)),
     )
@@ -50,24 +50,24 @@ def test_cuts_of_long_paths(desk: Desk, seed: int, years: int) -> None:
     """With the parents cut that are told no path is too long, and few are."""
     rows = deep_rows(seed, years)
     deep = desk.write("deep.txt", text_of(rows))
-    done = desk.wrong("set the parents of these animals to unknown", "take", "--pedigree", deep)
+    done = desk.wrong("set the parents of these animals to unknown", "import", "--pedigree", deep)
     told = re.findall(r"(g\d+-\d) \(line", done.err.split("no path is too long: ")[1])
-    animals = {id: Animal(id, sire=sire.strip("0") and sire, dam=dam.strip("0") and dam) for id, sire, dam in rows}
+    animals = {id: SheetAnimal(id, sire=sire.strip("0") and sire, dam=dam.strip("0") and dam) for id, sire, dam in rows}
     for parent in {parent for animal in animals.values() for _, parent in animal.parents()} - animals.keys():
-        animals[parent] = Animal(parent)
+        animals[parent] = SheetAnimal(parent)
     cut = list(dict.fromkeys(Paths(animals).to_cut()))
     assert 0 < len(cut) < len(rows) // 20
     assert told == cut[:12]
     short = desk.write("cut.txt", text_of([[row[0], "0", "0"] if row[0] in cut else row for row in rows]))
-    assert f": {len(rows)} animals, " in desk.good("take", "--pedigree", short).last
+    assert f": {len(rows)} animals, " in desk.good("import", "--pedigree", short).last
 
 
 def test_long_path_in_a_sheet(desk: Desk) -> None:
     sheet = "id,sex,born,sire,dam\n" + "".join(
         f"a{at},M,{1900 + at},{f'a{at - 1}' if at else ''},\n" for at in range(62)
     )
-    done = desk.wrong("its oldest animal is a0 (line 2)", "take", desk.write("deep.csv", sheet))
+    done = desk.wrong("its oldest animal is a0 (line 2)", "import", desk.write("deep.csv", sheet))
     assert "to unknown, and no path is too long: a1 (line 3)." in done.err
     # a parent that is refused for another reason is on no path
-    done = desk.good("take", desk.write("deep.csv", sheet.replace("a30,M,", "a30,F,")))
+    done = desk.good("import", desk.write("deep.csv", sheet.replace("a30,M,", "a30,F,")))
     assert " 1 left out (1 parent)" in done.last

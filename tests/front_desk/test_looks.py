@@ -6,16 +6,15 @@ from types import SimpleNamespace
 from typing import cast
 
 from front_desk.desk import CALLED, Desk
-from society.book.book import Book
-from society.book.by_hand import with_parents
-from society.book.commands import birth, replay
-from society.book.inferred import BirthBasis, BirthSource
-from society.book.kinds import Remembered
-from society.book.known import Known
-from society.book.role import Role
-from society.book.state import Meaning
-from society.taking.look_findings import YoungParent
-from society.taking.young_parents import young_parents
+from gudokeyi.domain.animals import SocietyRecord
+from gudokeyi.domain.commands import birth, replay
+from gudokeyi.domain.kinds import Remembered, Role
+from gudokeyi.domain.provenance import BirthBasis, BirthSource
+from gudokeyi.reconcile.findings.plausibility import YoungParent
+from gudokeyi.reconcile.plausibility import young_parents
+from gudokeyi.services.filing import with_parents
+from gudokeyi.store.book import Book
+from gudokeyi.store.state import Meaning
 
 TITLES = "id;sex;birth;sire;dam;exit\n"
 PARENTS = "s;M;2001-03-01;;;\nd;F;2001-03-02;;;\n"
@@ -40,14 +39,14 @@ def test_young_parents(desk: Desk) -> None:
         "--youngest 149"
     )
     # the one command is for both parents, and takes back what was said
-    assert done.commands() == [f"{CALLED} take sheet.csv --youngest 149"]
+    assert done.commands() == [f"{CALLED} import sheet.csv --youngest 149"]
     # a day that is inferred tells nothing
     assert "days old" not in desk.take(TITLES + "p;M;2001;;;\nq;F;2001-08-01;p;;\n", "--book", "inferred").out
 
 
 def test_young_parents_by_hand() -> None:
     """They are told where they are younger than the book says, at least a day old, and no day of theirs is inferred."""
-    sire, dam, calf = (Known(f"SKUDEU{'F' if at else 'M'}{at:012}", id) for at, id in enumerate("sdc"))
+    sire, dam, calf = (SocietyRecord(f"SKUDEU{'F' if at else 'M'}{at:012}", id) for at, id in enumerate("sdc"))
     day, inferred = datetime.date(2001, 7, 29), BirthBasis(BirthSource.NEAREST)
     born = {one.number: day - datetime.timedelta(days) for one, days in ((sire, 149), (dam, 150), (calf, 0))}
     records = replay(birth(number, one, "", "", 1, False) for number, one in born.items())
@@ -67,7 +66,7 @@ def test_births_of_one_dam(desk: Desk) -> None:
     rows = PARENTS + "c1;M;2003-03-01;s;d;\nc2;F;2003-03-02;s;d;\nc3;F;2003-05-30;s;d;\n"
     done = desk.take(TITLES + rows)
     done.shows("line 6: c3: to look at: its dam d bore c2 (line 5) 89 days before, less than 100")
-    assert done.commands() == [f"{CALLED} take sheet.csv --apart 89"]
+    assert done.commands() == [f"{CALLED} import sheet.csv --apart 89"]
     assert done.out.count("to look at") == 1
     assert "to look at" not in desk.take(TITLES + rows, "--apart", "60").out
 

@@ -1,6 +1,8 @@
 """Links of a pedigree that can't stand in a book: nothing is taken, since coefficients would change."""
 from __future__ import annotations
 
+import shlex
+
 import pytest
 
 from front_desk.desk import Desk
@@ -14,9 +16,17 @@ REFUSED = [
     ("id sire dam born\na 0 0 2005\nb a 0 2001\n", "it isn't at least a day older (refusal 7)"),
     (
         "a1 0 0\nb A1 0\n",
-        "1 parent has no line, and an animal that has one differs in capitals, blanks or zeros alone: A1",
+        "1 parent has no line, and an animal that has one differs in capitals, blanks, signs, zeros, look-alike letters or "
+        "the form of a number alone: A1",
     ),
     ("7 0 0\n9 0 0\n8 007 9\n", "007 (of 8 in line 3; is 7 meant?)"),
+    # as pandas, R and spreadsheets write numbers beside empty cells, and long ones
+    ("id,sire,dam\n1,,\n2,,\n3,1.0,2.0\n", "1.0 (of 3 in line 4; is 1 meant?), 2.0 (of 3 in line 4; is 2 meant?)"),
+    ("100000 NA NA\n99999 NA NA\n8 1e+05 99999\n", "write whole numbers (in pandas by astype('Int64'), in R with"),
+    ("id;sire;dam\n1,23457E+11;;\n9;;\n8;1,23457E+11;9\n", "1 id is a number in the short form, in which digits may be"),
+    ("1 0 0\n9 0 0\n8 1 9\n8.0 1 9\n", "1 id is the number of another animal in another form: 8.0 (line 4; is 8 meant?)"),
+    ("GB-12 0 0\n9 0 0\n8 GB12 9\n", "GB12 (of 8 in line 3; is GB-12 meant?)"),
+    ("A12 0 0\n9 0 0\n8 \u041012 9\n", "\u041012 (of 8 in line 3; is A12 meant?)"),
 ]
 
 
@@ -24,23 +34,23 @@ REFUSED = [
 def test_links_that_would_be_lost(desk: Desk, text: str, told: str) -> None:
     """Nothing is taken, and no folder made; with `--leave-out` the link is left out."""
     pedigree = desk.write("odd.txt", text)
-    done = desk.wrong(told, "take", "--pedigree", pedigree)
+    done = desk.wrong(told, "import", "--pedigree", pedigree)
     assert "nothing is taken" in done.err and "--leave-out" in done.err
     assert not (desk.room / "book").exists()
-    assert "book: " in desk.good("take", "--pedigree", pedigree, "--leave-out").last
+    assert "book: " in desk.good("import", "--pedigree", pedigree, "--leave-out").last
 
 
 def test_sire_of_the_book_that_is_a_dam(desk: Desk) -> None:
     """A second pedigree says otherwise than the book's."""
-    desk.good("take", "--pedigree", desk.write("first.txt", "a 0 0\nb 0 0\nc a b\n"))
+    desk.good("import", "--pedigree", desk.write("first.txt", "a 0 0\nb 0 0\nc a b\n"))
     told = "1 animal is both sire and dam: a (a sire of c in the book, a dam in line 3)"
-    desk.wrong(told, "take", "--pedigree", desk.write("second.txt", "id sire dam\ny 0 0\nx y a\n"))
+    desk.wrong(told, "import", "--pedigree", desk.write("second.txt", "id sire dam\ny 0 0\nx y a\n"))
 
 
 def test_links_of_animals_that_are_not_kept(desk: Desk) -> None:
     """What is wrong with animals that aren't taken keeps no others from being taken."""
     pedigree = desk.write("alike.txt", "a1 0 0\nb A1 0\nc a1 0\nd c 0\nd a1 0\n")
-    done = desk.good("take", "--pedigree", pedigree, "--keep", desk.write("kept.txt", "c\n"))
+    done = desk.good("import", "--pedigree", pedigree, "--keep", desk.write("kept.txt", "c\n"))
     assert " 2 animals, " in done.last and " 0 left out, " in done.last
 
 
@@ -48,9 +58,9 @@ def test_parents_in_another_column(desk: Desk) -> None:
     """The column that has the parents is suggested for the ids, and that which was read can be said to be theirs."""
     lines = ["id name sire dam", "1 Rex 0 0", "2 Fee 0 0", "3 Bo Rex Fee", "4 Li Rex Fee", "5 Zo Bo Li"]
     told = "of 4 parents 4 stand in the column 'name', and 0 in 'id', which is read for the ids"
-    done = desk.wrong(told, "take", "--pedigree", desk.write("names.txt", "\n".join(lines)))
+    done = desk.wrong(told, "import", "--pedigree", desk.write("names.txt", "\n".join(lines)))
     by_name, by_id = done.commands()
-    assert "4 added" in desk.typed(by_id).last
+    assert "4 added" in desk.typed(f"{by_id} --anyway").last
     assert "0 added" in desk.typed(f"{by_name} --drop-gone").last
     assert [(row["id"], row["coefficient"]) for row in desk.listed("list")][-1] == ("Zo", "1/4")
 
@@ -59,24 +69,70 @@ def test_ids_of_families(desk: Desk) -> None:
     """An id that two families have is that of two animals; without a refusal they would be one."""
     pedigree = desk.write("families.txt", "FID IID PAT MAT\nA 1 0 0\nA 2 1 0\nB 1 0 0\n")
     told = "line 4: the id '1' is that of line 2 too, which has another family: give each animal an id of its own"
-    desk.wrong(told, "take", "--pedigree", pedigree)
-    desk.wrong(told, "take", "--pedigree", pedigree, "--leave-out")
+    desk.wrong(told, "import", "--pedigree", pedigree)
+    desk.wrong(told, "import", "--pedigree", pedigree, "--leave-out")
+
+
+def test_parents_alike_of_animals_that_are_kept(desk: Desk) -> None:
+    """Also where the line that is meant isn't kept, since no parent is it."""
+    pedigree = desk.write("alike.txt", "GB-12 0 0\nb GB12 0\nc b 0\n")
+    kept = desk.write("kept.txt", "c\n")
+    desk.wrong("GB12 (of b in line 2; is GB-12 meant?)", "import", "--pedigree", pedigree, "--keep", kept)
+
+
+def test_words_that_may_be_unknown_parents(desk: Desk) -> None:
+    """One that is a parent of several is asked about, and each answer is a command."""
+    rows = "a 0 0\nb 0 0\nc a Missing\nd a Missing\ne -2 b\nf -2 b\n"
+    told = "2 words have no line and are parents of several animals: Missing (of c in line 3 and 1 more), -2 (of e in line 5 and"
+    done = desk.wrong(told, "import", "--pedigree", desk.write("words.txt", rows))
+    *unknown, known = done.commands()
+    assert " 2 added, " in desk.typed(f"{known} --book known").last
+    for command, other in zip(unknown, reversed(unknown)):
+        done = desk.run(*shlex.split(command)[1:])
+        assert done.status == 1 and "1 word has no line and is a parent of several animals" in done.err
+        assert done.commands()[:1] == [f"{command} {other.split('words.txt ')[1]}"]
+    assert " 0 added, " in desk.typed(done.commands()[0]).last
+    assert desk.parents()["c"] == ("a", "") and desk.parents()["e"] == ("", "b")
+
+
+def test_many_parents_without_a_line(desk: Desk) -> None:
+    """More than a tenth of them are asked about, where others have a line."""
+    rows = "".join(f"{at} 0 0\n" for at in range(1, 10)) + "".join(f"c{at} {at} 0\n" for at in range(1, 10))
+    pedigree = desk.write("tenth.txt", f"{rows}d 100 0\n")
+    assert " 1 added, " in desk.good("import", "--pedigree", pedigree).last
+    pedigree = desk.write("more.txt", f"{rows}d 100 0\ne 102 0\n")
+    told = "2 of 11 parents have no line, though others have: 100 (of d in line 19), 102 (of e in line 20). To take founders"
+    done = desk.wrong(told, "import", "--pedigree", pedigree, "--book", "more")
+    assert " 2 added, " in desk.typed(done.commands()[0]).last
+    assert " 2 added, " in desk.good(
+        "import", "--pedigree", desk.write("all.txt", "c a1 b1\nd a1 b1\n"), "--book", "all"
+    ).last
+
+
+def test_ids_in_part(desk: Desk) -> None:
+    """Where no parent has a line: most have the digits of one that has."""
+    rows = "".join(f"DE{at:04} 0 0\n" for at in range(1, 5)) + "DE0007 0001 0002\nDE0008 0003 0004\n"
+    told = "none of 4 parents has a line, and 4 have the digits of an id: 0001 (of DE0007 in line 5; is DE0001 meant?), 0002"
+    done = desk.wrong(told, "import", "--pedigree", desk.write("part.txt", rows))
+    assert " 4 added, " in desk.typed(done.commands()[0]).last
+    few = desk.write("few.txt", rows.replace("0001 0002", "s1 d12").replace("0003 0004", "s2 d9"))
+    assert " 4 added, " in desk.good("import", "--pedigree", few, "--book", "few").last
 
 
 def test_line_that_says_the_same_again(desk: Desk) -> None:
-    done = desk.good("take", "--pedigree", desk.write("twice.txt", "a 0 0\nb 0 0\nc a b\nc a b\n"))
+    done = desk.good("import", "--pedigree", desk.write("twice.txt", "a 0 0\nb 0 0\nc a b\nc a b\n"))
     done.tells("line 4: c: the line is left out: line 3 has this id too")
     assert desk.parents()["c"] == ("a", "b")
 
 
 def test_many_ids_in_a_message(desk: Desk) -> None:
     """The first dozen are named, and how many there are."""
-    done = desk.wrong("animals are both sire and dam", "take", "--pedigree", desk.write("trees.txt", selfed(20)))
+    done = desk.wrong("animals are both sire and dam", "import", "--pedigree", desk.write("trees.txt", selfed(20)))
     assert "20 animals are both sire and dam: t0 (both parents of t1 in line 2), t1 " in done.err
     assert "t11 (both parents of t12 in line 13) and 8 more" in done.err and "t12 (" not in done.err
     round_again = desk.write("round.txt", "".join(f"a{at} a{(at + 1) % 40} 0\n" for at in range(40)))
     path = " > ".join(["a39", *(f"a{at}" for at in range(10)), "29 more", "a39"])
-    desk.wrong(f"a39 would be its own ancestor ({path})", "take", "--pedigree", round_again)
+    desk.wrong(f"a39 would be its own ancestor ({path})", "import", "--pedigree", round_again)
 
 
 def selfed(generations: int) -> str:

@@ -7,7 +7,7 @@ import sqlite3
 
 import pytest
 
-from society.book.many_rows import MANY, TOGETHER, indexes_behind, insert_many, marks_of
+from gudokeyi.store.bulk_insert import MANY, TOGETHER, indexes_behind, insert_many, marks_of
 
 # what a column may have in all rows
 VALUES: tuple[object, ...] = (None, 0, -7, 1 << 40, "", "given", "it's", "?", "Löwe", "a\nb", "long" * 30, 2.5)

@@ -7,17 +7,18 @@ import sqlite3
 import pytest
 
 from front_desk.desk import Desk
-from society.answers.advice import Answers, advise_on_all, shown_of, told_of
-from society.answers.candidates import Candidate, Candidates, all_candidates, birth_shown, named_candidates
-from society.answers.list_columns import BIRTH_OF, birth_of
-from society.answers.mates_read import HAS_LEFT, LISTED, MAY_BE_MATED, MatesRead, Why
-from society.book.beside import Beside
-from society.book.book import Book
-from society.book.book_read import reading
-from society.book.role import Role
-from society.book.selecting import selected
-from society.herdbook import Herdbook
-from society.mistake import Mistake
+from gudokeyi.domain.kinds import Role
+from gudokeyi.domain.messages import Mistake
+from gudokeyi.engine.program import Herdbook
+from gudokeyi.engine.workers import Background
+from gudokeyi.services.lists import BIRTH_OF, birth_of
+from gudokeyi.services.matings import (
+    Answers, Candidate, Candidates, advise_on_all, all_candidates, birth_shown, named_candidates, shown_of, told_of,
+)  # fmt: skip
+from gudokeyi.services.selection import HAS_LEFT, LISTED, MAY_BE_MATED, MatesRead, Why
+from gudokeyi.store.book import Book
+from gudokeyi.store.queries import selected
+from gudokeyi.store.transactions import reading
 
 # an ox, one that was sold, one whose exit has no day, one with a year alone, one born on no day that there is, one
 # whose birth is inferred from its offspring, a name with signs, and parents without a row, the younger one with the
@@ -115,7 +116,7 @@ def test_advice_where_the_journal_can_not_be_read_beside(mrode_desk: Desk, monke
         raise sqlite3.OperationalError("disk I/O error")
 
     wanted = mrode_desk.good("mating", "--dam", "2").out
-    monkeypatch.setattr("society.book.beside.connect", closed)
+    monkeypatch.setattr("gudokeyi.store.journal.connect", closed)
     monkeypatch.setenv("HERDBOOK", mrode_desk.program)
     with reading(mrode_desk.room / "book") as connection:
         book, program = Book(mrode_desk.room / "book", connection), Herdbook()
@@ -124,7 +125,7 @@ def test_advice_where_the_journal_can_not_be_read_beside(mrode_desk: Desk, monke
             begun = program.begin_matings(dam.number, read.numbers, book)
             assert advise_on_all(book, program, dam, read, begun, False).table.text(False) == wanted
             # also where that is only seen when the answers are asked for
-            assert advise_on_all(book, program, dam, read, [Beside(lost)], False).table.text(False) == wanted
+            assert advise_on_all(book, program, dam, read, [Background(lost)], False).table.text(False) == wanted
 
 
 def test_many_sires_are_asked_for_in_parts(mrode_desk: Desk, monkeypatch: pytest.MonkeyPatch) -> None:
@@ -132,7 +133,7 @@ def test_many_sires_are_asked_for_in_parts(mrode_desk: Desk, monkeypatch: pytest
     mrode_desk.good("birth", "0a", "--sex", "m", "--day", "2020-01-01")
     wanted = mrode_desk.good("mating", "--dam", "2").out
     monkeypatch.setenv("HERDBOOK", mrode_desk.program)
-    monkeypatch.setattr("society.herdbook.MOST_NUMBERS", 3)
+    monkeypatch.setattr("gudokeyi.engine.program.MOST_NUMBERS", 3)
     with reading(mrode_desk.room / "book") as connection:
         book, program = Book(mrode_desk.room / "book", connection), Herdbook()
         read, dam = MatesRead(book, Role.SIRE, False), book.known["2"]

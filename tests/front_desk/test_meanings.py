@@ -4,13 +4,13 @@ from __future__ import annotations
 from types import SimpleNamespace
 from typing import cast
 
-from society.book.book import Book
-from society.book.kinds import Field
-from society.book.known import Known
-from society.reading.animal import Animal
-from society.reading.day_cells import DayCells
-from society.reading.unknown import UnknownParents
-from society.taking.meanings import Meanings
+from gudokeyi.domain.animals import SocietyRecord
+from gudokeyi.domain.kinds import Field
+from gudokeyi.ingest.animals import SheetAnimal
+from gudokeyi.ingest.day_cells import DayCells
+from gudokeyi.ingest.unknown_parents import UnknownParents
+from gudokeyi.reconcile.next_book import Meanings
+from gudokeyi.store.book import Book
 
 # of the sheet, where `x` has the id of the book's `only` for its name, `s` that of the sheet's `b01`, `z` an id that is
 # nearly `b01`, and `y` one that differs in capitals alone in the sheet and in the book
@@ -24,9 +24,9 @@ NAMES_BEFORE = {"b01": "Bobby", "only": "", "old": "Olga", "g 7": "", "K": ""}
 
 def are_alike(field: Field, before: object, now: str, of: str = "a") -> bool:
     """Where `Meier` is written `Meyer` from now on, and `nobody` is an unknown parent."""
-    known = {id: Known(f"HOLGBRF{at:012}", id, name) for at, (id, name) in enumerate(NAMES_BEFORE.items(), 1)}
+    known = {id: SocietyRecord(f"HOLGBRF{at:012}", id, name) for at, (id, name) in enumerate(NAMES_BEFORE.items(), 1)}
     book = SimpleNamespace(known=known, respelt=lambda owner: {"Meier": "Meyer"}.get(owner, owner))
-    animals = {id: Animal(id, 2, name) for id, name in NAMES.items()}
+    animals = {id: SheetAnimal(id, 2, name) for id, name in NAMES.items()}
     days = DayCells(UnknownParents(["nobody"]), month_first=False)
     return Meanings(animals, cast(Book, book), days).are_alike(of, field, before, now)
 

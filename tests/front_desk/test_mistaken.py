@@ -58,31 +58,32 @@ SHEETS: list[tuple[str | bytes, str]] = [
 @pytest.mark.parametrize(("text", "told"), SHEETS)
 def test_mistaken_sheets(desk: Desk, text: str | bytes, told: str) -> None:
     """Each is told in a sentence, with status 1, and nothing is written."""
-    desk.wrong(told, "take", desk.write("sheet.csv", text))
+    desk.wrong(told, "import", desk.write("sheet.csv", text))
 
 
 # words that ask for what can't be done, before there is a book, and what is told of them
 WORDS: list[tuple[list[str], str]] = [
-    (["take", "absent.csv"], "absent.csv can't be read: No such file or directory. Is the name right?"),
-    (["take", "."], "is a folder: name the sheet's file"),
-    (["take"], "take reads one file: name a sheet, or a pedigree with --pedigree"),
-    (["take", "good.csv", "--columns", "id=Tag"],
+    (["import", "absent.csv"], "absent.csv can't be read: No such file or directory. Is the name right?"),
+    (["import", "."], "is a folder: name the sheet's file"),
+    (["import"], "import reads one file: name a sheet, or a pedigree with --pedigree"),
+    (["import", "good.csv", "--columns", "id=Tag"],
      "line 1: there is no column 'Tag', which --columns names for id"),
-    (["take", "good.csv", "--columns", "tag=id"],
+    (["import", "good.csv", "--columns", "tag=id"],
      "--columns tag=id: write FIELD=TITLE, where FIELD is one of id, name, sex"),
-    (["take", "good.csv", "--breed", "hol"], "'hol' isn't three letters A to Z"),
-    (["take", "good.csv", "--book", "file"], "the folder file can't be written"),
-    (["take", "good.csv", "--day", "1/2/2003"], "--day: '1/2/2003' isn't a day written as 2001-03-01 or 01.03.2001"),
-    (["take", "good.csv", "--day", "2199-12-31"], "--day: the day 2199-12-31 is after today: write one that has come"),
+    (["import", "good.csv", "--breed", "hol"], "'hol' isn't three letters A to Z"),
+    (["import", "good.csv", "--book", "file"], "the folder file can't be written"),
+    (["import", "good.csv", "--day", "1/2/2003"], "--day: '1/2/2003' isn't a day written as 2001-03-01 or 01.03.2001"),
+    (["import", "good.csv", "--day", "2199-12-31"],
+     "--day: the day 2199-12-31 is after today: write one that has come"),
     (["list"],
      "there is no book in the folder book: take a sheet first, or go to the folder in which you took one\n"
-     f"society:   if good.csv is the sheet:\n    {CALLED} take good.csv\n"),
+     f"gudokeyi:   if good.csv is the sheet:\n    {CALLED} import good.csv\n"),
     (["list", "--book", "/no where"],
      "there is no book in the folder /no where: take a sheet first\n"
-     f"society:   if good.csv is the sheet:\n    {CALLED} take good.csv --book '/no where'\n"),
+     f"gudokeyi:   if good.csv is the sheet:\n    {CALLED} import good.csv --book '/no where'\n"),
     (["sell"], f"there is no word 'sell': `{CALLED} --help` shows"),
     (["Lst"], "there is no word 'Lst': is list meant? `"),
-    ([], "a word is lacking that says what to do, as take, list or show"),
+    ([], "a word is lacking that says what to do, as import, list or show"),
 ]  # fmt: skip
 
 
@@ -139,7 +140,7 @@ WORDS_WITH_A_BOOK: list[tuple[list[str], str]] = [
 @pytest.fixture
 def book_desk(good_desk: Desk) -> Desk:
     """A desk with a book of one female, too."""
-    good_desk.good("take", "good.csv")
+    good_desk.good("import", "good.csv")
     return good_desk
 
 
@@ -158,35 +159,35 @@ SAY = "say where it is, as export HERDBOOK=/home/me/herdbook"
 def test_no_program(book_desk: Desk, path: str, told: str) -> None:
     done = book_desk.run("list", program=path)
     assert done.status == 1
-    assert done.err == f"society: {told}\n"
+    assert done.err == f"gudokeyi: {told}\n"
 
 
 def test_program_that_cannot_be_run(book_desk: Desk) -> None:
     copied = book_desk.room / book_desk.write("copied here", "not to be run")
     done = book_desk.run("verify", program=str(copied))
     assert done.status == 1
-    assert done.err == f"society: {copied} can't be run (Permission denied): allow it, as chmod u+x '{copied}'\n"
+    assert done.err == f"gudokeyi: {copied} can't be run (Permission denied): allow it, as chmod u+x '{copied}'\n"
 
 
 def test_another_program(book_desk: Desk) -> None:
     done = book_desk.run("verify", program="/bin/true")
     assert done.status == 1
     assert "the program answered 0 of 1 command:" in done.err
-    done = book_desk.run("take", "good.csv", program="/bin/false")
+    done = book_desk.run("import", "good.csv", program="/bin/false")
     assert done.status == 1
     assert "the program `herdbook file` can't do it: it ended with status 1" in done.err
 
 
 def test_closed_pipe(book_desk: Desk) -> None:
     """A reader who has enough."""
-    pipe = f"'{TOP}/society/society' list | true"
+    pipe = f"'{TOP}/./gudokeyi' list | true"
     known = os.environ | {"HERDBOOK": book_desk.program}
     done = subprocess.run(["sh", "-c", pipe], cwd=book_desk.room, env=known, capture_output=True, timeout=SECONDS)
     assert not done.stderr
 
 
 def test_bull_as_a_dam(desk: Desk) -> None:
-    desk.good("take", desk.write("bull.csv", "id,sex,born,sire,dam\nbull,M,2001,,\nson,M,2005,bull,\n"))
+    desk.good("import", desk.write("bull.csv", "id,sex,born,sire,dam\nbull,M,2001,,\nson,M,2005,bull,\n"))
     desk.wrong("bull: the dam isn't female (fault 4): name a female as the dam", "mating", "--dam", "bull")
 
 
@@ -200,15 +201,15 @@ def test_limits(desk: Desk) -> None:
     desk.take(line(61), "--book", "deep")
     done = desk.wrong(
         "line 63: a61: a path of parents would be longer than 60 steps, which is the limit (refusal 10)",
-        "take",
+        "import",
         desk.write("deep.csv", line(62)),
     )
     assert "the longest path has 61 steps, 1 more than 60, from a61 (line 63) up to a0 (line 2)" in done.err
     many = "id,sex,born,sire,dam\n" + "".join(f"{at + 1},M,2001-01-01,,\n" for at in range(60_001))
     desk.wrong(
         "the sheet and the book have 60,001 animals together, and a book holds at most 60,000",
-        "take",
+        "import",
         desk.write("many.csv", many),
     )
     desk.write("deep.txt", "".join(f"{at + 1} {at} 0\n" for at in range(62)))
-    desk.wrong("longer than 60 steps", "take", "--pedigree", "deep.txt")
+    desk.wrong("longer than 60 steps", "import", "--pedigree", "deep.txt")

@@ -7,11 +7,11 @@ from typing import cast
 
 import pytest
 
-from society.reading.animal import Animal
-from society.taking.next_book import NextBook
-from society.taking.owner_findings import OwnerMistyped, OwnerRespelt, OwnersAlike, Spelling
-from society.taking.report import Report
-from society.taking.respelt_owners import differ_by_one, tell_mistyped_owners, tell_owners_alike, tell_respelt_owners
+from gudokeyi.domain.findings import Report
+from gudokeyi.ingest.animals import SheetAnimal
+from gudokeyi.reconcile.findings.animals import OwnerMistyped, OwnerRespelt, OwnersAlike, Spelling
+from gudokeyi.reconcile.next_book import NextBook
+from gudokeyi.reconcile.owners import differ_by_one, tell_mistyped_owners, tell_owners_alike, tell_respelt_owners
 
 
 @pytest.mark.parametrize(("one", "other", "is_alike"), [
@@ -29,8 +29,8 @@ def test_differ_by_one(one: str, other: str, is_alike: bool) -> None:
 def told(rows: Mapping[str, int], before: set[str]) -> list[tuple[int, str, str]]:
     """For owners with so many rows: the first line of each that is told, and whom it means. Others have no row."""
     owners = [owner for owner, count in rows.items() for _ in range(count)]
-    animals = {f"a{at}": Animal(f"a{at}", at, owner=owner) for at, owner in enumerate(owners, 2)}
-    animals |= {f"b{at}": Animal(f"b{at}", owner="Hubber") for at in range(9)}
+    animals = {f"a{at}": SheetAnimal(f"a{at}", at, owner=owner) for at, owner in enumerate(owners, 2)}
+    animals |= {f"b{at}": SheetAnimal(f"b{at}", owner="Hubber") for at in range(9)}
     report = Report()
     tell_mistyped_owners(cast(NextBook, SimpleNamespace(animals=animals, report=report)), before)
     found = [(one.line, one.finding) for one in report.entries]
@@ -63,11 +63,11 @@ def test_owners_that_are_only_respelt(rows: list[str], before: set[str], found: 
     place an owner by hand stays is none of them."""
     pairs = {f"a{at}": row.split(" ") for at, row in enumerate(rows, 2)}
     # an animal without a row, one that is new, and one with an owner by hand
-    animals = {id: Animal(id, int(id[1:]), owner=now) for id, (_, now) in pairs.items()}
-    others = Animal("b", owner="Meier"), Animal("c", 99, owner="Meyer"), Animal("d", 98, owner="Maier")
+    animals = {id: SheetAnimal(id, int(id[1:]), owner=now) for id, (_, now) in pairs.items()}
+    others = SheetAnimal("b", owner="Meier"), SheetAnimal("c", 99, owner="Meyer"), SheetAnimal("d", 98, owner="Maier")
     animals |= {one.id: one for one in others}
     before_it = {id: one for id, (one, _) in pairs.items()} | dict.fromkeys("bd", "Meier")
-    herds = {id: SimpleNamespace(herd=one) for id, one in before_it.items()}
+    herds = {id: SimpleNamespace(owner_code=one) for id, one in before_it.items()}
     book, report = SimpleNamespace(known=herds, owner_of=str), Report()
     next_book = SimpleNamespace(animals=animals, book=book, record=herds.get, report=report, kept_owners={"d"})
     tell_respelt_owners(cast(NextBook, next_book), before)
@@ -77,7 +77,7 @@ def test_owners_that_are_only_respelt(rows: list[str], before: set[str], found: 
 def test_owners_alike_by_umlauts() -> None:
     """An umlaut may be written by two letters, or lack its dots; letters that are none of an umlaut tell owners apart."""
     owners = ["Müller", "MÜLLER", "Mueller", "Weiß", "Weiss", "Bauer", "Baur", "Jäger", "Jager"]
-    animals = {owner: Animal(owner, 2, owner=owner) for owner in owners}
+    animals = {owner: SheetAnimal(owner, 2, owner=owner) for owner in owners}
     report = Report()
     tell_owners_alike(cast(NextBook, SimpleNamespace(animals=animals, report=report)))
     told = [entry.finding for entry in report.entries]
@@ -88,7 +88,7 @@ def test_owners_alike_by_umlauts() -> None:
 def test_owners_alike_have_rows() -> None:
     """Signs alone are no names that are alike."""
     owners = [("Groß A", 2), ("gross a", 3), ("gross a", 4), ("GROSS A", 0), ("?", 5), ("!", 6), ("", 7)]
-    animals = {f"{at}": Animal(f"{at}", line, owner=owner) for at, (owner, line) in enumerate(owners)}
+    animals = {f"{at}": SheetAnimal(f"{at}", line, owner=owner) for at, (owner, line) in enumerate(owners)}
     report = Report()
     tell_owners_alike(cast(NextBook, SimpleNamespace(animals=animals, report=report)))
     assert [entry.finding for entry in report.entries] == [OwnersAlike((Spelling("Groß A", 1), Spelling("gross a", 2)))]

@@ -72,7 +72,7 @@ def test_named_parent_that_comes_later(desk: Desk) -> None:
         f"Hans: gone: {stays}",
     )
     assert ", 1 gone: " in done.last
-    assert done.commands() == [f"{CALLED} take sheet.csv --drop-gone"]
+    assert done.commands() == [f"{CALLED} import sheet.csv --drop-gone"]
     why = "as in the book, where it was inferred: from its offspring"
     done.tells(f"Hans: inferred: birth day 2002-01-01, {why}")
     assert desk.numbers()["Hans"] == "HOLGBRM000000000001"

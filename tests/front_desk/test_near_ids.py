@@ -4,7 +4,7 @@ from __future__ import annotations
 import pytest
 
 from front_desk.desk import Desk
-from society.reading.ids import nearly, nearly_all
+from gudokeyi.ingest.words import nearly, nearly_all
 
 TITLES = "id;name;sex;birth;sire;dam\n"
 FLOCK = "DE 007;Max;M;2001-03-01;;\nDE 8;Eva;F;2001-03-02;;\n"
@@ -67,7 +67,7 @@ def test_ids_that_are_like_one_filed_by_hand(desk: Desk) -> None:
     told = "its id differs from DE 9 (in the book) in case, blanks or zeros alone: are they one animal?"
     desk.take(TITLES + FLOCK + rows + "de 9;;F;2002-01-02;;\n").tells(f"line 7: de 9: to look at: {told}")
     # one that is filed by hand now
-    assert desk.good("birth", "DE 09", "--sex", "f", "--day", "2002-01-02").err == f"society: DE 09: {told}\n"
+    assert desk.good("birth", "DE 09", "--sex", "f", "--day", "2002-01-02").err == f"gudokeyi: DE 09: {told}\n"
     assert not desk.good("birth", "DE 90", "--sex", "f", "--day", "2002-01-02").err
 
 

@@ -26,7 +26,7 @@ def test_sums_that_are_left_out(desk: Desk) -> None:
     """A row is left out by a word that somebody says, which the book remembers, until it is taken back."""
     sheet = "id;Name;sex;birth;sire;dam\na;Total;f;2001-01-01;;\nb;;m;2001-01-01;;\n9;Total;;;;\nSumme: 2;;;;;\n"
     done = desk.take(sheet)
-    assert [line.partition("take ")[2] for line in done.commands()] == [
+    assert [line.partition("import ")[2] for line in done.commands()] == [
         "sheet.csv --no-animal Total", "sheet.csv --no-animal Summe"
     ]  # fmt: skip
     desk.good("undo")
@@ -42,7 +42,7 @@ def test_sums_that_are_left_out(desk: Desk) -> None:
     done = desk.take(sheet, "--animal", "Total")
     assert desk.numbers().keys() == {"a", "b", "9"} and "1 left out (1 row)" in done.last
     desk.write("p.txt", "a 0 0\n")
-    desk.wrong("are for a sheet", "take", "--pedigree", "p.txt", "--no-animal", "a")
+    desk.wrong("are for a sheet", "import", "--pedigree", "p.txt", "--no-animal", "a")
 
 
 def test_titles_again(desk: Desk) -> None:

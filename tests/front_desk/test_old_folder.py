@@ -13,13 +13,14 @@ import fcntl
 from front_desk.desk import Desk
 from front_desk.old_folder import FILES, LIST, SHEET
 from front_desk.whole import changes_of, ended, start
-from society.book import backup, old_folder
-from society.book.book import Book
-from society.book.book_read import reading
-from society.book.inferred import OwnerDay
-from society.book.old_names import is_old
-from society.herdbook import Herdbook
-from society.mistake import Mistake
+from gudokeyi.domain.messages import Mistake
+from gudokeyi.domain.provenance import OwnerDay
+from gudokeyi.engine.program import Herdbook
+from gudokeyi.store import backup
+from gudokeyi.store.book import Book
+from gudokeyi.store.legacy import old_folder
+from gudokeyi.store.legacy.files import is_old
+from gudokeyi.store.transactions import reading
 
 
 def test_taken_over(old_desk: Desk) -> None:
@@ -207,5 +208,5 @@ def test_exports_alone(desk: Desk, is_there: bool) -> None:
     (desk.room / "book/book.sqlite").unlink()
     if is_there:
         desk.write("book/book.sqlite", b"")
-    for words in ["list"], ["take", "sheet.csv"], ["birth", "b", "--sex", "m", "--day", "2001-01-01"]:
+    for words in ["list"], ["import", "sheet.csv"], ["birth", "b", "--sex", "m", "--day", "2001-01-01"]:
         desk.wrong("book/book.sqlite, the book, is missing or empty: book/ids.csv was only written from it", *words)

@@ -7,7 +7,7 @@ import pytest
 
 from front_desk.desk import Desk, NewDesk
 from front_desk.old_folder import FILES, LIST, SHEET
-from society.book.old_names import is_old
+from gudokeyi.store.legacy.files import is_old
 
 
 @pytest.mark.parametrize("name", [*FILES, "none"])
@@ -17,7 +17,7 @@ def test_restored_in_its_place(old_desk: Desk, name: str) -> None:
     (old_desk.room / "book" / name).unlink(missing_ok=True)
     files = {one: text for one, text in FILES.items() if one != name}
     old_desk.write("other.csv", "id,born,sire,dam\na,2001-01-01,,\n")
-    old_desk.good("take", "other.csv", "--book", "other")
+    old_desk.good("import", "other.csv", "--book", "other")
     old_desk.good("backup", "copy", "--book", "other")
     old_desk.wrong(
         "to restore copy in its place say --anyway; the one that is there goes to book/old then", "restore", "copy"

@@ -9,7 +9,7 @@ import sys
 import pytest
 
 from front_desk.desk import TOP, Desk
-from society import one_call
+from gudokeyi import process as one_call
 
 SHEET = "id;sex;birth;sire;dam\nDE 1;F;2001-01-01;;\n"
 
@@ -21,7 +21,7 @@ def test_all_that_is_told_comes_through_a_pipe(desk: Desk) -> None:
 
 
 def test_a_taking_that_is_refused_ends_with_its_status(desk: Desk) -> None:
-    done = desk.run("take", "lacks.csv")
+    done = desk.run("import", "lacks.csv")
     assert done.status == 1 and "lacks.csv" in done.err
 
 
@@ -43,8 +43,8 @@ def test_a_process_ends_with_its_status_and_what_it_wrote(
     told = "atexit.register(print, 'at last'); print('told'); print('and', end='', file=sys.stderr)"
     call = f"{told}; one_call.is_the_only_one(); one_call.keep(*{kept!r}); one_call.end({status})"
     done = subprocess.run(
-        [sys.executable, "-c", f"import atexit, sys; from society import one_call; {call}"],
-        cwd=tmp_path, env={"PYTHONPATH": str(TOP)}, capture_output=True, text=True,
+        [sys.executable, "-c", f"import atexit, sys; from gudokeyi import process as one_call; {call}"],
+        cwd=tmp_path, env={"PYTHONPATH": str(TOP / "src")}, capture_output=True, text=True,
     )  # fmt: skip
     at_last = "" if kept and not status else "at last\n"
     assert (done.returncode, done.stdout, done.stderr) == (status, f"told\n{at_last}", "and")

@@ -8,13 +8,12 @@ import pytest
 
 from front_desk.desk import Desk
 from front_desk.whole import FLOCK
-from society.book import backup as backups
-from society.book import files, out
-from society.book.book import Book
-from society.book.book_read import reading
-from society.mistake import Mistake
-from society.reading.bounds import MOST_BYTES, MOST_LETTERS, MOST_ROWS, check_bounds, read_bytes
-from society.reading.sheet import Row
+from gudokeyi.domain.messages import Mistake
+from gudokeyi.ingest.files import MOST_BYTES, MOST_LETTERS, MOST_ROWS, check_bounds, read_bytes
+from gudokeyi.ingest.sheets import SheetRow
+from gudokeyi.store import backup as backups, files, output_files
+from gudokeyi.store.book import Book
+from gudokeyi.store.transactions import reading
 
 ODD = "id,name,sex,born,sire,dam\n@SUM(A1),+x,F,2001-01-01,,\nA 1,\x1b[31mred,F,2001-01-01,,\nA-1,,F,2001-01-01,,\nA/1,,M,2001-01-01,,\n"
 
@@ -47,20 +46,20 @@ def test_a_book_is_written_over_nothing_else(desk: Desk) -> None:
     """Neither over a sheet in its place, nor over what was there before the book; exports that stayed give way."""
     sheet = desk.write("ids.csv", "id,sex,born,sire,dam,remark\na,F,2001-01-01,,,precious\n")
     desk.write("sheet.csv", FLOCK)
-    desk.wrong("ids.csv is where the book in the folder . has a file of its own", "take", sheet, "--book", ".")
+    desk.wrong("ids.csv is where the book in the folder . has a file of its own", "import", sheet, "--book", ".")
     in_the_way = "ids.csv isn't of a book, and one in the folder . would write over it: move it away"
-    desk.wrong(in_the_way, "take", "sheet.csv", "--book", ".")
-    desk.wrong(in_the_way, "take", "--pedigree", desk.write("p.txt", "a 0 0\n"), "--book", ".")
-    desk.good("take", sheet)
+    desk.wrong(in_the_way, "import", "sheet.csv", "--book", ".")
+    desk.wrong(in_the_way, "import", "--pedigree", desk.write("p.txt", "a 0 0\n"), "--book", ".")
+    desk.good("import", sheet)
     desk.good("backup", "copy")
     desk.wrong(in_the_way, "restore", "copy", "--book", ".")
     (desk.room / "book/old").mkdir()
-    desk.good("take", desk.write("book/old/2001.csv", desk.text(sheet)))
+    desk.good("import", desk.write("book/old/2001.csv", desk.text(sheet)))
     (desk.room / sheet).rename(desk.room / "other.csv")
-    desk.good("take", "other.csv", "--semicolons", "--book", ".")
+    desk.good("import", "other.csv", "--semicolons", "--book", ".")
     (desk.room / "book.sqlite").unlink()
     (desk.room / "commands.csv").unlink()
-    desk.good("take", "sheet.csv", "--book", ".")
+    desk.good("import", "sheet.csv", "--book", ".")
 
 
 def test_onto_other_files(flock_desk: Desk) -> None:
@@ -74,7 +73,7 @@ def test_onto_other_files(flock_desk: Desk) -> None:
     flock_desk.wrong("there is no folder absent", "list", "--out", "absent/list.csv")
     os.mkfifo(flock_desk.room / "pipe")
     flock_desk.wrong("pipe can't be written: it isn't an ordinary file", "list", "--out", "pipe", "--force")
-    flock_desk.wrong("the folder absent isn't there", "take", "sheet.csv", "--book", "absent/book")
+    flock_desk.wrong("the folder absent isn't there", "import", "sheet.csv", "--book", "absent/book")
     (flock_desk.room / "matrix.ids").write_text("precious")
     flock_desk.wrong("matrix.ids is there already", "inverse", "--matrix-market", "matrix")
 
@@ -84,10 +83,10 @@ def test_a_file_that_came_meanwhile(flock_desk: Desk, monkeypatch: pytest.Monkey
     path = flock_desk.room / "came"
     with reading(flock_desk.room / "book") as connection:
         book = Book(flock_desk.room / "book", connection)
-        for module in out, backups:
+        for module in output_files, backups:
             monkeypatch.setattr(module, "check", lambda *_: path.write_bytes(b"precious"))
         with pytest.raises(Mistake, match="is there already"):
-            out.write_outs(book, {path: b"text"}, False)
+            output_files.write_outs(book, {path: b"text"}, False)
         with pytest.raises(Mistake, match="is there already"):
             backups.backup(book, path, False)
         assert path.read_bytes() == b"precious"
@@ -101,16 +100,16 @@ def test_all_or_none(tmp_path: pathlib.Path, monkeypatch: pytest.MonkeyPatch) ->
             raise OSError(28, "No space left on device")
         files.put(path, text, replaces=replaces)
 
-    monkeypatch.setattr(out, "put", put)
+    monkeypatch.setattr(output_files, "put", put)
     was_there, new, full = (tmp_path / name for name in ("was there", "new", "full"))
     was_there.write_bytes(b"before")
     with pytest.raises(Mistake, match="full can't be written"):
-        out.write_outs(Book(tmp_path / "book", None), {was_there: b"a", new: b"b", full: b"c"}, True)
+        output_files.write_outs(Book(tmp_path / "book", None), {was_there: b"a", new: b"b", full: b"c"}, True)
     assert {path.name: path.read_bytes() for path in tmp_path.iterdir()} == {"was there": b"a"}
     # nothing is begun where one of them mustn't be written
     for force, path, told in (False, was_there, "is there already"), (True, tmp_path, "it is a folder: name a file"):
         with pytest.raises(Mistake, match=told):
-            out.write_outs(Book(tmp_path / "book", None), {new: b"b", path: b"c"}, force)
+            output_files.write_outs(Book(tmp_path / "book", None), {new: b"b", path: b"c"}, force)
         assert not new.exists()
 
 
@@ -134,31 +133,36 @@ def test_file_names(desk: Desk) -> None:
 
 
 @pytest.mark.parametrize(("text", "told"), [
-    ("id,born,sire,dam\n" + "a,2001,,\n" * 200_001, "sheet.csv has 200,002 rows, and 200,000 are taken at most"),
+    ("id,born,sire,dam\n" + "a,2001,,\n" * 200_001, "sheet.csv has 200,001 rows, and 200,000 are taken at most"),
     (f"id,born,sire,dam\na,2001,,\n{'b' * 10_001},2001,,\n", "line 3: a cell has more than 10,000 letters"),
     (b"id,born,sire,dam\n" + b" " * 50_000_000, "sheet.csv has 50 MB, and 50 MB are read at most"),
 ])  # fmt: skip
 def test_bounds(desk: Desk, text: str | bytes, told: str) -> None:
     """Of a sheet, and of a pedigree alike."""
-    desk.wrong(told, "take", desk.write("sheet.csv", text))
-    desk.wrong(told, "take", "--pedigree", "sheet.csv")
+    desk.wrong(told, "import", desk.write("sheet.csv", text))
+    desk.wrong(told, "import", "--pedigree", "sheet.csv")
 
 
 def test_bounds_without_end(desk: Desk) -> None:
     """What never ends isn't read to its end; a cell of any length is no fault of the front desk."""
-    for words in ("take", "/dev/zero"), ("take", "--pedigree", "/dev/zero"):
+    for words in ("import", "/dev/zero"), ("import", "--pedigree", "/dev/zero"):
         desk.wrong("/dev/zero has 50 MB, and 50 MB are read at most", *words)
     long = "b" * 140_000
-    desk.wrong("line 3: a cell has more than 10,000 letters", "take", desk.write("long.csv", f"id,born\na,2001\n{long},2001\n"))
-    desk.wrong("line 2: a cell has more than 10,000 letters", "take", "--pedigree", desk.write("long.txt", f"a 0 0\n{long} 0 0\n"))
+    sheet, lines = desk.write("long.csv", f"id,born\na,2001\n{long},2001\n"), desk.write("long.txt", f"a 0 0\n{long} 0 0\n")
+    desk.wrong("line 3: a cell has more than 10,000 letters", "import", sheet)
+    desk.wrong("line 2: a cell has more than 10,000 letters", "import", "--pedigree", lines)
     desk.take("id,sex,born,sire,dam\na,m,2001,,\n")
     desk.wrong("long.txt: the book has no animal 'b", "mating", "--dams", desk.write("long.txt", f"{long},x\n"))
 
 
 def test_at_the_bounds(tmp_path: pathlib.Path) -> None:
-    """So much is just taken."""
+    """So much is just taken, below a line of titles and without one."""
     path = tmp_path / "sheet.csv"
-    check_bounds(path, [Row(1, ["b" * MOST_LETTERS])] * MOST_ROWS)
+    for titles in 0, 1:
+        rows = [SheetRow(1, ["b" * MOST_LETTERS])] * (MOST_ROWS + titles)
+        check_bounds(path, rows, titles)
+        with pytest.raises(Mistake, match="has 200,001 rows, .* To leave out ancestors, such as the oldest animals, changes"):
+            check_bounds(path, [*rows, rows[0]], titles)
     path.touch()
     os.truncate(path, MOST_BYTES)
     assert len(read_bytes(path)) == MOST_BYTES

@@ -5,15 +5,15 @@ import datetime
 from types import SimpleNamespace
 from typing import NamedTuple, cast
 
-from society.book.book import NO_OWNER, Book
-from society.book.commands import Command, birth, record_after, transfer
-from society.book.inferred import OwnerDay
-from society.book.known import Known
-from society.reading.animal import Animal
-from society.reading.days import Span, month_of, year_of
-from society.taking.owner_days import OwnerDays, Owners
-from society.taking.report import Finding, Report
-from society.taking.row_findings import OwnerDayInferred, OwnerDayMoved
+from gudokeyi.domain.animals import SocietyRecord
+from gudokeyi.domain.commands import Command, birth, record_after, transfer
+from gudokeyi.domain.findings import Finding, Report
+from gudokeyi.domain.provenance import OwnerDay
+from gudokeyi.ingest.animals import SheetAnimal
+from gudokeyi.ingest.days import Span, month_of, year_of
+from gudokeyi.reconcile.findings.rows import OwnerDayInferred, OwnerDayMoved
+from gudokeyi.reconcile.owner_days import OwnerDays, Owners
+from gudokeyi.store.book import NO_OWNER, Book
 
 NUMBER, NORD, SUED = "HOLGBRF000000000001", 4, 5
 BORN, DAY, LATER, LAST = (datetime.date(year, 2, 3) for year in (2001, 2003, 2005, 2007))
@@ -41,14 +41,14 @@ def found(
         record = record_after(record, command)
     owners = {"Nord": NORD, "Süd": SUED}
     names = {herd: name for name, herd in owners.items()} | {NO_OWNER: ""}
-    known = {"a": Known(NUMBER, "a", owner_day=INFERRED)}
+    known = {"a": SocietyRecord(NUMBER, "a", owner_day=INFERRED)}
     book = SimpleNamespace(
         known=known, records={NUMBER: record}, owners=owners, owner_of=names.get, connection=None
     )  # fmt: skip
     report = Report()
     days = OwnerDays(cast(Book, book), report, None)
     days.before = {NUMBER: first}, {NUMBER: [*before]}
-    animal = Animal("a", 2, number=NUMBER, owner=owner, since=since, born=BORN, left=left)
+    animal = SheetAnimal("a", 2, number=NUMBER, owner=owner, since=since, born=BORN, left=left)
     owners_of = days.of(animal)
     told = [one.finding for one in report.entries]
     return Found(owners_of, days.other_days.get("a", ""), told, animal.owner_day)
@@ -106,7 +106,7 @@ def test_new_animal_before_its_birth() -> None:
         (year_of(BORN.year), []), (on(BORN), []), (None, []),
     ):  # fmt: skip
         report, book = Report(), SimpleNamespace(known={}, owners={"Nord": NORD})
-        animal = Animal("b", 2, number=NUMBER, owner="Nord", since=since, born=BORN)
+        animal = SheetAnimal("b", 2, number=NUMBER, owner="Nord", since=since, born=BORN)
         assert OwnerDays(cast(Book, book), report, None).of(animal) == (NORD, [], 0, False)
         assert [one.finding for one in report.entries] == told
 

@@ -6,24 +6,24 @@ from types import SimpleNamespace
 from typing import cast
 
 from front_desk.test_taking_parts import BORN, NUMBER
-from society.book.book import NO_OWNER, Book
-from society.book.commands import birth, record_after, transfer
-from society.book.inferred import OwnerDay
-from society.book.kinds import Field
-from society.book.known import Known
-from society.reading.animal import Animal
-from society.reading.cell_findings import DayLeftOut
-from society.reading.days import DayFault, Span, month_of, year_of
-from society.taking.owner_days import OwnerDays, Owners
-from society.taking.report import Report
-from society.taking.row_findings import OwnerDayInferred, OwnerDayMoved
+from gudokeyi.domain.animals import SocietyRecord
+from gudokeyi.domain.commands import birth, record_after, transfer
+from gudokeyi.domain.findings import Report
+from gudokeyi.domain.kinds import Field
+from gudokeyi.domain.provenance import OwnerDay
+from gudokeyi.ingest.animals import SheetAnimal
+from gudokeyi.ingest.days import DayFault, Span, month_of, year_of
+from gudokeyi.ingest.findings.cells import DayLeftOut
+from gudokeyi.reconcile.findings.rows import OwnerDayInferred, OwnerDayMoved
+from gudokeyi.reconcile.owner_days import OwnerDays, Owners
+from gudokeyi.store.book import NO_OWNER, Book
 
 
 def moved(basis: OwnerDay, born: str, *days: str, left: str = "") -> tuple[list[str], list[tuple[str, str]], OwnerDay]:
     """The days of an animal's transfers in order, those of them that are told, each with its day before, and what the
     last one comes from."""
     report, day = Report(), datetime.date.fromisoformat
-    animal = Animal("a", 2, born=day(born), left=day(left) if left else None, owner_day=basis)
+    animal = SheetAnimal("a", 2, born=day(born), left=day(left) if left else None, owner_day=basis)
     given = [transfer(NUMBER, day(one), at, at + 1) for at, one in enumerate(days, 1)]
     found = OwnerDays(cast(Book, SimpleNamespace(owner_of=str)), report, None).in_order(animal, given)
     told = [one.finding for one in report.entries if isinstance(one.finding, OwnerDayMoved)]
@@ -55,7 +55,7 @@ def test_day_of_another_owner(today: datetime.date) -> None:
     book = cast(Book, SimpleNamespace(owners={"Nord": 5}))
 
     def changed(since: Span | None, day: datetime.date | None = None) -> tuple[datetime.date, OwnerDay]:
-        animal = Animal("a", 2, number=NUMBER, owner="Nord", since=since)
+        animal = SheetAnimal("a", 2, number=NUMBER, owner="Nord", since=since)
         found = OwnerDays(book, Report(), day).change(animal, record)
         day = datetime.date.fromisoformat(found.day)
         assert found == transfer(NUMBER, day, 4, 5)
@@ -82,7 +82,7 @@ def test_owners_of_animals(today: datetime.date) -> None:
     def found(owner: str, since: Span | None, is_given: bool = False, *, is_new: bool = False, number: str = NUMBER,
               refused: bool = False, now: datetime.date = BORN) -> tuple[Owners, str, OwnerDay]:  # fmt: skip
         record = record_after(born, given) if is_given else born
-        known = {} if is_new else {"a": Known(NUMBER, "a", owner_day=OwnerDay.INFERRED)}
+        known = {} if is_new else {"a": SocietyRecord(NUMBER, "a", owner_day=OwnerDay.INFERRED)}
         owners = {"Nord": 4, "Süd": 5}
         names = {herd: name for name, herd in owners.items()} | {NO_OWNER: ""}
         book = SimpleNamespace(
@@ -90,7 +90,7 @@ def test_owners_of_animals(today: datetime.date) -> None:
         )  # fmt: skip
         days = OwnerDays(cast(Book, book), report, None)
         days.before = {NUMBER: 4}, {NUMBER: [given]}
-        animal = Animal("a", 2, number=number, owner=owner, since=since, born=now)
+        animal = SheetAnimal("a", 2, number=number, owner=owner, since=since, born=now)
         days.refused |= {"a"} if refused else set()
         return days.of(animal), animal.owner, animal.owner_day
 

@@ -182,19 +182,19 @@ def test_words_that_are_no_owner(desk: Desk) -> None:
 
 def test_owner_is_written_otherwise(desk: Desk) -> None:
     desk.take(TITLES + PARENTS)
-    desk.wrong("--owner Maier=Meyer: the book has no owner 'Maier': its owners are 'Meier'", "take", "sheet.csv",
+    desk.wrong("--owner Maier=Meyer: the book has no owner 'Maier': its owners are 'Meier'", "import", "sheet.csv",
                "--owner", "Maier=Meyer")  # fmt: skip
     renamed = TITLES + PARENTS.replace("Meier", "Meyer")
-    done = desk.good("take", desk.write("sheet.csv", renamed), "--preview")
+    done = desk.good("import", desk.write("sheet.csv", renamed), "--preview")
     told = "to look at: the 2 animals of 'Meier' are now of 'Meyer', whom the book didn't have"
     done.shows(told, "  if the name is only written otherwise:")
-    assert done.commands() == [f"{CALLED} take sheet.csv --preview --owner Meier=Meyer"]
+    assert done.commands() == [f"{CALLED} import sheet.csv --preview --owner Meier=Meyer"]
     some = desk.write("some.csv", TITLES + PARENTS.replace("Meier", "Meyer", 1))
-    assert "are now of" not in desk.good("take", some, "--preview").out
+    assert "are now of" not in desk.good("import", some, "--preview").out
     # what is taken is undone first
-    done = desk.good("take", "sheet.csv")
+    done = desk.good("import", "sheet.csv")
     done.shows(told)
-    desk.wrong("the book has 'Meyer' too, as another owner", "take", "sheet.csv", "--owner", "Meier=Meyer")
+    desk.wrong("the book has 'Meyer' too, as another owner", "import", "sheet.csv", "--owner", "Meier=Meyer")
     other = desk.copy_to(desk.room.parent / "other")
     other.good("birth", "c", "--sex", "f", "--day", "2012-03-04")
     # where nobody else changed the book meanwhile

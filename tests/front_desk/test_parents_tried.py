@@ -7,11 +7,11 @@ from types import SimpleNamespace
 from typing import Any, cast
 
 from front_desk.desk import Desk, Done
-from society.book.role import Role
-from society.reading.animal import Animal
-from society.reading.days import year_of
-from society.taking.next_book import NextBook
-from society.taking.parents_tried import Tried, take_back
+from gudokeyi.domain.kinds import Role
+from gudokeyi.ingest.animals import SheetAnimal
+from gudokeyi.ingest.days import year_of
+from gudokeyi.reconcile.next_book import NextBook
+from gudokeyi.reconcile.parents import Tried, take_back
 
 ALL = """\
 id,name,sex,birth,sire,dam
@@ -74,8 +74,11 @@ def test_parents_that_were_taken_away_otherwise(desk: Desk) -> None:
     pedigree = desk.write("pedigree.txt", "id sire dam\nA4 A2 0\n")
     ways: list[list[list[str]]] = [
         [["parents", "A4", "--dam", "0"]],
-        [["take", desk.write("row.csv", typo + "A4,Dan,m,2006-12-01,A2,\n")], ["take", desk.write("typo.csv", typo)]],
-        [["take", "--pedigree", pedigree, "--anyway"]],
+        [
+            ["import", desk.write("row.csv", typo + "A4,Dan,m,2006-12-01,A2,\n")],
+            ["import", desk.write("typo.csv", typo)],
+        ],
+        [["import", "--pedigree", pedigree, "--anyway"]],
     ]
     for words in ways:
         for one in words:
@@ -109,8 +112,8 @@ def test_parents_without_a_row(desk: Desk) -> None:
 def test_parents_that_are_not_tried() -> None:
     """Those that can't be it, by sexes, days, exits or as its offspring; and of a pedigree those for whom sexes are
     invented."""
-    sire, dam = Animal("s", sex="M", birth=year_of(2001)), Animal("d", birth=year_of(2001))
-    calf = Animal("c", sire="s")
+    sire, dam = SheetAnimal("s", sex="M", birth=year_of(2001)), SheetAnimal("d", birth=year_of(2001))
+    calf = SheetAnimal("c", sire="s")
     calf.birth, all_animals = year_of(2004), {"s": sire, "d": dam, "c": calf}
 
     def is_possible(is_pedigree: bool = False) -> bool:
@@ -127,17 +130,17 @@ def test_parents_that_are_not_tried() -> None:
         {"dam": "c"}, {"dam": "e"},
     ]  # fmt: skip
     for at, changed in enumerate(changes):
-        all_animals |= {"d": dataclasses.replace(dam, **changed), "e": Animal("e", sire="c")}
+        all_animals |= {"d": dataclasses.replace(dam, **changed), "e": SheetAnimal("e", sire="c")}
         assert is_possible() is (at < 2), changed
-    all_animals |= {"d": dataclasses.replace(dam, sex=""), "e": Animal("e", sire="d")}
+    all_animals |= {"d": dataclasses.replace(dam, sex=""), "e": SheetAnimal("e", sire="d")}
     assert not is_possible()
-    all_animals |= {"d": dataclasses.replace(dam, left=date(2003, 12, 31)), "e": Animal("e")}
+    all_animals |= {"d": dataclasses.replace(dam, left=date(2003, 12, 31)), "e": SheetAnimal("e")}
     calf.embryo = True
     assert is_possible()
 
 
 def test_parents_that_make_a_path_too_long() -> None:
     """All that are tried again are taken back, but for those of animals that are dropped."""
-    calf = Animal("c", sire="s", dam="d")
+    calf = SheetAnimal("c", sire="s", dam="d")
     next_book = cast(NextBook, SimpleNamespace(animals={"c": calf}, tried={("c", Role.DAM), ("gone", Role.SIRE)}))
     assert take_back(next_book) and (calf.sire, calf.dam) == ("s", "") and not take_back(next_book)

@@ -34,7 +34,7 @@ def test_titles_of_programs(desk: Desk, titles: str) -> None:
         sire, dam = (unknown if parent == "0" else parent for parent in (sire, dam))
         male = id in "ac"
         lines.append(row.format(id, sire, dam, "M" if male else "F", 1990 + at, "1" if male else "2"))
-    done = desk.good("take", "--pedigree", desk.write("pedigree.txt", "\n".join(lines) + "\n"))
+    done = desk.good("import", "--pedigree", desk.write("pedigree.txt", "\n".join(lines) + "\n"))
     assert "columns: id from '" in done.out and " 5 new" in done.last and " 0 left out, 0 added" in done.last
     found = {row["id"]: (row["coefficient"], row["birth"]) for row in desk.listed("list")}
     assert {id: coefficient for id, (coefficient, _) in found.items()} == dict.fromkeys("abcd", "0") | {"e": "1/4"}
@@ -47,24 +47,24 @@ def test_titles_of_programs(desk: Desk, titles: str) -> None:
 def test_unknown_sexes_and_births(desk: Desk) -> None:
     """The codes and words that stand for them are nothing that can't be read."""
     rows = "a 0 0 1 1990\nb 0 0 2 NA\nc a b 3 .\nd a b 4 -9\ne a b 0 1995\nf a b 9 1995\ng a b unk 1995\n"
-    done = desk.good("take", "--pedigree", desk.write("codes.txt", f"id dadid momid sex born\n{rows}"))
+    done = desk.good("import", "--pedigree", desk.write("codes.txt", f"id dadid momid sex born\n{rows}"))
     assert ": 7 animals, 7 new, " in done.last and " 0 left out, 0 added" in done.last
 
 
 def test_titles_by_option(desk: Desk) -> None:
     text = "x1 x2 x3 x4\na 0 0 f\nb a 0 m\n"
     pedigree = desk.write("odd.txt", text)
-    desk.wrong("line 1: 'x1 x2 x3 x4' has 4 cells", "take", "--pedigree", pedigree)
-    done = desk.good("take", "--pedigree", pedigree, "--columns", "id=x1,dam=x2,sire=x3,sex=x4")
+    desk.wrong("line 1: 'x1 x2 x3 x4' has 4 cells", "import", "--pedigree", pedigree)
+    done = desk.good("import", "--pedigree", pedigree, "--columns", "id=x1,dam=x2,sire=x3,sex=x4")
     assert "columns: id from 'x1', sire from 'x3', dam from 'x2', sex from 'x4'" in done.out
     assert desk.parents() == {"a": ("", ""), "b": ("", "a")}
-    desk.wrong("there is no column 'y'", "take", "--pedigree", pedigree, "--columns", "id=x1,sire=y,dam=x2")
-    desk.wrong("--columns owner=: of a pedigree", "take", "--pedigree", pedigree, "--columns", "owner=x1")
+    desk.wrong("there is no column 'y'", "import", "--pedigree", pedigree, "--columns", "id=x1,sire=y,dam=x2")
+    desk.wrong("--columns owner=: of a pedigree", "import", "--pedigree", pedigree, "--columns", "owner=x1")
 
 
 def test_first_line_is_told(desk: Desk) -> None:
     """A first line without a known title is an animal."""
-    done = desk.good("take", "--pedigree", desk.write("plain.txt", "king 0 0\nqueen 0 0\nheir king queen\n"))
+    done = desk.good("import", "--pedigree", desk.write("plain.txt", "king 0 0\nqueen 0 0\nheir king queen\n"))
     done.tells("line 1: 'king 0 0' has none of the known titles, and is taken for an animal")
     assert " 3 animals, 3 new" in done.last
 
@@ -72,15 +72,15 @@ def test_first_line_is_told(desk: Desk) -> None:
 def test_ids_that_begin_as_comments(desk: Desk) -> None:
     """No line is lost without a word, and lists of ids have them."""
     told = "line 3: the parent '#1' of b has no line, since a line that begins with # is a comment"
-    desk.wrong(told, "take", "--pedigree", desk.write("lost.txt", "#1 a 0\na 0 0\nb #1 0\n"))
+    desk.wrong(told, "import", "--pedigree", desk.write("lost.txt", "#1 a 0\na 0 0\nb #1 0\n"))
     pedigree = desk.write("quoted.txt", '"#1" a 0\na 0 0\nb #1 0\n')
-    done = desk.good("take", "--pedigree", pedigree, "--keep", desk.write("ids.txt", "# comment\n#1\n#1\n"))
+    done = desk.good("import", "--pedigree", pedigree, "--keep", desk.write("ids.txt", "# comment\n#1\n#1\n"))
     assert "kept: 1 animal of " in done.out
     assert desk.parents() == {"#1": ("a", ""), "a": ("", "")}
 
 
 def test_standard_input(desk: Desk, program: str) -> None:
-    words = [str(TOP / "society/society"), "take", "--pedigree", "-"]
+    words = [str(TOP / "gudokeyi"), "import", "--pedigree", "-"]
     env = {**os.environ, "HERDBOOK": program}
     given = "a 0 0\nb a 0\n"
     done = subprocess.run(words, cwd=desk.room, env=env, input=given, capture_output=True, text=True, timeout=SECONDS)

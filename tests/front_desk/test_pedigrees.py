@@ -8,10 +8,10 @@ import scipy.io
 
 import reference
 from front_desk.desk import Desk
-from society.book.inferred import SexSource
-from society.reading.animal import Animal
-from society.taking.invented_sexes import invent_sexes
-from society.taking.report import Report
+from gudokeyi.domain.findings import Report
+from gudokeyi.domain.provenance import SexSource
+from gudokeyi.ingest.animals import SheetAnimal
+from gudokeyi.reconcile.sexes import invent_sexes
 
 MRODE = {
     "blanks": "1 0 0\n2 0 0\n3 1 2\n4 1 0\n5 4 3\n6 5 2\n",
@@ -29,7 +29,8 @@ OFF_THE_DIAGONAL = {
 @pytest.mark.parametrize("form", MRODE)
 def test_textbook(desk: Desk, form: str) -> None:
     """Mrode's six animals: F is 1/8 for two, and the inverse is as published."""
-    done = desk.good("take", "--pedigree", desk.write("mrode.txt", MRODE[form]))
+    founders = ["--anyway"] * (form == "any order")
+    done = desk.good("import", "--pedigree", desk.write("mrode.txt", MRODE[form]), *founders)
     assert "6 animals, " in done.last
     assert " 0 left out" in done.last
     assert "are invented" in done.out
@@ -83,7 +84,7 @@ def test_inverse_of_many(secretary_desk: Desk) -> None:
 
 def test_invented(desk: Desk) -> None:
     """A certificate says what a pedigree doesn't have."""
-    desk.good("take", "--pedigree", desk.write("one.txt", "x 0 0\n"))
+    desk.good("import", "--pedigree", desk.write("one.txt", "x 0 0\n"))
     desk.good("certificate", "x", "--out", "x.html")
     words = "".join(desk.page("x.html").itertext())
     assert words.count(" (invented)") == 2
@@ -93,7 +94,7 @@ def test_invented(desk: Desk) -> None:
 def test_invented_sexes_stay_invented(desk: Desk) -> None:
     """After a sheet that says nothing of an animal, or not its sex; as a parent of a row it has that of one."""
     pedigree = "id sire dam\nA1 0 0\nA2 0 0\nA3 A2 A1\nA4 A2 A1\nA5 0 A4\nA6 0 A3\n"
-    desk.good("take", "--pedigree", desk.write("p.txt", pedigree))
+    desk.good("import", "--pedigree", desk.write("p.txt", pedigree))
     done = desk.take("id,sex,birth,sire,dam\nA1,f,,,\nA3,,,A2,A1\n")
     done.tells("line 3: A3: inferred: sex female, since it is a dam")
     sexes = {"A1": "F", "A2": "M (inferred)", "A3": "F (invented)", "A4": "F (invented)", "A5": "F (invented)"}
@@ -106,7 +107,7 @@ def test_nothing_is_invented_over_what_the_book_was_given(desk: Desk) -> None:
     desk.take("id,sex,birth,sire,dam,owner\na,f,2001-01-01,,,Nord\nb,m,2001-02-01,,,Nord\nc,m,,,,Nord\n")
     desk.good("birth", "e", "--sex", "m", "--day", "2012-05-05", "--sire", "b", "--dam", "a", "--owner", "Nord")
     before = desk.listed("list", "--columns", "id,sex,birth")
-    done = desk.good("take", "--pedigree", desk.write("p.txt", "a x y\nb x z\n"))
+    done = desk.good("import", "--pedigree", desk.write("p.txt", "a x y\nb x z\n"), "--anyway")
     done.shows("p.txt: the sexes of 3 animals are invented so that parents are older than their offspring")
     assert "book: 7 animals, 0 new, 2 changed, 3 invented, 4 inferred, 0 left out, " in done.last
     listed = desk.listed("list", "--columns", "id,sex,birth")
@@ -114,7 +115,7 @@ def test_nothing_is_invented_over_what_the_book_was_given(desk: Desk) -> None:
     sexes = {row["id"]: row["sex"] for row in listed if row["id"] in "xyz"}
     assert sexes == {"x": "M (invented)", "y": "F (invented)", "z": "F (invented)"}
     # a parent of the other sex is refused, and a sex is sought that fits those that are given
-    both = "take", "--pedigree", desk.write("both.txt", "u a 0\nv b w\nt w s\n")
+    both = "import", "--pedigree", desk.write("both.txt", "u a 0\nv b w\nt w s\n")
     done = desk.good(*both, "--leave-out")
     done.tells(
         "line 1: u: its sire a is left out: it isn't male (refusal 5)",
@@ -128,7 +129,7 @@ def test_animals_of_the_book_that_are_others(desk: Desk) -> None:
     parent that is a name there: a pedigree isn't taken, unless that is wished."""
     rows = "".join(f"c{at};Cleo {at};f;2012-01-{at + 10};b;a\n" for at in range(9))
     desk.take("id;name;sex;birth;sire;dam\n12;Berta;f;2015-01-01;;\na;Anna;f;2010-01-01;;\nb;Bob;m;2009-01-01;;\n" + rows)
-    titles, take = "id sire dam sex birth\n", ("take", "--pedigree", "p.txt")
+    titles, take = "id sire dam sex birth\n", ("import", "--pedigree", "p.txt")
     desk.write("p.txt", titles + "12 0 0 M 1990-01-01\na 12 0 F 2010-01-01\n")
     done = desk.wrong("1 line has an id that the book has for another animal", *take, "--leave-out")
     assert "12: the line is left out: the book has this id for another animal ('Berta', born 2015-01-01" in done.err
@@ -157,7 +158,7 @@ def with_sexes(known: dict[str, str], *lines: str) -> tuple[str, list[tuple[str,
     """The sexes of all animals of such a pedigree, where the book has some of them, and the parents in each line."""
     triples = [line.split() for line in lines]
     ids = sorted({id for triple in triples for id in triple if id != "0"})
-    animals = {id: Animal(id, sex=known.get(id, "")) for id in ids}
+    animals = {id: SheetAnimal(id, sex=known.get(id, "")) for id in ids}
     for at, (id, sire, dam) in enumerate(triples, 1):
         animals[id].line, animals[id].sire, animals[id].dam = at, sire.strip("0"), dam.strip("0")
     invent_sexes(animals, Report())
@@ -180,7 +181,7 @@ def test_sexes_that_the_book_has() -> None:
 
 
 def test_sires_that_are_dams(desk: Desk) -> None:
-    done = desk.good("take", "--pedigree", desk.write("both.txt", BOTH), "--leave-out")
+    done = desk.good("import", "--pedigree", desk.write("both.txt", BOTH), "--leave-out")
     assert " 0 left out" in done.last
     found = {row["id"]: row["coefficient"] for row in desk.listed("list")}
     assert found == {"a": "0", "b": "0", "c": "0", "d": "1/4", "e": "3/8", "f": "0"}
@@ -198,7 +199,7 @@ def test_sires_that_are_dams(desk: Desk) -> None:
 def test_odd_pedigree(desk: Desk) -> None:
     """Cycles, one parent twice, and couples that no choice of sexes fits."""
     done = desk.good(
-        "take", "--pedigree", desk.write("odd.txt", "a b 0\nb a 0\nc a a\nd a b\ne b c\nf c a\n"), "--leave-out"
+        "import", "--pedigree", desk.write("odd.txt", "a b 0\nb a 0\nc a a\nd a b\ne b c\nf c a\n"), "--leave-out"
     )
     done.tells(
         "line 3: c: its dam a is left out: a is its sire too, and no animal has one parent twice",
@@ -211,10 +212,10 @@ def test_odd_pedigree(desk: Desk) -> None:
 
 def test_pedigree_that_grows_and_shrinks(desk: Desk) -> None:
     both = desk.write("both.txt", BOTH)
-    desk.good("take", "--pedigree", both, "--leave-out")
+    desk.good("import", "--pedigree", both, "--leave-out")
     grown = desk.write("more.txt", "g f e\na 0 0\nb 0 0\nc a b\nd c a\ne d c\nf 0 d\n")
-    assert ", 1 new, " in desk.good("take", "--pedigree", grown, "--leave-out").last
-    done = desk.good("take", "--pedigree", both, "--leave-out", "--drop-gone")
+    assert ", 1 new, " in desk.good("import", "--pedigree", grown, "--leave-out").last
+    done = desk.good("import", "--pedigree", both, "--leave-out", "--drop-gone")
     assert "book: 6 animals, 0 new, " in done.last
     assert ", 1 gone: " in done.last
     took = [line.partition(": took ")[2].partition(" (")[0] for line in desk.good("history").out.splitlines()]
@@ -229,10 +230,10 @@ def test_pedigree_that_grows_and_shrinks(desk: Desk) -> None:
     ("id,sire\na,b\n", "line 1: no title for the dam is found. The titles are 'id', 'sire'"),
 ])  # fmt: skip
 def test_no_pedigree(desk: Desk, text: str, told: str) -> None:
-    desk.wrong(told, "take", "--pedigree", desk.write("wrong.txt", text))
+    desk.wrong(told, "import", "--pedigree", desk.write("wrong.txt", text))
 
 
 def test_words_for_no_pedigree(desk: Desk) -> None:
-    desk.wrong("can't be read: No such file or directory", "take", "--pedigree", "absent.txt")
+    desk.wrong("can't be read: No such file or directory", "import", "--pedigree", "absent.txt")
     both = desk.write("both.txt", BOTH)
-    desk.wrong("name a sheet, or a pedigree", "take", both, "--pedigree", both)
+    desk.wrong("name a sheet, or a pedigree", "import", both, "--pedigree", both)

@@ -14,9 +14,9 @@ def test_exit_that_is_refused(desk: Desk) -> None:
         "the animal counts as gone"
     )
     for cell in "2003-01-01", "sold 01.01.2003":
-        desk.wrong("1 left out (1 cell): with --strict nothing is taken", "take",
+        desk.wrong("1 left out (1 cell): with --strict nothing is taken", "import",
                    desk.write("strict.csv", TITLES + rows.format(cell)), "--strict", "--book", cell)  # fmt: skip
-        done = desk.good("take", desk.write("sheet.csv", TITLES + rows.format(cell)), "--book", f"book of {cell}")
+        done = desk.good("import", desk.write("sheet.csv", TITLES + rows.format(cell)), "--book", f"book of {cell}")
         done.tells(told)
         assert "4 animals, 4 new, " in done.last
 
@@ -82,15 +82,15 @@ def test_preview(desk: Desk) -> None:
     """It tells what would change, by kind, and what may be wrong, and writes nothing."""
     sheet = desk.write("sheet.csv", TITLES + PARENTS)
     before = desk.files()
-    assert "a preview, nothing is written: book: 2 animals, 2 new" in desk.good("take", sheet, "--preview").last
+    assert "a preview, nothing is written: book: 2 animals, 2 new" in desk.good("import", sheet, "--preview").last
     assert desk.files() == before
-    desk.good("take", sheet)
+    desk.good("import", sheet)
     history = desk.good("history").out
     changed = desk.write(
         "sheet.csv", TITLES + PARENTS.replace("d;F;2001-03-02", "d;F;2002-03-02") + "c;F;2002-05-01;s;d;;\n"
     )
     commands = desk.commands()
-    done = desk.good("take", changed, "--preview")
+    done = desk.good("import", changed, "--preview")
     done.tells(
         "line 4: c: to look at: its dam d (line 3) was 60 days old at its birth, less than 180",
         "line 3: d: changed: birth day: 2002-03-02, before 2001-03-02",
@@ -103,7 +103,7 @@ def test_preview_of_another_flock(desk: Desk) -> None:
     rows = "".join(f"a{at};F;2001-01-01;;;;\n" for at in range(20))
     desk.take(TITLES + rows)
     other = rows.replace("a", "b").replace("2001", "2002")
-    done = desk.good("take", desk.write("other.csv", TITLES + other), "--preview")
+    done = desk.good("import", desk.write("other.csv", TITLES + other), "--preview")
     assert "it looks like the sheet of another flock" in done.out
     done.shows("nothing is taken", "  if it is right all the same:")
     assert "a preview, nothing is written: book: 40 animals, 20 new, " in done.last

@@ -6,7 +6,7 @@ import re
 import xml.etree.ElementTree as xml
 
 from front_desk.desk import Desk
-from society.pages.common import letters, letters_named
+from gudokeyi.render.pedigree_boxes import letters, letters_named
 
 XHTML = "{http://www.w3.org/1999/xhtml}"
 

@@ -17,7 +17,7 @@ def test_export(society_desk: Desk) -> None:
     society_desk.good("export", "--out", "all.csv")
     society_desk.good("export", "--triples", "--out", "all.txt")
     for words in ["all.csv"], ["--pedigree", "all.txt"]:
-        society_desk.good("take", *words, "--book", words[-1][4:])
+        society_desk.good("import", *words, "--book", words[-1][4:])
         again = society_desk.listed("list", "--book", words[-1][4:])
         assert {(row["id"], row["coefficient"]) for row in again} == {(row["id"], row["coefficient"]) for row in rows}
     again = society_desk.listed("export", "--book", "csv")
@@ -47,8 +47,8 @@ def test_export_of_what_is_inferred(desk: Desk) -> None:
         "A": ("F", ""), "B": ("male castrated", ""), "C": ("M", ""), "D": ("", "F"), "E": ("", "F"), "F": ("", "F"),
         "G": ("", "M"),
     }  # fmt: skip
-    assert desk.good("take", "all.csv").last.startswith("book: 7 animals, 0 new, 0 changed")
-    desk.good("take", "all.csv", "--book", "new")
+    assert desk.good("import", "all.csv").last.startswith("book: 7 animals, 0 new, 0 changed")
+    desk.good("import", "all.csv", "--book", "new")
     # so are sexes, but for that of a sire that is taken without its offspring
     bases = [[row["sex_from"] for row in desk.listed("export", "--book", book)] for book in ("book", "new")]
     assert bases[0] == bases[1] and {*bases[0]} > {"since it is a sire", "since it is a dam", "since nothing else is known"}
@@ -61,12 +61,12 @@ def test_export_of_what_is_inferred(desk: Desk) -> None:
 
 def test_export_of_ids_that_begin_as_formulas(desk: Desk) -> None:
     """No spreadsheet takes them for formulas, and they are read again as they are: from a sheet and from a pedigree."""
-    desk.take("id,name,sex,birth,sire,dam\n-5,O'Brien,m,2001-01-01,,\n+6,@,f,2001-01-01,,\n@7,-,f,2004-01-01,-5,+6\n")
+    desk.take("id,name,sex,birth,sire,dam\n-5a,O'Brien,m,2001-01-01,,\n+6,@,f,2001-01-01,,\n@7,-,f,2004-01-01,-5a,+6\n")
     desk.good("export", "--out", "export.csv")
-    assert "'@7,-,f" not in desk.text("export.csv") and "'-5" in desk.text("export.csv")
-    assert " 0 new, 0 changed, " in desk.good("take", "export.csv").last
+    assert "'@7,-,f" not in desk.text("export.csv") and "'-5a" in desk.text("export.csv")
+    assert " 0 new, 0 changed, " in desk.good("import", "export.csv").last
     desk.good("list", "--columns", "id,sire,dam", "--out", "list.csv")
-    assert " 0 new, 0 changed, " in desk.good("take", "--pedigree", "list.csv").last
+    assert " 0 new, 0 changed, " in desk.good("import", "--pedigree", "list.csv").last
 
 
 def test_export_of_some(society_desk: Desk) -> None:

@@ -14,13 +14,12 @@ import pytest
 import reference
 from breed.drawn import drawn
 from front_desk.desk import Desk
-from society.answers.kinships import related
-from society.book.book import Book
-from society.book.known import Known
-from society.breed.pedigree import UNKNOWN
-from society.breed.relationships import relationships
-from society.herdbook import Herdbook
-from society.mistake import MOST_NAMED, Mistake
+from gudokeyi.domain.animals import SocietyRecord
+from gudokeyi.domain.messages import MOST_NAMED, Mistake
+from gudokeyi.engine.program import Herdbook
+from gudokeyi.genetics.pedigree import UNKNOWN
+from gudokeyi.services.relationships import related, relationships
+from gudokeyi.store.book import Book
 
 TITLES = ("id", "sex", "birth", ("sire", "dam"))
 SOME = ["GK-17/472c", "GK-02/119b", "GK-11/332b", "GK-98/005c", "GK-14/391c", "GK-18/487c", "IMP-7 (imported)"]
@@ -102,7 +101,7 @@ def test_kinship_mistakes(society_desk: Desk) -> None:
     society_desk.wrong("wrong.txt: the book has no animal 'nobody'", "kinship", "--among", "wrong.txt")
     society_desk.wrong("wrong.txt: the book has no animal 'GK-17/472x': is", "kinship", "--among", "wrong.txt")
     society_desk.wrong("kinship needs animals", "kinship")
-    for count, more in (MOST_NAMED, []), (MOST_NAMED + 1, ["society: and 1 more"]):
+    for count, more in (MOST_NAMED, []), (MOST_NAMED + 1, ["gudokeyi: and 1 more"]):
         society_desk.write("wrong.txt", "".join(f"nobody{at}\n" for at in range(count)))
         lines = society_desk.run("kinship", "--among", "wrong.txt").err.splitlines()
         assert all("wrong.txt: " in line for line in lines[:MOST_NAMED]) and lines[MOST_NAMED:] == more
@@ -135,13 +134,14 @@ def test_too_many_pairs() -> None:
     book, program = Book(pathlib.Path("none"), None), cast(Herdbook, None)
     with pytest.raises(Mistake, match="these are 2,000,001 pairs, and at most 2,000,000 are written"):
         relationships(book, program, ["one"] * 3, ["other"] * 666_667)
-    animals = cast(list[Known], [types.SimpleNamespace(number="one")] * 2_000)
+    animals = cast(list[SocietyRecord], [types.SimpleNamespace(number="one")] * 2_000)
     with pytest.raises(Mistake, match="these are 2,001,000 pairs"):
         related(book, program, animals, None)
 
 
 def test_refused_matings(desk: Desk) -> None:
-    """A calf with 61 steps behind it is refused by the program, and isn't in the table."""
+    """A calf with 61 steps behind it is refused by the program, and isn't in the table; where each sire that is named is
+    refused the status tells it."""
     lines = ["id,birth,sex,sire,dam", "A0,1930-01-01,m,,", "B,1930-01-01,f,,", "C,2001-01-01,m,,"]
     for at in range(1, 61):
         # sires and dams in turn
@@ -153,6 +153,12 @@ def test_refused_matings(desk: Desk) -> None:
     assert done.out == "dam,sire,coefficient,decimal,percent\nB,C,0,0,0.00\n"
     assert "longer than 60 steps (fault 5): A60 with C" in done.err
     assert desk.good("mating", "--dams", "dams.txt", "C", "--matrix").out == "percent,C\nA60,\nB,0.00\n"
+    for words in ["--dam", "A60", "C"], ["--dam", "B", "A60"], ["--dams", desk.write("dam.txt", "A60\n"), "C"]:
+        done = desk.run("mating", *words)
+        assert (done.status, done.out.count("\n")) == (3, 1) and "refused" in done.err, f"{words}: {done}"
+    # one that isn't refused is enough, and of all living ones none was asked for
+    desk.good("mating", "--dam", "B", "C", "A60")
+    desk.good("mating", "--dam", "A60")
 
 
 def test_who_may_be_mated(desk: Desk) -> None:
@@ -177,7 +183,7 @@ def test_who_may_be_mated(desk: Desk) -> None:
         desk.write("dams.txt", "dam\n")
         done = desk.good(*words.split())
         assert {row[sires] for row in csv.DictReader(io.StringIO(done.out))} == {"ram", "calf"}, words
-        assert all(f"society: {sentence}\n" in done.err for sentence in told), words
+        assert all(f"gudokeyi: {sentence}\n" in done.err for sentence in told), words
     assert [row["id"] for row in desk.listed("mating", "--dam", "dam", "wether", "added", "gone")] == [
         "added",
         "gone",
@@ -198,7 +204,7 @@ def test_dams_of_whom_none_is_named(desk: Desk) -> None:
         desk.write(f"{name}.txt", f"{name}\n")
     done = desk.good("mating", "--sires", "bull.txt")
     assert done.out == "dam,sire,coefficient,decimal,percent\ncow,bull,0,0,0.00\nother,bull,0,0,0.00\n"
-    assert done.err == "society: females without a row in the sheet: 1 (added) aren't listed: name one, if it lives\n"
+    assert done.err == "gudokeyi: females without a row in the sheet: 1 (added) aren't listed: name one, if it lives\n"
     done = desk.good("mating", "--dam", "other", "--sires", "bull.txt")
     assert (done.out, done.err) == ("dam,sire,coefficient,decimal,percent\nother,bull,0,0,0.00\n", "")
     desk.wrong("bull: no dam can be male: take these out of --dams", "mating", "--dams", "bull.txt")

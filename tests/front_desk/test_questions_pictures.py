@@ -1,12 +1,13 @@
 """Drawn pedigrees of many generations: each page can be printed, and no text leaves its box."""
 from __future__ import annotations
 
+import time
 import xml.etree.ElementTree as xml
 
 import pytest
 
 from front_desk.desk import Desk
-from society.pages.text_width import fitted, fitted_id, width_of
+from gudokeyi.render.drawing import fitted, fitted_id, in_two_lines, width_of
 
 SVG = "{http://www.w3.org/2000/svg}"
 # ids and names of goats of a long line of full sibs
@@ -71,6 +72,16 @@ def test_text_in_a_box(desk: Desk) -> None:
     ids = [next(box.iter(f"{SVG}text")).text or "" for box in boxes]
     assert {id[-2:] for id in ids} == {"5f", *(f"{at}{sex}" for at in range(5) for sex in "mf")}
     assert fitted_id("WWWW", 1, 10) == "…W" and fitted("WWWW", 1, 10) == "…" and fitted_id("ab", 90, 10) == "ab"
+
+
+def test_very_long_names() -> None:
+    """A name of millions of letters, as an earlier version took it, is cut at once, and to what fits."""
+    long = "x " * 2_500_000
+    begun = time.process_time()
+    lines = [fitted(long, 200, 10), fitted_id(long, 200, 10), *in_two_lines(long, 200, 10)]
+    assert time.process_time() - begun < 5
+    assert all(150 < width_of(line, 10) <= 200 for line in lines), lines
+    assert lines[0].endswith("x…") and lines[1].endswith("x ") and lines[3].endswith("…")
 
 
 def test_short_ids(desk: Desk) -> None:

@@ -115,5 +115,5 @@ def test_id_that_is_a_number(desk: Desk) -> None:
     desk.take("id,birth,sire,dam\nHOLGBRF000000000002,2001,,\nb,2002,,\n")
     done = desk.good("show", "HOLGBRF000000000002")
     told = "'HOLGBRF000000000002' is taken for the animal with this id; another has this number: b"
-    assert done.err == f"society: {told}\n" and "2001-07-02" in done.out
+    assert done.err == f"gudokeyi: {told}\n" and "2001-07-02" in done.out
     assert not desk.good("show", "HOLGBRF000000000001").err

@@ -19,7 +19,7 @@ SOLUTIONS = {
 
 def test_recipes_by_scipy(desk: Desk) -> None:
     """Breeding values of the textbook's calves, and kinships, from the inverse."""
-    desk.good("take", "--pedigree", str(TOP / "examples/growth.txt"))
+    desk.good("import", "--pedigree", str(TOP / "examples/growth.txt"))
     desk.good("inverse", "--matrix-market", "inverse.mtx")
     found = recipe(desk, "blup_scipy.py", "inverse.mtx", str(TOP / "examples/growth.csv"), "2")
     assert {name: float(value) for name, value in found} == pytest.approx(SOLUTIONS, abs=0.00101)
@@ -68,7 +68,7 @@ def test_triples_are_read_again(desk: Desk) -> None:
     lines = [f"{id},{'mf'[at % 2]},200{at}-01-01,{pair or ','}" for at, (id, pair) in enumerate(zip(escaped, pairs))]
     desk.take("\n".join(["id,sex,birth,sire,dam", *lines]) + "\n")
     desk.good("export", "--triples", "--out", "all.txt")
-    desk.good("take", "--pedigree", "all.txt", "--book", "again")
+    desk.good("import", "--pedigree", "all.txt", "--book", "again")
     coefficients = {row["id"]: row["decimal"] for row in desk.listed("list")}
     assert list(coefficients) == ODD_IDS
     assert {row["id"]: row["decimal"] for row in desk.listed("list", "--book", "again")} == coefficients

@@ -12,12 +12,12 @@ import pytest
 from front_desk.desk import Desk
 from front_desk.test_history import CALF
 from front_desk.whole import GROWN
-from society.book import backup
-from society.book.book import Book
-from society.book.book_read import reading
-from society.book.last_backup import NAME, LastBackup, last_backup, remember
-from society.herdbook import Herdbook
-from society.mistake import Mistake
+from gudokeyi.domain.messages import Mistake
+from gudokeyi.engine.program import Herdbook
+from gudokeyi.store import backup
+from gudokeyi.store.book import Book
+from gudokeyi.store.exports import LAST_BACKUP, LastBackup, last_backup, remember
+from gudokeyi.store.transactions import reading
 
 
 def changed(desk: Desk, name: str, *statements: str) -> None:
@@ -102,10 +102,10 @@ def test_last_backup(flock_desk: Desk) -> None:
             b"time,change\n2001-02-03,x\n", b"time,change\n\xff,1\n", b"time,change\n2001-02-03,2\n",
             b"time,change,moment\n2001-02-03,1,5\n",
         ):  # fmt: skip
-            (folder / NAME).write_bytes(text)
+            (folder / LAST_BACKUP).write_bytes(text)
             assert last_backup(book) is None, text
         # as the version before kept it
-        (folder / NAME).write_bytes(b"time,change\n2001-02-03,1\n")
+        (folder / LAST_BACKUP).write_bytes(b"time,change\n2001-02-03,1\n")
         assert last_backup(book) == LastBackup(datetime.datetime(2001, 2, 3), 1)
 
 

@@ -46,7 +46,7 @@ def test_without_rights(flock_desk: Desk, open_room: pathlib.Path, is_unsettled:
         assert done.out == (listed.replace("a0,,", "a0,unsettled,") if is_unsettled else listed)
         assert "is whole" in run(desk, "verify", before=nobody).out
         desk.write("grown.csv", GROWN)
-        for words in ["take", "grown.csv"], ["undo"], ["exit", "a0", "--day", "2012-01-01"]:
+        for words in ["import", "grown.csv"], ["undo"], ["exit", "a0", "--day", "2012-01-01"]:
             done = run(desk, *words, before=nobody)
             assert done.status == 1 and "book/book.sqlite can't be written" in done.err and not done.out, f"{done}"
     assert changes_of(desk.room / "book") == 1
@@ -58,7 +58,7 @@ def test_only_to_be_read(flock_desk: Desk, open_room: pathlib.Path) -> None:
     desk = flock_desk.copy_to(open_room)
     (desk.room / "book").chmod(0o777)
     before = set(desk.files())
-    for words in ["list"], ["verify"], ["undo"], ["take", "sheet.csv"]:
+    for words in ["list"], ["verify"], ["undo"], ["import", "sheet.csv"]:
         done = run(desk, *words, before=functools.partial(os.setuid, NOBODY))
-        assert done.status == (words[0] in ("undo", "take")), f"{done}"
+        assert done.status == (words[0] in ("undo", "import")), f"{done}"
         assert set(desk.files()) == before, f"{words}"

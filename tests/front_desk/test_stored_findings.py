@@ -10,11 +10,11 @@ from typing import Any
 
 import pytest
 
-from society.book.changes import Told
-from society.reading.cell_findings import LikeASum
-from society.taking.report import KINDS, Entry, Finding
-from society.taking.row_findings import IdUsedAgain
-from society.taking.stored_findings import entry_of, modules_of_findings, told_of
+from gudokeyi.domain.changes import StoredFinding
+from gudokeyi.domain.findings import KINDS, Entry, Finding
+from gudokeyi.ingest.findings.cells import LikeASum
+from gudokeyi.reconcile.findings.rows import IdUsedAgain
+from gudokeyi.reconcile.stored_findings import entry_of, modules_of_findings, told_of
 
 for module in modules_of_findings():
     importlib.import_module(module)
@@ -61,5 +61,5 @@ def test_more_than_ten_keep_their_order() -> None:
 
 def test_finding_of_an_earlier_version() -> None:
     """A text that a finding has got since is empty where an earlier version stored it."""
-    assert entry_of(Told("like a sum", "", 3, "Summe", ())) == Entry(3, "Summe", LikeASum(""))
+    assert entry_of(StoredFinding("like a sum", "", 3, "Summe", ())) == Entry(3, "Summe", LikeASum(""))
     assert LikeASum("").suggestions() == ()

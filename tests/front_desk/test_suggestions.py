@@ -61,8 +61,8 @@ ASKED: dict[str, tuple[str, str, tuple[str, ...], int]] = {
 def asked(desk: Desk, name: str) -> Done:
     before, now, words, _ = ASKED[name]
     if before:
-        desk.good("take", desk.write(NAME, before), *BOOK)
-    return desk.run("take", desk.write(NAME, now), *BOOK, *words)
+        desk.good("import", desk.write(NAME, before), *BOOK)
+    return desk.run("import", desk.write(NAME, now), *BOOK, *words)
 
 
 @pytest.mark.parametrize("name", ASKED)
@@ -79,7 +79,10 @@ def test_suggested_commands(desk: Desk, tmp_path: pathlib.Path, name: str) -> No
 def test_suggestions_of_a_pedigree(desk: Desk) -> None:
     """Sires that are dams, and a word that may mean an unknown parent: each command ends one of them."""
     desk.write("linie 1.txt", "a x x\nb x 0\nc 0 b\nd b a\n")
-    done = desk.run("take", "--pedigree", "linie 1.txt", *BOOK)
+    done = desk.run("import", "--pedigree", "linie 1.txt", *BOOK)
+    unknown, known = done.commands()
+    assert done.status == 1 and unknown.endswith(" --unknown x") and known.endswith(" --known x")
+    done = desk.run("import", "--pedigree", "linie 1.txt", *BOOK, "--known", "x")
     assert done.status == 1
     leave_out, unknown = done.commands()
     assert " 1 left out (1 parent)" in desk.typed(leave_out).last
@@ -90,15 +93,17 @@ def test_suggestions_of_a_pedigree(desk: Desk) -> None:
 def test_suggestions_for_titles_of_a_pedigree(desk: Desk) -> None:
     """The columns that are left, in their order, and a title that is nearly the one that is named."""
     desk.write("linie 1.txt", "ANIMAL PARENT1 PARENT2\na 0 0\nb 0 0\nc a b\n")
-    done = desk.run("take", "--pedigree", "linie 1.txt", *BOOK)
-    assert "society:   if 'PARENT1' has the sires and 'PARENT2' has the dams:" in done.err
+    done = desk.run("import", "--pedigree", "linie 1.txt", *BOOK)
+    assert "gudokeyi:   if 'PARENT1' has the sires and 'PARENT2' has the dams:" in done.err
     assert desk.typed(done.commands()[0]).last.startswith("das Buch: 3 animals")
-    desk.wrong("no title for the sire and the dam", "take", "--pedigree", desk.write("kurz.txt", "ANIMAL PARENT1\na 0\n"))
-    assert not desk.run("take", "--pedigree", "kurz.txt").commands()
-    done = desk.run("take", "--pedigree", "linie 1.txt", "--columns", "sire=PARENT,dam=PARENT2", "--book", "other")
+    desk.wrong(
+        "no title for the sire and the dam", "import", "--pedigree", desk.write("kurz.txt", "ANIMAL PARENT1\na 0\n")
+    )
+    assert not desk.run("import", "--pedigree", "kurz.txt").commands()
+    done = desk.run("import", "--pedigree", "linie 1.txt", "--columns", "sire=PARENT,dam=PARENT2", "--book", "other")
     assert desk.typed(done.commands()[0]).last.startswith("other: 3 animals")
     desk.write(NAME, "id;birth;PARENT1;PARENT2\na;2001;;\nb;2001;;\nc;2004;a;b\n")
-    done = desk.run("take", NAME, "--columns", "sire=PARENT,dam=PARENT2")
+    done = desk.run("import", NAME, "--columns", "sire=PARENT,dam=PARENT2")
     assert " 0 left out, 0 added" in desk.typed(done.commands()[0]).last
 
 

@@ -8,14 +8,13 @@ from typing import cast
 import pytest
 
 from front_desk.desk import Desk
-from society.book.book import Book
-from society.book.book_read import reading
-from society.book.kinds import Remembered
-from society.book.search import find
-from society.book.state import Meaning
-from society.mistake import Mistake
-from society.taking.remembering import remember, rename_owners
-from society.taking.wishes import Wishes
+from gudokeyi.domain.kinds import Remembered
+from gudokeyi.domain.messages import Mistake
+from gudokeyi.reconcile.import_options import ImportOptions, remember, rename_owners
+from gudokeyi.services.search import find
+from gudokeyi.store.book import Book
+from gudokeyi.store.state import Meaning
+from gudokeyi.store.transactions import reading
 
 
 def test_remembered(desk: Desk) -> None:
@@ -33,7 +32,7 @@ def test_remembered(desk: Desk) -> None:
     done = desk.take(sheet.replace(";S;", ";sex;"), "--sexes", "Schf=m,Bk=f")
     assert desk.numbers()["1"][6] == "F"
     assert "--columns id=Tag,sex=S, --unknown fremd" in done.out
-    desk.wrong("there is no column 'X', which --columns names for id", "take", "sheet.csv", "--columns", "id=X")
+    desk.wrong("there is no column 'X', which --columns names for id", "import", "sheet.csv", "--columns", "id=X")
 
 
 def test_parent_by_hand_that_is_left_out(desk: Desk) -> None:
@@ -70,7 +69,7 @@ def test_many_lines(desk: Desk) -> None:
     shown = "id;name;sex;born;sire;dam\n1;Max;M;2001-01-01;;\n2;Max;M;2001-01-01;;\n3;;F;2005-01-01;Max;\n"
     desk.take(shown + "4;Eva;F;2001-01-01;;\n5;EVA;F;2001-01-01;;\n", "--book", "names")
     done = desk.good("certificate", "Max", "--book", "names")
-    assert done.err == "society: 'Max' is taken for the animal with this id; others have this name: 1, 2\n"
+    assert done.err == "gudokeyi: 'Max' is taken for the animal with this id; others have this name: 1, 2\n"
     # as it is written where it is so
     with reading(desk.room / "names") as connection:
         book = Book(desk.room / "names", connection)
@@ -84,9 +83,9 @@ def test_words_are_known_or_unknown_as_is_said_last(tmp_path: pathlib.Path) -> N
     unknown, known, owner = Remembered.UNKNOWN, Remembered.KNOWN, Meaning(Remembered.OWNER, "Meier", "Meyer")
     before = [Meaning(unknown, "fremd,X"), Meaning(unknown, "?"), Meaning(known, "Y"), owner]
     book = cast(Book, SimpleNamespace(remembered=before))
-    words = remember(book, Wishes(tmp_path, known=["x"], unknown=["Y"]))
+    words = remember(book, ImportOptions(tmp_path, known=["x"], unknown=["Y"]))
     assert (words[unknown], words[known]) == (["fremd", "?", "Y"], ["x"]) and owner in book.remembered
-    words = remember(book, Wishes(tmp_path, unknown=["fremd"]))
+    words = remember(book, ImportOptions(tmp_path, unknown=["fremd"]))
     assert (words[unknown], words[known]) == (["?", "Y", "fremd"], ["x"]) and owner in book.remembered
 
 
@@ -97,6 +96,6 @@ def test_owners_are_written_otherwise_from_now_on(tmp_path: pathlib.Path) -> Non
         owners={"Meyer": 1, "Maier": 2}, owners_came=lambda: {"Meier": 1, "Maier": 2}, steps=[], renamed=[],
         remembered=[Meaning(owner, "Meier", "Meyer"), word],
     )  # fmt: skip
-    rename_owners(cast(Book, book), Wishes(tmp_path, owners=["Meyer  = Maier"]))
+    rename_owners(cast(Book, book), ImportOptions(tmp_path, owners=["Meyer  = Maier"]))
     assert book.owners == {"Maier": 1, "Maier (herd 2)": 2} and book.renamed == [("Meyer", "Maier")]
     assert book.remembered == [word, Meaning(owner, "Maier", "Maier (herd 2)"), Meaning(owner, "Meier", "Maier")]

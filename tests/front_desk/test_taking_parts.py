@@ -6,31 +6,28 @@ import datetime
 from types import SimpleNamespace
 from typing import Any, cast
 
-from society.book.book import Book
-from society.book.commands import birth, record_after
-from society.book.inferred import BirthBasis, BirthSource, ExitBasis, ExitSource, OwnerDay, SexSource
-from society.book.kinds import ChangeKind, CommandKind, Field, Standing
-from society.book.known import Known
-from society.book.role import Role
-from society.book.state import CELL_FIELDS
-from society.herdbook import Herdbook
-from society.reading.animal import Animal
-from society.reading.day_cells import DayCells
-from society.reading.days import year_of
-from society.reading.unknown import UnknownParents
-from society.refusals import Refusal
-from society.taking.animal_findings import CommandRefused, KeptByHand, SexInferred, ValueChanged
-from society.taking.found_sexes import find_sexes
-from society.taking.kept_values import keep_values
-from society.taking.known_after import known_after, written_parents
-from society.taking.next_book import NextBook
-from society.taking.numbers import give_numbers
-from society.taking.owner_days import OwnerDays
-from society.taking.owner_findings import OwnerRenamed
-from society.taking.report import Report, What
-from society.taking.row_findings import CommandLeftOut
-from society.taking.saving import cell_rows
-from society.taking.sheet_commands import Filing, is_corrected
+from gudokeyi.domain.animals import SocietyRecord
+from gudokeyi.domain.commands import birth, record_after
+from gudokeyi.domain.findings import Report, What
+from gudokeyi.domain.kinds import ChangeKind, CommandKind, Field, Role, Standing
+from gudokeyi.domain.provenance import BirthBasis, BirthSource, ExitBasis, ExitSource, OwnerDay, SexSource
+from gudokeyi.domain.refusals import Refusal
+from gudokeyi.engine.program import Herdbook
+from gudokeyi.ingest.animals import SheetAnimal
+from gudokeyi.ingest.day_cells import DayCells
+from gudokeyi.ingest.days import year_of
+from gudokeyi.ingest.unknown_parents import UnknownParents
+from gudokeyi.reconcile.commands import Filing, is_corrected
+from gudokeyi.reconcile.findings.animals import CommandRefused, KeptByHand, OwnerRenamed, SexInferred, ValueChanged
+from gudokeyi.reconcile.findings.rows import CommandLeftOut
+from gudokeyi.reconcile.ids import give_numbers
+from gudokeyi.reconcile.kept_values import keep_values
+from gudokeyi.reconcile.next_book import NextBook, known_after, written_parents
+from gudokeyi.reconcile.owner_days import OwnerDays
+from gudokeyi.reconcile.sexes import find_sexes
+from gudokeyi.services.saving import cell_rows
+from gudokeyi.store.book import Book
+from gudokeyi.store.state import CELL_FIELDS
 
 NUMBER, BORN = "HOLGBRF000000000001", datetime.date(2001, 1, 2)
 DAYS = DayCells(UnknownParents(), month_first=False)
@@ -38,7 +35,7 @@ DAYS = DayCells(UnknownParents(), month_first=False)
 
 def numbered(book: Book, *born: tuple[str, int], breed: str = "", country: str = "") -> dict[str, str]:
     """The numbers of animals, each with its id and its birth year, beside a book."""
-    animals = {id: Animal(id, 2, sex="M", born=datetime.date(year, 1, 2)) for id, year in born}
+    animals = {id: SheetAnimal(id, 2, sex="M", born=datetime.date(year, 1, 2)) for id, year in born}
     give_numbers(cast(NextBook, SimpleNamespace(book=book, animals=animals)), breed, country)
     return {id: animal.number for id, animal in animals.items()}
 
@@ -46,9 +43,9 @@ def numbered(book: Book, *born: tuple[str, int], breed: str = "", country: str =
 def test_numbers_of_a_taking() -> None:
     """Whoever was in the book has the digits that it had, with its sex of today; others follow by birth day and id,
     with the breed and the country of the book, though nobody is in it any more."""
-    known, dropped = Known("SKUDEUF000000000004", "known"), Known("SKUDEUM000000000002", "dropped")
+    known, dropped = SocietyRecord("SKUDEUF000000000004", "known"), SocietyRecord("SKUDEUM000000000002", "dropped")
 
-    def book(former: dict[str, str], *known: Known, dropped: tuple[Known, ...] = ()) -> Book:
+    def book(former: dict[str, str], *known: SocietyRecord, dropped: tuple[SocietyRecord, ...] = ()) -> Book:
         parts = ({one.id: one for one in some} for some in (known, dropped))
         first = next(iter([*(one.number for one in known), *former.values()]), "")
         found = dict(zip(("known", "dropped"), parts), former_numbers=lambda: former, greatest_digits=lambda: 7)
@@ -67,7 +64,9 @@ def test_numbers_of_a_taking() -> None:
     }  # fmt: skip
 
 
-def next_book(animal: Animal | None, known: Known | None, *given: str, is_pedigree: bool = False) -> NextBook:
+def next_book(
+    animal: SheetAnimal | None, known: SocietyRecord | None, *given: str, is_pedigree: bool = False
+) -> NextBook:
     """Of one animal, without parents in the book, and the columns that a sheet gives."""
     records = {NUMBER: record_after(None, birth(NUMBER, BORN, "", "", 1, False))}
     before = {known.id: known} if known else {}
@@ -78,17 +77,19 @@ def next_book(animal: Animal | None, known: Known | None, *given: str, is_pedigr
 def test_texts_of_parents_after_a_taking() -> None:
     """The book's stay where no row gives the parent, and where that is still the same; a row's own is kept where the
     parent is left out or another, but for parents of a pedigree that are swapped."""
-    both, known = ("sire", "dam"), Known(NUMBER, "a", written_sire="Bob", written_dam="Eva")
+    both, known = ("sire", "dam"), SocietyRecord(NUMBER, "a", written_sire="Bob", written_dam="Eva")
 
-    def texts(animal: Animal, *given: str, written: tuple[str, str] = ("", ""), is_pedigree: bool = False) -> object:
+    def texts(
+        animal: SheetAnimal, *given: str, written: tuple[str, str] = ("", ""), is_pedigree: bool = False
+    ) -> object:
         one = next_book(animal, known, *given, is_pedigree=is_pedigree)
         one.texts = {"a": written}
         return written_parents(one).get("a")
 
-    assert texts(Animal("a"), *both) == texts(Animal("a", 2)) == ("Bob", "Eva")
-    assert texts(Animal("a", 2), "dam") == ("Bob", "") and texts(Animal("a", 2, sire="b")) == ("", "Eva")
-    assert texts(Animal("a", 2, sire="b"), *both, written=("b", "Ada")) == ("", "Ada")
-    swapped = Animal("a", 2, sire="b", dam="c")
+    assert texts(SheetAnimal("a"), *both) == texts(SheetAnimal("a", 2)) == ("Bob", "Eva")
+    assert texts(SheetAnimal("a", 2), "dam") == ("Bob", "") and texts(SheetAnimal("a", 2, sire="b")) == ("", "Eva")
+    assert texts(SheetAnimal("a", 2, sire="b"), *both, written=("b", "Ada")) == ("", "Ada")
+    swapped = SheetAnimal("a", 2, sire="b", dam="c")
     assert texts(swapped, *both, written=("c", "b")) == ("c", "b")
     assert texts(swapped, *both, written=("c", "b"), is_pedigree=True) is None
 
@@ -98,9 +99,13 @@ def test_what_an_animal_is_after_a_taking() -> None:
     one that was filed by hand. One that isn't taken over is dropped, and keeps what is known of it."""
     found: dict[Standing, list[Standing]] = {}
     for standing in Standing.ROW, Standing.GONE, Standing.PARENT, Standing.FILED:
-        known = Known(NUMBER, "a", "Anna", standing, by_hand=frozenset({Field.SIRE}), owner_day=OwnerDay.INFERRED)
+        known = SocietyRecord(
+            NUMBER, "a", "Anna", standing, by_hand=frozenset({Field.SIRE}), owner_day=OwnerDay.INFERRED
+        )
         row, none, left_out = (
-            next_book(Animal("a", line, number=NUMBER, owner_day=OwnerDay.GIVEN if line else OwnerDay.INFERRED), known)
+            next_book(
+                SheetAnimal("a", line, number=NUMBER, owner_day=OwnerDay.GIVEN if line else OwnerDay.INFERRED), known
+            )
             for line in (2, 0, 0)
         )
         left_out.used_again = {"a"}
@@ -112,12 +117,13 @@ def test_what_an_animal_is_after_a_taking() -> None:
         assert [one.owner_day for one in after] == [OwnerDay.INFERRED, OwnerDay.INFERRED, OwnerDay.GIVEN]
     without = dict(zip(found, (Standing.GONE, Standing.GONE, Standing.PARENT, Standing.FILED)))
     assert found == {standing: [one, standing, Standing.ROW] for standing, one in without.items()}
-    assert known_after(next_book(Animal("a"), None))["a"].standing is Standing.PARENT
+    assert known_after(next_book(SheetAnimal("a"), None))["a"].standing is Standing.PARENT
 
 
 def test_cells_after_a_pedigree() -> None:
     """A sheet's stay where the pedigree says the same, or has no such column."""
-    one = next_book(Animal("a", 2, cells={"sire": "", "dam": "e"}), Known(NUMBER, "e", "Eva"), "sire", "dam", is_pedigree=True)
+    cells = {"sire": "", "dam": "e"}
+    one = next_book(SheetAnimal("a", 2, cells=cells), SocietyRecord(NUMBER, "e", "Eva"), "sire", "dam", is_pedigree=True)
     before = dict(zip(CELL_FIELDS, ("Anna", "f", "2001", "?", "eva", "Nord", None, "sold", "")))
     for dam, after in (("eva", "eva"), ("Ada", "e")):
         one.book.cells = {("a",): ("a", *(before | {Field.DAM: dam}).values())}
@@ -132,17 +138,17 @@ def test_what_was_filed_by_hand() -> None:
     """It stays where its cell is as in the last sheet, and so does the day of its owner; another cell holds. Where a
     sheet lacks a column nothing of it is told, and it is by hand as before."""
     fields, period = frozenset({Field.NAME, Field.OWNER, Field.EXIT, Field.EMBRYO}), year_of(2005)
-    known = Known(NUMBER, "a", "Anna", by_hand=fields, exit=ExitBasis(ExitSource.PERIOD, period.period()))
+    known = SocietyRecord(NUMBER, "a", "Anna", by_hand=fields, exit=ExitBasis(ExitSource.PERIOD, period.period()))
     record = record_after(None, birth(NUMBER, BORN, "", "", 4, True))._replace(left=period.last)
     before = {Field.NAME: "Ann", Field.OWNER: "3", Field.SINCE: "2003", Field.EXIT: "", Field.EMBRYO: ""}
     now = {Field.NAME: "Ada", Field.OWNER: "7", Field.SINCE: "2004", Field.EXIT: "sold", Field.EMBRYO: "yes"}
 
-    def kept(*changed: Field, lacks: frozenset[Field] = frozenset()) -> tuple[Animal, set[Field], list[Field]]:
+    def kept(*changed: Field, lacks: frozenset[Field] = frozenset()) -> tuple[SheetAnimal, set[Field], list[Field]]:
         """The animal of a sheet after that, the fields that its cells override, and those of which it is told."""
         given = [one for one in before if one not in lacks]
         said = {one.value: (now if one in changed else before)[one] for one in given}
         name, owner, since = said.get(Field.NAME, ""), said.get(Field.OWNER, ""), year_of(int(said[Field.SINCE]))
-        one = next_book(Animal("a", 2, name, owner=owner, cells=said, since=since), known, *said)
+        one = next_book(SheetAnimal("a", 2, name, owner=owner, cells=said, since=since), known, *said)
         last = {("a",): ("a", *map(cast(Any, before).get, CELL_FIELDS))}
         vars(one.book).update(cells=last, records={NUMBER: record}, owner_of=str, respelt=str, connection=None)
         keep_values(one)
@@ -165,7 +171,7 @@ def test_what_was_filed_by_hand() -> None:
 def test_a_sex_that_is_inferred_tells_of_a_cell() -> None:
     """Where it can't be read, which is something else than none."""
     for unread, more in (0, ""), (1, ", and its cell can't be read"):
-        one = next_book(Animal("a", 2, unread=["sex"] * unread), None)
+        one = next_book(SheetAnimal("a", 2, unread=["sex"] * unread), None)
         one.roles = {"a": Role.DAM}
         find_sexes(one)
         assert [entry.finding for entry in one.report.entries] == [SexInferred("F", SexSource.DAM, bool(unread))]
@@ -190,8 +196,8 @@ def test_a_birth_day_that_changes_is_told_but_where_both_are_invented() -> None:
     record, later = record_after(None, birth(NUMBER, BORN, "", "", 4, False)), datetime.date(2002, 3, 4)
     invented, period = BirthBasis(BirthSource.INVENTED), BirthBasis(BirthSource.PERIOD, year_of(2002).period())
     for before, after in ((invented, invented), (invented, period), (period, invented)):
-        animal = Animal("a", 2, owner="4", born=later, number=NUMBER, birth_basis=after)
-        told = [one.name for one in filing().changes(animal, record, Known(NUMBER, "a", birth=before))]
+        animal = SheetAnimal("a", 2, owner="4", born=later, number=NUMBER, birth_basis=after)
+        told = [one.name for one in filing().changes(animal, record, SocietyRecord(NUMBER, "a", birth=before))]
         assert told == ([] if before is after else ["birth day"])
 
 
@@ -201,8 +207,8 @@ def test_what_no_command_corrects() -> None:
     record = record_after(None, birth(NUMBER, BORN, "", "", 4, False))
     left = record._replace(left=datetime.date(2005, 1, 2))
 
-    def animal(**more: Any) -> Animal:
-        return dataclasses.replace(Animal("a", 2, born=BORN, number=NUMBER), **more)
+    def animal(**more: Any) -> SheetAnimal:
+        return dataclasses.replace(SheetAnimal("a", 2, born=BORN, number=NUMBER), **more)
 
     assert not is_corrected(animal(), record) and not is_corrected(animal(left=left.left), record)
     assert not is_corrected(animal(left=left.left), left)

@@ -62,8 +62,8 @@ def test_obstacles_together(desk: Desk) -> None:
     """A title that is missing, a number that was cut, a column that can't be read and months that come first."""
     rows = "".join(f"a{at};q;03/25/2001;;sold\n" for at in range(3))
     sheet = desk.write("sheet.csv", f"id;sex;birth;sire;exit\n{rows}b;F;2004-01-01;2,76E+14;\n")
-    done = desk.wrong("line 1: no column for dam is found", "take", sheet)
-    told = done.err.partition("society: nothing is taken")[0].splitlines()
+    done = desk.wrong("line 1: no column for dam is found", "import", sheet)
+    told = done.err.partition("gudokeyi: nothing is taken")[0].splitlines()
     assert len(told) == 4
     assert any("line 2: a0: birth day: '03/25/2001' has the month first (3 such days)" in one for one in told)
     assert any("'2,76E+14' is a long number that the spreadsheet has cut" in one for one in told)

@@ -36,7 +36,9 @@ def random_rows(seed: int) -> Rows:
 def test_lost_link(desk: Desk) -> None:
     """Of a lost link the file's role is told, and of a swap what was taken and which lines ask for it."""
     done = desk.good(
-        "take", "--pedigree", desk.write("cycle.txt", "a 0 0\nb b a\nc a 0\nd a c\n"), "--book", "cycle", "--leave-out"
+        "import", "--pedigree", desk.write(
+            "cycle.txt", "a 0 0\nb b a\nc a 0\nd a c\n"
+        ), "--book", "cycle", "--leave-out"
     )
     done.tells(
         "line 2: b: its sire b is left out: b would be its own ancestor (b > b)",
@@ -54,7 +56,7 @@ def test_random_pedigrees(desk: Desk) -> None:
     for seed in range(40):
         rows = random_rows(seed)
         pedigree = desk.write("random.txt", text_of(rows))
-        done = desk.good("take", "--pedigree", pedigree, "--book", f"book{seed}", "--leave-out")
+        done = desk.good("import", "--pedigree", pedigree, "--book", f"book{seed}", "--leave-out")
         counts = as_told(desk, rows, done, f"book{seed}")
         swaps, lost, couples = swaps + counts[0], lost + counts[1], couples + counts[2]
     assert swaps > 9
@@ -111,7 +113,7 @@ def test_relationships(desk: Desk, x: str, y: str, relationship: float) -> None:
     `calf`."""
     rows = [line.split() for line in (TOP / "examples/mrode.txt").read_text().splitlines() if line[:1].isdigit()]
     more = desk.write("more.txt", text_of([*rows, ["u", x, "0"], ["calf", "u", y]]))
-    desk.good("take", "--pedigree", more, "--leave-out")
+    desk.good("import", "--pedigree", more, "--leave-out")
     found = {row["id"]: row["decimal"] for row in desk.listed("list")}
     assert 4 * float(found["calf"]) == relationship
 
@@ -132,20 +134,22 @@ def test_relationships(desk: Desk, x: str, y: str, relationship: float) -> None:
      "write all lines with the same"),
     ("a 0 0\nc, a, 0\n", "line 2: 'c, a, 0' has ','"), ("a 0 0\n;;\n", "line 2: ';;' has ';'"),
     ("a,0,0\nb a 0\n", "line 2: 'b a 0' has 1 cell: write an id, its sire"),
+    ("id,sire,dam\na,0,0\nid,sire,dam\nb,a,0\n", "line 3: 'id sire dam' is that of the titles again: leave it out"),
 ])  # fmt: skip
 def test_odd_cells(desk: Desk, text: str, told: str) -> None:
     """Other columns need titles, and what stands between cells is the same in all lines."""
-    desk.wrong(told, "take", "--pedigree", desk.write("wrong.txt", text))
+    desk.wrong(told, "import", "--pedigree", desk.write("wrong.txt", text))
 
 
 @pytest.mark.parametrize("text", [
     "no id sire dam\n1 a 0 0\n2 b 0 0\n3 c a b\n",
     '"Row","Animal","Dam","x","Sire"\n1,a,0,,0\n2,b,0,u,\n3,c,b,v,a,\n', "a,0,0,\nb,0,0,,\nc,a,b\n",
-    'a 0 0\n"b" 0 0\n"c" "a" "b"\n',
+    'a 0 0\n"b" 0 0\n"c" "a" "b"\n', 'id, x, sire, dam\n"a", "", "", ""\n"b" ,1, "" , ""\n"c",2, "a" , "b"\n',
+    'id;x;sire;dam\n="a";;="";=""\nb;;="";\n="c";;a;="b"\n',
 ])  # fmt: skip
 def test_cells(desk: Desk, text: str) -> None:
     """Columns are found by titles, blanks at the end and quotation marks are no cells, and what isn't read is told."""
-    done = desk.good("take", "--pedigree", desk.write("right.txt", text))
+    done = desk.good("import", "--pedigree", desk.write("right.txt", text))
     assert desk.parents() == {"a": ("", ""), "b": ("", ""), "c": ("a", "b")}
     columns = [line for line in done.out.splitlines() if line.startswith("columns: id from '")]
     assert len(columns) == (text[:2] not in ("a,", "a "))
@@ -153,14 +157,14 @@ def test_cells(desk: Desk, text: str) -> None:
 
 
 def test_blanks_in_ids(desk: Desk) -> None:
-    done = desk.good("take", "--pedigree", desk.write("blanks.txt", 'a 0 0\n"b b" 0 0\nc a "b b"\n'))
+    done = desk.good("import", "--pedigree", desk.write("blanks.txt", 'a 0 0\n"b b" 0 0\nc a "b b"\n'))
     assert "3 animals, 3 new" in done.last
     assert done.last.endswith(", 0 gone")
 
 
 def test_id_in_several_lines(desk: Desk) -> None:
     twice = desk.write("twice.txt", "a 0 0\nb 0 0\nc a b\nc a b\nc b 0\n")
-    done = desk.good("take", "--pedigree", twice, "--leave-out")
+    done = desk.good("import", "--pedigree", twice, "--leave-out")
     done.tells(
         "line 4: c: the line is left out: line 3 has this id too",
         (
@@ -175,29 +179,31 @@ def test_unknown_words(desk: Desk) -> None:
     """A parent without a row that is a sire and a dam of many may mean an unknown one; `--unknown` takes it."""
     pedigree = desk.write("nine.txt", "a -7 -7\nb -7 -7\nc a b\nd 07 b\n")
     advice = "-7 has no row, and is the sire of 2 and the dam of 2"
-    command = f"{CALLED} take --pedigree nine.txt --unknown=-7 --drop-gone"
-    done = desk.wrong("1 animal is both sire and dam: -7", "take", "--pedigree", pedigree)
-    assert advice in done.err and command in done.commands()
-    taken = "take", "--pedigree", pedigree, "--leave-out"
+    command = f"{CALLED} import --pedigree nine.txt --unknown=-7 --drop-gone"
+    done = desk.wrong("1 word has no line and is a parent of several animals: -7", "import", "--pedigree", pedigree)
+    assert command.removesuffix(" --drop-gone") in done.commands()
+    done = desk.wrong("1 animal is both sire and dam: -7", "import", "--pedigree", pedigree, "--anyway")
+    assert advice in done.err and command.replace("--unknown", "--anyway --unknown") in done.commands()
+    taken = "import", "--pedigree", pedigree, "--leave-out"
     done = desk.good(*taken)
     done.shows(f"to look at: {advice}")
     assert command.replace("--unknown", "--leave-out --unknown") in done.commands()
     done = desk.wrong("2 left out (2 parents): with --strict nothing is taken", *taken, "--strict")
     assert advice in done.err
-    done = desk.good("take", "--pedigree", pedigree, "--unknown=-7,07", "--drop-gone")
+    done = desk.good("import", "--pedigree", pedigree, "--unknown=-7,07", "--drop-gone")
     assert "book: 4 animals, 0 new, 3 changed, 4 invented, 0 left out, 0 added, 2 gone: " in done.last
     for words in (
         ["--unknown", "-7,07"],
         ["--unknown", "-7", "--unknown", "07"],
         ["--unknown=-7", "--unknown", "07"],
     ):
-        done = desk.good("take", *words, "--pedigree", pedigree, "--book", "new" + "".join(words))
+        done = desk.good("import", *words, "--pedigree", pedigree, "--book", "new" + "".join(words))
         assert ": 4 animals, 4 new, 0 changed, 4 invented, 0 left out, 0 added, 0 gone" in done.last
 
 
 def test_unknown_words_in_a_sheet(desk: Desk) -> None:
     done = desk.take("id,born,sire,dam\na,2001,fremd,fremd\nb,2002,fremd,\nc,2003,n b,n b\nd,2004,x,x\ne,2005,n b,\n")
     done.shows("to look at: fremd has no row, and is the sire of 2 and the dam of 1")
-    commands = [f"{CALLED} take sheet.csv --unknown {word} --drop-gone" for word in ("fremd", "'n b'")]
+    commands = [f"{CALLED} import sheet.csv --unknown {word} --drop-gone" for word in ("fremd", "'n b'")]
     assert done.commands() == commands
     assert "x has no row, and is" not in done.out

@@ -4,8 +4,8 @@ from __future__ import annotations
 import random
 
 from front_desk.desk import Desk
-from society.reading.unknown import KNOWN_UNKNOWN, SIGNS, UnknownParents, compared, names_no_owner
-from society.reading.words import is_error_value
+from gudokeyi.ingest.unknown_parents import KNOWN_UNKNOWN, SIGNS, UnknownParents, compared, names_no_owner
+from gudokeyi.ingest.words import is_error_value
 
 TITLES = "id;sex;birth;sire;dam\n"
 UNKNOWN = (
@@ -55,13 +55,13 @@ def test_words_of_the_book(desk: Desk) -> None:
     desk.good("birth", "n", "--sex", "f", "--day", "2020-01-01", "--sire", "nemo", "--dam", "NN")
     assert desk.numbers()["n"][:6] == "SKUCHE"
     pedigree = desk.write("p.txt", "id sire dam sex birth\na Nemo fremd F 2005-01-01\nb extern NN M 2005-02-01\n")
-    assert " 0 added, " in desk.good("take", "--pedigree", pedigree).last
+    assert " 0 added, " in desk.good("import", "--pedigree", pedigree).last
     assert desk.parents() | {"n": ("", "NN"), "a": ("", ""), "b": ("", "NN")} == desk.parents()
     begun = {id: number[:6] for id, number in desk.numbers().items()}
     assert begun == {"s": "HOLGBR", "NN": "HOLGBR", "c": "HOLGBR", "n": "SKUCHE", "a": "SKUCHE", "b": "SKUCHE"}
-    assert " 0 changed" in desk.good("take", "sheet.csv").last
+    assert " 0 changed" in desk.good("import", "sheet.csv").last
     # what is said now holds over the settings
-    done = desk.good("take", "--pedigree", pedigree, "--known", "Nemo")
+    done = desk.good("import", "--pedigree", pedigree, "--known", "Nemo")
     assert " 1 added, " in done.last and desk.parents()["a"] == ("Nemo", "")
 
 
@@ -106,7 +106,9 @@ def test_errors_in_any_cell(desk: Desk) -> None:
 def test_columns_of_errors(desk: Desk) -> None:
     rows = "".join(f"a{at};F;2001-01-01;#BEZUG!;{word}\n" for at, word in enumerate(["x", "#REF!", "#REF!"]))
     rows += "".join(f"b{at};F;2001-01-01;;\n" for at in range(5))
-    desk.wrong("3 of 3 cells of the column 'sire' (sire) show an error", "take", desk.write("sheet.csv", TITLES + rows))
+    desk.wrong(
+        "3 of 3 cells of the column 'sire' (sire) show an error", "import", desk.write("sheet.csv", TITLES + rows)
+    )
 
 
 def test_how_a_text_begins_hides_no_word_sign_or_error() -> None:

@@ -43,7 +43,7 @@ def known(desk: Desk, **more: str) -> dict[str, str]:
 def start(desk: Desk, *words: str, before: Callable[[], None] | None = None, **more: str) -> subprocess.Popen[bytes]:
     """Begins a run, in a group of processes of its own."""
     return subprocess.Popen(
-        [str(TOP / "society/society"), *words], cwd=desk.room, env=known(desk, **more), stdout=subprocess.PIPE,
+        [str(TOP / "gudokeyi"), *words], cwd=desk.room, env=known(desk, **more), stdout=subprocess.PIPE,
         stderr=subprocess.PIPE, start_new_session=True, preexec_fn=before,
     )  # fmt: skip
 

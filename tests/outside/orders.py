@@ -5,7 +5,7 @@ from outside.books import animal
 
 ONE_CLERK = ["clerks", "--desks", "1"]
 # one block in each level
-WIDEST_BLOCK = ["inbreeding", "--workers", "3", "--block", "60000"]
+WIDEST_BLOCK = ["inbreeding", "--workers", "3", "--block", "16000000"]
 
 
 def each_order() -> list[list[str]]:

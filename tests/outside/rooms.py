@@ -14,10 +14,11 @@ class Rooms(Checks):
         room = self.room / f"top-{name}"
         if not room.exists():
             room.mkdir()
-            for folder in "examples", "society":
+            for folder in "examples", "src":
                 shutil.copytree(TOP / folder, room / folder)
             # the front desk asks it for the packages that it needs
             shutil.copy(TOP / "pyproject.toml", room)
+            shutil.copy(TOP / "gudokeyi", room)
             (room / "herdbook").symlink_to(self.program)
         return room
 

@@ -24,7 +24,7 @@ class TestExamples(Rooms):
     def test_examples(self) -> None:
         """The spreadsheet becomes a book of which nothing is refused."""
         room = self.example_room("examples")
-        taken = self.shell("society/society take examples/society.csv", room)
+        taken = self.shell("./gudokeyi import examples/society.csv", room)
         is_told = taken.out.splitlines()[-1:] == [TAKEN.encode()]
         self.count(taken.status == 0 and is_told, f"the society's spreadsheet: {taken}")
         book = (room / "book/commands.csv").read_text()
@@ -47,7 +47,7 @@ class TestExamples(Rooms):
         oldest_first = self.run(["inbreeding"], book).out.decode().splitlines()
         youngest = oldest_first[-1].split(",")[0]
         last = inverse_element(self.run(["inverse"], book).out.decode(), youngest, youngest)
-        written = self.shell("society/society inverse --matrix-market inverse.mtx", room)
+        written = self.shell("./gudokeyi inverse --matrix-market inverse.mtx", room)
         id = (room / "inverse.mtx.ids").read_text().splitlines()[-1]
         is_there = f"502 502 {float(last)!r}" in (room / "inverse.mtx").read_text()
         self.count(written.status == 0 and is_there, f"the inverse: {written}")

@@ -1,9 +1,11 @@
 """Sessions whose calls are refused, each in turn, and clients that break off."""
 from __future__ import annotations
 
+import collections
 import contextlib
 import os
 import subprocess
+import threading
 import time
 
 from outside.books import animal
@@ -81,6 +83,33 @@ class TestSessionRefusals(Refusals):
         serials = sorted(int(line.split(",")[1]) for line in out[:-1])
         self.count(serials == list(range(1, count + 1)) and out[-1] == f"closed,{count},0", f"unheard: {out[-1:]}")
         process.wait()
+
+    def test_unheard_faults(self) -> None:
+        """Requests are read whether their answers are or not, those that are wrong too, whoever tells why."""
+        count, good = 200_000, b"desk,1,exit,%s,2000-01-01,,,,," % SIRE.encode()
+        wrong = [
+            (b"Tag", b"a_1,desk,1"), (b"Addressee", b"%s,clerk"), (b"NoDesk", b"%s,desk,99"),
+            (b"NoInspector", b"%s,inspector,99"), (b"Kind", b"%s,desk,2,sale,,,,,,,"), (b"Fields", b"%s,desk,3,birth"),
+            (b"Question", b"%s,inspector,1,sell"), (b"Animal", b"%s,inspector,2,certificate,x"),
+            (b"NotRegistered", b"%s,inspector,3,coefficient," + SIRE.encode()),
+        ]  # fmt: skip
+        asked = [wrong[at % 100] if at % 100 < len(wrong) else (b"", b"%s," + good) for at in range(count)]
+        lines = b"".join((line % b"t%d" % at if b"%s" in line else line) + b"\n" for at, (_, line) in enumerate(asked))
+        with subprocess.Popen([self.program, "session"], stdin=subprocess.PIPE, stdout=subprocess.PIPE) as process:
+            assert process.stdin and process.stdout
+            timer = threading.Timer(30, process.kill)
+            timer.start()
+            with contextlib.suppress(BrokenPipeError):
+                process.stdin.write(lines)
+                process.stdin.close()
+            # nothing is read before all is written
+            out = process.stdout.read().splitlines()
+            timer.cancel()
+        self.count(process.returncode == 0, f"the session ended with status {process.returncode}")
+        told = collections.Counter(line.split(b",")[2] for line in out if b",fault," in line)
+        self.count(told == {name: count // 100 for name, _ in wrong}, f"faults: {told}")
+        steps = count - sum(told.values())
+        self.count(out[-1:] == [b"closed,%d,0" % steps] and len(out) == count + 1, f"unheard: {out[-1:]}, {len(out)}")
 
     def test_broken_pipe(self) -> None:
         """Once its output is closed a session ends at the next request."""

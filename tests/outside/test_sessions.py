@@ -123,9 +123,10 @@ class TestSessions(Checks):
         self.expect("limits", wrote(told), words, text)
 
     def test_tags(self) -> None:
-        for tag, told in [("", ""), ("a-1", ""), ("x" * 21, ""), ("x" * 20, "x" * 20), ("Ab9", "Ab9"), ("ä", "")]:
-            name = "Addressee" if told else "Tag"
-            self.expect("tag", wrote(f"{told},fault,{name}\nclosed,0,0\n"), ["session"], f"{tag},clerk\n")
+        for tag in "Ab9", "a-1", "-", "x" * 40, "close", "CLOSED", "123e4567-e89b-12d3-a456-426614174000":
+            self.expect("tag", wrote(f"{tag},fault,Addressee\nclosed,0,0\n"), ["session"], f"{tag},clerk\n")
+        for text in "", "a_1", "x" * 41, "closed", "ä":
+            self.expect("no tag", wrote(",fault,Tag\nclosed,0,0\n"), ["session"], f"{text},clerk\n")
 
     def test_blank_and_quoted(self) -> None:
         text = f'\r\n"a1","desk","1",birth,"{SIRE}",2000-01-01,0,0,,1,\r\n\na2,desk,1,"a ""sale""",,,,,,,\n'

@@ -5,8 +5,8 @@ import re
 
 from outside.runs import Checks, wrote
 
-# births, desks and inspectors; a book takes 60,000 animals
-OFFICES = [(0, 1, 0), (9, 16, 15), (50, 1, 0), (50, 3, 2), (500, 3, 1), (60_001, 1, 0)]
+# births, desks and inspectors; after a million founders they are the same again
+OFFICES = [(0, 1, 0), (9, 16, 15), (50, 1, 0), (50, 3, 2), (500, 3, 1), (1_000_001, 1, 0)]
 
 # a task and how many animals there are then
 PEDIGREES = [
@@ -38,7 +38,7 @@ class TestTimed(Checks):
         """Births and transfers of `office_timing`, more than are accepted too, with and without inspectors."""
         office = self.built("office_timing")
         for births, desks, inspectors in OFFICES:
-            told = f"{min(births, 60_000)} accepted, {births} steps\n"
+            told = f"{min(births, 1_000_000)} accepted, {births} steps\n"
             office.expect("births", wrote(told), ["births", str(births), str(desks), str(inspectors)])
         for births, transfers, inspectors in (3, 5, 0), (8, 7, 1):
             office.transfers_beside(births, transfers, inspectors)

@@ -10,9 +10,9 @@ from desk.server import none_left
 from desk.site import HOST
 from front_desk.conftest import desk, new_desk, society_desk, taken_society
 from front_desk.desk import Desk
+from gudokeyi.store import accounts as passwords
+from gudokeyi.web.addresses import ServerAddress
 from serving.visitor import Served, Visitor, served_of, with_accounts
-from society.serving import passwords
-from society.serving.way import Way
 
 __all__ = ["desk", "new_desk", "none_left", "society_desk", "taken_society"]
 
@@ -28,7 +28,7 @@ def served(cheap: None, society_desk: Desk, program: str, tmp_path: pathlib.Path
     """The desk of the society's book, with accounts."""
     folder = society_desk.room / "book"
     with_accounts(folder)
-    with served_of(folder, program, tmp_path / "dropped", Way((HOST,))) as found:
+    with served_of(folder, program, tmp_path / "dropped", ServerAddress((HOST,))) as found:
         yield found
 
 
@@ -37,7 +37,7 @@ def proxied(cheap: None, society_desk: Desk, program: str, tmp_path: pathlib.Pat
     """The same behind a proxy."""
     folder = society_desk.room / "book"
     with_accounts(folder)
-    with served_of(folder, program, tmp_path / "dropped", Way(("herd.example",), "10.0.0.2")) as found:
+    with served_of(folder, program, tmp_path / "dropped", ServerAddress(("herd.example",), "10.0.0.2")) as found:
         yield found
 
 

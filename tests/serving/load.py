@@ -13,8 +13,8 @@ from dataclasses import dataclass, field
 from urllib.parse import quote
 
 from desk.site import shown
+from gudokeyi.locale import TEXTS
 from serving.server import Browser, Server
-from society.desk.texts import TEXTS
 
 # a form that was sent, by its kind and fields
 Sent = tuple[str, dict[str, str]]

@@ -10,8 +10,8 @@ import urllib.parse
 
 from desk.server import SECONDS, Running
 from front_desk.desk import TOP
+from gudokeyi.web.forms import new_form
 from serving.visitor import WORD
-from society.desk.forms import new_form
 
 TOKEN = re.compile(r'name="csrf_token" value="([^"]+)"')
 
@@ -21,7 +21,7 @@ class Server(Running):
 
     def __init__(self, room: pathlib.Path, program: str, *words: str, port: int = 0) -> None:
         self.log = tempfile.TemporaryFile("w+", encoding="utf-8")
-        command = [str(TOP / "society/society"), "serve", "--listen", f"127.0.0.1:{port}", *words]
+        command = [str(TOP / "gudokeyi"), "serve", "--listen", f"127.0.0.1:{port}", *words]
         super().__init__(room, program, command, self.log)
         found = re.match(r"The desk answers at (https?)://([^/]+)/; Ctrl-C or SIGTERM ends it\.", self.said)
         assert found, f"{self.said}{self.logged()}"

@@ -15,14 +15,14 @@ import pytest
 from desk.server import SECONDS, free_port
 from desk.site import shown
 from front_desk.desk import TOP, Desk
+from gudokeyi.domain.messages import Mistake
+from gudokeyi.domain.people import AccountRole
+from gudokeyi.services.book_session import BookSession
+from gudokeyi.store.accounts import Accounts
+from gudokeyi.web.addresses import ListenAddress
+from gudokeyi.web.server import serve
 from serving.server import Browser, Server
 from serving.visitor import WORD
-from society.desk.office import Office
-from society.desk.people import AccountRole
-from society.mistake import Mistake
-from society.serving.accounts import Accounts
-from society.serving.serve import serve
-from society.serving.way import Place
 
 OTHER = "another good word"
 
@@ -33,7 +33,7 @@ def typed(desk: Desk, words: list[str], *lines: str) -> tuple[int, str]:
     if not child:
         os.chdir(desk.room)
         os.execve(
-            str(TOP / "society/society"), ["society", *words], {"PATH": os.environ["PATH"], "HERDBOOK": desk.program}
+            str(TOP / "gudokeyi"), ["society", *words], {"PATH": os.environ["PATH"], "HERDBOOK": desk.program}
         )
     shown_there, left = "", list(lines)
     late = threading.Timer(SECONDS, os.kill, (child, signal.SIGKILL))
@@ -142,9 +142,9 @@ def test_quiet(
         logging.getLogger("waitress").error("what somebody wrote")
         raise Mistake("no server")
 
-    monkeypatch.setattr("society.desk.serving.create_server", create)
+    monkeypatch.setattr("gudokeyi.web.server.create_server", create)
     with pytest.raises(Mistake, match="no server"):
-        serve(folder, Office(), Place("127.0.0.1", 0), [], "")
+        serve(folder, BookSession(), ListenAddress("127.0.0.1", 0), [], "")
     assert given["expose_tracebacks"] is False and given["ident"] is None
     assert not caplog.text and not capfd.readouterr().err
 

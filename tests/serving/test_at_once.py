@@ -13,11 +13,11 @@ import pytest
 
 from desk.site import HOST, looked_in, shown
 from front_desk.desk import Desk
+from gudokeyi.locale import SENTENCES, TEXTS
+from gudokeyi.store.accounts import A_DAY
+from gudokeyi.store.messages import BackupFault
+from gudokeyi.web.forms import new_form
 from serving.visitor import Served, Visitor
-from society.desk.forms import new_form
-from society.book.backup_sentences import BackupFault
-from society.desk.texts import SENTENCES, TEXTS
-from society.serving.accounts import A_DAY
 
 DAM = "GK-17/472c"
 SHEET = b"id,name,sex,birth,sire,dam\nNEW-%d,,f,2024-01-01,,\n"
@@ -39,7 +39,7 @@ def looked_at(visitor: Visitor, at: int) -> str:
 
 
 def test_two_sheets(served: Served) -> None:
-    """The second clerk sees what the first changed before "take", and nothing of it is undone."""
+    """The second clerk sees what the first changed before "import", and nothing of it is undone."""
     carl, clara = Visitor(served, "Carl"), Visitor(served, "Clara")
     first, second = looked_at(carl, 1), looked_at(clara, 2)
     looked = looked_in(clara.page(second))
@@ -60,7 +60,7 @@ def test_own_sheets(served: Served) -> None:
     address = looked_at(carl, 1)
     for other in clara, kim:
         assert other.get(address).status_code == 404
-        for way in "take", "leave", "columns", "suggested":
+        for way in "import", "leave", "columns", "suggested":
             assert other.post(f"{address}/{way}", looked=carl.looked()).status_code == 404
     assert carl.get(address).status_code == 200
 

@@ -8,13 +8,12 @@ import sqlite3
 
 import pytest
 
+from gudokeyi.domain.messages import Mistake
+from gudokeyi.domain.people import AccountRole
+from gudokeyi.store import accounts as passwords
+from gudokeyi.store.accounts import A_DAY, Accounts
+from gudokeyi.web.logins import FREE_BY_ADDRESS, FREE_BY_NAME, MOST, SECONDS, AccessLog, Throttle
 from serving.visitor import WORD, Clock
-from society.desk.people import AccountRole
-from society.mistake import Mistake
-from society.serving import passwords
-from society.serving.access_log import AccessLog
-from society.serving.accounts import A_DAY, Accounts
-from society.serving.throttle import FREE_BY_ADDRESS, FREE_BY_NAME, MOST, SECONDS, Throttle
 
 KEEPER, CLERK = AccountRole.KEEPER, AccountRole.CLERK
 
@@ -94,7 +93,7 @@ def test_other_file(tmp_path: pathlib.Path) -> None:
 
 def test_long_password(cheap: None) -> None:
     """Nothing of a password is cut off."""
-    longest = WORD.ljust(passwords.MOST_LETTERS, "x")
+    longest = WORD.ljust(passwords.MOST_PASSWORD_LETTERS, "x")
     kept = passwords.kept_of(longest)
     assert passwords.fits(longest, kept) and not passwords.fits(f"{longest}x", kept)
     assert not passwords.fits(longest[:-1], kept)

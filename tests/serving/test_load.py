@@ -13,11 +13,11 @@ from collections.abc import Callable, Iterator
 import pytest
 
 from front_desk.desk import Desk
+from gudokeyi.domain.people import AccountRole
+from gudokeyi.store.accounts import Accounts
 from serving.load import Animals, Plan, Sent, Work, at_work
 from serving.server import Browser, Server
 from serving.visitor import WORD
-from society.desk.people import AccountRole
-from society.serving.accounts import Accounts
 
 SMALL = Plan(clerks=4, commands=6, inspectors=6, seconds=2, pause=0.1)
 LARGE = Plan(clerks=8, commands=100, inspectors=15, seconds=60, pause=0.5)

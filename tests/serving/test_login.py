@@ -10,13 +10,13 @@ from email.utils import parsedate_to_datetime
 import pytest
 
 from desk.site import HOST, shown
+from gudokeyi.locale import TEXTS
+from gudokeyi.store import accounts as passwords
+from gudokeyi.store.accounts import A_DAY
+from gudokeyi.web.forms import new_form
+from gudokeyi.web.language import PageLanguage
+from gudokeyi.web.logins import FREE_BY_ADDRESS, FREE_BY_NAME, LONGEST, SECONDS, Throttle
 from serving.visitor import WORD, Served, Visitor
-from society.desk.forms import new_form
-from society.desk.texts import TEXTS
-from society.desk.words import Words
-from society.serving import passwords
-from society.serving.accounts import A_DAY
-from society.serving.throttle import FREE_BY_ADDRESS, FREE_BY_NAME, LONGEST, SECONDS, Throttle
 
 WRONG = TEXTS["login wrong"][0]
 
@@ -176,7 +176,7 @@ def test_guesses_by_name(served: Served) -> None:
         answer = Visitor(served, address="10.0.1.1").log_in("Carl")
         assert answer.status_code == 429
         told = shown(answer.get_data(as_text=True))
-        waited.append(next(s for s in range(1, LONGEST) if Words("en").counted("login wait", s) in told))
+        waited.append(next(s for s in range(1, LONGEST) if PageLanguage("en").counted("login wait", s) in told))
         served.clock.now += waited[-1]
         assert Visitor(served, address="10.0.1.1").log_in("Carl", "x").status_code == 401
     assert waited == [1, 2, 4, 8]

@@ -10,10 +10,10 @@ from selenium import webdriver
 from desk.screen import PHONE, Screen, chromium
 from desk.test_access import Outline
 from front_desk.desk import Desk
+from gudokeyi.locale import TEXTS
+from gudokeyi.store.accounts import Accounts
 from serving.server import Server
 from serving.visitor import WORD, Served, Visitor, with_accounts
-from society.desk.texts import TEXTS
-from society.serving.accounts import Accounts
 
 __all__ = ["chromium"]
 DAM, OTHER = "GK-17/472c", "another good word"

@@ -8,10 +8,10 @@ from werkzeug.routing import Rule
 
 from desk.site import HOST, shown
 from desk.test_desk_security import address_of
+from gudokeyi.domain.people import AccountRole
+from gudokeyi.locale import TEXTS
+from gudokeyi.web.access import LEAST, OPEN_TO_ALL
 from serving.visitor import PEOPLE, Served, Visitor
-from society.desk.people import AccountRole
-from society.desk.rules import LEAST, OPEN_TO_ALL
-from society.desk.texts import TEXTS
 
 # what nobody but a keeper may do, and what somebody may change who files nothing
 KEEPERS = {

@@ -12,10 +12,10 @@ import pytest
 
 from desk.server import SECONDS, Running, free_port
 from front_desk.desk import TOP, Desk
+from gudokeyi.domain.people import AccountRole
+from gudokeyi.store.accounts import Accounts
+from gudokeyi.web.forms import new_form
 from serving.visitor import WORD
-from society.desk.forms import new_form
-from society.desk.people import AccountRole
-from society.serving.accounts import Accounts
 
 EXAMPLES = TOP / "examples/serving"
 UNIT = (EXAMPLES / "herdbook.service").read_text(encoding="utf-8")

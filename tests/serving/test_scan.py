@@ -15,8 +15,8 @@ from werkzeug.test import TestResponse
 from desk.site import HOST, shown
 from desk.test_desk_security import Marks, address_of
 from front_desk.desk import TOP
+from gudokeyi.web.forms import new_form
 from serving.visitor import WORD, Served, Visitor
-from society.desk.forms import new_form
 
 SECRET = "one secret that is guessed"
 HOSTILE = {
@@ -30,7 +30,7 @@ HEADERS = ("User-Agent", "Referer", "Accept-Language", "X-Forwarded-For", "X-For
 # the names of fields, as the pages' templates have them, and those that one may think of
 FIELD = re.compile(r'name="([\w -]+)"|field\("([\w -]+)"|\.get\("(\w+)"')
 MORE_FIELDS = ("kept to", "kept-id", "kept-csrf_token", "column-id", "understood-id", "option", "word", "page", "secret")
-TEMPLATES = sorted((TOP / "society/desk/templates").glob("*.html"))
+TEMPLATES = sorted((TOP / "src/gudokeyi/web/templates").glob("*.html"))
 # what a page or the log may not have of the machine and the program
 TOLD = ("Traceback", str(TOP), f"{tempfile.gettempdir()}/", "site-packages", "dist-packages", "sqlite3.", "root:x:0", "werkzeug", "jinja2")
 

@@ -4,8 +4,8 @@ from __future__ import annotations
 import pytest
 
 from desk.site import HOST
+from gudokeyi.domain.people import AccountRole
 from serving.visitor import WORD, Served, Visitor
-from society.desk.people import AccountRole
 
 
 def test_log(served: Served) -> None:
@@ -44,7 +44,7 @@ def test_faults(
     def fail(_: object) -> None:
         raise ValueError("what somebody wrote")
 
-    monkeypatch.setattr("society.desk.routes.history.last_that_changed", fail)
+    monkeypatch.setattr("gudokeyi.web.routes.history.last_that_changed", fail)
     answer = clerk.get("/history")
     assert answer.status_code == 500 and "somebody wrote" not in answer.get_data(as_text=True)
     assert "Traceback" not in caplog.text and "somebody wrote" not in caplog.text

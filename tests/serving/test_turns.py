@@ -11,21 +11,19 @@ from collections.abc import Callable
 import pytest
 
 from front_desk.desk import Desk
-from society.book import backup as backups
-from society.book import exports
-from society.book.backup import restore
-from society.book.book import Book
-from society.book.book_changed import Overtaken
-from society.book.book_read import reading
-from society.book.exports import refresh
-from society.desk import taking_beside
-from society.desk.forms import new_form
-from society.desk.taking_beside import Chosen, Seen, Taken, seen_of, taken
-from society.herdbook import Herdbook
-from society.taking import from_sheet
-from society.reading.given_file import read_file
-from society.taking.from_sheet import take_sheet
-from society.taking.wishes import Wishes
+from gudokeyi.engine.program import Herdbook
+from gudokeyi.ingest.files import read_file
+from gudokeyi.reconcile.import_options import ImportOptions
+from gudokeyi.services import sheet_imports
+from gudokeyi.services.sheet_imports import import_sheet
+from gudokeyi.store import backup as backups, exports
+from gudokeyi.store.backup import restore
+from gudokeyi.store.book import Book
+from gudokeyi.store.exports import refresh
+from gudokeyi.store.transactions import Overtaken, reading
+from gudokeyi.web import sheet_work
+from gudokeyi.web.forms import new_form
+from gudokeyi.web.sheet_work import Chosen, Imported, Seen, imported, seen_of
 
 DAM, OTHER, DAY = "GK-17/472c", "GK-16/433c", "2024-05-01"
 ANYWAY = Chosen(options=(("anyway", "1"),))
@@ -82,9 +80,9 @@ def seen_now(folder: pathlib.Path) -> Seen:
         return seen_of(Book(folder, connection), ANYWAY)
 
 
-def taken_now(folder: pathlib.Path, path: pathlib.Path) -> Taken:
+def taken_now(folder: pathlib.Path, path: pathlib.Path) -> Imported:
     """A sheet is taken at a desk that looked at the book of now."""
-    return taken(folder, path, ANYWAY, seen_now(folder), new_form(), lambda _: None)
+    return imported(folder, path, ANYWAY, seen_now(folder), new_form(), lambda _: None)
 
 
 def test_sheet_of_a_desk(folder: pathlib.Path, society_desk: Desk, monkeypatch: pytest.MonkeyPatch) -> None:
@@ -95,7 +93,7 @@ def test_sheet_of_a_desk(folder: pathlib.Path, society_desk: Desk, monkeypatch: 
         assert is_free(folder)
         exit_of(society_desk)
 
-    behind(monkeypatch, taking_beside, "take_into", file)
+    behind(monkeypatch, sheet_work, "import_sheet_into", file)
     assert taken_now(folder, path).book_changed
     assert kinds(folder) == ["take", "exit"]
     monkeypatch.undo()
@@ -112,10 +110,10 @@ def test_sheet_of_a_terminal(folder: pathlib.Path, society_desk: Desk, monkeypat
     def file() -> None:
         free.append(is_free(folder))
         exit_of(society_desk)
-        behind(monkeypatch, from_sheet, "finish", lambda: free.append(is_free(folder)))
+        behind(monkeypatch, sheet_imports, "finish", lambda: free.append(is_free(folder)))
 
-    behind(monkeypatch, from_sheet, "finish", file)
-    take_sheet(read_file(path), Wishes(folder, anyway=True))
+    behind(monkeypatch, sheet_imports, "finish", file)
+    import_sheet(read_file(path), ImportOptions(folder, anyway=True))
     assert free == [True, False] and kinds(folder) == ["take", "exit", "take"]
     living = {row["id"] for row in society_desk.listed("list", "--living")}
     assert "NEW-1" in living and DAM not in living

@@ -5,10 +5,10 @@ import pytest
 
 from desk.site import HOST, PORT, shown
 from desk.test_desk_security import writing
+from gudokeyi.domain.messages import Mistake
+from gudokeyi.locale import TEXTS
+from gudokeyi.web.addresses import ListenAddress, ServerAddress, listen_address, server_address
 from serving.visitor import Served, Visitor
-from society.desk.texts import TEXTS
-from society.mistake import Mistake
-from society.serving.way import Place, Way, place_of, way_of
 
 PROXY = "10.0.0.2"
 BY_PROXY = {"Host": "herd.example", "X-Forwarded-For": "1.2.3.4", "X-Forwarded-Proto": "https"}
@@ -94,7 +94,9 @@ def test_without_proxy(served: Served) -> None:
 
 def test_places() -> None:
     """An address with a port is read, with the names by which browsers may ask there."""
-    assert place_of("127.0.0.1:8080") == Place("127.0.0.1", 8080) and place_of("[::1]:80") == Place("::1", 80)
+    assert listen_address("127.0.0.1:8080") == ListenAddress("127.0.0.1", 8080) and listen_address(
+        "[::1]:80"
+    ) == ListenAddress("::1", 80)
     for wrong in (
         "",
         "8080",
@@ -107,13 +109,15 @@ def test_places() -> None:
         "::1",
     ):
         with pytest.raises(Mistake, match="isn't an address and a port"):
-            place_of(wrong)
-    assert way_of(place_of("127.0.0.1:80"), [], "") == Way(("127.0.0.1:80", "localhost:80"))
-    assert way_of(place_of("192.0.2.1:80"), ["Herd"], "") == Way(("192.0.2.1:80", "herd"))
-    assert way_of(place_of("0.0.0.0:80"), ["herd.example"], "") == Way(("herd.example",))
-    assert way_of(place_of("127.0.0.1:80"), ["herd.example"], PROXY) == Way(("herd.example",), PROXY)
+            listen_address(wrong)
+    assert server_address(listen_address("127.0.0.1:80"), [], "") == ServerAddress(("127.0.0.1:80", "localhost:80"))
+    assert server_address(listen_address("192.0.2.1:80"), ["Herd"], "") == ServerAddress(("192.0.2.1:80", "herd"))
+    assert server_address(listen_address("0.0.0.0:80"), ["herd.example"], "") == ServerAddress(("herd.example",))
+    assert server_address(listen_address("127.0.0.1:80"), ["herd.example"], PROXY) == ServerAddress(
+        ("herd.example",), PROXY
+    )
     for place, proxy in ("0.0.0.0:80", ""), ("[::]:80", ""), ("127.0.0.1:80", PROXY):
         with pytest.raises(Mistake, match="by which name"):
-            way_of(place_of(place), [], proxy)
+            server_address(listen_address(place), [], proxy)
     with pytest.raises(Mistake, match="can't be a name"):
-        way_of(place_of("127.0.0.1:80"), ["evil/name"], "")
+        server_address(listen_address("127.0.0.1:80"), ["evil/name"], "")

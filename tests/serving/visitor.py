@@ -12,19 +12,16 @@ from flask import Flask
 from werkzeug.test import TestResponse
 
 from desk.site import HOST, Site
-from society.desk.app import desk_app
-from society.desk.desk import Desk
-from society.desk.exporting import Exports
-from society.desk.forms import new_form
-from society.desk.jobs import Jobs
-from society.desk.office import Office
-from society.desk.people import AccountRole
-from society.desk.uploads import Uploads
-from society.serving.access_log import AccessLog
-from society.serving.accounts import Accounts
-from society.serving.gate import AccountGate
-from society.serving.throttle import Throttle
-from society.serving.way import Way
+from gudokeyi.domain.people import AccountRole
+from gudokeyi.services.book_session import BookSession
+from gudokeyi.store.accounts import Accounts
+from gudokeyi.web.addresses import ServerAddress
+from gudokeyi.web.app import web_app
+from gudokeyi.web.files import Uploads
+from gudokeyi.web.forms import new_form
+from gudokeyi.web.logins import AccessLog, AccountLogins, Throttle
+from gudokeyi.web.served_book import ServedBook
+from gudokeyi.web.workers import Exports, Jobs
 
 # the name of an account, and its role
 PEOPLE = {
@@ -50,9 +47,9 @@ class Clock:
 class Served:
     """The application, and what it is made of."""
 
-    desk: Desk
+    desk: ServedBook
     app: Flask
-    gate: AccountGate
+    gate: AccountLogins
     clock: Clock
     log: io.StringIO
 
@@ -84,14 +81,14 @@ class Visitor(Site):
 
 
 @contextmanager
-def served_of(folder: pathlib.Path, program: str, room: pathlib.Path, way: Way) -> Iterator[Served]:
+def served_of(folder: pathlib.Path, program: str, room: pathlib.Path, way: ServerAddress) -> Iterator[Served]:
     os.environ["HERDBOOK"] = program
     room.mkdir(mode=0o700)
     clock, log = Clock(), io.StringIO()
-    gate = AccountGate(Accounts(folder, clock), way, Throttle(clock), AccessLog(log))
-    desk = Desk(folder, Office(), False, Uploads(room), Jobs(), Exports(folder))
+    gate = AccountLogins(Accounts(folder, clock), way, Throttle(clock), AccessLog(log))
+    desk = ServedBook(folder, BookSession(), False, Uploads(room), Jobs(), Exports(folder))
     try:
-        yield Served(desk, desk_app(desk, gate), gate, clock, log)
+        yield Served(desk, web_app(desk, gate), gate, clock, log)
     finally:
         desk.jobs.end()
         desk.exports.end()

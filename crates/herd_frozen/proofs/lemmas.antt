@@ -1,5 +1,5 @@
-pub mod Contained
-pub mod ListFacts
+pub use Rattle.herd_lineage.proofs.lemmas.Contained
+pub use Rattle.herd_lineage.proofs.lemmas.ListFacts
 pub mod freezing
 pub mod places
 pub mod rules

@@ -1,4 +1,4 @@
 -- Animals by place.
 pub mod Places
-pub mod PackedIndex
+pub use Rattle.herd_lineage.specs.PackedIndex
 pub mod Links

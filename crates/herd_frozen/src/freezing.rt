@@ -3,7 +3,6 @@
 pub(crate) mod age_order;
 pub(crate) mod freeze;
 pub(crate) mod frozen;
-pub(crate) mod levels;
 pub(crate) mod listed;
 pub(crate) mod number_index;
 pub(crate) mod registered;

@@ -20,29 +20,24 @@ mod places;
 mod rules;
 
 pub use freezing::freeze::{freeze_list, frozen_from};
-pub use freezing::frozen::{Frozen, Parents, Row};
+pub use freezing::frozen::{Frozen, Row};
 pub use freezing::registered::Registered;
 pub use freezing::rows::RowRecord;
+pub use herd_lineage::{Lineage, Parents};
 pub use places::links::Link;
 pub use rules::animal::Animal;
 pub use rules::parent_fault::ParentFault;
-// A crate can name a frozen book in a contract only if the types of its fields are exported. `PackedIndex` also serves
-// `herd_pedigree` and `herd_kinship`.
+// A crate can name a frozen book in a contract only if the types of its fields are exported.
 #[doc(hidden)]
 pub use freezing::number_index::NumberIndex;
 #[doc(hidden)]
-pub use freezing::rows::{PackedParents, Rows};
+pub use freezing::rows::Rows;
+// `herd_pedigree` uses them too.
 #[doc(hidden)]
-pub use places::packed_index::PackedIndex;
-// `herd_pedigree` asks it too.
-#[doc(hidden)]
-pub use rules::depth::depth_of_calf;
+pub use herd_lineage::{PackedIndex, depth_of_calf};
 
 /// The number of steps that the longest path of known parents may have.
-///
-/// More than 60 can't be had: a coefficient is a whole number of halves of halves, two for each step, so of units of
-/// 2^-120, and a hundred times such a number has to fit 128 bits for its percentage.
-pub const DEPTH_LIMIT: u8 = 60;
+pub const DEPTH_LIMIT: u8 = herd_lineage::DEPTH_LIMIT;
 
 /// The number of animals that a book may have.
-pub const MOST_ANIMALS: u32 = 60_000;
+pub const MOST_ANIMALS: u32 = herd_lineage::MOST_ANIMALS;

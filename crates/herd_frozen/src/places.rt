@@ -1,4 +1,3 @@
 //! Animals by their places, which count from 0 in the order of registration.
 
 pub(crate) mod links;
-pub(crate) mod packed_index;

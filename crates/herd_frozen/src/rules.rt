@@ -1,5 +1,4 @@
 //! What a record is, and why an animal can't have its parents.
 
 pub(crate) mod animal;
-pub(crate) mod depth;
 pub(crate) mod parent_fault;

@@ -1,7 +1,7 @@
 -- From whom animals come: what relationships are made from.
 use Rattle.std.specs.Prelude.{◌≡◌, ℕ, zero, suc, ◌⊎◌, Bool, List, Option, Some}
 
--- the animals, whether two are one, whether one is before another in age order, and the known parents of each
+-- the animals, whether two are one, whether one is before another in an order of age, and the known parents of each
 pub record Ancestry (A : Type 0) : Type 0 where
   pub animals : List A
   pub same : A → A → Bool

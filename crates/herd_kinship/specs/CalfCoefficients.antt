@@ -1,23 +1,23 @@
 -- The calves of some sires and of known dams, each by its rank with a numerator, and what is kept from one sire to the
 -- next while they are listed.
 use Rattle.std.specs.Prelude.{◌≡◌, ◌≢◌, ℕ, ◌*◌, ◌/◌, ◌≤◌, ◌⊎◌, ◌++◌, All, AllPairs, Any, List, length, slice_index, vec_capacity}
-use Rattle.herd_frozen.specs.declared.TheConstants.{DEPTH_LIMIT}
-use Rattle.herd_frozen.specs.declared.freezing.frozen.Row.{Row}
+use Rattle.herd_lineage.specs.declared.TheConstants.{DEPTH_LIMIT}
+use Rattle.herd_lineage.specs.declared.lineage.Parents.{Parents}
+use Rattle.herd_lineage.specs.Lineage.{dam_rank}
 use Rattle.herd_kinship.specs.CalfLinks.{IsCalf}
 use Rattle.herd_kinship.specs.Columns.{at_parent}
 use Rattle.herd_kinship.specs.Pending.{mark}
-use Rattle.herd_kinship.specs.Ranks.{dam_rank}
 use Rattle.herd_kinship.specs.Tracing.{IsIdle}
 use Rattle.herd_kinship.specs.Variances.{AreVariances}
 use Rattle.herd_kinship.specs.declared.calves.CalfCoefficient.{CalfCoefficient}
 use Rattle.herd_kinship.specs.declared.mates.Mates.{Mates}
 
 -- a calf with half the number that its dam has in the column, and 0 where the dam is unknown
-abbrev pub with_half : List Row → List ℕ → ℕ → CalfCoefficient
+abbrev pub with_half : List Parents → List ℕ → ℕ → CalfCoefficient
 with_half rows column calf = record { rank = calf; numerator = at_parent column (dam_rank rows calf) / 2 }
 
 -- a calf of one of these sires, with f of its rank
-pub record IsCalfWith (rows : List Row) (sires : ℕ → Type 0) (f : ℕ → ℕ) (calf : CalfCoefficient) : Type 0 where
+pub record IsCalfWith (rows : List Parents) (sires : ℕ → Type 0) (f : ℕ → ℕ) (calf : CalfCoefficient) : Type 0 where
   pub sire : ℕ
   pub of_these : sires sire
   pub is_calf : IsCalf rows sire calf.rank
@@ -25,13 +25,13 @@ pub record IsCalfWith (rows : List Row) (sires : ℕ → Type 0) (f : ℕ → �
 
 -- all calves of these sires, each once and with f of its rank
 pub record AreCalvesWith
-    (rows : List Row) (sires : ℕ → Type 0) (f : ℕ → ℕ) (calves : List CalfCoefficient) : Type 0 where
+    (rows : List Parents) (sires : ℕ → Type 0) (f : ℕ → ℕ) (calves : List CalfCoefficient) : Type 0 where
   pub each : All (IsCalfWith rows sires f) calves
   pub once : AllPairs (λ calf later. calf.rank ≢ later.rank) calves
   pub all : (s x : ℕ) → sires s → IsCalf rows s x → Any (λ calf. calf.rank ≡ x) calves
 
 -- the list goes on with all calves of these sires, each once and with f of its rank
-pub record GoesOnWith (rows : List Row) (sires : ℕ → Type 0) (f : ℕ → ℕ) (old new : List CalfCoefficient) : Type 0 where
+pub record GoesOnWith (rows : List Parents) (sires : ℕ → Type 0) (f : ℕ → ℕ) (old new : List CalfCoefficient) : Type 0 where
   pub more : List CalfCoefficient
   pub appended : new ≡ old ++ more
   pub calves : AreCalvesWith rows sires f more
@@ -53,8 +53,8 @@ pub record HasWritten (f : ℕ → ℕ) (calves : List CalfCoefficient) (old new
   pub kept : Keeps f old new
   pub written : AreWritten f new calves
 
--- there is room for the animals of a frozen book, nobody is marked, nobody is traced, and variances are the book's
-pub record IsReady {A : Type 0} (rows : List Row) (mates : Mates A) : Type 0 where
+-- there is room for the animals of a lineage, nobody is marked, nobody is traced, and variances are its own
+pub record IsReady {A : Type 0} (rows : List Parents) (mates : Mates A) : Type 0 where
   pub room : length rows ≤ 64 * length mates.marked.chunks.items
   pub unmarked : (distance : ℕ) → mark mates.marked.chunks.items distance ≡ 0
   pub idle : IsIdle (length rows) mates.tracing

@@ -1,32 +1,31 @@
--- Coefficients of inbreeding of a frozen book's animals, in unit 2^-2l, by ranks.
+-- Coefficients of inbreeding of a lineage's animals, in unit 2^-2l, by ranks.
 use Rattle.std.specs.Prelude.{◌≡◌, ℕ, ◌+◌, ◌*◌, ◌/◌, ◌^◌, ◌<◌, List, length, slice_index, Option, None, Some}
-use Rattle.herd_frozen.specs.declared.freezing.frozen.Row.{Row}
-use Rattle.herd_frozen.specs.freezing.Frozen.{depth_at}
+use Rattle.herd_lineage.specs.declared.lineage.Parents.{Parents}
+use Rattle.herd_lineage.specs.Lineage.{depth_at, dam_rank, sire_rank}
 use Rattle.herd_kinship.specs.Ancestry.{IsAncestor}
 use Rattle.herd_kinship.specs.Table.{coefficient, entry}
-use Rattle.herd_kinship.specs.FrozenAncestry.{ancestry_of, number_of_row}
-use Rattle.herd_kinship.specs.Ranks.{sire_rank, dam_rank}
+use Rattle.herd_kinship.specs.Ranks.{ranked}
 
 -- the coefficient of the animal at a rank
-abbrev pub coefficient_at : ℕ → List Row → ℕ → ℕ
-coefficient_at l rows rank = coefficient (ancestry_of rows) l (number_of_row rows rank)
+abbrev pub coefficient_at : ℕ → List Parents → ℕ → ℕ
+coefficient_at l rows rank = coefficient (ranked rows) l rank
 
 -- there is a numerator for each animal, and it is its coefficient
-pub record AreCoefficients (l : ℕ) (rows : List Row) (numerators : List ℕ) : Type 0 where
+pub record AreCoefficients (l : ℕ) (rows : List Parents) (numerators : List ℕ) : Type 0 where
   pub each : length numerators ≡ length rows
   pub right : (rank : ℕ) → rank < length rows → slice_index numerators rank ≡ coefficient_at l rows rank
 
 -- there is a numerator for each animal, and at the ancestors of the animal at a rank it is their coefficient
-pub record KnowsAncestors (l : ℕ) (rows : List Row) (known : List ℕ) (rank : ℕ) : Type 0 where
+pub record KnowsAncestors (l : ℕ) (rows : List Parents) (known : List ℕ) (rank : ℕ) : Type 0 where
   pub each : length known ≡ length rows
   pub right : (p : ℕ) → p < length rows
-      → IsAncestor (ancestry_of rows) (number_of_row rows p) (number_of_row rows rank)
+      → IsAncestor (ranked rows) p rank
       → slice_index known p ≡ coefficient_at l rows p
 
 -- the relationship of the animal at a rank with itself, which is the whole and its coefficient
-abbrev pub own_relationship : ℕ → List Row → ℕ → ℕ
+abbrev pub own_relationship : ℕ → List Parents → ℕ → ℕ
 own_relationship l rows rank =
-    entry (ancestry_of rows) (2 * l) (Some (number_of_row rows rank)) (Some (number_of_row rows rank))
+    entry (ranked rows) (2 * l) (Some rank) (Some rank)
 
 -- a quarter of a parent's relationship with itself, which is the whole and its coefficient; 0 of an unknown one
 abbrev pub quarter_of : ℕ → List ℕ → Option ℕ → ℕ
@@ -43,14 +42,14 @@ abbrev pub IsBefore : ℕ → ℕ → Type 0
 IsBefore border rank = rank < border
 
 -- the animals of less depth
-abbrev pub IsLessDeep : List Row → ℕ → ℕ → Type 0
+abbrev pub IsLessDeep : List Parents → ℕ → ℕ → Type 0
 IsLessDeep rows depth rank = depth_at rows rank < depth
 
 -- a parent of the animal is unknown, or its sire is one of these
-abbrev pub IsReached : List Row → (ℕ → Type 0) → ℕ → Type 0
+abbrev pub IsReached : List Parents → (ℕ → Type 0) → ℕ → Type 0
 IsReached rows sires x = (s d : ℕ) → sire_rank rows x ≡ Some s → dam_rank rows x ≡ Some d → sires s
 
 -- there is a numerator for each animal, and at those that are reached from these sires it is their coefficient
-pub record KnowsReached (l : ℕ) (rows : List Row) (sires : ℕ → Type 0) (known : List ℕ) : Type 0 where
+pub record KnowsReached (l : ℕ) (rows : List Parents) (sires : ℕ → Type 0) (known : List ℕ) : Type 0 where
   pub each : length known ≡ length rows
   pub right : (x : ℕ) → x < length rows → IsReached rows sires x → slice_index known x ≡ coefficient_at l rows x

@@ -2,7 +2,6 @@ pub mod Ancestry
 pub mod Table
 pub mod Shares
 pub mod InverseRows
-pub mod FrozenAncestry
 pub mod Laws
 pub mod Coefficients
 pub mod Ranks
@@ -10,8 +9,7 @@ pub mod Pending
 pub mod Variances
 pub mod Tracing
 pub mod Fraction
-pub mod Mating
-pub mod Contributions
 pub mod Columns
 pub mod CalfLinks
 pub mod CalfCoefficients
+pub mod Contributions

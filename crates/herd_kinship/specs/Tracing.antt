@@ -2,9 +2,9 @@
 -- by their ranks; the share kept for an ancestor p of x is in unit 2^-(g x - g p), where g is the depth.
 use Rattle.std.specs.Prelude.{◌≡◌, ℕ, ◌+◌, ◌*◌, ◌-◌, ◌^◌, ◌<◌, ◌≤◌, List, length, slice_index, slice_set, sum_by, Option, None, Some}
 use Rattle.std.specs.List.{range_with_len}
-use Rattle.herd_frozen.specs.declared.freezing.frozen.Row.{Row}
-use Rattle.herd_frozen.specs.declared.TheConstants.{MOST_ANIMALS}
-use Rattle.herd_frozen.specs.freezing.Frozen.{IsFrozen, depth_at}
+use Rattle.herd_lineage.specs.declared.lineage.Parents.{Parents}
+use Rattle.herd_lineage.specs.declared.TheConstants.{MOST_ANIMALS}
+use Rattle.herd_lineage.specs.Lineage.{IsLineage, depth_at}
 use Rattle.herd_kinship.specs.Shares.{share}
 use Rattle.herd_kinship.specs.declared.tracing.Met.{Met}
 use Rattle.herd_kinship.specs.declared.tracing.Tracing.{Tracing}
@@ -12,7 +12,7 @@ use Rattle.herd_kinship.specs.Pending.{mark, Marks}
 use Rattle.herd_kinship.specs.Ranks.{ranked}
 
 -- the share kept for the rank p, brought to unit 2^-l; the list of shares goes by the distance from x
-abbrev pub kept_share : ℕ → List Row → ℕ → List ℕ → ℕ → ℕ
+abbrev pub kept_share : ℕ → List Parents → ℕ → List ℕ → ℕ → ℕ
 kept_share l rows x shares p = slice_index shares (x - p) * 2 ^ (l - depth_at rows x + depth_at rows p)
 
 -- what the shares of the ranks below a border bring, each multiplied by what its rank has
@@ -20,13 +20,13 @@ abbrev pub brought : (ℕ → ℕ) → ℕ → (ℕ → ℕ) → ℕ
 brought shares border has = sum_by (λ p. shares p * has p) (range_with_len 0 border)
 
 -- the shares once y's share is given to its parent: half of it, brought to the parent's unit
-abbrev pub given : List Row → ℕ → List ℕ → ℕ → ℕ → Option ℕ → List ℕ
+abbrev pub given : List Parents → ℕ → List ℕ → ℕ → ℕ → Option ℕ → List ℕ
 given rows x shares y own None = shares
 given rows x shares y own (Some p) =
     slice_set shares (x - p) (slice_index shares (x - p) + own * 2 ^ (depth_at rows y - depth_at rows p - 1))
 
 -- the parent p of y is older and less deep than y, and has room for y's share
-pub record HasRoom (l : ℕ) (rows : List Row) (x : ℕ) (shares : List ℕ) (y own p : ℕ) : Type 0 where
+pub record HasRoom (l : ℕ) (rows : List Parents) (x : ℕ) (shares : List ℕ) (y own p : ℕ) : Type 0 where
   pub rank : x < length rows
   pub met : y ≤ x
   pub lower : p < y
@@ -37,8 +37,8 @@ pub record HasRoom (l : ℕ) (rows : List Row) (x : ℕ) (shares : List ℕ) (y 
 
 -- The ancestors of x from the border on are met, and nothing is kept for them. The shares below the border
 -- are pending: to each animal there they bring just what x has of it, and together they are at most the whole.
-pub record IsTracing (l : ℕ) (rows : List Row) (x border : ℕ) (shares : List ℕ) : Type 0 where
-  pub book : IsFrozen l MOST_ANIMALS rows
+pub record IsTracing (l : ℕ) (rows : List Parents) (x border : ℕ) (shares : List ℕ) : Type 0 where
+  pub lineage : IsLineage l MOST_ANIMALS rows
   pub rank : x < length rows
   pub border_in : border ≤ x + 1
   pub long : x < length shares
@@ -49,19 +49,19 @@ pub record IsTracing (l : ℕ) (rows : List Row) (x border : ℕ) (shares : List
   pub met : (distance : ℕ) → (distance ≤ x → border ≤ x - distance) → slice_index shares distance ≡ 0
 
 -- x has this share of its ancestor j, in the unit of the two depths' difference, and it isn't 0
-pub record IsShareOf (rows : List Row) (x j own : ℕ) : Type 0 where
+pub record IsShareOf (rows : List Parents) (x j own : ℕ) : Type 0 where
   pub some : 0 < own
   pub less_deep : depth_at rows j ≤ depth_at rows x
   pub own_is : own ≡ share (ranked rows) (depth_at rows x - depth_at rows j) (Some x) j
 
 -- y is the first ancestor below the border, and x has this share of it
-pub record IsNext (l : ℕ) (rows : List Row) (x border y own : ℕ) : Type 0 where
+pub record IsNext (l : ℕ) (rows : List Parents) (x border y own : ℕ) : Type 0 where
   pub below : y < border
   pub share_is : IsShareOf rows x y own
   pub between : (j : ℕ) → y < j → j < border → share (ranked rows) l (Some x) j ≡ 0
 
 -- what is told of an ancestor of x that is met, beside its share
-pub record IsMetAs (rows : List Row) (x : ℕ) (met : Met) : Type 0 where
+pub record IsMetAs (rows : List Parents) (x : ℕ) (met : Met) : Type 0 where
   pub within : met.rank < length rows
   pub depth : met.depth ≡ depth_at rows met.rank
   pub steps : met.steps ≡ depth_at rows x - depth_at rows met.rank
@@ -84,7 +84,7 @@ GivesMark x old new None = new ≡ old
 GivesMark x old new (Some p) = Marks old new (x - p) 1
 
 -- the ancestors that are pending from x on, and their marks
-pub record AreUnderWay (l : ℕ) (rows : List Row) (x border : ℕ) (shares chunks : List ℕ) : Type 0 where
+pub record AreUnderWay (l : ℕ) (rows : List Parents) (x border : ℕ) (shares chunks : List ℕ) : Type 0 where
   pub tracing : IsTracing l rows x border shares
   pub marks : IsMarked x border shares chunks
 
@@ -96,7 +96,7 @@ pub record AreIdle (animals : ℕ) (shares chunks : List ℕ) : Type 0 where
   pub unmarked : (distance : ℕ) → mark chunks distance ≡ 0
 
 -- a tracing that has its animal's depth, and whose pending ancestors are marked
-pub record IsUnderWay {A : Type 0} (l : ℕ) (rows : List Row) (tracing : Tracing A) : Type 0 where
+pub record IsUnderWay {A : Type 0} (l : ℕ) (rows : List Parents) (tracing : Tracing A) : Type 0 where
   pub depth : tracing.depth ≡ depth_at rows tracing.rank
   pub ancestors : AreUnderWay l rows tracing.rank tracing.border tracing.shares.items tracing.pending.chunks.items
 

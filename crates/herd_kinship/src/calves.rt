@@ -3,11 +3,11 @@ ghost use Rattle.std.specs.Iterator.{YieldsFirst, item_count};
 ghost use Rattle.herd_kinship.specs.CalfCoefficients.{HasWritten, HaveValues};
 ghost use Rattle.herd_kinship.specs.CalfLinks.{AreCalvesOf, IsCalf, calf_count, calves_of_sire};
 
-use herd_frozen::{Frozen, PackedIndex, Parents};
+use herd_lineage::{Lineage, PackedIndex, Parents};
 use std::alloc::{AllocError, Allocator};
 use std::marker::Model;
 
-/// The calves of each sire of a frozen book, those of which the dam is known too.
+/// The calves of each sire of a lineage, those of which the dam is known too.
 ///
 /// They are linked from the youngest to the oldest, and may be lent to several threads.
 #[derive(Drop)]
@@ -76,12 +76,12 @@ pub(crate) fn sire_of_pair(parents: Parents) -> Option<u32>
 }
 
 /// Whether there is an animal of which both parents are known.
-pub(crate) fn has_calves<F: Allocator>(frozen: &Frozen<F>) -> bool
-    ensures yes { IsTrue result → (sire : ℕ) × (calf : ℕ) × IsCalf frozen.now sire calf }
-    ensures no { IsFalse result → (sire calf : ℕ) → IsCalf frozen.now sire calf → ⊥ }
+pub(crate) fn has_calves<F: Allocator>(lineage: &Lineage<F>) -> bool
+    ensures yes { IsTrue result → (sire : ℕ) × (calf : ℕ) × IsCalf lineage.now sire calf }
+    ensures no { IsFalse result → (sire calf : ℕ) → IsCalf lineage.now sire calf → ⊥ }
 {
-    for calf in 0..frozen.len() {
-        if sire_of_pair(frozen.parents(calf)).is_some() {
+    for calf in 0..lineage.len() {
+        if sire_of_pair(lineage.parents(calf)).is_some() {
             return true;
         }
     }
@@ -89,15 +89,15 @@ pub(crate) fn has_calves<F: Allocator>(frozen: &Frozen<F>) -> bool
 }
 
 impl<A: Allocator + Clone> Calves<A> {
-    /// The calves of a frozen book. The only error is a growth of memory that is refused.
-    pub fn of<F: Allocator>(alloc: A, frozen: &Frozen<F>) -> Result<Calves<A>, AllocError>
-        ensures { IfOk result (AreCalvesOf frozen.now) }
+    /// The calves of a lineage. The only error is a growth of memory that is refused.
+    pub fn of<F: Allocator>(alloc: A, lineage: &Lineage<F>) -> Result<Calves<A>, AllocError>
+        ensures { IfOk result (AreCalvesOf lineage.now) }
     {
-        let animals = frozen.len() as usize;
+        let animals = lineage.len() as usize;
         let mut latest = vec![in alloc.clone()?; PackedIndex::none(); animals]?;
         let mut earlier = vec![in alloc; PackedIndex::none(); animals]?;
-        for calf in 0..frozen.len() {
-            if let Some(sire) = sire_of_pair(frozen.parents(calf)) {
+        for calf in 0..lineage.len() {
+            if let Some(sire) = sire_of_pair(lineage.parents(calf)) {
                 earlier[calf as usize] = latest[sire as usize];
                 latest[sire as usize] = PackedIndex::at(calf);
             }
@@ -109,10 +109,10 @@ impl<A: Allocator + Clone> Calves<A> {
 impl<A: Allocator> Calves<A> {
     /// The calves of known dams that the sire at a rank has.
     #[inline(always)]
-    pub(crate) fn of_sire<F: Allocator>(&self, frozen: &Frozen<F>, sire: u32) -> SireCalves<'_>
-        requires calves { AreCalvesOf frozen.now self.now }
-        requires sire { sire < length frozen.now }
-        ensures { result ≡ calves_of_sire frozen.now sire }
+    pub(crate) fn of_sire<F: Allocator>(&self, lineage: &Lineage<F>, sire: u32) -> SireCalves<'_>
+        requires calves { AreCalvesOf lineage.now self.now }
+        requires sire { sire < length lineage.now }
+        ensures { result ≡ calves_of_sire lineage.now sire }
     {
         SireCalves {
             earlier: self.earlier.as_slice(),
@@ -121,12 +121,12 @@ impl<A: Allocator> Calves<A> {
     }
 
     /// How many calves of known dams the sire at a rank has.
-    pub fn count<F: Allocator>(&self, frozen: &Frozen<F>, sire: u32) -> u32
-        requires calves { AreCalvesOf frozen.now self.now }
-        requires sire { sire < length frozen.now }
-        ensures { result ≡ calf_count frozen.now sire }
+    pub fn count<F: Allocator>(&self, lineage: &Lineage<F>, sire: u32) -> u32
+        requires calves { AreCalvesOf lineage.now self.now }
+        requires sire { sire < length lineage.now }
+        ensures { result ≡ calf_count lineage.now sire }
     {
-        self.of_sire(frozen, sire).count() as u32
+        self.of_sire(lineage, sire).count() as u32
     }
 }
 

@@ -1,58 +1,59 @@
-//! The laws of the numerator relationship matrix A, each promised for the animals at two ranks of a frozen book. The
+//! The laws of the numerator relationship matrix A, each promised for the animals at two ranks of a lineage. The
 //! calls do nothing: who calls one has its `ensures` as a fact.
 
-ghost use Rattle.std.specs.Prelude.{◌<◌, length};
-ghost use Rattle.herd_frozen.specs.declared.TheConstants.{DEPTH_LIMIT};
+ghost use Rattle.std.specs.Prelude.{◌+◌, ◌<◌, Some, length};
+ghost use Rattle.herd_lineage.specs.declared.TheConstants.{DEPTH_LIMIT};
+ghost use Rattle.herd_lineage.specs.Lineage.{depth_at};
 ghost use Rattle.herd_kinship.specs.Columns.{IsColumn};
-ghost use Rattle.herd_kinship.specs.FrozenAncestry.{number_of_row};
 ghost use Rattle.herd_kinship.specs.Laws.{KeepsHalves, IsBounded, IsDecomposed, IsDiagonalised};
+ghost use Rattle.herd_kinship.specs.Ranks.{ranked};
 
-use herd_frozen::Frozen;
+use herd_lineage::Lineage;
 use std::alloc::Allocator;
 
 /// Nothing is lost in halves: from unit 2^-k on, where k is the sum of the two depths, half the unit doubles the entry.
-pub fn unit<A: Allocator>(frozen: &Frozen<A>, x: u32, y: u32)
-    requires first { x < length frozen.now }
-    requires second { y < length frozen.now }
-    ensures { KeepsHalves frozen.now (number_of_row frozen.now x) (number_of_row frozen.now y) }
+pub fn unit<A: Allocator>(lineage: &Lineage<A>, x: u32, y: u32)
+    requires first { x < length lineage.now }
+    requires second { y < length lineage.now }
+    ensures { KeepsHalves (ranked lineage.now) (depth_at lineage.now x + depth_at lineage.now y) x y }
 {
-    prove!(x < frozen.len());
+    prove!(x < lineage.len());
 }
 
 /// Entries are below 2, coefficients below 1, and Mendelian sampling variances above 0 and at most 1.
-pub fn bound<A: Allocator>(frozen: &Frozen<A>, x: u32, y: u32)
-    requires first { x < length frozen.now }
-    requires second { y < length frozen.now }
-    ensures { IsBounded DEPTH_LIMIT frozen.now (number_of_row frozen.now x) (number_of_row frozen.now y) }
+pub fn bound<A: Allocator>(lineage: &Lineage<A>, x: u32, y: u32)
+    requires first { x < length lineage.now }
+    requires second { y < length lineage.now }
+    ensures { IsBounded (ranked lineage.now) DEPTH_LIMIT x y }
 {
-    prove!(x < frozen.len());
+    prove!(x < lineage.len());
 }
 
 /// A = T D T': the matrix is the shares and the Mendelian sampling variances multiplied (Henderson 1976).
-pub fn decomposition<A: Allocator>(frozen: &Frozen<A>, x: u32, y: u32)
-    requires first { x < length frozen.now }
-    requires second { y < length frozen.now }
-    ensures { IsDecomposed DEPTH_LIMIT frozen.now (number_of_row frozen.now x) (number_of_row frozen.now y) }
+pub fn decomposition<A: Allocator>(lineage: &Lineage<A>, x: u32, y: u32)
+    requires first { x < length lineage.now }
+    requires second { y < length lineage.now }
+    ensures { IsDecomposed (ranked lineage.now) DEPTH_LIMIT (Some x) (Some y) }
 {
-    prove!(x < frozen.len());
+    prove!(x < lineage.len());
 }
 
 /// The rows by which the inverse is made diagonalise A (Henderson 1976). From this it follows that the contributions
 /// add up to its inverse; the sum itself isn't formed or proved.
-pub fn inverse_rows<A: Allocator>(frozen: &Frozen<A>, x: u32, y: u32)
-    requires first { x < length frozen.now }
-    requires second { y < length frozen.now }
-    ensures { IsDiagonalised DEPTH_LIMIT frozen.now (number_of_row frozen.now x) (number_of_row frozen.now y) }
+pub fn inverse_rows<A: Allocator>(lineage: &Lineage<A>, x: u32, y: u32)
+    requires first { x < length lineage.now }
+    requires second { y < length lineage.now }
+    ensures { IsDiagonalised (ranked lineage.now) DEPTH_LIMIT x y }
 {
-    prove!(x < frozen.len());
+    prove!(x < lineage.len());
 }
 
 /// The relationships of an animal s with all others are passed on from parents to offspring: with j by half of those
 /// with j's parents, and what s has of j's Mendelian sampling variance (Colleau 2002).
-pub fn column<A: Allocator>(frozen: &Frozen<A>, s: u32, j: u32)
-    requires first { s < length frozen.now }
-    requires second { j < length frozen.now }
-    ensures { IsColumn DEPTH_LIMIT frozen.now s j }
+pub fn column<A: Allocator>(lineage: &Lineage<A>, s: u32, j: u32)
+    requires first { s < length lineage.now }
+    requires second { j < length lineage.now }
+    ensures { IsColumn DEPTH_LIMIT lineage.now s j }
 {
-    prove!(s < frozen.len());
+    prove!(s < lineage.len());
 }

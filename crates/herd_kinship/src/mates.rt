@@ -1,18 +1,18 @@
 ghost use Rattle.std.specs.Prelude.{◌≡◌, ℕ, ◌+◌, ◌-◌, ◌*◌, ◌/◌, ◌<◌, ◌≤◌, ◌++◌, All, length, map, IfOk, OnErr, Some};
-ghost use Rattle.herd_frozen.specs.declared.TheConstants.{DEPTH_LIMIT};
+ghost use Rattle.herd_lineage.specs.declared.TheConstants.{DEPTH_LIMIT};
+ghost use Rattle.herd_lineage.specs.Lineage.{dam_rank};
 ghost use Rattle.herd_kinship.specs.CalfCoefficients.{GoesOnWith, IsReady, with_half};
 ghost use Rattle.herd_kinship.specs.CalfLinks.{AreCalvesOf, IsCalf, calves_of_sire};
 ghost use Rattle.herd_kinship.specs.Coefficients.{KnowsAncestors, coefficient_at};
 ghost use Rattle.herd_kinship.specs.Columns.{at_parent};
 ghost use Rattle.herd_kinship.specs.Pending.{mark};
-ghost use Rattle.herd_kinship.specs.Ranks.{dam_rank};
 
 use crate::calves::{CalfCoefficient, Calves, SireCalves};
 use crate::columns::{collect, mark_parent, relate, with_parent};
 use crate::pending::Pending;
 use crate::tracing::Tracing;
 use crate::variances::Variances;
-use herd_frozen::Frozen;
+use herd_lineage::Lineage;
 use std::alloc::{AllocError, Allocator};
 
 /// The mates of a sire and all their ancestors, and its relationships with them: scratch that is kept from one sire to
@@ -29,16 +29,16 @@ pub struct Mates<A: Allocator> {
 }
 
 impl<A: Allocator + Clone> Mates<A> {
-    /// Of no sire yet, for the animals of a frozen book: 44 bytes and two bits for each, the bits in words of 64. The
+    /// Of no sire yet, for the animals of a lineage: 44 bytes and two bits for each, the bits in words of 64. The
     /// only error is a growth of memory that is refused.
-    pub fn with_room<F: Allocator>(alloc: A, frozen: &Frozen<F>) -> Result<Mates<A>, AllocError>
-        ensures { IfOk result (IsReady frozen.now) }
+    pub fn with_room<F: Allocator>(alloc: A, lineage: &Lineage<F>) -> Result<Mates<A>, AllocError>
+        ensures { IfOk result (IsReady lineage.now) }
     {
-        let animals = frozen.len();
+        let animals = lineage.len();
         Ok(Mates {
             marked: Pending::with_room(alloc.clone()?, animals)?,
             tracing: Tracing::with_room(alloc.clone()?, animals)?,
-            variances: Variances::of(alloc.clone()?, frozen)?,
+            variances: Variances::of(alloc.clone()?, lineage)?,
             column: vec![in alloc.clone()?; 0u128; animals as usize]?,
             collected: Vec::with_capacity(alloc, animals as usize)?,
         })
@@ -50,24 +50,24 @@ impl<A: Allocator> Mates<A> {
     // dam is a calf's coefficient.
     fn relate_to<F: Allocator>(
         &mut self,
-        frozen: &Frozen<F>,
+        lineage: &Lineage<F>,
         calves: SireCalves<'_>,
         known: &[u128],
         sire: u32,
     )
-        requires ready { IsReady frozen.now self.old }
-        requires calves { calves ≡ calves_of_sire frozen.now sire }
-        requires known { KnowsAncestors DEPTH_LIMIT frozen.now known.now sire }
-        requires sire { sire < length frozen.now }
-        ensures ready { IsReady frozen.now self.new }
-        ensures halves { (calf : ℕ) → IsCalf frozen.now sire calf
-            → at_parent self.new.column.items (dam_rank frozen.now calf) / 2
-            ≡ coefficient_at DEPTH_LIMIT frozen.now calf }
+        requires ready { IsReady lineage.now self.old }
+        requires calves { calves ≡ calves_of_sire lineage.now sire }
+        requires known { KnowsAncestors DEPTH_LIMIT lineage.now known.now sire }
+        requires sire { sire < length lineage.now }
+        ensures ready { IsReady lineage.now self.new }
+        ensures halves { (calf : ℕ) → IsCalf lineage.now sire calf
+            → at_parent self.new.column.items (dam_rank lineage.now calf) / 2
+            ≡ coefficient_at DEPTH_LIMIT lineage.now calf }
     {
-        let last = frozen.len() - 1;
-        mark_mates(frozen, calves, last, &mut self.marked);
+        let last = lineage.len() - 1;
+        mark_mates(lineage, calves, last, &mut self.marked);
         collect(
-            frozen,
+            lineage,
             last,
             &mut self.marked,
             &mut self.collected,
@@ -76,7 +76,7 @@ impl<A: Allocator> Mates<A> {
         relate(
             &mut self.tracing,
             &mut self.variances,
-            frozen,
+            lineage,
             known,
             sire,
             &self.collected,
@@ -91,67 +91,67 @@ impl<A: Allocator> Mates<A> {
     /// it was, and the scratch as ready as before.
     pub fn append_calves<F: Allocator, C: Allocator, L: Allocator>(
         &mut self,
-        frozen: &Frozen<F>,
+        lineage: &Lineage<F>,
         calves: &Calves<C>,
         known: &[u128],
         sire: u32,
         list: &mut Vec<CalfCoefficient, L>,
     ) -> Result<(), AllocError>
-        requires ready { IsReady frozen.now self.old }
-        requires calves { AreCalvesOf frozen.now calves.now }
-        requires known { KnowsAncestors DEPTH_LIMIT frozen.now known.now sire }
-        requires sire { sire < length frozen.now }
-        ensures ready { IsReady frozen.now self.new }
-        ensures calves { IfOk result (λ _. GoesOnWith frozen.now (λ s. s ≡ sire)
-            (coefficient_at DEPTH_LIMIT frozen.now) list.old.items list.new.items) }
+        requires ready { IsReady lineage.now self.old }
+        requires calves { AreCalvesOf lineage.now calves.now }
+        requires known { KnowsAncestors DEPTH_LIMIT lineage.now known.now sire }
+        requires sire { sire < length lineage.now }
+        ensures ready { IsReady lineage.now self.new }
+        ensures calves { IfOk result (λ _. GoesOnWith lineage.now (λ s. s ≡ sire)
+            (coefficient_at DEPTH_LIMIT lineage.now) list.old.items list.new.items) }
         ensures err { OnErr result (list.new.items ≡ list.old.items) }
     {
-        let its_calves = calves.of_sire(frozen, sire);
+        let its_calves = calves.of_sire(lineage, sire);
         if its_calves.is_empty() {
             return Ok(());
         }
-        self.relate_to(frozen, its_calves, known, sire);
-        append_halves(frozen, calves.of_sire(frozen, sire), &self.column, list)
+        self.relate_to(lineage, its_calves, known, sire);
+        append_halves(lineage, calves.of_sire(lineage, sire), &self.column, list)
     }
 }
 
 // Marks the dams of calves by their distances from the last rank.
 fn mark_mates<F: Allocator, P: Allocator>(
-    frozen: &Frozen<F>,
+    lineage: &Lineage<F>,
     calves: SireCalves<'_>,
     last: u32,
     marked: &mut Pending<P>,
 )
-    requires calves { All (λ calf. calf < length frozen.now) calves }
-    requires last { last + 1 ≡ length frozen.now }
+    requires calves { All (λ calf. calf < length lineage.now) calves }
+    requires last { last + 1 ≡ length lineage.now }
     requires room { last < 64 * length marked.old.chunks.items }
     requires empty { (distance : ℕ) → mark marked.old.chunks.items distance ≡ 0 }
     ensures room { last < 64 * length marked.new.chunks.items }
     ensures near { (distance : ℕ) → mark marked.new.chunks.items distance ≡ 1 → distance ≤ last }
-    ensures mates { All (λ calf. (dam : ℕ) → dam_rank frozen.now calf ≡ Some dam
+    ensures mates { All (λ calf. (dam : ℕ) → dam_rank lineage.now calf ≡ Some dam
         → mark marked.new.chunks.items (last - dam) ≡ 1) calves.entry }
 {
     for calf in calves {
-        mark_parent(marked, last, frozen.parents(calf).dam);
+        mark_parent(marked, last, lineage.parents(calf).dam);
     }
 }
 
 // Appends calves, each with half the number that its dam has in the column. After refused memory the list is as it was.
 fn append_halves<F: Allocator, L: Allocator>(
-    frozen: &Frozen<F>,
+    lineage: &Lineage<F>,
     calves: SireCalves<'_>,
     column: &[u128],
     list: &mut Vec<CalfCoefficient, L>,
 ) -> Result<(), AllocError>
-    requires calves { All (λ calf. calf < length frozen.now) calves }
-    requires column { length column.now ≡ length frozen.now }
+    requires calves { All (λ calf. calf < length lineage.now) calves }
+    requires column { length column.now ≡ length lineage.now }
     ensures calves { IfOk result
-        (λ _. list.new.items ≡ list.old.items ++ map (with_half frozen.now column.now) calves.entry) }
+        (λ _. list.new.items ≡ list.old.items ++ map (with_half lineage.now column.now) calves.entry) }
     ensures err { OnErr result (list.new.items ≡ list.old.items) }
 {
     let before = list.len();
     for rank in calves {
-        let numerator = with_parent(column, frozen.parents(rank).dam) / 2;
+        let numerator = with_parent(column, lineage.parents(rank).dam) / 2;
         if let Err(refused) = list.push(CalfCoefficient { rank, numerator }) {
             list.truncate(before);
             return Err(refused.into());

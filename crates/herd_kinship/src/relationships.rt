@@ -1,5 +1,5 @@
 ghost use Rattle.std.specs.Prelude.{◌≡◌, ◌<◌, length, slice_index, IfOk};
-ghost use Rattle.herd_frozen.specs.declared.TheConstants.{DEPTH_LIMIT};
+ghost use Rattle.herd_lineage.specs.declared.TheConstants.{DEPTH_LIMIT};
 ghost use Rattle.herd_kinship.specs.Coefficients.{AreCoefficients};
 ghost use Rattle.herd_kinship.specs.Columns.{AreRelationships};
 
@@ -7,11 +7,11 @@ use crate::coefficients::Coefficients;
 use crate::columns::{pass_to, write_parts};
 use crate::tracing::Tracing;
 use crate::variances::Variances;
-use herd_frozen::Frozen;
+use herd_lineage::Lineage;
 use std::alloc::{AllocError, Allocator};
 use std::marker::Model;
 
-/// The relationships of one animal with all animals of a frozen book, by their ranks: a column of the numerator
+/// The relationships of one animal with all animals of a lineage, by their ranks: a column of the numerator
 /// relationship matrix.
 #[derive(Drop)]
 pub struct Relationships<A: Allocator> {
@@ -27,31 +27,31 @@ impl<A: Allocator> Model for Relationships<A> {
 }
 
 impl<A: Allocator + Clone> Relationships<A> {
-    /// The relationships of the animal at a rank, by one tracing and one pass over the book from the oldest on
+    /// The relationships of the animal at a rank, by one tracing and one pass over the lineage from the oldest on
     /// (Colleau 2002). The only error is a growth of memory that is refused.
     pub fn of<F: Allocator, C: Allocator>(
         alloc: A,
-        frozen: &Frozen<F>,
+        lineage: &Lineage<F>,
         coefficients: &Coefficients<C>,
         rank: u32,
     ) -> Result<Relationships<A>, AllocError>
-        requires rank { rank < length frozen.now }
-        requires coefficients { AreCoefficients DEPTH_LIMIT frozen.now coefficients.now }
-        ensures { IfOk result (AreRelationships DEPTH_LIMIT frozen.now rank) }
+        requires rank { rank < length lineage.now }
+        requires coefficients { AreCoefficients DEPTH_LIMIT lineage.now coefficients.now }
+        ensures { IfOk result (AreRelationships DEPTH_LIMIT lineage.now rank) }
     {
-        let mut column = vec![in alloc.clone()?; 0u128; frozen.len() as usize]?;
-        let mut tracing = Tracing::with_room(alloc.clone()?, frozen.len())?;
-        let mut variances = Variances::of(alloc, frozen)?;
+        let mut column = vec![in alloc.clone()?; 0u128; lineage.len() as usize]?;
+        let mut tracing = Tracing::with_room(alloc.clone()?, lineage.len())?;
+        let mut variances = Variances::of(alloc, lineage)?;
         write_parts(
             &mut tracing,
             &mut variances,
-            frozen,
+            lineage,
             coefficients.list(),
             rank,
             &mut column,
         );
-        for j in 0..frozen.len() {
-            pass_to(&mut column, frozen.parents(j), j);
+        for j in 0..lineage.len() {
+            pass_to(&mut column, lineage.parents(j), j);
         }
         Ok(Relationships { column })
     }

@@ -1,9 +1,8 @@
 ghost use Rattle.std.specs.Prelude.{◌≡◌, ℕ, ◌+◌, ◌*◌, ◌-◌, ◌/◌, ◌^◌, ◌<◌, ◌≤◌, length, min, IfOk, IfSome, IfNone, Some};
 ghost use Rattle.std.specs.Option.{ForSome};
-ghost use Rattle.herd_frozen.specs.declared.TheConstants.{DEPTH_LIMIT};
-ghost use Rattle.herd_frozen.specs.freezing.Frozen.{depth_at};
+ghost use Rattle.herd_lineage.specs.declared.TheConstants.{DEPTH_LIMIT};
+ghost use Rattle.herd_lineage.specs.Lineage.{depth_at};
 ghost use Rattle.herd_kinship.specs.Coefficients.{IsKnownParent, KnowsAncestors, own_relationship, quarter_of};
-ghost use Rattle.herd_kinship.specs.FrozenAncestry.{ancestry_of, number_of_row};
 ghost use Rattle.herd_kinship.specs.Ranks.{HasUnknownParent, ranked};
 ghost use Rattle.herd_kinship.specs.Shares.{share};
 ghost use Rattle.herd_kinship.specs.Table.{mendelian as mendelian_variance};
@@ -12,7 +11,7 @@ ghost use Rattle.herd_kinship.specs.Tracing.{given, GivesMark, HasRoom, IsIdle, 
 use crate::ONE;
 use crate::calves::sire_of_pair;
 use crate::pending::Pending;
-use herd_frozen::{Frozen, Parents};
+use herd_lineage::{Lineage, Parents};
 use std::alloc::{AllocError, Allocator};
 
 /// An ancestor that is met, and the share that the traced animal has of it, in the unit of their depths' difference.
@@ -56,43 +55,43 @@ impl<A: Allocator + Clone> Tracing<A> {
 
 impl<A: Allocator> Tracing<A> {
     /// Starts at the animal at a rank: nobody is met yet.
-    pub fn start<F: Allocator>(&mut self, frozen: &Frozen<F>, rank: u32)
-        requires rank { rank < length frozen.now }
+    pub fn start<F: Allocator>(&mut self, lineage: &Lineage<F>, rank: u32)
+        requires rank { rank < length lineage.now }
         requires idle { IsIdle (rank + 1) self.old }
         ensures rank { self.new.rank ≡ rank }
         ensures border { self.new.border ≡ rank + 1 }
         ensures shares { length self.new.shares.items ≡ length self.old.shares.items }
         ensures marks { length self.new.pending.chunks.items ≡ length self.old.pending.chunks.items }
-        ensures tracing { IsUnderWay DEPTH_LIMIT frozen.now self.new }
+        ensures tracing { IsUnderWay DEPTH_LIMIT lineage.now self.new }
     {
         self.rank = rank;
-        self.depth = frozen.parents(rank).depth;
+        self.depth = lineage.parents(rank).depth;
         self.border = rank + 1;
         self.shares[0] = 1;
         self.pending.insert(0);
     }
 
     /// Meets the next ancestor, and passes its share on to its parents.
-    pub fn meet_next<F: Allocator>(&mut self, frozen: &Frozen<F>) -> Option<Met>
-        requires { IsUnderWay DEPTH_LIMIT frozen.now self.old }
+    pub fn meet_next<F: Allocator>(&mut self, lineage: &Lineage<F>) -> Option<Met>
+        requires { IsUnderWay DEPTH_LIMIT lineage.now self.old }
         ensures same { self.new.rank ≡ self.old.rank }
         ensures shares { length self.new.shares.items ≡ length self.old.shares.items }
         ensures marks { length self.new.pending.chunks.items ≡ length self.old.pending.chunks.items }
-        ensures tracing { IsUnderWay DEPTH_LIMIT frozen.now self.new }
+        ensures tracing { IsUnderWay DEPTH_LIMIT lineage.now self.new }
         ensures next { IfSome result
-            (λ met. IsNext DEPTH_LIMIT frozen.now self.old.rank self.old.border met.rank met.share) }
-        ensures met { IfSome result (IsMetAs frozen.now self.old.rank) }
+            (λ met. IsNext DEPTH_LIMIT lineage.now self.old.rank self.old.border met.rank met.share) }
+        ensures met { IfSome result (IsMetAs lineage.now self.old.rank) }
         ensures border { IfSome result (λ met. self.new.border ≡ met.rank) }
         ensures ended { IfNone result (self.new.border ≡ 0) }
         ensures all { IfNone result
-            ((j : ℕ) → j < self.old.border → share (ranked frozen.now) DEPTH_LIMIT (Some self.old.rank) j ≡ 0) }
+            ((j : ℕ) → j < self.old.border → share (ranked lineage.now) DEPTH_LIMIT (Some self.old.rank) j ≡ 0) }
     {
         let Some(distance) = self.pending.take_nearest(self.rank) else {
             self.border = 0;
             return None;
         };
         let rank = self.rank - distance as u32;
-        let parents = frozen.parents(rank);
+        let parents = lineage.parents(rank);
         let share = self.shares[distance];
         let met = Met {
             rank,
@@ -102,16 +101,16 @@ impl<A: Allocator> Tracing<A> {
         };
         self.shares[distance] = 0;
         self.border = rank;
-        self.give(frozen, met, parents.sire);
-        self.give(frozen, met, parents.dam);
+        self.give(lineage, met, parents.sire);
+        self.give(lineage, met, parents.dam);
         Some(met)
     }
 
     // Gives half of an animal's share to its parent, in the parent's unit.
-    fn give<F: Allocator>(&mut self, frozen: &Frozen<F>, met: Met, parent: Option<u32>)
-        requires depth { met.depth ≡ depth_at frozen.now met.rank }
+    fn give<F: Allocator>(&mut self, lineage: &Lineage<F>, met: Met, parent: Option<u32>)
+        requires depth { met.depth ≡ depth_at lineage.now met.rank }
         requires room { ForSome parent
-            (HasRoom DEPTH_LIMIT frozen.now self.old.rank self.old.shares.items met.rank met.share) }
+            (HasRoom DEPTH_LIMIT lineage.now self.old.rank self.old.shares.items met.rank met.share) }
         requires marks { self.old.rank < 64 * length self.old.pending.chunks.items }
         requires ahead { 64 * self.old.pending.first ≤ self.old.rank - met.rank }
         ensures first { self.new.pending.first ≡ self.old.pending.first }
@@ -119,11 +118,11 @@ impl<A: Allocator> Tracing<A> {
         ensures depth { self.new.depth ≡ self.old.depth }
         ensures border { self.new.border ≡ self.old.border }
         ensures shares { self.new.shares.items
-            ≡ given frozen.now self.old.rank self.old.shares.items met.rank met.share parent }
+            ≡ given lineage.now self.old.rank self.old.shares.items met.rank met.share parent }
         ensures marks { GivesMark self.old.rank self.old.pending.chunks.items self.new.pending.chunks.items parent }
     {
         if let Some(rank) = parent {
-            let steps = met.depth - frozen.parents(rank).depth;
+            let steps = met.depth - lineage.parents(rank).depth;
             let distance = (self.rank - rank) as usize;
             let gift = met.share << (steps - 1);
             self.shares[distance] += gift;
@@ -159,14 +158,14 @@ fn variance_by(known: &[u128], parents: Parents) -> u128
 /// It is a whole number of units of 2^-120 of the additive variance: 1 less a quarter of each known parent's
 /// relationship with itself (Henderson 1976; Meuwissen and Luo 1992). So it is `ONE` of a founder, and never 0. Only
 /// the numerators of the animal's ancestors need be right in `known`.
-pub fn mendelian<F: Allocator>(frozen: &Frozen<F>, known: &[u128], rank: u32) -> u128
-    requires rank { rank < length frozen.now }
-    requires known { KnowsAncestors DEPTH_LIMIT frozen.now known.now rank }
-    ensures value { result ≡ mendelian_variance (ancestry_of frozen.now) DEPTH_LIMIT (number_of_row frozen.now rank) }
+pub fn mendelian<F: Allocator>(lineage: &Lineage<F>, known: &[u128], rank: u32) -> u128
+    requires rank { rank < length lineage.now }
+    requires known { KnowsAncestors DEPTH_LIMIT lineage.now known.now rank }
+    ensures value { result ≡ mendelian_variance (ranked lineage.now) DEPTH_LIMIT rank }
     ensures positive { 0 < result }
     ensures at_most_one { result ≤ 2 ^ (2 * DEPTH_LIMIT) }
 {
-    variance_by(known, frozen.parents(rank))
+    variance_by(known, lineage.parents(rank))
 }
 
 /// What an ancestor adds to a relationship: its Mendelian sampling variance times the two shares, which are in units
@@ -187,23 +186,23 @@ pub fn term(variance: u128, steps: u8, share: u64, other: u64) -> u128
 /// is refused; none is taken where a parent is unknown.
 pub fn trace<F: Allocator, A: Allocator + Clone>(
     alloc: A,
-    frozen: &Frozen<F>,
+    lineage: &Lineage<F>,
     known: &[u128],
     rank: u32,
 ) -> Result<u128, AllocError>
-    requires rank { rank < length frozen.now }
-    requires known { KnowsAncestors DEPTH_LIMIT frozen.now known.now rank }
-    ensures value { IfOk result (λ value. value ≡ own_relationship DEPTH_LIMIT frozen.now rank) }
-    ensures unknown { HasUnknownParent frozen.now rank → result ≡ Ok (2 ^ (2 * DEPTH_LIMIT)) }
+    requires rank { rank < length lineage.now }
+    requires known { KnowsAncestors DEPTH_LIMIT lineage.now known.now rank }
+    ensures value { IfOk result (λ value. value ≡ own_relationship DEPTH_LIMIT lineage.now rank) }
+    ensures unknown { HasUnknownParent lineage.now rank → result ≡ Ok (2 ^ (2 * DEPTH_LIMIT)) }
 {
-    if sire_of_pair(frozen.parents(rank)).is_none() {
+    if sire_of_pair(lineage.parents(rank)).is_none() {
         return Ok(ONE);
     }
     let mut tracing = Tracing::with_room(alloc, rank + 1)?;
-    tracing.start(frozen, rank);
+    tracing.start(lineage, rank);
     let mut sum = 0;
-    while let Some(met) = tracing.meet_next(frozen) {
-        let variance = mendelian(frozen, known, met.rank);
+    while let Some(met) = tracing.meet_next(lineage) {
+        let variance = mendelian(lineage, known, met.rank);
         sum += term(variance, 2 * met.steps, met.share, met.share);
     }
     Ok(sum)

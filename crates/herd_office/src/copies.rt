@@ -11,7 +11,7 @@ use core::mem;
 use herd_register::Change;
 use left_right::reader::Reader;
 use left_right::writer::Writer;
-use std::alloc::Global;
+use std::alloc::{AllocError, Global};
 use std::sync::Wait;
 
 /// Who changes the copies and shows them: it lies under the office's lock, since there is one for all desks.
@@ -24,11 +24,17 @@ pub type Seat = Reader<Shown, View, Ours>;
 pub struct Held<R: Wait + Drop> {
     pub writer: Copies,
     rt: R,
+    // For how many records there is room in both copies.
+    room: usize,
 }
 
 impl<R: Wait + Drop> Drop for Held<R> {
     fn drop(self) {
-        let Self { writer, rt } = self;
+        let Self {
+            writer,
+            rt,
+            room: _,
+        } = self;
         drop(writer.take(&rt));
     }
 }
@@ -38,13 +44,48 @@ impl<R: Wait + Drop> Held<R> {
     pub fn new(rt: R, writer: Copies) -> Held<R>
         ensures { result.writer ≡ writer }
     {
-        Held { writer, rt }
+        Held {
+            writer,
+            rt,
+            room: 0,
+        }
     }
 
     /// Frees both copies, and waits by this handle for readers that are in one.
     pub fn free<W: Wait>(self, rt: &W) {
-        let Held { writer, rt: _own } = self;
+        let Held {
+            writer,
+            rt: _own,
+            room: _,
+        } = self;
         drop(writer.take(rt));
+    }
+
+    /// Sees that both copies have room for a record more, so that they take no memory for it once a step is stored.
+    /// Readers see what they saw. The only error is a growth of memory that is refused.
+    pub fn make_room<W: Wait>(&mut self, rt: &W) -> Result<(), AllocError>
+        requires { pending self.old.writer ≡ [] }
+        ensures published { published self.new.writer ≡ published self.old.writer }
+        ensures pending { pending self.new.writer ≡ [] }
+    {
+        if self.has_room() {
+            return Ok(());
+        }
+        // Each publish shows the other copy.
+        let first = room_of_next(rt, &mut self.writer)?;
+        let second = room_of_next(rt, &mut self.writer)?;
+        self.room = first.min(second);
+        if self.has_room() {
+            Ok(())
+        } else {
+            Err(AllocError)
+        }
+    }
+
+    // Whether both copies have room for a record more, or the limits allow none.
+    fn has_room(&self) -> bool {
+        let copybook = &self.writer.published().copybook;
+        copybook.is_full() || copybook.records().len() < self.room
     }
 }
 
@@ -69,18 +110,37 @@ pub fn make_copies<R: Wait>(
     Ok(publish(copies, rt).0)
 }
 
+// Has the copy that isn't shown make room, and shows it. For how many records it then has room.
+fn room_of_next<R: Wait>(rt: &R, copies: &mut Copies) -> Result<usize, AllocError>
+    requires { pending copies.old ≡ [] }
+    ensures published { published copies.new ≡ published copies.old }
+    ensures pending { pending copies.new ≡ [] }
+{
+    copies.append(CopyUpdate::Room).map_err(|_| AllocError)?;
+    mem::replace_with(copies, rt, publish::<R>);
+    Ok(copies.published().copybook.room())
+}
+
 /// Shows readers a copy to which every appended update was applied. Nothing is told beside the copies: a pair is what
 /// `mem::replace_with` asks for.
+///
+/// An update fails only where a copy is refused memory for a record. Who appends one has made the room before
+/// (`Held::make_room`), so that the first try succeeds, by reading: no clause says so.
 pub fn publish<R: Wait>(copies: Copies, rt: &R) -> (Copies, ())
     requires office { office_of (after (published copies) (pending copies)).past ≡ office_of (published copies).past }
-    requires told { IsTold (after (published copies) (pending copies)) }
+    requires told { IsTold (published copies) → IsTold (after (published copies) (pending copies)) }
     ensures published { published result.0 ≡ after (published copies) (pending copies) }
     ensures pending { pending result.0 ≡ [] }
     ensures view { view result.0.desk.place ≡ Some (office_of (published result.0).past) }
 {
-    // No update of the copies fails.
-    let (copies, _) = copies.publish_as::<Publishes, R>(rt);
-    (copies, ())
+    let mut held = copies;
+    for _ in rt.forever() {
+        match held.publish_as::<Publishes, R>(rt) {
+            (shown, Ok(())) => return (shown, ()),
+            (unshown, Err(_)) => held = unshown,
+        }
+    }
+    unreachable!()
 }
 
 /// Publishes the change that is pending, with the history that has its step.

@@ -68,6 +68,7 @@ fn file_claimed<N: OfficeName, W: Wait, R: Wait + Drop, A: Allocator + Copy>(
         keeper,
         copies,
     } = inside;
+    copies.make_room(rt)?;
     let steps = register.journal().len();
     let (step, change) = file_in(register, &mut copies.writer, desk.number, &command)?;
     keeper.add(&step);

@@ -14,10 +14,11 @@
 //! `Inside` has the register, the total of answered calls, the keeper of the history, and the writer of the readers'
 //! copies. Whoever gets the lock finds that the total is the length of the journal, that the records published last are
 //! those of the journal, and that nothing is pending. One event of the office is one call of `file_on` under the lock:
-//! the journal's end is asked, the step that follows is claimed, the register files the command, what the step made of
-//! the records is appended for the copies, the step is added to the history, both are published, and the call is
-//! counted. What may be refused comes before the history grows: where the append of the change is refused, the step is
-//! withdrawn. Only the append of the grown history comes after, and it has its room (no clause says so).
+//! the journal's end is asked, the step that follows is claimed, both copies make room for a record more, the register
+//! files the command, what the step made of the records is appended for the copies, the step is added to the history,
+//! both are published, and the call is counted. What may be refused comes before the history grows: where the append of
+//! the change is refused, the step is withdrawn. Only the append of the grown history and the growth of the copies come
+//! after, and they have their room (no clause says so).
 //!
 //! # One history
 //!

@@ -57,8 +57,8 @@ impl<R: Wait + Drop> OfficeParts<R> {
         ensures fault { IfErr result (λ fault. fault ≡ OpenFault.Memory) }
     {
         let opened = Opened::new(limits);
-        let first = Shown::new(alloc, limits, &opened.past)?;
-        let second = Shown::new(alloc, limits, &opened.past)?;
+        let first = Shown::new(alloc, limits, &opened.past);
+        let second = Shown::new(alloc, limits, &opened.past);
         let writer = make_copies(&rt, alloc, first, second, inspectors)?;
         Ok(OfficeParts {
             blank: Blank::new(u64::from(desks)),

@@ -10,20 +10,20 @@ use Rattle.std.proofs.lemmas.List.{get_or-drop, get_or-take, length-drop, length
 use Rattle.std.proofs.lemmas.List.FromFn.{get_or-range_with_len, length-range_with_len}
 use Rattle.std.proofs.lemmas.List.Kept.{AllPairs-filter}
 use Rattle.std.proofs.lemmas.List.Sums.{count_by-le-length, length-filter}
-use Rattle.herd_frozen.specs.declared.freezing.frozen.Row.{Row}
-use Rattle.herd_frozen.specs.freezing.Frozen.{IsFrozen, depth_at, level_of}
+use Rattle.herd_lineage.specs.declared.lineage.Parents.{Parents}
+use Rattle.herd_lineage.specs.Lineage.{IsLineage, depth_at, level_of}
 use Rattle.herd_kinship.specs.Coefficients.{KnowsAncestors, coefficient_at, own_relationship}
-use Rattle.herd_kinship.proofs.lemmas.tracing.KnownFacts.{frozen-inbred_value, known-from_levels}
+use Rattle.herd_kinship.proofs.lemmas.tracing.KnownFacts.{lineage-inbred_value, known-from_levels}
 use Rattle.herd_pool.specs.Levels.{KnowsBelow, block_of}
-use Rattle.herd_frozen.proofs.lemmas.Contained.{filter-keeps}
+use Rattle.herd_lineage.proofs.lemmas.Contained.{filter-keeps}
 
--- a rank of the book, of this depth
-pub record IsRankOf (rows : List Row) (depth rank : ℕ) : Type 0 where
+-- a rank of the lineage, of this depth
+pub record IsRankOf (rows : List Parents) (depth rank : ℕ) : Type 0 where
   pub within : rank < length rows
   pub deep : depth_at rows rank ≡ depth
 
 -- a level has ranks of its depth
-level_of-ranks : (depth : ℕ) (rows : List Row) → All (IsRankOf rows depth) (level_of depth rows)
+level_of-ranks : (depth : ℕ) (rows : List Parents) → All (IsRankOf rows depth) (level_of depth rows)
 unfolding level_of
 level_of-ranks depth rows =
     let test = λ (rank : ℕ). depth_at rows rank == depth in
@@ -35,7 +35,7 @@ level_of-ranks depth rows =
     }
 
 -- and all of them
-pub level_of-has : (rows : List Row) (rank : ℕ) → rank < length rows → Contains (level_of (depth_at rows rank) rows) rank
+pub level_of-has : (rows : List Parents) (rank : ℕ) → rank < length rows → Contains (level_of (depth_at rows rank) rows) rank
 unfolding level_of
 level_of-has rows rank below =
     let all = range_with_len 0 (length rows) in
@@ -44,7 +44,7 @@ level_of-has rows rank below =
     let there : Contains all rank = subst (Contains all) at (Contains-get_or all rank 0 (omega arith)) in
     filter-keeps (λ p. depth_at rows p == depth_at rows rank) all rank there (eq-eqb _ _ refl)
 
-pub length-level_of : (depth : ℕ) (rows : List Row) → length (level_of depth rows) ≤ length rows
+pub length-level_of : (depth : ℕ) (rows : List Parents) → length (level_of depth rows) ≤ length rows
 unfolding level_of
 length-level_of depth rows =
     let test = λ (p : ℕ). depth_at rows p == depth in
@@ -52,7 +52,7 @@ length-level_of depth rows =
     omega (arith, length-filter test all, count_by-le-length test all, length-range_with_len 0 (length rows))
 
 -- a block of a level has ranks of its depth
-pub block_of-ranks : (rows : List Row) (depth len number : ℕ) (ranks : List ℕ) → ranks ≡ block_of len number (level_of depth rows) → All (IsRankOf rows depth) ranks
+pub block_of-ranks : (rows : List Parents) (depth len number : ℕ) (ranks : List ℕ) → ranks ≡ block_of len number (level_of depth rows) → All (IsRankOf rows depth) ranks
 block_of-ranks rows depth len number ranks is =
     All-same (IsRankOf rows depth) _ _ is (All-take (IsRankOf rows depth) len _ (All-drop (IsRankOf rows depth) (number * len) _ (level_of-ranks depth rows)))
 
@@ -64,8 +64,20 @@ pairs-part R n m xs pairs i j d before within =
     let at : (k : ℕ) → k < n → get_or (take n (drop m xs)) k d ≡ get_or xs (m + k) d = λ k low. get_or-take n (drop m xs) k d low ∙ get_or-drop m xs k d in
     rw (at i (omega arith), at j (omega arith)) (pairs (m + i) (m + j) d (omega (arith, before)) (omega arith))
 
+-- a level's first ranks go up
+pub level-ascending : (rows : List Parents) (depth n : ℕ) → AllPairs (λ rank later. rank < later) (take n (level_of depth rows))
+unfolding level_of
+level-ascending rows depth n =
+    let all = range_with_len 0 (length rows) in
+    let up : AllPairs (λ rank later. rank < later) all = λ i j d before within.
+    let long = length-range_with_len 0 (length rows) in
+    let first = get_or-range_with_len 0 (length rows) i d (omega arith) in
+    let second = get_or-range_with_len 0 (length rows) j d (omega arith) in
+    omega arith in
+    pairs-part (λ rank later. rank < later) n 0 (level_of depth rows) (AllPairs-filter (λ rank later. rank < later) (λ rank. depth_at rows rank == depth) all up)
+
 -- and they go up
-pub block_of-ascending : (rows : List Row) (depth len number : ℕ) (ranks : List ℕ) → ranks ≡ block_of len number (level_of depth rows) → AllPairs (λ rank later. rank < later) ranks
+pub block_of-ascending : (rows : List Parents) (depth len number : ℕ) (ranks : List ℕ) → ranks ≡ block_of len number (level_of depth rows) → AllPairs (λ rank later. rank < later) ranks
 unfolding level_of
 block_of-ascending rows depth len number ranks is =
     let all = range_with_len 0 (length rows) in
@@ -90,13 +102,13 @@ longer_than_block n len some more =
     omega (arith, times.1)
 
 -- the ancestors of an animal of the level are known
-pub ancestors_known : (l most : ℕ) (rows : List Row) (known : List ℕ) (depth rank : ℕ) → KnowsBelow l most rows known depth → IsRankOf rows depth rank → KnowsAncestors l rows known rank
+pub ancestors_known : (l most : ℕ) (rows : List Parents) (known : List ℕ) (depth rank : ℕ) → KnowsBelow l most rows known depth → IsRankOf rows depth rank → KnowsAncestors l rows known rank
 ancestors_known l most rows known depth rank knows at =
-    known-from_levels l most rows knows.frozen known rank at.within knows.each
+    known-from_levels l most rows knows.lineage known rank at.within knows.each
     (λ p low less. let deep = at.deep in knows.right p low (omega arith))
 
 -- the relationship of an animal with itself, less the whole and below 1, is its coefficient
-pub inbred-entry : (l most : ℕ) (rows : List Row) (rank value : ℕ) → IsFrozen l most rows → rank < length rows
+pub inbred-entry : (l most : ℕ) (rows : List Parents) (rank value : ℕ) → IsLineage l most rows → rank < length rows
     → value ≡ own_relationship l rows rank
     → min (value - 2 ^ (2 * l)) (2 ^ (2 * l) - 1) ≡ coefficient_at l rows rank
-inbred-entry l most rows rank value frozen within is = rw is (frozen-inbred_value l most rows frozen rank within)
+inbred-entry l most rows rank value lineage within is = rw is (lineage-inbred_value l most rows lineage rank within)

@@ -5,4 +5,5 @@ pub mod Passes
 pub mod Writes
 -- the calves of a level's sires
 pub mod SireFacts
+pub mod CalfSums
 pub mod WorthFacts

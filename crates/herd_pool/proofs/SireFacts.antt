@@ -4,9 +4,9 @@ use Rattle.std.specs.Int.{div_ceil}
 use Rattle.std.specs.List.{All, AllPairs, count_by}
 use Rattle.std.proofs.lemmas.Bool.{cases_lt}
 use Rattle.std.proofs.lemmas.List.Elements.{All-weaker}
-use Rattle.herd_frozen.specs.declared.TheConstants.{DEPTH_LIMIT, MOST_ANIMALS}
-use Rattle.herd_frozen.specs.declared.freezing.frozen.Row.{Row}
-use Rattle.herd_frozen.specs.freezing.Frozen.{depth_at, level_of}
+use Rattle.herd_lineage.specs.declared.TheConstants.{DEPTH_LIMIT, MOST_ANIMALS}
+use Rattle.herd_lineage.specs.declared.lineage.Parents.{Parents}
+use Rattle.herd_lineage.specs.Lineage.{depth_at, level_of}
 use Rattle.herd_kinship.specs.CalfCoefficients.{AreWritten, GoesOnWith, HaveValues, Keeps}
 use Rattle.herd_kinship.specs.CalfLinks.{IsCalf}
 use Rattle.herd_kinship.specs.Coefficients.{IsLessDeep, coefficient_at}
@@ -15,7 +15,7 @@ use Rattle.herd_kinship.specs.declared.calves.Calves.{Calves}
 use Rattle.herd_kinship.proofs.lemmas.sires.BySires.{less_deep-next, reached-more}
 use Rattle.herd_kinship.proofs.lemmas.sires.CalfFacts.{calf-within}
 use Rattle.herd_kinship.proofs.lemmas.sires.CalfListFacts.{calves-more, calves-none, calves-values, calves-within, calves-written}
-use Rattle.herd_kinship.proofs.lemmas.books.FrozenFacts.{frozen-ranked}
+use Rattle.herd_kinship.proofs.lemmas.lineages.LineageFacts.{lineage-ranked}
 use Rattle.herd_pool.specs.Blocks.{once_below}
 use Rattle.herd_pool.specs.Levels.{block_of}
 use Rattle.herd_pool.specs.Sires.{AreCalvesAmong, HasCalvesOf, IsAmong, KnowsCalvesBelow}
@@ -24,11 +24,11 @@ use Rattle.herd_pool.specs.declared.work.ComputedBlock.{ComputedBlock}
 use Rattle.herd_pool.proofs.Writes.{in_level}
 
 -- before the first sire there are no calves
-pub calves_at_first : (l : ℕ) (rows : List Row) (ranks : List ℕ) → AreCalvesAmong l rows ranks 0 []
+pub calves_at_first : (l : ℕ) (rows : List Parents) (ranks : List ℕ) → AreCalvesAmong l rows ranks 0 []
 calves_at_first l rows ranks = calves-none rows (IsAmong ranks 0) (coefficient_at l rows) (λ s x is calf. absurd (omega (arith, is.1)))
 
 -- the calves of one sire more
-pub calves_further : (l : ℕ) (rows : List Row) (ranks : List ℕ) (i : ℕ) (old new : List CalfCoefficient) → AllPairs (λ rank later. rank < later) ranks → i < length ranks → AreCalvesAmong l rows ranks i old → GoesOnWith rows (λ s. s ≡ slice_index ranks i) (coefficient_at l rows) old new → AreCalvesAmong l rows ranks (i + 1) new
+pub calves_further : (l : ℕ) (rows : List Parents) (ranks : List ℕ) (i : ℕ) (old new : List CalfCoefficient) → AllPairs (λ rank later. rank < later) ranks → i < length ranks → AreCalvesAmong l rows ranks i old → GoesOnWith rows (λ s. s ≡ slice_index ranks i) (coefficient_at l rows) old new → AreCalvesAmong l rows ranks (i + 1) new
 calves_further l rows ranks i old new ascending within was on =
     calves-more rows (IsAmong ranks i) (λ s. s ≡ slice_index ranks i) (IsAmong ranks (i + 1)) (coefficient_at l rows) old new
     (λ s is. (is.0, omega (arith, is.1), is.2))
@@ -37,8 +37,8 @@ calves_further l rows ranks i old new ascending within was on =
     (λ s before at. let lower : slice_index ranks before.0 < slice_index ranks i = ascending before.0 i 0 before.1 within in let is = before.2 in absurd (omega (arith, lower, is, at)))
     was on
 
--- the blocks of a level have ranks of the book
-pub blocks_within : {A : Type 0} (l : ℕ) (rows : List Row) (depth len : ℕ) (blocks : List (ComputedBlock (Vec CalfCoefficient A)))
+-- the blocks of a level have ranks of the lineage
+pub blocks_within : {A : Type 0} (l : ℕ) (rows : List Parents) (depth len : ℕ) (blocks : List (ComputedBlock (Vec CalfCoefficient A)))
     → All (λ block. HasCalvesOf l rows depth len block.number block.output.items) blocks
     → All (λ block. All (λ calf. calf.rank < length rows) block.output.items) blocks
 blocks_within {A = A} l rows depth len blocks all =
@@ -48,7 +48,7 @@ blocks_within {A = A} l rows depth len blocks all =
     (λ b has. let ranks = block_of len b.number (level_of depth rows) in calves-within rows (IsAmong ranks (length ranks)) (coefficient_at l rows) b.output.items has) blocks all
 
 -- and their coefficients
-pub blocks_values : {A : Type 0} (l : ℕ) (rows : List Row) (depth len : ℕ) (blocks : List (ComputedBlock (Vec CalfCoefficient A)))
+pub blocks_values : {A : Type 0} (l : ℕ) (rows : List Parents) (depth len : ℕ) (blocks : List (ComputedBlock (Vec CalfCoefficient A)))
     → All (λ block. HasCalvesOf l rows depth len block.number block.output.items) blocks
     → All (λ block. HaveValues (coefficient_at l rows) block.output.items) blocks
 blocks_values {A = A} l rows depth len blocks all =
@@ -58,7 +58,7 @@ blocks_values {A = A} l rows depth len blocks all =
     (λ b has. let ranks = block_of len b.number (level_of depth rows) in calves-values rows (IsAmong ranks (length ranks)) (coefficient_at l rows) b.output.items has) blocks all
 
 -- where each block of a level is written, the calves of its sires are known too
-pub calves_known : {A C : Type 0} (l : ℕ) (rows : List Row) (calves : Calves C) (known new : List ℕ) (depth len : ℕ) (blocks : List (ComputedBlock (Vec CalfCoefficient A))) → 0 < len → length new ≡ length known → KnowsCalvesBelow l rows calves known depth
+pub calves_known : {A C : Type 0} (l : ℕ) (rows : List Parents) (calves : Calves C) (known new : List ℕ) (depth len : ℕ) (blocks : List (ComputedBlock (Vec CalfCoefficient A))) → 0 < len → length new ≡ length known → KnowsCalvesBelow l rows calves known depth
     → ((number : ℕ) → count_by (λ n. n == number) (numbers blocks) ≡ once_below number (div_ceil (length (level_of depth rows)) len))
     → All (λ block. HasCalvesOf l rows depth len block.number block.output.items) blocks
     → Keeps (coefficient_at l rows) known new → All (λ block. AreWritten (coefficient_at l rows) new block.output.items) blocks
@@ -74,7 +74,7 @@ calves_known {A = A} l rows calves known new depth len blocks some same knows ea
     let here = in_level (λ s. (x : ℕ) → IsCalf rows s x → slice_index new x ≡ f x) rows depth len blocks some each_once all in
     let mine : (s x : ℕ) → depth_at rows s ≡ depth → IsCalf rows s x → slice_index new x ≡ f x = λ s x deep is.
     let within : x < length rows = calf-within rows s x is in
-    let lower : s < x = (frozen-ranked DEPTH_LIMIT MOST_ANIMALS rows knows.linked.frozen).below x s within (inl is.0) in
+    let lower : s < x = (lineage-ranked DEPTH_LIMIT MOST_ANIMALS rows knows.linked.lineage).below x s within (inl is.0) in
     here s (omega arith) deep x is in
     record {
       linked = knows.linked;

@@ -8,14 +8,14 @@ use Rattle.std.proofs.lemmas.Grind.{div_ceil_times}
 use Rattle.std.proofs.lemmas.List.{get_or-drop, get_or-map, get_or-set_same, get_or-take, get_or_default, length-drop, length-take}
 use Rattle.std.proofs.lemmas.List.Elements.{All-from_get_or, All-more, All-weaker}
 use Rattle.std.proofs.lemmas.Nat.{div-add-mod', div_below}
-use Rattle.herd_frozen.specs.declared.freezing.frozen.Row.{Row}
-use Rattle.herd_frozen.specs.freezing.Frozen.{IsFrozen, depth_at, level_of}
+use Rattle.herd_lineage.specs.declared.lineage.Parents.{Parents}
+use Rattle.herd_lineage.specs.Lineage.{IsLineage, depth_at, level_of}
 use Rattle.herd_kinship.specs.CalfCoefficients.{Keeps}
 use Rattle.herd_kinship.specs.Coefficients.{AreCoefficients, coefficient_at}
-use Rattle.herd_kinship.proofs.lemmas.books.FrozenDepths.{depth-at_most}
+use Rattle.herd_kinship.proofs.lemmas.lineages.LineageFacts.{depth-at_most}
 use Rattle.herd_kinship.proofs.lemmas.Lists.{take-written}
 use Rattle.herd_kinship.proofs.lemmas.sires.CalfListFacts.{kept-stays, kept-then, set-kept}
-use Rattle.herd_kinship.proofs.lemmas.tracing.KnownFacts.{frozen-coefficient_bound}
+use Rattle.herd_kinship.proofs.lemmas.tracing.KnownFacts.{lineage-coefficient_bound}
 use Rattle.herd_pool.specs.Blocks.{once_below}
 use Rattle.herd_pool.specs.Levels.{HasAt, KnowsBelow, block_of}
 use Rattle.herd_pool.specs.Sires.{IsAmong}
@@ -93,7 +93,7 @@ once_within : (x n : ℕ) → x < n → once_below x n ≡ 1
 once_within x n below = grind (arith, nat_tests)
 
 -- what holds of the ranks of each block, where each comes once, holds of all animals of the level
-pub in_level : {O : Type 0} (P : ℕ → Type 0) (rows : List Row) (depth len : ℕ) (blocks : List (ComputedBlock O)) → 0 < len
+pub in_level : {O : Type 0} (P : ℕ → Type 0) (rows : List Parents) (depth len : ℕ) (blocks : List (ComputedBlock O)) → 0 < len
     → ((number : ℕ) → count_by (λ n. n == number) (numbers blocks) ≡ once_below number (div_ceil (length (level_of depth rows)) len))
     → All (λ block. let ranks = block_of len block.number (level_of depth rows) in (p : ℕ) → IsAmong ranks (length ranks) p → P p) blocks
     → (p : ℕ) → p < length rows → depth_at rows p ≡ depth → P p
@@ -108,7 +108,7 @@ in_level P rows depth len blocks some each_once all p low is =
     with_number (λ n. (q : ℕ) → IsAmong (block_of len n level) (length (block_of len n level)) q → P q) (i / len) blocks (omega arith) all p (in_block level len i p some found.1 found.2)
 
 -- where each block of a level is written, the level is known
-pub level_known : {O : Type 0} (l most : ℕ) (rows : List Row) (known new : List ℕ) (depth len : ℕ) (blocks : List (ComputedBlock O)) → 0 < len → length new ≡ length known → KnowsBelow l most rows known depth
+pub level_known : {O : Type 0} (l most : ℕ) (rows : List Parents) (known new : List ℕ) (depth len : ℕ) (blocks : List (ComputedBlock O)) → 0 < len → length new ≡ length known → KnowsBelow l most rows known depth
     → ((number : ℕ) → count_by (λ n. n == number) (numbers blocks) ≡ once_below number (div_ceil (length (level_of depth rows)) len))
     → Keeps (coefficient_at l rows) known new → All (HasBlock (coefficient_at l rows) len (level_of depth rows) new) blocks
     → KnowsBelow l most rows new (depth + 1)
@@ -119,7 +119,7 @@ level_known {O = O} l most rows known new depth len blocks some same knows each_
     let all : All Right blocks = All-weaker (HasBlock f len level new) Right (λ block has p at. ap (slice_index new) (sym at.2) ∙ has at.0 at.1 ∙ ap f at.2) blocks written in
     let here = in_level (λ p. slice_index new p ≡ f p) rows depth len blocks some each_once all in
     record {
-      frozen = knows.frozen;
+      lineage = knows.lineage;
       each = same ∙ knows.each;
       right = λ p low shallow.
           ⊎_elim (λ (less : depth_at rows p < depth). kept-stays f known new kept p (knows.right p low less))
@@ -138,17 +138,17 @@ level_written Knows f known lent new is same kept knows =
     (knows (omega arith) (subst (λ (xs : List ℕ). Keeps f xs new) is kept))
 
 -- where all levels are known, all coefficients are
-pub all_known : (l most : ℕ) (rows : List Row) (known : List ℕ) (depth : ℕ) → l < depth → KnowsBelow l most rows known depth → AreCoefficients l rows known
+pub all_known : (l most : ℕ) (rows : List Parents) (known : List ℕ) (depth : ℕ) → l < depth → KnowsBelow l most rows known depth → AreCoefficients l rows known
 all_known l most rows known depth beyond knows = record {
   each = knows.each;
-  right = λ rank low. let limit = depth-at_most l most rows knows.frozen rank low in knows.right rank low (omega arith);
+  right = λ rank low. let limit = depth-at_most l most rows knows.lineage rank low in knows.right rank low (omega arith);
 }
 
 -- and they are below 1
-pub known_below_one : (l most : ℕ) (rows : List Row) (known : List ℕ) → IsFrozen l most rows → AreCoefficients l rows known → All (λ n. n < 2 ^ (2 * l)) known
-known_below_one l most rows known frozen are =
+pub known_below_one : (l most : ℕ) (rows : List Parents) (known : List ℕ) → IsLineage l most rows → AreCoefficients l rows known → All (λ n. n < 2 ^ (2 * l)) known
+known_below_one l most rows known lineage are =
     All-from_get_or (λ n. n < 2 ^ (2 * l)) known 0 (λ rank low.
     let each = are.each in
     let within : rank < length rows = omega arith in
-    let bound = frozen-coefficient_bound l most rows frozen rank within in
+    let bound = lineage-coefficient_bound l most rows lineage rank within in
     omega (arith, are.right rank within, bound))

@@ -1,9 +1,9 @@
 //! What a caller may do where a block begins, and in place of tracing an animal.
 ghost use Rattle.std.specs.Prelude.{◌≡◌, ◌<◌, length, IfOk};
-ghost use Rattle.herd_frozen.specs.declared.TheConstants.{DEPTH_LIMIT};
+ghost use Rattle.herd_lineage.specs.declared.TheConstants.{DEPTH_LIMIT};
 ghost use Rattle.herd_kinship.specs.Coefficients.{KnowsAncestors, own_relationship};
 
-use herd_frozen::Frozen;
+use herd_lineage::Lineage;
 use std::alloc::{AllocError, Allocator};
 
 /// A caller's part in the pool.
@@ -24,15 +24,15 @@ pub trait Gate: Sync {
     fn trace<F: Allocator, A: Allocator + Clone>(
         &self,
         alloc: A,
-        frozen: &Frozen<F>,
+        lineage: &Lineage<F>,
         known: &[u128],
         rank: u32,
     ) -> Result<u128, AllocError>
-        requires rank { rank < length frozen.now }
-        requires known { KnowsAncestors DEPTH_LIMIT frozen.now known.now rank }
-        ensures { IfOk result (λ value. value ≡ own_relationship DEPTH_LIMIT frozen.now rank) }
+        requires rank { rank < length lineage.now }
+        requires known { KnowsAncestors DEPTH_LIMIT lineage.now known.now rank }
+        ensures { IfOk result (λ value. value ≡ own_relationship DEPTH_LIMIT lineage.now rank) }
     {
-        herd_kinship::trace(alloc, frozen, known, rank)
+        herd_kinship::trace(alloc, lineage, known, rank)
     }
 }
 

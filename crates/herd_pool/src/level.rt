@@ -1,15 +1,15 @@
-//! A level of the book and its blocks.
+//! A level of the lineage and its blocks.
 ghost use Rattle.std.specs.Prelude.{◌≡◌, ◌<◌, length};
 ghost use Rattle.std.specs.Int.{div_ceil};
-ghost use Rattle.herd_frozen.specs.freezing.Frozen.{level_of};
+ghost use Rattle.herd_lineage.specs.Lineage.{level_of};
 ghost use Rattle.herd_pool.specs.Levels.{block_of};
 
-use herd_frozen::Frozen;
+use herd_lineage::Lineage;
 use std::alloc::{AllocError, Allocator};
 
 /// The animals of a depth, cut into blocks.
 pub struct Level<'a, F: Allocator> {
-    pub frozen: &'a Frozen<F>,
+    pub lineage: &'a Lineage<F>,
     /// The steps of the longest path of parents of each of its animals.
     pub depth: u8,
     /// How many animals a block has. The last may have fewer.
@@ -32,17 +32,17 @@ impl<'a, F: Allocator> Copy for Level<'a, F> {}
 impl<'a, F: Allocator> Level<'a, F> {
     /// How many blocks there are.
     pub fn blocks(&self) -> u32
-        ensures { result ≡ div_ceil (length (level_of self.now.depth self.now.frozen.now)) self.now.block }
+        ensures { result ≡ div_ceil (length (level_of self.now.depth self.now.lineage.now)) self.now.block }
     {
-        let ranks = self.frozen.level(self.depth).len();
+        let ranks = self.lineage.level(self.depth).len();
         ranks.div_ceil(self.block as usize) as u32
     }
 
     /// The ranks of a block, ascending; none past the last block.
     pub fn ranks(&self, number: u32) -> &'a [u32]
-        ensures { result.now ≡ block_of self.now.block number (level_of self.now.depth self.now.frozen.now) }
+        ensures { result.now ≡ block_of self.now.block number (level_of self.now.depth self.now.lineage.now) }
     {
-        let ranks = self.frozen.level(self.depth);
+        let ranks = self.lineage.level(self.depth);
         let block = self.block as usize;
         let rest = &ranks[ranks.len().min(number as usize * block)..];
         &rest[..rest.len().min(block)]

@@ -1,7 +1,7 @@
-//! The coefficients of a frozen book, by a pool of threads over blocks of each level.
+//! The coefficients of a lineage, by a pool of threads over blocks of each level.
 //!
-//!     let frozen = register.pedigree().freeze(alloc)?;
-//!     let coefficients = herd_pool::coefficients_by_sires(&rt, alloc, &frozen, 4, DEFAULT_BLOCK)?;
+//!     let lineage = register.pedigree().freeze(alloc)?;
+//!     let coefficients = herd_pool::coefficients_by_sires(&rt, alloc, &lineage, 4, DEFAULT_BLOCK)?;
 //!
 //! The levels of depth are gone through from the founders up. There are two kinds of work on a level (`work`):
 //!

@@ -1,7 +1,7 @@
 //! The blocks of a level, written into the list of all numerators.
 ghost use Rattle.std.specs.Prelude.{◌≡◌, ℕ, ◌<◌, All, length, map};
-ghost use Rattle.herd_frozen.specs.freezing.Frozen.{level_of};
-ghost use Rattle.herd_frozen.specs.declared.TheConstants.{DEPTH_LIMIT};
+ghost use Rattle.herd_lineage.specs.Lineage.{level_of};
+ghost use Rattle.herd_lineage.specs.declared.TheConstants.{DEPTH_LIMIT};
 ghost use Rattle.herd_kinship.specs.CalfCoefficients.{AreWritten, HaveValues, Keeps};
 ghost use Rattle.herd_kinship.specs.Coefficients.{coefficient_at};
 ghost use Rattle.herd_pool.specs.Levels.{AreTraced, block_of, HasAt};
@@ -17,13 +17,13 @@ pub fn write_traced<F: Allocator, A: Allocator>(
     level: Level<'_, F>,
     blocks: &[ComputedBlock<Vec<u128, A>>],
 )
-    requires known { length known.old ≡ length level.frozen.now }
+    requires known { length known.old ≡ length level.lineage.now }
     requires traced { All
-        (λ block. AreTraced DEPTH_LIMIT level.frozen.now level.depth level.block block.number block.output.items)
+        (λ block. AreTraced DEPTH_LIMIT level.lineage.now level.depth level.block block.number block.output.items)
         blocks.now }
-    ensures kept { Keeps (coefficient_at DEPTH_LIMIT level.entry.frozen.now) known.old known.new }
-    ensures written { All (λ block. HasAt (coefficient_at DEPTH_LIMIT level.entry.frozen.now) known.new
-        (block_of level.entry.block block.number (level_of level.entry.depth level.entry.frozen.now))) blocks.now }
+    ensures kept { Keeps (coefficient_at DEPTH_LIMIT level.entry.lineage.now) known.old known.new }
+    ensures written { All (λ block. HasAt (coefficient_at DEPTH_LIMIT level.entry.lineage.now) known.new
+        (block_of level.entry.block block.number (level_of level.entry.depth level.entry.lineage.now))) blocks.now }
 {
     for block in blocks {
         write_block(known, level.ranks(block.number), &block.output);

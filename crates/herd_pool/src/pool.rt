@@ -1,5 +1,5 @@
 ghost use Rattle.std.specs.Prelude.{◌≡◌, ◌<◌, ◌≤◌, IfOk};
-ghost use Rattle.herd_frozen.specs.declared.TheConstants.{DEPTH_LIMIT};
+ghost use Rattle.herd_lineage.specs.declared.TheConstants.{DEPTH_LIMIT};
 ghost use Rattle.herd_kinship.specs.Coefficients.{AreCoefficients};
 ghost use Rattle.herd_pool.specs.Levels.{HasLongLevel};
 ghost use Rattle.herd_pool.specs.Sires.{HasLevelToShare};
@@ -13,13 +13,13 @@ use crate::merge::{write_calves_of, write_traced};
 use crate::pool_fault::PoolFault;
 use crate::sires::SireLevel;
 use crate::traced::TracedLevel;
-use herd_frozen::{DEPTH_LIMIT, Frozen};
 use herd_kinship::{Calves, Coefficients};
+use herd_lineage::{DEPTH_LIMIT, Lineage};
 use std::alloc::Allocator;
 use std::sync::Wait;
 use std::thread::Threads;
 
-/// The coefficients of a book, by this many workers, who take the blocks of each level from a queue.
+/// The coefficients of a lineage, by this many workers, who take the blocks of each level from a queue.
 ///
 /// They are the same as those of `herd_kinship::coefficients_plain`, whatever the number of workers and the length of a
 /// block; a block has `block` animals. One worker is the calling thread itself, and so it is for a level of one block.
@@ -33,20 +33,20 @@ pub fn coefficients<
 >(
     rt: &R,
     alloc: A,
-    frozen: &Frozen<F>,
+    lineage: &Lineage<F>,
     workers: u32,
     block: u32,
     gate: &G,
 ) -> Result<Coefficients<A>, PoolFault>
     requires workers { (1 ≤ workers) × (workers ≤ MOST_WORKERS) }
     requires block { 1 ≤ block }
-    ensures list { IfOk result (AreCoefficients DEPTH_LIMIT frozen.now) }
-    ensures no_thread { result ≡ Err PoolFault.NoThread → (1 < workers) × HasLongLevel frozen.now block }
+    ensures list { IfOk result (AreCoefficients DEPTH_LIMIT lineage.now) }
+    ensures no_thread { result ≡ Err PoolFault.NoThread → (1 < workers) × HasLongLevel lineage.now block }
 {
-    let mut known = vec![in alloc; 0u128; frozen.len() as usize]?;
+    let mut known = vec![in alloc; 0u128; lineage.len() as usize]?;
     for depth in 0..=DEPTH_LIMIT {
         let level = Level {
-            frozen,
+            lineage,
             depth,
             block,
         };
@@ -63,7 +63,7 @@ pub fn coefficients<
     Ok(Coefficients::from_list(known))
 }
 
-/// The coefficients of a book, sire by sire, by this many workers, who take the blocks of each level from a queue.
+/// The coefficients of a lineage, sire by sire, by this many workers, who take the blocks of each level from a queue.
 ///
 /// They are the same as those of `herd_kinship::coefficients_plain`, whatever the number of workers and the length of a
 /// block; a block has `block` animals, and who takes it goes through the sires among them. The calling thread is one of
@@ -78,21 +78,21 @@ pub fn coefficients_by_sires<
 >(
     rt: &R,
     alloc: A,
-    frozen: &Frozen<F>,
+    lineage: &Lineage<F>,
     workers: u32,
     block: u32,
 ) -> Result<Coefficients<A>, PoolFault>
     requires workers { (1 ≤ workers) × (workers ≤ MOST_WORKERS) }
     requires block { 1 ≤ block }
-    ensures list { IfOk result (AreCoefficients DEPTH_LIMIT frozen.now) }
-    ensures no_thread { result ≡ Err PoolFault.NoThread → HasLevelToShare frozen.now block workers }
+    ensures list { IfOk result (AreCoefficients DEPTH_LIMIT lineage.now) }
+    ensures no_thread { result ≡ Err PoolFault.NoThread → HasLevelToShare lineage.now block workers }
 {
-    let mut known = vec![in alloc; 0u128; frozen.len() as usize]?;
-    let calves = Calves::of(alloc, frozen)?;
+    let mut known = vec![in alloc; 0u128; lineage.len() as usize]?;
+    let calves = Calves::of(alloc, lineage)?;
     let mut idle = Vec::new(alloc);
     for depth in 0..=DEPTH_LIMIT {
         let level = Level {
-            frozen,
+            lineage,
             depth,
             block,
         };

@@ -23,8 +23,8 @@ impl<F: Allocator, A: Allocator> SireLevel<'_, '_, F, A> {
     /// How many of these workers the first blocks of the level, so many, are worth: at most one for each block in which
     /// a sire has calves, and at most one more than their calves divided by `CALVES_FOR_A_WORKER`.
     pub fn worth(&self, blocks: u32, workers: u32) -> u32
-        requires { AreCalvesOf self.now.level.frozen.now self.now.calves.now }
-        ensures { result ≡ worth_of self.now.level.frozen.now self.now.level.depth self.now.level.block blocks workers }
+        requires { AreCalvesOf self.now.level.lineage.now self.now.calves.now }
+        ensures { result ≡ worth_of self.now.level.lineage.now self.now.level.depth self.now.level.block blocks workers }
     {
         let mut busy = 0;
         let mut calves = 0;
@@ -41,19 +41,19 @@ impl<F: Allocator, A: Allocator> SireLevel<'_, '_, F, A> {
 
     // How many calves the sires of a block have.
     fn count_calves(&self, number: u32) -> u32
-        requires { AreCalvesOf self.now.level.frozen.now self.now.calves.now }
-        ensures { result ≡ calves_of self.now.level.frozen.now self.now.level.depth self.now.level.block number }
+        requires { AreCalvesOf self.now.level.lineage.now self.now.calves.now }
+        ensures { result ≡ calves_of self.now.level.lineage.now self.now.level.depth self.now.level.block number }
     {
         let mut calves = 0;
         for sire in self.level.ranks(number) {
-            calves += self.calves.count(self.level.frozen, *sire);
+            calves += self.calves.count(self.level.lineage, *sire);
         }
         calves
     }
 }
 
 impl<F: Allocator + Sync, A: Allocator + Copy + Send + Sync> Work<A> for SireLevel<'_, '_, F, A> {
-    ghost use Rattle.herd_frozen.specs.declared.TheConstants.{DEPTH_LIMIT};
+    ghost use Rattle.herd_lineage.specs.declared.TheConstants.{DEPTH_LIMIT};
     ghost use Rattle.herd_kinship.specs.CalfCoefficients.{IsReady};
     ghost use Rattle.herd_pool.specs.Sires.{HasCalvesOf, KnowsCalvesBelow};
 
@@ -62,16 +62,16 @@ impl<F: Allocator + Sync, A: Allocator + Copy + Send + Sync> Work<A> for SireLev
     /// The calves of a block's sires.
     type Output = Vec<CalfCoefficient, A>;
 
-    ghost knows = { λ sires. KnowsCalvesBelow DEPTH_LIMIT sires.level.frozen.now sires.calves.now sires.known.now
+    ghost knows = { λ sires. KnowsCalvesBelow DEPTH_LIMIT sires.level.lineage.now sires.calves.now sires.known.now
         sires.level.depth };
 
-    ghost is_ready = { λ sires mates. IsReady sires.level.frozen.now mates };
+    ghost is_ready = { λ sires mates. IsReady sires.level.lineage.now mates };
 
-    ghost is_computed = { λ sires block. HasCalvesOf DEPTH_LIMIT sires.level.frozen.now sires.level.depth
+    ghost is_computed = { λ sires block. HasCalvesOf DEPTH_LIMIT sires.level.lineage.now sires.level.depth
         sires.level.block block.number block.output.items };
 
     fn scratch(&self, alloc: A) -> Result<Mates<A>, AllocError> {
-        Mates::with_room(alloc, self.level.frozen)
+        Mates::with_room(alloc, self.level.lineage)
     }
 
     fn compute(
@@ -83,7 +83,7 @@ impl<F: Allocator + Sync, A: Allocator + Copy + Send + Sync> Work<A> for SireLev
         let mut output = Vec::new(alloc);
         for sire in self.level.ranks(number) {
             mates.append_calves(
-                self.level.frozen,
+                self.level.lineage,
                 self.calves,
                 self.known,
                 *sire,

@@ -17,7 +17,7 @@ pub struct TracedLevel<'a, 'k, F: Allocator, G> {
 
 impl<F: Allocator + Sync, G: Gate, A: Allocator + Copy + Send + Sync> Work<A>
     for TracedLevel<'_, '_, F, G> {
-    ghost use Rattle.herd_frozen.specs.declared.TheConstants.{DEPTH_LIMIT, MOST_ANIMALS};
+    ghost use Rattle.herd_lineage.specs.declared.TheConstants.{DEPTH_LIMIT, MOST_ANIMALS};
     ghost use Rattle.herd_pool.specs.Levels.{AreTraced, KnowsBelow};
 
     /// Nothing.
@@ -26,12 +26,12 @@ impl<F: Allocator + Sync, G: Gate, A: Allocator + Copy + Send + Sync> Work<A>
     /// The numerators of a block's animals, in the order of the ranks.
     type Output = Vec<u128, A>;
 
-    ghost knows = { λ traced. KnowsBelow DEPTH_LIMIT MOST_ANIMALS traced.level.frozen.now traced.known.now
+    ghost knows = { λ traced. KnowsBelow DEPTH_LIMIT MOST_ANIMALS traced.level.lineage.now traced.known.now
         traced.level.depth };
 
     ghost is_ready = { λ _ _. Unit {0} };
 
-    ghost is_computed = { λ traced block. AreTraced DEPTH_LIMIT traced.level.frozen.now traced.level.depth
+    ghost is_computed = { λ traced block. AreTraced DEPTH_LIMIT traced.level.lineage.now traced.level.depth
         traced.level.block block.number block.output.items };
 
     fn scratch(&self, _alloc: A) -> Result<(), AllocError> {
@@ -49,7 +49,7 @@ impl<F: Allocator + Sync, G: Gate, A: Allocator + Copy + Send + Sync> Work<A>
         for rank in self.level.ranks(number) {
             let value = self
                 .gate
-                .trace(alloc, self.level.frozen, self.known, *rank)?;
+                .trace(alloc, self.level.lineage, self.known, *rank)?;
             output.push(inbred(value))?;
         }
         Ok(ComputedBlock { number, output })

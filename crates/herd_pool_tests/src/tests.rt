@@ -7,10 +7,10 @@ ghost use Rattle.std.specs.Prelude.{◌≤◌};
 
 use drawn::{SHAPES, drawn};
 use gates::{AtAnimals, AtBlocks, Counts, OneRefused, OtherHeld, ThirdFirst};
+use herd_advice::{Coefficients, ONE, coefficients, coefficients_by_sires, coefficients_plain};
 use herd_fixtures::{Meeting, founders, generations};
 use herd_frozen::Frozen;
-use herd_kinship::{Coefficients, ONE, coefficients_plain};
-use herd_pool::*;
+use herd_pool::{NoGate, PoolFault};
 use std::alloc::Global;
 use std::process::Abort;
 use std::sync::Wait;

@@ -21,8 +21,7 @@ taken_over copybook change =
     then copybook_of copybook.limits (changed_by copybook.limits.animals copybook.book change) (copybook.steps + 1)
     else copybook
 
--- there are no more steps than the limits allow, and room for as many records
-pub record IsCopybook (copybook : Copybook) (capacity : ℕ) : Type 0 where
+-- there are no more steps than the limits allow
+pub record IsCopybook (copybook : Copybook) : Type 0 where
   pub limits : AreLimits copybook.limits
   pub within : copybook.steps ≤ copybook.limits.steps
-  pub room : copybook.limits.animals ≤ capacity

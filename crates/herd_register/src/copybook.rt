@@ -1,4 +1,4 @@
-ghost use Rattle.std.specs.Prelude.{◌≡◌, ◌≤◌, [], IfOk, List, vec_capacity};
+ghost use Rattle.std.specs.Prelude.{◌≡◌, ◌<◌, ◌≤◌, ◌↔◌, [], if◌then◌else◌, is_ok, length, IsOk, IsTrue, List, vec_capacity, vec_len};
 ghost use Rattle.herd_frozen.specs.rules.Lawful.{IsLawful};
 ghost use Rattle.herd_frozen.specs.declared.TheConstants.{DEPTH_LIMIT, MOST_ANIMALS};
 ghost use Rattle.herd_register.specs.Change.{changed_by};
@@ -13,7 +13,10 @@ use herd_frozen::Animal;
 use std::alloc::{AllocError, Allocator};
 use std::marker::Model;
 
-/// What readers see of a register: its records, with room for as many as the limits allow, and how many steps it has.
+// For how many records a copy makes room at first.
+const FIRST_ROOM: usize = 1024;
+
+/// What readers see of a register: its records, and how many steps it has.
 #[derive(Drop)]
 pub struct Copybook<A: Allocator> {
     limits: Limits,
@@ -22,32 +25,55 @@ pub struct Copybook<A: Allocator> {
 }
 
 impl<A: Allocator> Model for Copybook<A> {
-    ghost use Rattle.std.specs.Prelude.{vec_capacity};
     ghost use Rattle.herd_register.specs.Copybook.{Copybook, IsCopybook, copybook_of};
 
     ghost Value = { Copybook };
 
     ghost view = { λ c. copybook_of c.limits c.records.items c.steps };
 
-    ghost invariant = { λ c. IsCopybook (copybook_of c.limits c.records.items c.steps) (vec_capacity c.records) };
+    ghost invariant = { λ c. IsCopybook (copybook_of c.limits c.records.items c.steps) };
 }
 
 impl<A: Allocator> Copybook<A> {
-    /// A copy of a register in which nothing was filed. The only error is a growth of memory that is refused.
-    pub fn new(alloc: A, limits: Limits) -> Result<Self, AllocError>
-        ensures { IfOk result (λ copybook. copybook ≡ copybook_of limits [] 0) }
+    /// A copy of a register in which nothing was filed. It takes no memory.
+    pub fn new(alloc: A, limits: Limits) -> Self
+        ensures { result ≡ copybook_of limits [] 0 }
     {
-        let records = Vec::with_capacity(alloc, limits.animals as usize)?;
-        Ok(Copybook {
+        Copybook {
             limits,
-            records,
+            records: Vec::new(alloc),
             steps: 0,
-        })
+        }
     }
 
-    /// Takes over a step that made this change; a full copy takes none. It takes no memory.
-    pub fn take_over(&mut self, change: &Change)
-        ensures { self.new ≡ taken_over self.old change.now }
+    /// Makes room for as many records again, as far as the limits allow them. Where that growth is refused it has the
+    /// room that it had.
+    pub fn make_room(&mut self) -> Result<(), AllocError>
+        ensures { self.new ≡ self.old }
+    {
+        let count = self.records.len();
+        let rest = (self.limits.animals as usize).saturating_sub(count);
+        self.records.reserve_exact(count.max(FIRST_ROOM).min(rest))
+    }
+
+    /// For how many records it has room in all.
+    pub fn room(&self) -> usize
+        ensures { length self.now.book ≤ result }
+    {
+        self.records.capacity()
+    }
+
+    /// Whether it has as many records as the limits allow, and so takes over no more of them.
+    pub fn is_full(&self) -> bool
+        ensures { IsTrue result ↔ (self.now.limits.animals ≤ length self.now.book) }
+    {
+        self.limits.animals as usize <= self.records.len()
+    }
+
+    /// Takes over a step that made this change; a full copy takes none. It takes memory for a record more alone, and only
+    /// where the room that was made is used up. Where that is refused, the copy is as it was.
+    pub fn take_over(&mut self, change: &Change) -> Result<(), AllocError>
+        ensures { self.new ≡ (if is_ok result then taken_over self.old change.now else self.old) }
     {
         let Copybook {
             limits,
@@ -55,10 +81,11 @@ impl<A: Allocator> Copybook<A> {
             steps,
         } = self;
         if limits.are_reached_by(*steps as usize) {
-            return;
+            return Ok(());
         }
+        make(records, limits.animals, change)?;
         *steps += 1;
-        make(records, limits.animals, change);
+        Ok(())
     }
 
     /// How many steps were taken over.
@@ -79,17 +106,21 @@ impl<A: Allocator> Copybook<A> {
     }
 }
 
-// Makes a change of records that have room for so many.
-fn make<A: Allocator>(records: &mut Vec<(AnimalNumber, Animal), A>, most: u32, change: &Change)
-    requires { most ≤ vec_capacity records.old }
-    ensures items { records.new.items ≡ changed_by most records.old.items change.now }
-    ensures capacity { vec_capacity records.new ≡ vec_capacity records.old }
+// Makes a change of records, of which there may be so many.
+fn make<A: Allocator>(
+    records: &mut Vec<(AnimalNumber, Animal), A>,
+    most: u32,
+    change: &Change,
+) -> Result<(), AllocError>
+    ensures items { records.new.items ≡ (if is_ok result then changed_by most records.old.items change.now
+        else records.old.items) }
+    ensures room { vec_len records.old < vec_capacity records.old → IsOk result }
 {
     match *change {
         Change::Nothing => {}
         Change::Added(number, animal) => {
             if records.len() < most as usize {
-                records.push_reserved((number, animal));
+                records.push((number, animal))?;
             }
         }
         Change::Set(place, number, animal) => {
@@ -98,4 +129,5 @@ fn make<A: Allocator>(records: &mut Vec<(AnimalNumber, Animal), A>, most: u32, c
             }
         }
     }
+    Ok(())
 }

@@ -4,14 +4,14 @@ ghost use Rattle.herd_register.specs.declared.limits.TheConstants.{MOST_STEPS};
 use std::marker::Model;
 
 /// The number of steps that a journal may have.
-pub const MOST_STEPS: u32 = 1_000_000;
+pub const MOST_STEPS: u32 = 200_000_000;
 
 /// How large a register may grow.
 #[derive(Clone, Copy, Debug, PartialEq, Eq)]
 pub struct Limits {
-    /// The number of animals in the book, from 1 to 60,000.
+    /// The number of animals in the book, from 1 to `herd_frozen::MOST_ANIMALS`.
     pub animals: u32,
-    /// The number of steps in the journal, from 1 to 1,000,000.
+    /// The number of steps in the journal, from 1 to `MOST_STEPS`.
     pub steps: u32,
 }
 

@@ -10,7 +10,7 @@ use Rattle.herd_register.specs.Run.{answer, next, run_book, step_of}
 use Rattle.herd_register.specs.declared.command.Command.{Command}
 use Rattle.herd_register.specs.Limits.{Limits}
 use Rattle.herd_register.specs.declared.step.Step.{Step}
-use Rattle.herd_kinship.specs.FrozenAncestry.{ancestry_of}
+use Rattle.herd_advice.specs.FrozenAncestry.{ancestry_of}
 use Rattle.herd_kinship.specs.Table.{coefficient}
 use Rattle.herd_report.specs.writing.Certificate.{certificate_of}
 use Rattle.herd_report.specs.reading.CommandFile.{CommandFile, IsRead, IsReadUpTo, commands}

@@ -5,6 +5,9 @@ pub mod Replies
 pub mod CoefficientText
 pub mod CoefficientLine
 pub mod InbreedingList
+pub mod RecordLine
+pub mod RecordList
+pub mod Registered
 pub mod Ancestors
 pub mod Certificate
 pub mod MatingList

@@ -32,6 +32,8 @@
 //! | the ends of lines, made once for equal values | | `line_end` | |
 //! | the list of coefficients | `InbreedingList` | `inbreeding_list` | `CoefficientFacts` |
 //! | the line of one animal | `CoefficientLine` | `coefficient_line` | `CoefficientFacts` |
+//! | the record of an animal as a line | `RecordLine` | `record_line` | `RecordFacts` |
+//! | records, of some numbers or of all animals | `RecordList`, `Registered` | `record_list`, `registered` | `RecordFacts` |
 //! | certificates | `Certificate`, `Ancestors` | `certificate`, `ancestors` | `CertificateFacts`, `AncestorFacts` |
 //! | mating advice | `MatingList` | `mating_list` | `MatingFacts` |
 //! | the inverse of A | `InverseList` | `inverse_list` | `ContributionFacts` |
@@ -62,6 +64,7 @@ pub use writing::coefficient_line::write_coefficient;
 pub use writing::inbreeding_list::write_inbreeding;
 pub use writing::inverse_list::write_inverse;
 pub use writing::mating_list::write_mating;
+pub use writing::record_list::write_records;
 pub use writing::relationship_list::write_relationships;
 pub use writing::replies::write_replies;
 pub use writing::report_fault::ReportFault;

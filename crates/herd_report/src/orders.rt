@@ -1,6 +1,6 @@
 ghost use Rattle.std.specs.Prelude.{◌≡◌, ◌<◌, IfErr, IfOk, IfSome, List, OnOk, Option, ℕ};
 ghost use Rattle.herd_frozen.specs.declared.TheConstants.{DEPTH_LIMIT};
-ghost use Rattle.herd_kinship.specs.Coefficients.{AreCoefficients};
+ghost use Rattle.herd_advice.specs.BookCoefficients.{AreBookCoefficients};
 ghost use Rattle.herd_report.specs.reading.CommandFile.{commands};
 ghost use Rattle.herd_report.specs.Run.{AnswersIfKnown, CanEndBy, CanEndReplying, EndsIfKnown};
 ghost use Rattle.herd_report.specs.Run.{EndsReplying, EndsReporting, IsFrozenFile, IsReplied, IsReported};
@@ -16,9 +16,9 @@ use crate::writing::inverse_list::write_inverse;
 use crate::writing::mating_list::write_mating;
 use crate::writing::relationship_list::write_relationships;
 use crate::writing::replies::write_replies;
+use herd_advice::{Coefficients, coefficients_plain};
 use herd_animal::AnimalNumber;
 use herd_frozen::Frozen;
-use herd_kinship::{Coefficients, coefficients_plain};
 use herd_pool::PoolFault;
 use herd_register::{Limits, Register};
 use std::alloc::{AllocError, Global};
@@ -164,12 +164,12 @@ fn shared_coefficients<H: Threads + Wait + Sync>(
     frozen: &Frozen<Global>,
     plan: WorkPlan,
 ) -> Result<Coefficients<Global>, PoolFault>
-    ensures list { IfOk result (AreCoefficients DEPTH_LIMIT frozen.now) }
+    ensures list { IfOk result (AreBookCoefficients DEPTH_LIMIT frozen.now) }
     ensures fault { IfErr result (λ fault. fault ≡ PoolFault.NoThread → 1 < plan.workers) }
 {
     if plan.workers == 1 {
         Ok(coefficients_plain(alloc, frozen)?)
     } else {
-        herd_pool::coefficients_by_sires(rt, alloc, frozen, plan.workers, plan.block)
+        herd_advice::coefficients_by_sires(rt, alloc, frozen, plan.workers, plan.block)
     }
 }

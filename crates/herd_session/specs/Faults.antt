@@ -5,10 +5,8 @@ use Rattle.herd_office.specs.declared.faults.FreezeFault.TheVariants as freezing
 use Rattle.herd_register.specs.declared.file_fault.FileFault.{FileFault}
 use Rattle.herd_register.specs.declared.file_fault.FileFault.TheVariants as filing
 use Rattle.herd_report.specs.reading.LineCause.{cause_name}
-use Rattle.herd_report.specs.declared.writing.certificate_fault.CertificateFault.{CertificateFault}
-use Rattle.herd_report.specs.declared.writing.certificate_fault.CertificateFault.TheVariants as certificate
 use Rattle.herd_session.specs.declared.fault.Fault.{Fault as WhyNot}
-use Rattle.herd_session.specs.declared.fault.Fault.TheVariants.{Tag, Addressee, NoDesk, NoInspector, Fields, Question, NotRegistered, JournalFull, Memory, NoReading}
+use Rattle.herd_session.specs.declared.fault.Fault.TheVariants.{Tag, Addressee, NoDesk, NoInspector, Fields, Question, NotRegistered, TooLong, JournalFull, Memory, NoReading}
 
 -- the name that is printed
 abbrev pub fault_name : WhyNot → List ℕ
@@ -19,6 +17,7 @@ fault_name NoInspector = codes "NoInspector"
 fault_name (Fields cause) = cause_name cause
 fault_name Question = codes "Question"
 fault_name NotRegistered = codes "NotRegistered"
+fault_name TooLong = codes "TooLong"
 fault_name JournalFull = codes "JournalFull"
 fault_name Memory = codes "Memory"
 fault_name NoReading = codes "NoReading"
@@ -33,8 +32,3 @@ fault_of_filing filing.NoReading = NoReading
 abbrev pub fault_of_freezing : FreezeFault → WhyNot
 fault_of_freezing freezing.Memory = Memory
 fault_of_freezing freezing.NoReading = NoReading
-
--- the same for one of a report on one animal, which is written into memory
-abbrev pub fault_of_certificate : CertificateFault → WhyNot
-fault_of_certificate certificate.NotRegistered = NotRegistered
-fault_of_certificate (certificate.Report fault) = Memory

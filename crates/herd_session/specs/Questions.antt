@@ -6,7 +6,7 @@ use Rattle.herd_frozen.specs.rules.Book.{is_there}
 use Rattle.herd_frozen.specs.freezing.Frozen.{book_of}
 use Rattle.herd_frozen.specs.declared.TheConstants.{DEPTH_LIMIT}
 use Rattle.herd_frozen.specs.declared.freezing.frozen.Row.{Row}
-use Rattle.herd_kinship.specs.FrozenAncestry.{ancestry_of}
+use Rattle.herd_advice.specs.FrozenAncestry.{ancestry_of}
 use Rattle.herd_kinship.specs.Table.{coefficient}
 use Rattle.herd_report.specs.reading.Grammar.{Fields, field}
 use Rattle.herd_report.specs.writing.Certificate.{certificate_of}
@@ -15,11 +15,16 @@ use Rattle.herd_report.specs.writing.InbreedingList.{inbreeding_text}
 use Rattle.herd_report.specs.writing.InverseList.{inverse_text}
 use Rattle.herd_report.specs.writing.MatingList.{mating_text}
 use Rattle.herd_report.specs.writing.RelationshipList.{relationships_text}
+use Rattle.herd_report.specs.writing.Text.{AppendsFront}
 use Rattle.herd_report.specs.declared.reading.line_fault.LineCause.{LineCause}
 use Rattle.herd_report.specs.declared.reading.line_fault.LineCause.TheVariants as cause
+use Rattle.herd_report.specs.declared.writing.certificate_fault.CertificateFault.{CertificateFault}
+use Rattle.herd_report.specs.declared.writing.certificate_fault.CertificateFault.TheVariants as ending
+use Rattle.herd_report.specs.declared.writing.report_fault.ReportFault.TheVariants as report
 use Rattle.herd_session.specs.declared.fault.Fault.{Fault as WhyNot}
 use Rattle.herd_session.specs.declared.fault.Fault.TheVariants as fault
 use Rattle.herd_session.specs.declared.question.Question.{Question}
+use Rattle.herd_session.specs.declared.report_text.TheConstants.{LONGEST_REPORT}
 use Rattle.herd_session.specs.declared.question.Question.TheVariants.{Inbreeding, Inverse, Certificate, Mating, Relationships, Coefficient, Seen}
 use Rattle.herd_session.specs.declared.word.Word.{Word}
 use Rattle.herd_session.specs.declared.word.Word.TheVariants as word
@@ -106,9 +111,22 @@ text_of (Relationships numbers) rows = relationships_text (book_of rows) numbers
 text_of (Coefficient number) rows = coefficient_of rows number
 text_of Seen rows = []
 
--- why a question isn't answered from frozen rows: it is for one animal, which isn't in the book; or memory was refused
+-- a question is for one animal, which isn't in the book
+abbrev pub IsOfNobody : Question → List Row → Type 0
+IsOfNobody (Certificate number) rows = is_there (book_of rows) number ≡ false
+IsOfNobody (Coefficient number) rows = is_there (book_of rows) number ≡ false
+IsOfNobody other rows = ⊥
+
+-- how the writing of a question's answer may end early: the animal isn't there, a write failed before the text's end, or
+-- memory was refused
+abbrev pub EndsText : Question → List Row → Option (List ℕ) → Option (List ℕ) → CertificateFault → Type 0
+EndsText question rows old new ending.NotRegistered = IsOfNobody question rows
+EndsText question rows old new (ending.Report report.Write) = AppendsFront old new (text_of question rows)
+EndsText question rows old new (ending.Report report.Memory) = Unit {0}
+
+-- why a question isn't answered from frozen rows: the animal isn't there, the text is too long, or memory was refused
 abbrev pub CanBeUnanswered : Question → List Row → WhyNot → Type 0
-CanBeUnanswered (Certificate number) rows fault.NotRegistered = is_there (book_of rows) number ≡ false
-CanBeUnanswered (Coefficient number) rows fault.NotRegistered = is_there (book_of rows) number ≡ false
+CanBeUnanswered question rows fault.NotRegistered = IsOfNobody question rows
+CanBeUnanswered question rows fault.TooLong = LONGEST_REPORT < length (text_of question rows)
 CanBeUnanswered question rows fault.Memory = Unit {0}
 CanBeUnanswered question rows other = ⊥

@@ -1,5 +1,5 @@
 -- What a record asks for, and of whom.
-use Rattle.std.specs.Prelude.{◌≡◌, ◌≢◌, ◌⊎◌, ◌+◌, ◌<◌, ℕ, List, [], codes, decimal, slice_get, IfErr, IfOk, IfSome, Result, Ok, Err, Option, Some, option_map}
+use Rattle.std.specs.Prelude.{◌≡◌, ◌≢◌, ◌⊎◌, ◌+◌, ◌<◌, ℕ, List, [], codes, decimal, slice_get, IfErr, IfOk, IfSome, Result, Ok, Err, Option, Some, None, option_map}
 use Rattle.csv.specs.Reading.{default_config, records, strip_bom}
 use Rattle.herd_register.specs.declared.command.Command.{Command}
 use Rattle.herd_report.specs.reading.Grammar.{Fields, command_behind, field}
@@ -56,6 +56,11 @@ pub record IsAskedOfInspector (known : Option (List Fields)) (before inspector :
   pub number : field 2 fields ≡ decimal inspector
   pub asked : IfOk wanted (IsAskedIn fields)
   pub unread : IfErr wanted (CanBeUnread fields)
+
+-- the text of a tag, or nothing
+abbrev pub tag_text : Option (List ℕ) → List ℕ
+tag_text None = []
+tag_text (Some tag) = tag
 
 -- the tag of a record, or the empty one where it has none
 abbrev pub IsTagOf : Fields → List ℕ → Type 0

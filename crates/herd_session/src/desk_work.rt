@@ -8,7 +8,7 @@ ghost use Rattle.herd_session.specs.Filed.{HasFiledBelow};
 use crate::fault::Fault;
 use crate::hall::Hall;
 use crate::name::SessionName;
-use crate::queue::Outlet;
+use crate::queue::{Batch, Outlet};
 use crate::tasks::{DeskTask, Task};
 use herd_office::{Desk, Filed};
 use herd_register::Command;
@@ -36,12 +36,13 @@ pub(crate) fn work_at_desk<N: SessionName, H: Wait, R: Wait + Drop, W: Write>(
     requires { (desk.answered ≡ 0) × (desk.history ≡ []) }
 {
     let mut clerk = Clerk::new(desk);
-    let mut tasks = Vec::new(alloc);
+    let mut batch = Batch::new(alloc);
     for _ in rt.forever() {
-        if !queue.take(rt, &mut tasks) {
+        if !queue.take(rt, &mut batch) {
             break;
         }
-        clerk.answer_each(rt, hall, tasks.as_slice(), &queue)?;
+        clerk.answer_each(rt, hall, batch.tasks(), &queue)?;
+        hall.backlog.leave(rt, batch.empty());
     }
     Ok(clerk)
 }
@@ -80,9 +81,9 @@ impl<N: SessionName> Clerk<N> {
     ) -> Result<(), ReportFault> {
         let written = match self.file_wanted(rt, hall, task) {
             Ok(filed) => hall.output.lock(rt).reply(task, &filed, goes_on),
-            Err(fault) => hall.output.lock(rt).fault(task.tag(), fault),
+            Err(fault) => hall.output.lock(rt).fault(task.tag().text(), fault),
         };
-        hall.passed_on(written)
+        hall.passed_on(rt, written)
     }
 
     // Files the command of a task.

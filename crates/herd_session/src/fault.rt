@@ -1,17 +1,17 @@
 //! Why a request isn't answered.
 ghost use Rattle.std.specs.Prelude.{◌≡◌};
-ghost use Rattle.herd_session.specs.Faults.{fault_name, fault_of_certificate, fault_of_filing, fault_of_freezing};
+ghost use Rattle.herd_session.specs.Faults.{fault_name, fault_of_filing, fault_of_freezing};
 ghost use Rattle.herd_session.specs.declared.fault.Fault.TheVariants.{Fields, Memory};
 
 use herd_office::FreezeFault;
 use herd_register::FileFault;
-use herd_report::{CertificateFault, LineCause, ReportFault};
+use herd_report::LineCause;
 use std::alloc::{AllocError, AllocFailed};
 
 /// Why a request isn't answered. Nothing was filed then.
 #[derive(Clone, Copy, Debug, PartialEq, Eq, Drop)]
 pub enum Fault {
-    /// The tag isn't 1 to 20 letters and digits.
+    /// The tag isn't 1 to `LONGEST_TAG` letters, digits and hyphens, or it is `closed`.
     Tag,
     /// It is neither for a desk nor for an inspector.
     Addressee,
@@ -25,6 +25,8 @@ pub enum Fault {
     Question,
     /// The animal of a certificate or a coefficient isn't in the book.
     NotRegistered,
+    /// The report has more than `LONGEST_REPORT` bytes, without tags.
+    TooLong,
     /// The journal has as many steps as the limits allow.
     JournalFull,
     /// A growth of memory was refused.
@@ -46,6 +48,7 @@ impl Fault {
             Fault::Fields(cause) => cause.name(),
             Fault::Question => "Question",
             Fault::NotRegistered => "NotRegistered",
+            Fault::TooLong => "TooLong",
             Fault::JournalFull => "JournalFull",
             Fault::Memory => "Memory",
             Fault::NoReading => "NoReading",
@@ -80,26 +83,6 @@ impl From<FreezeFault> for Fault {
         match fault {
             FreezeFault::Memory => Fault::Memory,
             FreezeFault::NoReading => Fault::NoReading,
-        }
-    }
-}
-
-// A report is written into memory, so a write that fails is a want of memory.
-impl From<ReportFault> for Fault {
-    ghost from_gives = { λ _ told. told ≡ Memory };
-
-    fn from(_fault: ReportFault) -> Fault {
-        Fault::Memory
-    }
-}
-
-impl From<CertificateFault> for Fault {
-    ghost from_gives = { λ fault told. told ≡ fault_of_certificate fault };
-
-    fn from(fault: CertificateFault) -> Fault {
-        match fault {
-            CertificateFault::NotRegistered => Fault::NotRegistered,
-            CertificateFault::Report(fault) => Fault::from(fault),
         }
     }
 }

@@ -6,20 +6,23 @@ ghost use Rattle.herd_session.specs.Closing.{Ends};
 ghost use Rattle.herd_session.specs.Filed.{HasFiledInTurn};
 ghost use Rattle.herd_session.specs.Requests.{records_in};
 
+use crate::backlog::Backlog;
 use crate::closing::end;
 use crate::hall::Hall;
 use crate::intake::take_requests;
 use crate::name::SessionName;
 use crate::output::Output;
 use crate::plan::SessionPlan;
+use crate::queue::queue;
 use crate::session_fault::SessionFault;
-use crate::staff::{Queues, Staff, join_desks, join_inspectors, start_desks, start_inspectors};
+use crate::staff::{
+    Queues, Staff, join_desks, join_inspectors, start_desks, start_inspectors, start_on_faults,
+};
 use core::mem;
 use herd_office::{Office, OfficeParts};
 use std::alloc::Global;
 use std::io::{Read, Write};
 use std::marker::Brand;
-use std::sync::atomic::AtomicBool;
 use std::sync::{Mutex, Wait};
 use std::thread;
 use std::thread::{Scope, Threads};
@@ -107,7 +110,7 @@ fn held_under_name<
         office,
         told: Mutex::new(first.again()),
         output: Mutex::new(Output::new(alloc, writer, first)),
-        has_failed: AtomicBool::new(false),
+        backlog: Backlog::new(),
     };
     let worked = work(rt, alloc, &hall, staff, reader);
     let Hall { office, output, .. } = hall;
@@ -169,16 +172,20 @@ fn work_in<
         desks: Vec::with_capacity(alloc, desks.len())?,
         inspectors: Vec::with_capacity(alloc, inspectors.len())?,
     };
+    let (faults, told) = queue(alloc)?;
     let mut queues = Queues {
         desks: Vec::new(alloc),
         inspectors: Vec::new(alloc),
+        faults,
     };
+    let teller = start_on_faults(scope, rt, alloc, hall, told)?;
     let desks = start_desks(scope, rt, alloc, hall, desks, &mut queues)?;
     let inspectors = start_inspectors(scope, rt, alloc, hall, inspectors, &mut queues)?;
     let taken = take_requests(rt, alloc, hall, &queues, reader);
     drop(queues);
     join_desks(rt, desks, &mut back.desks)?;
     join_inspectors(rt, inspectors, &mut back.inspectors)?;
+    teller.join(rt)?;
     taken?;
     Ok(back)
 }

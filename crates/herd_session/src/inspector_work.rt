@@ -4,7 +4,7 @@ use crate::fault::Fault;
 use crate::hall::Hall;
 use crate::name::SessionName;
 use crate::observer::{Answer, Observer};
-use crate::queue::Outlet;
+use crate::queue::{Batch, Outlet};
 use crate::tasks::{InspectorTask, Task};
 use herd_office::Inspector;
 use herd_report::ReportFault;
@@ -24,12 +24,13 @@ pub(crate) fn work_as_inspector<N: SessionName, H: Wait, R: Wait + Drop, W: Writ
         inspector,
         kept: None,
     };
-    let mut tasks = Vec::new(alloc);
+    let mut batch = Batch::new(alloc);
     for _ in rt.forever() {
-        if !queue.take(rt, &mut tasks) {
+        if !queue.take(rt, &mut batch) {
             break;
         }
-        answer_each(rt, alloc, hall, &mut observer, tasks.as_slice())?;
+        answer_each(rt, alloc, hall, &mut observer, batch.tasks())?;
+        hall.backlog.leave(rt, batch.empty());
     }
     Ok(observer.inspector)
 }
@@ -58,9 +59,9 @@ fn answer_question<N: SessionName, H: Wait, R: Wait + Drop, W: Write>(
 ) -> Result<(), ReportFault> {
     let written = match answer(rt, alloc, hall, observer, task) {
         Ok(answer) => hall.output.lock(rt).answer(&answer),
-        Err(fault) => hall.output.lock(rt).fault(task.tag(), fault),
+        Err(fault) => hall.output.lock(rt).fault(task.tag().text(), fault),
     };
-    hall.passed_on(written)
+    hall.passed_on(rt, written)
 }
 
 // The answer to a task's question, from a history that begins with each that was answered before.

@@ -3,6 +3,8 @@ ghost use Rattle.std.specs.Prelude.{◌≡◌, ◌-◌, ◌<◌, ◌^◌};
 ghost use Rattle.csv.specs.Records.{fields_of};
 ghost use Rattle.herd_session.specs.Requests.{IsRecordAt, records_in};
 
+use crate::backlog::request_bytes;
+use crate::bounded_reader::{Allowance, BoundedReader};
 use crate::fault::Fault;
 use crate::hall::Hall;
 use crate::name::SessionName;
@@ -10,14 +12,16 @@ use crate::queue::{Inlet, Unsent};
 use crate::request::{Asked, Request, request_in};
 use crate::session_fault::SessionFault;
 use crate::staff::Queues;
-use crate::tasks::{DeskTask, InspectorTask, Task};
+use crate::tasks::{DeskTask, FaultTask, InspectorTask, Task};
 use csv::ByteRecord;
 use herd_report::{LineCause, LineFault, ReportFault, open_records, read_record};
 use std::alloc::Global;
 use std::io::{Read, Write};
 use std::marker::PhantomData;
 use std::sync::Wait;
-use std::sync::atomic::Ordering;
+
+// What a record of more bytes and fields took is given back.
+const LONG: usize = 65_536;
 
 /// Reads requests up to the end of the input, and hands each to whom it is for. It ends early at a request that it reads
 /// once a write has failed.
@@ -30,13 +34,36 @@ pub(crate) fn take_requests<N: SessionName, H: Wait, R: Wait + Drop, I: Read + D
 ) -> Result<(), SessionFault>
     requires { records_in (I.remaining reader) ≡ N.records }
 {
+    let allowance = Allowance::new();
+    let bounded = BoundedReader {
+        inner: reader,
+        allowance: &allowance,
+    };
+    take_each(rt, alloc, hall, queues, bounded, &allowance)
+}
+
+// The same, where a record has what is allowed at most.
+fn take_each<N: SessionName, H: Wait, R: Wait + Drop, I: Read + Drop, W: Write>(
+    rt: &H,
+    alloc: Global,
+    hall: &Hall<N, R, W>,
+    queues: &Queues<N>,
+    reader: I,
+    allowance: &Allowance,
+) -> Result<(), SessionFault>
+    requires { records_in (I.remaining reader) ≡ N.records }
+{
     let mut records = open_records(alloc, reader);
     let mut row = ByteRecord::new(alloc);
     for before in 0..u64::MAX {
+        allowance.renew();
         match read_record(&mut records, &mut row) {
             Ok(true) => hand_on(rt, alloc, hall, queues, before, &row)?,
             Ok(false) => break,
             Err(cause) => return Err(SessionFault::Line(fault_after(before, cause))),
+        }
+        if row.as_slice().len() > LONG || row.len() > LONG {
+            row = ByteRecord::new(alloc);
         }
     }
     Ok(())
@@ -48,8 +75,8 @@ fn fault_after(before: u64, cause: LineCause) -> LineFault {
     cause.at(number)
 }
 
-// Hands the request of a record to whom it is for, or tells why it is for nobody. None goes anywhere once a write has
-// failed.
+// Hands the request of a record to whom it is for, or to the thread that tells why it is for nobody, once there is room
+// for it. None goes anywhere once a write has failed.
 fn hand_on<N: SessionName, H: Wait, R: Wait + Drop, W: Write>(
     rt: &H,
     alloc: Global,
@@ -61,7 +88,8 @@ fn hand_on<N: SessionName, H: Wait, R: Wait + Drop, W: Write>(
     requires there { IsRecordAt N.records before (fields_of row.now) }
     requires few { before < 2 ^ 64 - 1 }
 {
-    if hall.has_failed.load(Ordering::SeqCst) {
+    let bytes = request_bytes(row);
+    if !hall.backlog.enter(rt, bytes) {
         return Err(ReportFault::Write);
     }
     let (desks, inspectors) = (queues.desks.as_slice(), queues.inspectors.as_slice());
@@ -75,7 +103,7 @@ fn hand_on<N: SessionName, H: Wait, R: Wait + Drop, W: Write>(
                 wanted,
                 of: PhantomData,
             };
-            send(rt, hall, &desks[place], task)
+            send(rt, hall, queues, &desks[place], task, bytes)
         }
         Request::Inspector(place, asked) => {
             let Asked { tag, wanted } = asked;
@@ -86,12 +114,16 @@ fn hand_on<N: SessionName, H: Wait, R: Wait + Drop, W: Write>(
                 wanted,
                 of: PhantomData,
             };
-            send(rt, hall, &inspectors[place], task)
+            send(rt, hall, queues, &inspectors[place], task, bytes)
         }
-        Request::Nobody(tag, fault) => match tag {
-            Some(tag) => hall.output.lock(rt).fault(tag.text(), fault),
-            None => hall.output.lock(rt).fault(&[], fault),
-        },
+        Request::Nobody(tag, fault) => {
+            let task = FaultTask {
+                tag,
+                fault,
+                of: PhantomData,
+            };
+            send_fault(rt, hall, queues, task, bytes)
+        }
     }
 }
 
@@ -99,12 +131,39 @@ fn hand_on<N: SessionName, H: Wait, R: Wait + Drop, W: Write>(
 fn send<N: SessionName, H: Wait, R: Wait + Drop, W: Write, T: Task<N>>(
     rt: &H,
     hall: &Hall<N, R, W>,
+    queues: &Queues<N>,
     queue: &Inlet<T>,
     task: T,
+    bytes: u64,
 ) -> Result<(), ReportFault> {
-    match queue.add(rt, task) {
+    match queue.add(rt, task, bytes) {
         Ok(()) => Ok(()),
         Err(Unsent::Left) => Err(ReportFault::Write),
-        Err(Unsent::Memory(task)) => hall.output.lock(rt).fault(task.tag(), Fault::Memory),
+        Err(Unsent::Memory(task)) => {
+            let refused = FaultTask {
+                tag: Some(task.tag()),
+                fault: Fault::Memory,
+                of: PhantomData,
+            };
+            send_fault(rt, hall, queues, refused, bytes)
+        }
+    }
+}
+
+// Puts a fault into the queue of faults. Where memory is refused even there, the reading thread waits until it is written.
+fn send_fault<N: SessionName, H: Wait, R: Wait + Drop, W: Write>(
+    rt: &H,
+    hall: &Hall<N, R, W>,
+    queues: &Queues<N>,
+    task: FaultTask<N>,
+    bytes: u64,
+) -> Result<(), ReportFault> {
+    match queues.faults.add(rt, task, bytes) {
+        Ok(()) => Ok(()),
+        Err(Unsent::Left) => Err(ReportFault::Write),
+        Err(Unsent::Memory(task)) => {
+            hall.backlog.leave(rt, bytes);
+            hall.tell(rt, &task)
+        }
     }
 }

@@ -14,8 +14,9 @@
 //!
 //! # Who waits for whom
 //!
-//! - The reading thread waits for its input, and for the writer's lock where it tells a fault. Where many tasks wait in
-//!   a queue it gives the thread that works them off a little time.
+//! - The reading thread waits for its input, and where requests of `MOST_WAITING` bytes wait until some are answered.
+//!   Where many tasks wait in a queue it gives the thread that works them off a little time. Where nobody is asked, a
+//!   thread with a queue of its own tells why.
 //! - A clerk waits for its queue, from which it takes all that wait, in the office for other clerks, and for the
 //!   writer. Where another task waits already, its reply is written with the next one's.
 //! - An inspector waits for its queue, for the lock of the longest history told, under which histories are only
@@ -26,9 +27,9 @@
 //! | | definition (`specs/`) | code (`src/`) | proof (`proofs/`) |
 //! |---|---|---|---|
 //! | requests | `Requests`, `Addressees`, `Tag` | `request`, `tag` | |
-//! | questions, the texts that answer them | `Questions` | `question`, `word`, `reading` | `FieldFacts` |
-//! | faults | `Faults` | `fault`, `session_fault` | |
-//! | reading requests, queues | `Requests` | `intake`, `queue`, `tasks`, `staff` | `IntakeFacts` |
+//! | questions, the texts that answer them | `Questions` | `question`, `word`, `reading`, `report_text` | `FieldFacts` |
+//! | faults | `Faults` | `fault`, `fault_work`, `session_fault` | |
+//! | reading requests, queues | `Requests` | `intake`, `bounded_reader`, `backlog`, `queue`, `tasks`, `staff` | `IntakeFacts` |
 //! | clerks | `Filed` | `desk_work` | `FiledFacts` |
 //! | inspectors | `Answers` | `inspector_work`, `observer` | `AskedFacts` |
 //! | answers, the writer | `Answers`, `Output` | `answers`, `pieces`, `output` | `AnswerFacts`, `PieceFacts` |
@@ -36,9 +37,12 @@
 #![tactic(auto)]
 
 mod answers;
+mod backlog;
+mod bounded_reader;
 mod closing;
 mod desk_work;
 mod fault;
+mod fault_work;
 mod hall;
 mod holding;
 mod inspector_work;
@@ -51,6 +55,7 @@ mod plan;
 mod question;
 mod queue;
 mod reading;
+mod report_text;
 mod request;
 mod session_fault;
 mod staff;
@@ -58,10 +63,13 @@ mod tag;
 mod tasks;
 mod word;
 
+pub use backlog::MOST_WAITING;
+pub use bounded_reader::LONGEST_RECORD;
 pub use fault::Fault;
 pub use holding::session;
 pub use plan::SessionPlan;
 pub use question::Question;
+pub use report_text::LONGEST_REPORT;
 pub use request::{Asked, Request, request_in};
 pub use session_fault::SessionFault;
 pub use tag::{LONGEST_TAG, Tag};

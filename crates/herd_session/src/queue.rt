@@ -28,10 +28,18 @@ pub(crate) struct Outlet<T: Drop> {
     begun: Receiver<()>,
 }
 
+/// Tasks that wait, or that were taken together.
+#[derive(Drop)]
+pub(crate) struct Batch<T> {
+    tasks: Vec<T>,
+    // what they count in the backlog
+    bytes: u64,
+}
+
 // What both ends share.
 #[derive(Drop)]
 struct Shared<T> {
-    waiting: Mutex<Vec<T>>,
+    waiting: Mutex<Batch<T>>,
     // how often all that waited was taken
     taken: AtomicU64,
 }
@@ -50,7 +58,7 @@ pub(crate) fn queue<T: Drop>(alloc: Global) -> Result<(Inlet<T>, Outlet<T>), All
     // A queue begins anew once it was emptied, so that one word at most is on its way.
     let (tell, begun) = bounded(alloc, 2)?;
     let shared = Shared {
-        waiting: Mutex::new(Vec::new(alloc)),
+        waiting: Mutex::new(Batch::new(alloc)),
         taken: AtomicU64::new(0),
     };
     let Ok(one) = Arc::new(alloc, shared) else {
@@ -69,14 +77,50 @@ pub(crate) fn queue<T: Drop>(alloc: Global) -> Result<(Inlet<T>, Outlet<T>), All
     ))
 }
 
-impl<T: Drop> Inlet<T> {
-    /// Adds a task. Where many wait it gives the other end a little time.
-    pub(crate) fn add<H: Wait>(&self, rt: &H, task: T) -> Result<(), Unsent<T>> {
-        let mut waiting = self.shared.waiting.lock(rt);
-        if let Err(refused) = waiting.push(task) {
-            return Err(Unsent::Memory(refused.value));
+impl<T: Drop> Batch<T> {
+    /// No tasks.
+    pub(crate) fn new(alloc: Global) -> Batch<T> {
+        Batch {
+            tasks: Vec::new(alloc),
+            bytes: 0,
         }
-        let count = waiting.len();
+    }
+
+    /// The tasks, the oldest first.
+    pub(crate) fn tasks(&self) -> &[T] {
+        self.tasks.as_slice()
+    }
+
+    /// Lets the tasks go, and tells what they count. Room that many took is given back.
+    pub(crate) fn empty(&mut self) -> u64 {
+        if self.tasks.capacity() > MANY {
+            self.tasks = Vec::new(*self.tasks.allocator());
+        } else {
+            self.tasks.clear();
+        }
+        mem::replace(&mut self.bytes, 0)
+    }
+
+    // Adds a task, or gives it back where a growth of memory is refused.
+    fn add(&mut self, task: T, bytes: u64) -> Result<usize, T> {
+        match self.tasks.push(task) {
+            Ok(()) => {
+                self.bytes = self.bytes.saturating_add(bytes);
+                Ok(self.tasks.len())
+            }
+            Err(refused) => Err(refused.value),
+        }
+    }
+}
+
+impl<T: Drop> Inlet<T> {
+    /// Adds a task that counts so many bytes. Where many wait it gives the other end a little time.
+    pub(crate) fn add<H: Wait>(&self, rt: &H, task: T, bytes: u64) -> Result<(), Unsent<T>> {
+        let mut waiting = self.shared.waiting.lock(rt);
+        let count = match waiting.add(task, bytes) {
+            Ok(count) => count,
+            Err(task) => return Err(Unsent::Memory(task)),
+        };
         let taken = self.shared.taken.load(Ordering::SeqCst);
         drop(waiting);
         if count == 1 && self.begun.send(rt, ()).is_err() {
@@ -93,15 +137,14 @@ impl<T: Drop> Inlet<T> {
 }
 
 impl<T: Drop> Outlet<T> {
-    /// Waits for tasks and takes all that wait, in place of those that a list has. False where none can be added.
-    pub(crate) fn take<H: Wait>(&self, rt: &H, tasks: &mut Vec<T>) -> bool {
-        tasks.clear();
+    /// Waits for tasks, and takes all that wait into an empty batch. False where none can be added.
+    pub(crate) fn take<H: Wait>(&self, rt: &H, batch: &mut Batch<T>) -> bool {
         if self.begun.recv(rt).is_err() {
             return false;
         }
-        mem::swap(&mut *self.shared.waiting.lock(rt), tasks);
+        mem::swap(&mut *self.shared.waiting.lock(rt), batch);
         self.shared.taken.fetch_add(1, Ordering::SeqCst);
-        if tasks.len() >= MANY {
+        if batch.tasks.len() >= MANY {
             self.shared.taken.wake_one();
         }
         true

@@ -1,22 +1,25 @@
 //! A frozen book that is kept for the questions to come.
-ghost use Rattle.std.specs.Prelude.{◌≡◌, IfErr, IfOk, IsTrue};
+ghost use Rattle.std.specs.Prelude.{◌≡◌, IfErr, IfOk, IsTrue, OnOk};
+ghost use Rattle.std.specs.Io.KnownBytes.{Appends};
 ghost use mathlib.Core.List.{IsPrefix};
 ghost use Rattle.herd_frozen.specs.freezing.Frozen.{IsFrozenFrom};
 ghost use Rattle.herd_frozen.specs.declared.TheConstants.{DEPTH_LIMIT, MOST_ANIMALS};
-ghost use Rattle.herd_kinship.specs.Coefficients.{AreCoefficients};
+ghost use Rattle.herd_advice.specs.BookCoefficients.{AreBookCoefficients};
 ghost use Rattle.herd_register.specs.Run.{commands_of, run_book};
-ghost use Rattle.herd_session.specs.Questions.{CanBeUnanswered, text_of};
+ghost use Rattle.herd_session.specs.Questions.{CanBeUnanswered, EndsText, text_of};
 
 use crate::fault::Fault;
 use crate::question::Question;
+use crate::report_text::ReportText;
+use herd_advice::{Coefficients, coefficients_plain};
 use herd_frozen::Frozen;
-use herd_kinship::{Coefficients, coefficients_plain};
 use herd_office::{Inspector, OfficeName, Slip};
 use herd_report::{
-    write_certificate, write_coefficient, write_inbreeding, write_inverse, write_mating,
-    write_relationships,
+    CertificateFault, ReportFault, write_certificate, write_coefficient, write_inbreeding,
+    write_inverse, write_mating, write_relationships,
 };
 use std::alloc::Global;
+use std::io::Write;
 
 /// A frozen book with its coefficients, and the history that it was made of.
 #[derive(Drop)]
@@ -26,7 +29,7 @@ pub(crate) struct Reading<N: OfficeName> {
     coefficients: Coefficients<Global>,
     pub ghost book: { ∥ IsFrozenFrom DEPTH_LIMIT MOST_ANIMALS (run_book N.limits (commands_of of.history))
         frozen ∥₁ },
-    pub ghost known: { AreCoefficients DEPTH_LIMIT frozen coefficients },
+    pub ghost known: { AreBookCoefficients DEPTH_LIMIT frozen coefficients },
 }
 
 impl<N: OfficeName> Reading<N> {
@@ -35,40 +38,50 @@ impl<N: OfficeName> Reading<N> {
         ensures text { IfOk result (λ text. text.items ≡ text_of question.now self.now.frozen) }
         ensures fault { IfErr result (CanBeUnanswered question.now self.now.frozen) }
     {
+        let mut text = ReportText::new(alloc);
+        match self.write(alloc, question, &mut text) {
+            Ok(()) => Ok(text.bytes),
+            Err(CertificateFault::NotRegistered) => Err(Fault::NotRegistered),
+            Err(CertificateFault::Report(ReportFault::Write)) if text.is_full() => {
+                Err(Fault::TooLong)
+            }
+            Err(CertificateFault::Report(_)) => Err(Fault::Memory),
+        }
+    }
+
+    // Writes the text that answers a question.
+    fn write<W: Write>(
+        &self,
+        alloc: Global,
+        question: &Question,
+        writer: &mut W,
+    ) -> Result<(), CertificateFault>
+        ensures ok { OnOk result
+            (Appends (W.contents writer.old) (W.contents writer.new) (text_of question.now self.now.frozen)) }
+        ensures err { IfErr result
+            (EndsText question.now self.now.frozen (W.contents writer.old) (W.contents writer.new)) }
+    {
         let (frozen, coefficients) = (&self.frozen, &self.coefficients);
-        let mut text = Vec::new(alloc);
         match question {
-            Question::Inbreeding => write_inbreeding(alloc, frozen, coefficients, &mut text)?,
-            Question::Inverse => write_inverse(alloc, frozen, coefficients, &mut text)?,
+            Question::Inbreeding => write_inbreeding(alloc, frozen, coefficients, writer)?,
+            Question::Inverse => write_inverse(alloc, frozen, coefficients, writer)?,
             Question::Certificate(number) => {
-                write_certificate(alloc, frozen, coefficients, *number, &mut text)?
+                write_certificate(alloc, frozen, coefficients, *number, writer)?
             }
             Question::Mating { dam, sires } => {
-                write_mating(
-                    alloc,
-                    frozen,
-                    coefficients,
-                    *dam,
-                    sires.as_slice(),
-                    &mut text,
-                )?
+                let sires = sires.as_slice();
+                write_mating(alloc, frozen, coefficients, *dam, sires, writer)?
             }
             Question::Relationships(numbers) => {
-                write_relationships(
-                    alloc,
-                    frozen,
-                    coefficients,
-                    numbers.as_slice(),
-                    &[],
-                    &mut text,
-                )?
+                let numbers = numbers.as_slice();
+                write_relationships(alloc, frozen, coefficients, numbers, &[], writer)?
             }
             Question::Coefficient(number) => {
-                write_coefficient(alloc, frozen, coefficients, *number, &mut text)?
+                write_coefficient(alloc, frozen, coefficients, *number, writer)?
             }
             Question::Seen => {}
         }
-        Ok(text)
+        Ok(())
     }
 
     // Whether it is of the history that an inspector holds.

@@ -10,7 +10,8 @@ use std::alloc::{AllocError, AllocFailed};
 /// Why a session ends early.
 #[derive(Clone, Copy, Debug, PartialEq, Eq, Drop)]
 pub enum SessionFault {
-    /// The reader failed, or there was no memory to read a request. All requests before it were answered.
+    /// The reader failed, there was no memory to read a request, or one has more than `LONGEST_RECORD` bytes (as a fault
+    /// of the reader). All requests before it were answered.
     Line(LineFault),
     /// A thread couldn't be started. Nothing was read.
     NoThread,

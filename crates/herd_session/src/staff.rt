@@ -3,12 +3,13 @@ ghost use Rattle.std.specs.Prelude.{◌≡◌, [], All, OnOk};
 ghost use Rattle.herd_session.specs.Filed.{HasFiledInTurn};
 
 use crate::desk_work::{Clerk, work_at_desk};
+use crate::fault_work::work_on_faults;
 use crate::hall::Hall;
 use crate::inspector_work::work_as_inspector;
 use crate::name::SessionName;
 use crate::queue::{Inlet, Outlet, queue};
 use crate::session_fault::SessionFault;
-use crate::tasks::{DeskTask, InspectorTask};
+use crate::tasks::{DeskTask, FaultTask, InspectorTask};
 use herd_office::{Desk, Inspector};
 use herd_report::ReportFault;
 use std::alloc::Global;
@@ -23,11 +24,12 @@ pub(crate) struct Staff<N: SessionName> {
     pub(crate) inspectors: Vec<Inspector<N>>,
 }
 
-/// The queues of a session, by the places of desks and inspectors.
+/// The queues of a session, by the places of desks and inspectors, and that of what nobody of them answers.
 #[derive(Drop)]
 pub(crate) struct Queues<N: SessionName> {
     pub(crate) desks: Vec<Inlet<DeskTask<N>>>,
     pub(crate) inspectors: Vec<Inlet<InspectorTask<N>>>,
+    pub(crate) faults: Inlet<FaultTask<N>>,
 }
 
 type DeskThread<N> = JoinHandle<Result<Clerk<N>, ReportFault>>;
@@ -129,6 +131,25 @@ fn start_inspector<
     tasks: Outlet<InspectorTask<N>>,
 ) -> Result<InspectorThread<N>, SessionFault> {
     let started = scope.spawn(move || work_as_inspector(rt, alloc, hall, inspector, tasks));
+    started.or(Err(SessionFault::NoThread))
+}
+
+/// Starts the thread that tells faults.
+pub(crate) fn start_on_faults<
+    's,
+    N: SessionName + Send + Sync,
+    E,
+    H: Wait + Sync,
+    R: Wait + Drop + Send + Sync,
+    W: Write + Send,
+>(
+    scope: &'s Scope<'s, E>,
+    rt: &'s H,
+    alloc: Global,
+    hall: &'s Hall<N, R, W>,
+    tasks: Outlet<FaultTask<N>>,
+) -> Result<JoinHandle<Result<(), ReportFault>>, SessionFault> {
+    let started = scope.spawn(move || work_on_faults(rt, alloc, hall, tasks));
     started.or(Err(SessionFault::NoThread))
 }
 

@@ -5,9 +5,9 @@ ghost use Rattle.herd_session.specs.Tag.{IsTag};
 use std::marker::Model;
 
 /// How many characters a tag may have.
-pub const LONGEST_TAG: usize = 20;
+pub const LONGEST_TAG: usize = 40;
 
-/// A caller's tag: 1 to `LONGEST_TAG` letters and digits.
+/// A caller's tag: 1 to `LONGEST_TAG` letters, digits and hyphens, but not `closed`.
 #[derive(Drop)]
 pub struct Tag {
     bytes: [u8; LONGEST_TAG],
@@ -42,6 +42,16 @@ impl Tag {
         })
     }
 
+    /// The same tag once more.
+    pub(crate) fn again(&self) -> Tag
+        ensures { result ≡ self.now }
+    {
+        Tag {
+            bytes: self.bytes,
+            len: self.len,
+        }
+    }
+
     /// Its characters.
     pub fn text(&self) -> &[u8]
         ensures { result.now ≡ self.now }
@@ -56,7 +66,6 @@ fn is_tag(text: &[u8]) -> bool
 {
     !text.is_empty()
         && text.len() <= LONGEST_TAG
-        && text
-            .iter()
-            .all(|character| character.is_ascii_alphanumeric())
+        && text.iter().all(|character| character.is_ascii_alphanumeric() || *character == b'-')
+        && text != b"closed".as_slice()
 }

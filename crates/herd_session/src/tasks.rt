@@ -1,6 +1,6 @@
 //! What stands in the queues.
-ghost use Rattle.std.specs.Prelude.{◌-◌, ◌<◌, ◌^◌};
-ghost use Rattle.herd_session.specs.Requests.{IsAskedOfDesk, IsAskedOfInspector};
+ghost use Rattle.std.specs.Prelude.{◌≡◌, ◌-◌, ◌<◌, ◌^◌};
+ghost use Rattle.herd_session.specs.Requests.{IsAskedOfDesk, IsAskedOfInspector, IsTagThere, tag_text};
 
 use crate::fault::Fault;
 use crate::name::SessionName;
@@ -34,24 +34,46 @@ pub(crate) struct InspectorTask<N: SessionName> {
     pub ghost asked: { ∥ IsAskedOfInspector N.records before inspector tag wanted ∥₁ },
 }
 
+/// Why a record isn't answered, for the thread that tells it.
+#[derive(Drop)]
+pub(crate) struct FaultTask<N: SessionName> {
+    // none where the record has none
+    pub(crate) tag: Option<Tag>,
+    pub(crate) fault: Fault,
+    pub(crate) of: PhantomData<N>,
+    pub ghost there: { ∥ IsTagThere N.records (tag_text tag) ∥₁ },
+}
+
+impl<N: SessionName> FaultTask<N> {
+    /// The record's tag, or nothing where it has none.
+    pub(crate) fn tag(&self) -> &[u8]
+        ensures { result.now ≡ tag_text self.now.tag }
+    {
+        match &self.tag {
+            Some(tag) => tag.text(),
+            None => &[],
+        }
+    }
+}
+
 /// What a record asks.
 pub(crate) trait Task<N: SessionName>: Drop {
     ghost use Rattle.std.specs.Prelude.{◌-◌, ◌<◌, ◌^◌};
     ghost use Rattle.herd_session.specs.Requests.{IsTagThere};
 
     /// The record's tag.
-    fn tag(&self) -> &[u8]
-        ensures { ∥ IsTagThere N.records result.now ∥₁ };
+    fn tag(&self) -> Tag
+        ensures { ∥ IsTagThere N.records result ∥₁ };
 }
 
 impl<N: SessionName> Task<N> for DeskTask<N> {
-    fn tag(&self) -> &[u8] {
-        self.tag.text()
+    fn tag(&self) -> Tag {
+        self.tag.again()
     }
 }
 
 impl<N: SessionName> Task<N> for InspectorTask<N> {
-    fn tag(&self) -> &[u8] {
-        self.tag.text()
+    fn tag(&self) -> Tag {
+        self.tag.again()
     }
 }

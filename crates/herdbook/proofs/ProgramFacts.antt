@@ -2,7 +2,6 @@
 use Rattle.std.proofs.Common.{◌≡◌, ℕ, List, [], inl, Option, Some, None, Result, Ok, Err}
 use Rattle.std.specs.Prelude.{IfErr, IfSome, OnOk}
 use Rattle.clap.specs.Words.{fault_of, subcommand_of}
-use Rattle.herd_register.specs.Limits.{Limits}
 use Rattle.herd_report.specs.declared.run_fault.RunFault.{RunFault}
 use Rattle.herd_session.specs.Closing.{Ends}
 use Rattle.herd_session.specs.Requests.{records_in}
@@ -19,15 +18,15 @@ use Rattle.herdbook.specs.declared.arguments.Request.TheVariants.{Session}
 use Rattle.herdbook.specs.declared.request_fault.RequestFault.TheVariants.{Run}
 
 -- a run that was begun for a request ends the program
-pub ended-run : {T : Type 0} (known : Option (List ℕ)) (limits : Limits) (words : List (List ℕ)) (old new : Option (List ℕ)) (request : Request) (result : Result T RunFault)
+pub ended-run : {T : Type 0} (known : Option (List ℕ)) (words : List (List ℕ)) (old new : Option (List ℕ)) (request : Request) (result : Result T RunFault)
     → fault_of command_line words ≡ [] → IsAsked (subcommand_of command_line words) request
-    → OnOk result (IfSome known (λ bytes. IsServed request limits bytes old new))
-    → IfErr result (λ fault. IfSome known (λ bytes. EndsServing request limits bytes old new (Run fault)))
-    → IfSome known (λ bytes. IsEnded limits words bytes old new (end_of_run result))
-ended-run None limits words old new request result taken asked ok err = tt
-ended-run (Some bytes) limits words old new request (Ok done) taken asked ok err =
+    → OnOk result (IfSome known (λ bytes. IsServed request bytes old new))
+    → IfErr result (λ fault. IfSome known (λ bytes. EndsServing request bytes old new (Run fault)))
+    → IfSome known (λ bytes. IsEnded words bytes old new (end_of_run result))
+ended-run None words old new request result taken asked ok err = tt
+ended-run (Some bytes) words old new request (Ok done) taken asked ok err =
     record { request = request; taken = taken; asked = asked; holds = ok }
-ended-run (Some bytes) limits words old new request (Err fault) taken asked ok err =
+ended-run (Some bytes) words old new request (Err fault) taken asked ok err =
     inl (record { request = request; taken = taken; asked = asked; holds = err })
 
 -- and whatever is read, that end is one that the words leave open
@@ -39,14 +38,14 @@ possible-run words request (Err fault) taken asked possible =
     inl (record { request = request; taken = taken; asked = asked; holds = possible })
 
 -- a session that was held ends the program
-pub ended-session : {T : Type 0} (known : Option (List ℕ)) (limits : Limits) (words : List (List ℕ)) (old new : Option (List ℕ)) (plan : SessionPlan) (result : Result T SessionFault)
+pub ended-session : {T : Type 0} (known : Option (List ℕ)) (words : List (List ℕ)) (old new : Option (List ℕ)) (plan : SessionPlan) (result : Result T SessionFault)
     → fault_of command_line words ≡ [] → IsAsked (subcommand_of command_line words) (Session plan)
     → ∥ Ends plan.limits (records_in known) old new result ∥₁
-    → IfSome known (λ bytes. IsEnded limits words bytes old new (end_of_session result))
-ended-session None limits words old new plan result taken asked ends = tt
-ended-session (Some bytes) limits words old new plan (Ok done) taken asked ends =
+    → IfSome known (λ bytes. IsEnded words bytes old new (end_of_session result))
+ended-session None words old new plan result taken asked ends = tt
+ended-session (Some bytes) words old new plan (Ok done) taken asked ends =
     record { request = Session plan; taken = taken; asked = asked; holds = ends }
-ended-session (Some bytes) limits words old new plan (Err fault) taken asked ends =
+ended-session (Some bytes) words old new plan (Err fault) taken asked ends =
     inl (record { request = Session plan; taken = taken; asked = asked; holds = ends })
 
 -- each fault of a session is one that it can end by

@@ -1,5 +1,5 @@
 -- The command line, as far as `clap` reads words by it.
-use Rattle.std.specs.Prelude.{◌≡◌, ℕ, true, false, [], ◌∷◌, codes, Some, pos}
+use Rattle.std.specs.Prelude.{◌≡◌, ℕ, true, false, [], ◌∷◌, codes, decimal, Some, pos}
 use Rattle.clap.specs.Lexer.{usize_max}
 use Rattle.clap.specs.Words.{App, Rule, Text, app_of, new_app, new_rule, rule_of, with_rule, with_subcommand}
 use Rattle.clap.specs.declared.builder.action.ArgAction.TheVariants.{Append}
@@ -7,9 +7,11 @@ use Rattle.clap.specs.declared.builder.arg.Arg.{Arg}
 use Rattle.clap.specs.declared.builder.command.Command.{Command}
 use Rattle.clap.specs.declared.builder.command.Command.TheViews.{out-Command}
 use Rattle.clap.specs.declared.builder.value_parser.ValueParser.TheVariants.{Signed}
-use Rattle.herd_pool.specs.declared.limits.TheConstants.{MOST_WORKERS}
+use Rattle.herd_frozen.specs.declared.TheConstants.{MOST_ANIMALS}
+use Rattle.herd_pool.specs.declared.limits.TheConstants.{DEFAULT_BLOCK, MOST_WORKERS}
 use Rattle.herd_office.specs.declared.limits.TheConstants.{MOST_DESKS, MOST_INSPECTORS}
-use Rattle.herdbook.specs.Limits.{program_limits}
+use Rattle.herd_register.specs.declared.limits.TheConstants.{MOST_STEPS}
+use Rattle.herdbook.specs.declared.limits.TheConstants.{DEFAULT_ANIMALS, DEFAULT_STEPS}
 
 -- a command that reads words by this line, and has no global argument
 pub record IsCommandOf (app : App) (command : Command) : Type 0 where
@@ -22,28 +24,38 @@ pub record IsArgumentOf (rule : Rule) (argument : Arg) : Type 0 where
   pub local : argument.global ≡ false
 
 -- an option of a number from `least` to `most`, which is `default` where it isn't given
-abbrev pub number_option : Text → ℕ → ℕ → Text → Rule
+abbrev pub number_option : Text → ℕ → ℕ → ℕ → Rule
 number_option name least most default = record (new_rule name) {
   long = Some name;
   value_names = 1;
-  defaults = default ∷ [];
+  defaults = decimal default ∷ [];
   parser = Some (Signed (pos least) (pos most));
 }
 
+abbrev pub animals_rule : Rule
+animals_rule = number_option (codes "limit-animals") 1 MOST_ANIMALS DEFAULT_ANIMALS
+
+abbrev pub steps_rule : Rule
+steps_rule = number_option (codes "limit-steps") 1 MOST_STEPS DEFAULT_STEPS
+
+-- a line with the options that limit the book and its journal
+abbrev pub limited : App → App
+limited line = with_rule (with_rule line animals_rule) steps_rule
+
 abbrev pub workers_rule : Rule
-workers_rule = number_option (codes "workers") 1 MOST_WORKERS (codes "1")
+workers_rule = number_option (codes "workers") 1 MOST_WORKERS 1
 
 abbrev pub block_rule : Rule
-block_rule = number_option (codes "block") 1 program_limits.animals (codes "256")
+block_rule = number_option (codes "block") 1 MOST_ANIMALS DEFAULT_BLOCK
 
 unfoldable pub inbreeding_line : App
-inbreeding_line = with_rule (with_rule (new_app (codes "inbreeding")) workers_rule) block_rule
+inbreeding_line = limited (with_rule (with_rule (new_app (codes "inbreeding")) workers_rule) block_rule)
 
 abbrev pub number_rule : Rule
 number_rule = record (new_rule (codes "NUMBER")) { required = true }
 
 unfoldable pub certificate_line : App
-certificate_line = with_rule (new_app (codes "certificate")) number_rule
+certificate_line = limited (with_rule (new_app (codes "certificate")) number_rule)
 
 abbrev pub dam_rule : Rule
 dam_rule = record (new_rule (codes "dam")) {
@@ -64,7 +76,7 @@ abbrev pub sires_rule : Rule
 sires_rule = several_rule (codes "SIRE")
 
 unfoldable pub mating_line : App
-mating_line = with_rule (with_rule (new_app (codes "mating")) dam_rule) sires_rule
+mating_line = limited (with_rule (with_rule (new_app (codes "mating")) dam_rule) sires_rule)
 
 abbrev pub numbers_rule : Rule
 numbers_rule = several_rule (codes "NUMBER")
@@ -78,22 +90,22 @@ partners_rule = record (new_rule (codes "with")) {
 }
 
 unfoldable pub relationships_line : App
-relationships_line = with_rule (with_rule (new_app (codes "relationships")) numbers_rule) partners_rule
+relationships_line = limited (with_rule (with_rule (new_app (codes "relationships")) numbers_rule) partners_rule)
 
 abbrev pub desks_rule : Rule
-desks_rule = number_option (codes "desks") 1 MOST_DESKS (codes "2")
+desks_rule = number_option (codes "desks") 1 MOST_DESKS 2
 
 abbrev pub base_rule : Rule
-base_rule = number_option (codes "base") 0 program_limits.steps (codes "0")
+base_rule = number_option (codes "base") 0 MOST_STEPS 0
 
-abbrev pub file_line : App
-file_line = new_app (codes "file")
+unfoldable pub file_line : App
+file_line = limited (new_app (codes "file"))
 
-abbrev pub inverse_line : App
-inverse_line = new_app (codes "inverse")
+unfoldable pub inverse_line : App
+inverse_line = limited (new_app (codes "inverse"))
 
 unfoldable pub clerks_line : App
-clerks_line = with_rule (with_rule (new_app (codes "clerks")) desks_rule) base_rule
+clerks_line = limited (with_rule (with_rule (new_app (codes "clerks")) desks_rule) base_rule)
 
 -- the program, which has a version, and of whose subcommands one must be named
 abbrev pub program : App
@@ -117,22 +129,13 @@ runs_line =
     relationships_line
 
 abbrev pub session_desks_rule : Rule
-session_desks_rule = number_option (codes "desks") 1 MOST_DESKS (codes "4")
+session_desks_rule = number_option (codes "desks") 1 MOST_DESKS 4
 
 abbrev pub inspectors_rule : Rule
-inspectors_rule = number_option (codes "inspectors") 1 MOST_INSPECTORS (codes "4")
-
-abbrev pub animals_rule : Rule
-animals_rule = number_option (codes "limit-animals") 1 program_limits.animals (codes "60000")
-
-abbrev pub steps_rule : Rule
-steps_rule = number_option (codes "limit-steps") 1 program_limits.steps (codes "1000000")
+inspectors_rule = number_option (codes "inspectors") 1 MOST_INSPECTORS 4
 
 unfoldable pub session_line : App
-session_line =
-    with_rule
-    (with_rule (with_rule (with_rule (new_app (codes "session")) session_desks_rule) inspectors_rule) animals_rule)
-    steps_rule
+session_line = limited (with_rule (with_rule (new_app (codes "session")) session_desks_rule) inspectors_rule)
 
 unfoldable pub command_line : App
 command_line = line_with (line_with runs_line clerks_line) session_line

@@ -3,7 +3,6 @@ pub mod CommandLine
 pub mod Deal
 pub mod Ending
 pub mod FaultText
-pub mod Limits
 pub mod Program
 pub mod Sessions
 pub mod Summary

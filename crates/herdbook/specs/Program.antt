@@ -1,7 +1,6 @@
 -- How the program ends for its words and the bytes of a command file.
 use Rattle.std.specs.Prelude.{◌≡◌, ◌⊎◌, ℕ, List, [], Option, Some}
 use Rattle.clap.specs.Words.{fault_of, subcommand_of}
-use Rattle.herd_register.specs.Limits.{Limits}
 use Rattle.herd_report.specs.reading.CommandFile.{commands}
 use Rattle.herd_report.specs.Run.{CanEndBy, CanEndReplying, EndsBy, EndsReplying, IsAnswered, IsReplied}
 use Rattle.herd_session.specs.Closing.{EndsEarly, IsClosedSession}
@@ -20,34 +19,34 @@ use Rattle.herdbook.specs.declared.request_fault.RequestFault.{RequestFault}
 use Rattle.herdbook.specs.declared.request_fault.RequestFault.TheVariants.{Run, NoPlace}
 
 -- what a request asks for was carried out on the bytes of a command file, or of requests
-abbrev pub IsServed : Request → Limits → List ℕ → Option (List ℕ) → Option (List ℕ) → Type 0
-IsServed request.File limits bytes old new = IsReplied limits (commands bytes limits.steps) old new
-IsServed (request.Report order) limits bytes old new = IsAnswered limits order (commands bytes limits.steps) old new
-IsServed (request.Clerks plan) limits bytes old new =
-    IsFiledBy limits plan.desks plan.base (commands bytes limits.steps) old new
-IsServed (request.Session plan) limits bytes old new =
+abbrev pub IsServed : Request → List ℕ → Option (List ℕ) → Option (List ℕ) → Type 0
+IsServed (request.File book) bytes old new = IsReplied book.limits (commands bytes book.limits.steps) old new
+IsServed (request.Report book order) bytes old new = IsAnswered book.limits order (commands bytes book.limits.steps) old new
+IsServed (request.Clerks book plan) bytes old new =
+    IsFiledBy book.limits plan.desks plan.base (commands bytes book.limits.steps) old new
+IsServed (request.Session plan) bytes old new =
     ∥ IsClosedSession plan.limits (records_in (Some bytes)) old new ∥₁
 
 -- how it may end early
-abbrev pub EndsServing : Request → Limits → List ℕ → Option (List ℕ) → Option (List ℕ) → RequestFault → Type 0
-EndsServing request.File limits bytes old new (Run fault) =
-    EndsReplying limits (commands bytes limits.steps) old new fault
-EndsServing request.File limits bytes old new NoPlace = ⊥
-EndsServing (request.Report order) limits bytes old new (Run fault) =
-    EndsBy limits order (commands bytes limits.steps) old new fault
-EndsServing (request.Report order) limits bytes old new NoPlace = ⊥
-EndsServing (request.Clerks plan) limits bytes old new fault =
-    EndsClerks limits plan.desks plan.base (commands bytes limits.steps) old new fault
-EndsServing (request.Session plan) limits bytes old new fault =
+abbrev pub EndsServing : Request → List ℕ → Option (List ℕ) → Option (List ℕ) → RequestFault → Type 0
+EndsServing (request.File book) bytes old new (Run fault) =
+    EndsReplying book.limits (commands bytes book.limits.steps) old new fault
+EndsServing (request.File book) bytes old new NoPlace = ⊥
+EndsServing (request.Report book order) bytes old new (Run fault) =
+    EndsBy book.limits order (commands bytes book.limits.steps) old new fault
+EndsServing (request.Report book order) bytes old new NoPlace = ⊥
+EndsServing (request.Clerks book plan) bytes old new fault =
+    EndsClerks book.limits plan.desks plan.base (commands bytes book.limits.steps) old new fault
+EndsServing (request.Session plan) bytes old new fault =
     ∥ EndsEarly plan.limits (records_in (Some bytes)) old new ∥₁
 
 -- the faults that it can end by, whatever is read
 abbrev pub CanEndServing : Request → RequestFault → Type 0
-CanEndServing request.File (Run fault) = CanEndReplying fault
-CanEndServing request.File NoPlace = ⊥
-CanEndServing (request.Report order) (Run fault) = CanEndBy order fault
-CanEndServing (request.Report order) NoPlace = ⊥
-CanEndServing (request.Clerks plan) fault = CanEndClerks fault
+CanEndServing (request.File book) (Run fault) = CanEndReplying fault
+CanEndServing (request.File book) NoPlace = ⊥
+CanEndServing (request.Report book order) (Run fault) = CanEndBy order fault
+CanEndServing (request.Report book order) NoPlace = ⊥
+CanEndServing (request.Clerks book plan) fault = CanEndClerks fault
 CanEndServing (request.Session plan) fault = CanEndSession fault
 
 -- `clap` takes the words, and a fact holds of the request that they make
@@ -64,11 +63,11 @@ pub record AsksNothing (words : List (List ℕ)) (ending : Ending) : Type 0 wher
   pub explained : Explains fault ending
 
 -- the program did what the words ask for with these bytes, or it ended early, or the words ask for nothing
-abbrev pub IsEnded : Limits → List (List ℕ) → List ℕ → Option (List ℕ) → Option (List ℕ) → Ending → Type 0
-IsEnded limits words bytes old new Done = Asks words (λ request. IsServed request limits bytes old new)
-IsEnded limits words bytes old new (Early fault) =
-    Asks words (λ request. EndsServing request limits bytes old new fault) ⊎ AsksNothing words (Early fault)
-IsEnded limits words bytes old new ending = AsksNothing words ending
+abbrev pub IsEnded : List (List ℕ) → List ℕ → Option (List ℕ) → Option (List ℕ) → Ending → Type 0
+IsEnded words bytes old new Done = Asks words (λ request. IsServed request bytes old new)
+IsEnded words bytes old new (Early fault) =
+    Asks words (λ request. EndsServing request bytes old new fault) ⊎ AsksNothing words (Early fault)
+IsEnded words bytes old new ending = AsksNothing words ending
 
 -- only what was asked for, and memory that ran out, leave it open whether anything was written
 abbrev pub IsUntouchedUnlessAsked : Type 0 → Ending → Type 0

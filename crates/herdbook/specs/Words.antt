@@ -7,10 +7,13 @@ use Rattle.herd_animal.specs.AnimalNumber.{IsAnimalNumber}
 use Rattle.herd_animal.specs.NumberFault.{IsNumberFault}
 use Rattle.herd_animal.specs.declared.number.NumberFault.{NumberFault}
 use Rattle.herd_office.specs.declared.limits.TheConstants.{MOST_DESKS, MOST_INSPECTORS}
+use Rattle.herd_frozen.specs.declared.TheConstants.{MOST_ANIMALS}
 use Rattle.herd_pool.specs.declared.limits.TheConstants.{DEFAULT_BLOCK, MOST_WORKERS}
 use Rattle.herd_report.specs.declared.orders.Order.{Order}
 use Rattle.herd_report.specs.declared.orders.Order.TheVariants.{Inbreeding, Certificate, Mating, Inverse, Relationships}
 use Rattle.herd_report.specs.declared.work_plan.WorkPlan.{WorkPlan}
+use Rattle.herd_register.specs.declared.limits.TheConstants.{MOST_STEPS}
+use Rattle.herd_register.specs.Limits.{Limits}
 use Rattle.herd_session.specs.declared.plan.SessionPlan.{SessionPlan}
 use Rattle.herdbook.specs.CommandLine.{command_line}
 use Rattle.herdbook.specs.declared.arguments.Request.{Request}
@@ -18,7 +21,7 @@ use Rattle.herdbook.specs.declared.arguments.Request.TheVariants.{File, Report, 
 use Rattle.herdbook.specs.declared.arguments.WordsFault.{WordsFault}
 use Rattle.herdbook.specs.declared.arguments.WordsFault.TheVariants.{Words, Number}
 use Rattle.herdbook.specs.declared.deal.DeskPlan.{DeskPlan}
-use Rattle.herdbook.specs.Limits.{program_limits}
+use Rattle.herdbook.specs.declared.limits.TheConstants.{DEFAULT_ANIMALS, DEFAULT_STEPS}
 
 -- a subcommand's name, and what was found of its arguments
 abbrev pub Found : Type 0
@@ -55,20 +58,25 @@ texts_of id rows = unwrap_or (all_of id rows) []
 abbrev pub IsWorkPlanOf : List Row → WorkPlan → Type 0
 IsWorkPlanOf rows plan =
     IsNumberOr 1 MOST_WORKERS 1 (one_of (codes "workers") rows) plan.workers
-    × IsNumberOr 1 program_limits.animals DEFAULT_BLOCK (one_of (codes "block") rows) plan.block
+    × IsNumberOr 1 MOST_ANIMALS DEFAULT_BLOCK (one_of (codes "block") rows) plan.block
 
 abbrev pub IsDeskPlanOf : List Row → DeskPlan → Type 0
 IsDeskPlanOf rows plan =
     IsNumberOr 1 MOST_DESKS 2 (one_of (codes "desks") rows) plan.desks
-    × IsNumberOr 0 program_limits.steps 0 (one_of (codes "base") rows) plan.base
+    × IsNumberOr 0 MOST_STEPS 0 (one_of (codes "base") rows) plan.base
+
+-- how large the book and its journal may grow
+abbrev pub AreLimitsOf : List Row → Limits → Type 0
+AreLimitsOf rows limits =
+    IsNumberOr 1 MOST_ANIMALS DEFAULT_ANIMALS (one_of (codes "limit-animals") rows) limits.animals
+    × IsNumberOr 1 MOST_STEPS DEFAULT_STEPS (one_of (codes "limit-steps") rows) limits.steps
 
 -- how large a session's office is
 abbrev pub IsSessionPlanOf : List Row → SessionPlan → Type 0
 IsSessionPlanOf rows plan =
     IsNumberOr 1 MOST_DESKS 4 (one_of (codes "desks") rows) plan.desks
     × IsNumberOr 1 MOST_INSPECTORS 4 (one_of (codes "inspectors") rows) plan.inspectors
-    × IsNumberOr 1 program_limits.animals program_limits.animals (one_of (codes "limit-animals") rows) plan.limits.animals
-    × IsNumberOr 1 program_limits.steps program_limits.steps (one_of (codes "limit-steps") rows) plan.limits.steps
+    × AreLimitsOf rows plan.limits
 
 -- what is asked of the book
 abbrev pub IsOrdered : Found → Order → Type 0
@@ -87,13 +95,15 @@ IsOrdered found (Relationships numbers others) =
     × (texts_of (codes "with") (rows_in found) ≡ others.now)
 
 abbrev pub IsAsked : Found → Request → Type 0
-IsAsked found File =
-    (name_in found ≢ Some (codes "inbreeding")) × (name_in found ≢ Some (codes "certificate"))
+IsAsked found (File book) =
+    AreLimitsOf (rows_in found) book.limits
+    × (name_in found ≢ Some (codes "inbreeding")) × (name_in found ≢ Some (codes "certificate"))
     × (name_in found ≢ Some (codes "mating")) × (name_in found ≢ Some (codes "inverse"))
     × (name_in found ≢ Some (codes "relationships")) × (name_in found ≢ Some (codes "clerks"))
     × (name_in found ≢ Some (codes "session"))
-IsAsked found (Report order) = IsOrdered found order
-IsAsked found (Clerks plan) = (name_in found ≡ Some (codes "clerks")) × IsDeskPlanOf (rows_in found) plan
+IsAsked found (Report book order) = AreLimitsOf (rows_in found) book.limits × IsOrdered found order
+IsAsked found (Clerks book plan) =
+    AreLimitsOf (rows_in found) book.limits × (name_in found ≡ Some (codes "clerks")) × IsDeskPlanOf (rows_in found) plan
 IsAsked found (Session plan) = (name_in found ≡ Some (codes "session")) × IsSessionPlanOf (rows_in found) plan
 
 -- the fault is that of the first text that is no animal number

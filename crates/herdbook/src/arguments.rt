@@ -1,20 +1,21 @@
 //! The words of the command line.
 
-ghost use Rattle.std.specs.Prelude.{◌≡◌, ◌≤◌, ◌++◌, [], All, IfErr, IfOk, OnOk, map, string_bytes};
+ghost use Rattle.std.specs.Prelude.{◌≡◌, ℕ, ◌≤◌, ◌++◌, [], All, IfErr, IfOk, OnOk, decimal, map, string_bytes};
 ghost use Rattle.clap.specs.Words.{App, Rule, app_of, fault_of, found_of, new_app, one_of, rows_of, subcommand_of, subcommand_rows_of, with_rule};
 ghost use Rattle.herd_animal.specs.AnimalNumber.{IsAnimalNumber};
 ghost use Rattle.herd_animal.specs.NumberFault.{IsNumberFault};
-ghost use Rattle.herdbook.specs.CommandLine.{IsArgumentOf, IsCommandOf, animals_rule, certificate_line, clerks_line, command_line, dam_rule, file_line, inbreeding_line, inverse_line, line_with, mating_line, number_option, partners_rule, program, relationships_line, runs_line, session_line, several_rule, steps_rule};
-ghost use Rattle.herdbook.specs.Words.{IsAsked, IsDeskPlanOf, IsFirstFault, IsNumberOr, IsRefused, IsSessionPlanOf, IsUnread, IsWorkPlanOf, IsWrongNumber, text_of, texts_of};
+ghost use Rattle.herdbook.specs.CommandLine.{IsArgumentOf, IsCommandOf, certificate_line, clerks_line, command_line, dam_rule, file_line, inbreeding_line, inverse_line, limited, line_with, mating_line, number_option, partners_rule, program, relationships_line, runs_line, session_line, several_rule};
+ghost use Rattle.herdbook.specs.Words.{AreLimitsOf, IsAsked, IsDeskPlanOf, IsFirstFault, IsNumberOr, IsRefused, IsSessionPlanOf, IsUnread, IsWorkPlanOf, IsWrongNumber, rows_in, text_of, texts_of};
 
 use crate::deal::DeskPlan;
 use crate::help;
-use crate::program::LIMITS;
+use crate::limits::{BookPlan, DEFAULT_ANIMALS, DEFAULT_STEPS};
 use clap::{Arg, ArgAction, ArgMatches, Command};
 use herd_animal::{AnimalNumber, NumberFault};
+use herd_frozen::MOST_ANIMALS;
 use herd_office::{MOST_DESKS, MOST_INSPECTORS};
 use herd_pool::{DEFAULT_BLOCK, MOST_WORKERS};
-use herd_register::Limits;
+use herd_register::{Limits, MOST_STEPS};
 use herd_report::{Order, WorkPlan};
 use herd_session::SessionPlan;
 use std::alloc::{AllocError, Global};
@@ -23,11 +24,11 @@ use std::alloc::{AllocError, Global};
 #[derive(Clone, Copy)]
 pub enum Request<'a> {
     /// The reply to each command.
-    File,
+    File(BookPlan),
     /// What is ordered of the book.
-    Report(Order<'a>),
+    Report(BookPlan, Order<'a>),
     /// The commands are filed at several desks, each with a clerk in a thread of its own.
-    Clerks(DeskPlan),
+    Clerks(BookPlan, DeskPlan),
     /// Requests are answered until the input ends.
     Session(SessionPlan),
 }
@@ -96,31 +97,32 @@ fn request_of<'a>(
     ensures unread { IfErr result (IsUnread (IsWrongNumber (subcommand_rows_of matches.now))) }
 {
     list.clear();
+    let book = book_plan_in(matches);
     match matches.subcommand() {
         Some(("inbreeding", given)) => {
-            Ok(Request::Report(Order::Inbreeding(work_plan_of(given))))
+            Ok(Request::Report(book, Order::Inbreeding(work_plan_of(given))))
         }
         Some(("certificate", given)) => {
             let number = number_argument(given, "NUMBER")?;
-            Ok(Request::Report(Order::Certificate(number)))
+            Ok(Request::Report(book, Order::Certificate(number)))
         }
         Some(("mating", given)) => {
             let dam = number_argument(given, "dam")?;
             add_numbers(given, "SIRE", list)?;
             let sires = list.as_slice();
-            Ok(Request::Report(Order::Mating { dam, sires }))
+            Ok(Request::Report(book, Order::Mating { dam, sires }))
         }
-        Some(("inverse", _)) => Ok(Request::Report(Order::Inverse)),
+        Some(("inverse", _)) => Ok(Request::Report(book, Order::Inverse)),
         Some(("relationships", given)) => {
             add_numbers(given, "NUMBER", list)?;
             let count = list.len();
             add_numbers(given, "with", list)?;
             let (numbers, others) = list.as_slice().split_at(count);
-            Ok(Request::Report(Order::Relationships { numbers, others }))
+            Ok(Request::Report(book, Order::Relationships { numbers, others }))
         }
-        Some(("clerks", given)) => Ok(Request::Clerks(desk_plan_of(given))),
+        Some(("clerks", given)) => Ok(Request::Clerks(book, desk_plan_of(given))),
         Some(("session", given)) => Ok(Request::Session(session_plan_of(given))),
-        _ => Ok(Request::File),
+        _ => Ok(Request::File(book)),
     }
 }
 
@@ -129,7 +131,7 @@ fn work_plan_of(given: &ArgMatches<'_>) -> WorkPlan
 {
     WorkPlan {
         workers: option_or(given, "workers", 1, MOST_WORKERS, 1),
-        block: option_or(given, "block", 1, LIMITS.animals, DEFAULT_BLOCK),
+        block: option_or(given, "block", 1, MOST_ANIMALS, DEFAULT_BLOCK),
     }
 }
 
@@ -138,7 +140,7 @@ fn desk_plan_of(given: &ArgMatches<'_>) -> DeskPlan
 {
     DeskPlan {
         desks: option_or(given, "desks", 1, MOST_DESKS as u32, 2) as u16,
-        base: option_or(given, "base", 0, LIMITS.steps, 0),
+        base: option_or(given, "base", 0, MOST_STEPS, 0),
     }
 }
 
@@ -148,10 +150,30 @@ fn session_plan_of(given: &ArgMatches<'_>) -> SessionPlan
     SessionPlan {
         desks: option_or(given, "desks", 1, MOST_DESKS as u32, 4) as u16,
         inspectors: option_or(given, "inspectors", 1, MOST_INSPECTORS as u32, 4) as u16,
-        limits: Limits {
-            animals: option_or(given, "limit-animals", 1, LIMITS.animals, LIMITS.animals),
-            steps: option_or(given, "limit-steps", 1, LIMITS.steps, LIMITS.steps),
+        limits: limits_of(given),
+    }
+}
+
+// How large the book and its journal may grow.
+fn book_plan_in(matches: &ArgMatches<'_>) -> BookPlan
+    ensures { AreLimitsOf (rows_in (subcommand_rows_of matches.now)) result.limits }
+{
+    let limits = match matches.subcommand() {
+        Some((_, given)) => limits_of(given),
+        None => Limits {
+            animals: DEFAULT_ANIMALS,
+            steps: DEFAULT_STEPS,
         },
+    };
+    BookPlan { limits }
+}
+
+fn limits_of(given: &ArgMatches<'_>) -> Limits
+    ensures { AreLimitsOf (rows_of (found_of given.now)) result }
+{
+    Limits {
+        animals: option_or(given, "limit-animals", 1, MOST_ANIMALS, DEFAULT_ANIMALS),
+        steps: option_or(given, "limit-steps", 1, MOST_STEPS, DEFAULT_STEPS),
     }
 }
 
@@ -211,11 +233,11 @@ fn command<'a>(alloc: Global) -> Result<Command<'a>, AllocError>
 fn runs<'a>(alloc: Global) -> Result<Command<'a>, AllocError>
     ensures { IfOk result (IsCommandOf runs_line) }
 {
-    let replies = with_subcommand(Ok(bare_program(alloc)), Ok(file(alloc)));
+    let replies = with_subcommand(Ok(bare_program(alloc)), file(alloc));
     let lists = with_subcommand(replies, inbreeding(alloc));
     let certificates = with_subcommand(lists, certificate(alloc));
     let advice = with_subcommand(certificates, mating(alloc));
-    let inverses = with_subcommand(advice, Ok(inverse(alloc)));
+    let inverses = with_subcommand(advice, inverse(alloc));
     with_subcommand(inverses, relationships(alloc))
 }
 
@@ -255,26 +277,28 @@ fn bare_program<'a>(alloc: Global) -> Command<'a>
     .subcommand_required(true)
 }
 
-fn file<'a>(alloc: Global) -> Command<'a>
-    ensures { IsCommandOf file_line result }
+fn file<'a>(alloc: Global) -> Result<Command<'a>, AllocError>
+    ensures { IfOk result (IsCommandOf file_line) }
 {
-    named(
+    let bare = named(
         alloc,
         "file",
         "Files the commands and writes one reply for each",
         help::FILE,
-    )
+    );
+    with_limits(alloc, Ok(bare))
 }
 
-fn inverse<'a>(alloc: Global) -> Command<'a>
-    ensures { IsCommandOf inverse_line result }
+fn inverse<'a>(alloc: Global) -> Result<Command<'a>, AllocError>
+    ensures { IfOk result (IsCommandOf inverse_line) }
 {
-    named(
+    let bare = named(
         alloc,
         "inverse",
         "Writes what each animal adds to the inverse relationship matrix",
         help::INVERSE,
-    )
+    );
+    with_limits(alloc, Ok(bare))
 }
 
 // A command with no arguments yet: its name, what it does in a line, and the end of its help.
@@ -284,8 +308,8 @@ fn named<'a>(alloc: Global, name: &'a str, about: &'a str, more: &'a str) -> Com
     Command::new(alloc, name).about(about).after_help(more)
 }
 
-// An option of a number from `least` to `most`, with no help yet: its name, what help calls its number, and the number
-// where it isn't given.
+// An option of a number from `least` to `most`, with no help yet: its name, what help calls its number, and the text of
+// the number where it isn't given.
 fn number_option<'a>(
     alloc: Global,
     name: &'a str,
@@ -294,7 +318,8 @@ fn number_option<'a>(
     most: u32,
     default: &'a str,
 ) -> Arg<'a>
-    ensures { IsArgumentOf (number_option name.entry.now least most default.entry.now) result }
+    ensures { (number : ℕ) → default.entry.now ≡ decimal number
+        → IsArgumentOf (number_option name.entry.now least most number) result }
 {
     Arg::new(alloc, name)
         .long(name)
@@ -309,8 +334,8 @@ fn inbreeding<'a>(alloc: Global) -> Result<Command<'a>, AllocError>
     let workers = number_option(alloc, "workers", "N", 1, MOST_WORKERS, "1").help(
         "How many threads, from 1 to 16",
     );
-    let block = number_option(alloc, "block", "N", 1, LIMITS.animals, "256").help(
-        "Animals in a thread's block, 1 to 60,000",
+    let block = number_option(alloc, "block", "N", 1, MOST_ANIMALS, "256").help(
+        "Animals in a block, 1 to 16,000,000",
     );
     let bare = named(
         alloc,
@@ -318,7 +343,10 @@ fn inbreeding<'a>(alloc: Global) -> Result<Command<'a>, AllocError>
         "Writes the inbreeding coefficient of each animal, in age order",
         help::INBREEDING,
     );
-    with_argument(with_argument(Ok(bare), workers), block)
+    with_limits(
+        alloc,
+        with_argument(with_argument(Ok(bare), workers), block),
+    )
 }
 
 fn certificate<'a>(alloc: Global) -> Result<Command<'a>, AllocError>
@@ -333,7 +361,7 @@ fn certificate<'a>(alloc: Global) -> Result<Command<'a>, AllocError>
         "Writes an animal's certificate with its ancestors",
         help::CERTIFICATE,
     );
-    with_argument(Ok(bare), number)
+    with_limits(alloc, with_argument(Ok(bare), number))
 }
 
 fn mating<'a>(alloc: Global) -> Result<Command<'a>, AllocError>
@@ -345,10 +373,11 @@ fn mating<'a>(alloc: Global) -> Result<Command<'a>, AllocError>
         "Writes the coefficient that a calf would have by each sire",
         help::MATING,
     );
-    with_argument(
+    let given = with_argument(
         with_argument(Ok(bare), dam_option(alloc)),
         several_argument(alloc, "SIRE", "The numbers of the sires"),
-    )
+    );
+    with_limits(alloc, given)
 }
 
 fn dam_option<'a>(alloc: Global) -> Arg<'a>
@@ -381,13 +410,14 @@ fn relationships<'a>(alloc: Global) -> Result<Command<'a>, AllocError>
         "Writes the relationship of each two of some animals",
         help::RELATIONSHIPS,
     );
-    with_argument(
+    let given = with_argument(
         with_argument(
             Ok(bare),
             several_argument(alloc, "NUMBER", "The numbers of the animals"),
         ),
         with_option(alloc),
-    )
+    );
+    with_limits(alloc, given)
 }
 
 fn with_option<'a>(alloc: Global) -> Arg<'a>
@@ -407,8 +437,8 @@ fn clerks<'a>(alloc: Global) -> Result<Command<'a>, AllocError>
     let desks = number_option(alloc, "desks", "K", 1, MOST_DESKS as u32, "2").help(
         "How many desks, from 1 to 16",
     );
-    let base = number_option(alloc, "base", "M", 0, LIMITS.steps, "0").help(
-        "Commands that desk 1 files first, to 1,000,000",
+    let base = number_option(alloc, "base", "M", 0, MOST_STEPS, "0").help(
+        "Filed first at desk 1, 0 to 200,000,000",
     );
     let bare = named(
         alloc,
@@ -416,7 +446,7 @@ fn clerks<'a>(alloc: Global) -> Result<Command<'a>, AllocError>
         "Files the commands at several desks, each on a thread",
         help::CLERKS,
     );
-    with_argument(with_argument(Ok(bare), desks), base)
+    with_limits(alloc, with_argument(with_argument(Ok(bare), desks), base))
 }
 
 fn session<'a>(alloc: Global) -> Result<Command<'a>, AllocError>
@@ -444,13 +474,13 @@ fn with_limits<'a>(
     command: Result<Command<'a>, AllocError>,
 ) -> Result<Command<'a>, AllocError>
     ensures { (line : App) → IfOk command.entry (IsCommandOf line)
-        → IfOk result (IsCommandOf (with_rule (with_rule line animals_rule) steps_rule)) }
+        → IfOk result (IsCommandOf (limited line)) }
 {
-    let animals = number_option(alloc, "limit-animals", "N", 1, LIMITS.animals, "60000").help(
-        "The most animals, 1 to 60,000",
+    let animals = number_option(alloc, "limit-animals", "N", 1, MOST_ANIMALS, "60000").help(
+        "The most animals, 1 to 16,000,000",
     );
-    let steps = number_option(alloc, "limit-steps", "N", 1, LIMITS.steps, "1000000").help(
-        "The most steps, 1 to 1,000,000",
+    let steps = number_option(alloc, "limit-steps", "N", 1, MOST_STEPS, "1000000").help(
+        "The most steps, 1 to 200,000,000",
     );
     with_argument(with_argument(command, animals), steps)
 }

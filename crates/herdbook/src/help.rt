@@ -2,7 +2,7 @@
 //! is longer than 80 columns.
 
 /// The version of the program, the newest of `CHANGELOG.md`.
-pub const VERSION: &str = "0.12.0";
+pub const VERSION: &str = "0.12.1";
 
 /// The end of the help of the program: what all subcommands read, and the statuses.
 pub const PROGRAM: &str = "\
@@ -34,11 +34,11 @@ Status:
      write was refused
   2  the words aren't a command line";
 
-/// The end of the help of `inbreeding`. Its N stands for the numbers of `--workers` and `--block`.
+/// The end of the help of `inbreeding`.
 pub const INBREEDING: &str = "\
 Reads a command file from standard input. Writes a line for each animal, by
 birth day and number: NUMBER,COEFFICIENT,PERCENT with a fraction in lowest terms
-and a percentage of two digits. The list is the same for all N.
+and a percentage of two digits, the same for all workers and blocks.
 
 Example:
   herdbook inbreeding --workers 4 < book.csv
@@ -140,5 +140,6 @@ Example:
 
 Status:
   0  all requests are answered and the office is closed
-  1  the input, or memory or a thread at the start, or a write was refused
+  1  the input, or memory or a thread at the start, or a write was refused, or a
+     record had more than 1 MiB
   2  the words aren't a command line";

@@ -8,6 +8,7 @@
 //! | | definition (`specs/`) | code (`src/`) | proof (`proofs/`) |
 //! |---|---|---|---|
 //! | the words, what they ask for | `CommandLine`, `Words` | `arguments` | `CommandFacts`, `WordsFacts` |
+//! | the limits where the words don't say them | | `limits` | |
 //! | the texts of help and of the version | | `help` | |
 //! | what the program does for its words | `Program` | `program` | `ProgramFacts` |
 //! | how it ends, what is told on standard error | `Ending`, `FaultText` | `ending`, `request_fault`, `fault_text` | |
@@ -27,6 +28,7 @@ mod desks;
 mod ending;
 mod fault_text;
 mod help;
+mod limits;
 mod program;
 mod request_fault;
 mod summary;

@@ -2,25 +2,16 @@
 
 ghost use Rattle.std.specs.Prelude.{◌≡◌, IfSome, map, string_bytes};
 ghost use Rattle.herdbook.specs.Program.{CanEnd, IsEnded, IsUntouchedUnlessAsked};
-ghost use Rattle.herdbook.specs.Limits.{program_limits};
 
 use crate::arguments::{Request, read_words};
 use crate::desks::clerks;
 use crate::ending::Ending;
-use herd_frozen::MOST_ANIMALS;
-use herd_register::{Limits, MOST_STEPS};
 use herd_report::{answer_file, run};
 use herd_session::session;
 use std::alloc::Global;
 use std::io::{Read, Write};
 use std::sync::Wait;
 use std::thread::Threads;
-
-/// What the book and its journal may hold.
-pub const LIMITS: Limits = Limits {
-    animals: MOST_ANIMALS,
-    steps: MOST_STEPS,
-};
 
 /// Reads the words of the command line, the program's own name first, and does what they ask for. Where they ask for
 /// nothing, nothing is read or written.
@@ -32,19 +23,19 @@ pub fn carry_out<H: Threads + Wait + Sync, R: Read + Drop, W: Write + Send + Dro
     writer: &mut W,
 ) -> Ending
     ensures ended { IfSome (R.remaining reader)
-        (λ bytes. IsEnded program_limits (map string_bytes words.now) bytes
+        (λ bytes. IsEnded (map string_bytes words.now) bytes
         (W.contents writer.old) (W.contents writer.new) result) }
     ensures possible { CanEnd (map string_bytes words.now) result }
     ensures unasked { IsUntouchedUnlessAsked (writer.new ≡ writer.old) result }
 {
     let mut list = Vec::new(alloc);
     match read_words(alloc, words, &mut list) {
-        Ok(Request::File) => Ending::of_run(answer_file(alloc, LIMITS, reader, writer)),
-        Ok(Request::Report(order)) => {
-            Ending::of_run(run(rt, alloc, LIMITS, &order, reader, writer))
+        Ok(Request::File(book)) => Ending::of_run(answer_file(alloc, book.limits, reader, writer)),
+        Ok(Request::Report(book, order)) => {
+            Ending::of_run(run(rt, alloc, book.limits, &order, reader, writer))
         }
-        Ok(Request::Clerks(plan)) => {
-            Ending::of_clerks(clerks(rt, alloc, LIMITS, plan, reader, writer))
+        Ok(Request::Clerks(book, plan)) => {
+            Ending::of_clerks(clerks(rt, alloc, book.limits, plan, reader, writer))
         }
         Ok(Request::Session(plan)) => {
             Ending::of_session(session(rt, alloc, plan, reader, writer))

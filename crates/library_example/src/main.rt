@@ -7,17 +7,17 @@
 
 ghost use Rattle.std.specs.Prelude.{◌≡◌, ◌+◌, ◌*◌, ◌^◌, ◌<◌, false, length, OnErr, OnOk};
 ghost use Rattle.herd_frozen.specs.declared.TheConstants.{DEPTH_LIMIT};
-ghost use Rattle.herd_kinship.specs.Coefficients.{AreCoefficients};
+ghost use Rattle.herd_advice.specs.BookCoefficients.{AreBookCoefficients};
 ghost use Rattle.herd_kinship.specs.Fraction.{halved};
-ghost use Rattle.herd_kinship.specs.FrozenAncestry.{ancestry_of, number_of_row};
+ghost use Rattle.herd_advice.specs.FrozenAncestry.{ancestry_of, number_of_row};
 ghost use Rattle.herd_kinship.specs.Table.{coefficient};
 
 use anyhow::Result;
+use herd_advice::{Coefficients, Fraction, coefficients_plain, fraction, mating};
 use herd_animal::{AnimalNumber, Day, Herd};
-use herd_frozen::{Frozen, MOST_ANIMALS};
-use herd_kinship::{Coefficients, Fraction, coefficients_plain, fraction, mating};
+use herd_frozen::Frozen;
 use herd_pedigree::Pedigree;
-use herd_register::{Command, Limits, MOST_STEPS, Register, Reply};
+use herd_register::{Command, Limits, Register, Reply};
 use std::alloc::Global;
 use std::io;
 
@@ -33,10 +33,10 @@ const DAUGHTER: &str = "HOLGBRF000000000004";
 const CALF: &str = "HOLGBRF000000000005";
 
 fn main(rt: HostRuntime) -> Result<()> {
-    // `Register::new` gives an empty register. These are the widest limits that it may have.
+    // `Register::new` gives an empty register. Its limits may be as wide as `MOST_ANIMALS` and `MOST_STEPS`.
     let limits = Limits {
-        animals: MOST_ANIMALS,
-        steps: MOST_STEPS,
+        animals: 1_000,
+        steps: 10_000,
     };
     let mut register = Register::new(rt.alloc(), limits);
     file_births(&mut register)?;
@@ -119,7 +119,7 @@ fn inbreeding_at(
     rank: u32,
 ) -> (AnimalNumber, Fraction)
     // A caller has to show that these are the coefficients of this book, as `coefficients_plain` promises.
-    requires coefficients { AreCoefficients DEPTH_LIMIT frozen.now coefficients.now }
+    requires coefficients { AreBookCoefficients DEPTH_LIMIT frozen.now coefficients.now }
     requires rank { rank < length frozen.now }
     ensures number { result.0 ≡ number_of_row frozen.now rank }
     ensures value { result.1
@@ -135,7 +135,7 @@ fn print_coefficients(
     frozen: &Frozen<Global>,
     coefficients: &Coefficients<Global>,
 ) -> Result<()>
-    requires { AreCoefficients DEPTH_LIMIT frozen.now coefficients.now }
+    requires { AreBookCoefficients DEPTH_LIMIT frozen.now coefficients.now }
 {
     for rank in 0..frozen.len() {
         let (number, coefficient) = inbreeding_at(frozen, coefficients, rank);
@@ -157,7 +157,7 @@ fn print_mating(
     sire: &str,
     dam: &str,
 ) -> Result<()>
-    requires { AreCoefficients DEPTH_LIMIT frozen.now coefficients.now }
+    requires { AreBookCoefficients DEPTH_LIMIT frozen.now coefficients.now }
 {
     let sire: AnimalNumber = sire.parse()?;
     let dam: AnimalNumber = dam.parse()?;

@@ -13,11 +13,11 @@ ghost use mathlib.Core.List.{IsPrefix};
 ghost use Rattle.herd_office.specs.Parts.{AreNamed};
 
 use anyhow::{Context, Result, bail};
+use herd_advice::{coefficients_plain, fraction};
 use herd_animal::Herd;
-use herd_frozen::{Frozen, MOST_ANIMALS};
-use herd_kinship::{coefficients_plain, fraction};
+use herd_frozen::Frozen;
 use herd_office::{Desk, FreezeFault, Inspector, Office, OfficeName, OfficeParts};
-use herd_register::{Command, FileFault, Limits, MOST_STEPS};
+use herd_register::{Command, FileFault, Limits};
 use std::alloc::{AllocError, Global};
 use std::marker::Brand;
 use std::sync::Wait;
@@ -55,10 +55,10 @@ impl Births {
 }
 
 fn main(rt: HostRuntime) -> Result<()> {
-    // These are the widest limits. The inspectors' room for all that they allow is made here, once.
+    // They may be as wide as `MOST_ANIMALS` and `MOST_STEPS`: memory is taken for what is filed alone.
     let limits = Limits {
-        animals: MOST_ANIMALS,
-        steps: MOST_STEPS,
+        animals: 1_000,
+        steps: 10_000,
     };
     // The parts of an office with two desks and one inspector.
     let parts = OfficeParts::new(&rt, rt.alloc(), limits, 2, 1)?;

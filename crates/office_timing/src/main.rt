@@ -10,20 +10,19 @@ mod work;
 use anyhow::Result;
 use beside::{Times, file_beside};
 use crowd::file_crowded;
-use herd_frozen::MOST_ANIMALS;
 use herd_office::OfficeParts;
-use herd_register::{Limits, MOST_STEPS};
+use herd_register::Limits;
 use std::alloc::Global;
 use std::marker::Brand;
 use std::rt::Clock;
 use std::sync::Wait;
 use std::thread::Threads;
 use task::{Crowd, Paced, Task};
-use work::Told;
+use work::{FOUNDERS, Told};
 
 const LIMITS: Limits = Limits {
-    animals: MOST_ANIMALS,
-    steps: MOST_STEPS,
+    animals: FOUNDERS,
+    steps: 10_000_000,
 };
 
 fn main(rt: HostRuntime) -> Result<()> {

@@ -7,12 +7,14 @@ use anyhow::{Result, bail};
 use herd_animal::{Day, Herd};
 use herd_fixtures::Name::Bull;
 use herd_fixtures::{Name, herd_of};
-use herd_frozen::MOST_ANIMALS;
 use herd_office::{Desk, FreezeFault, Inspector, Office, OfficeName};
 use herd_register::{Command, FileFault, Reply};
 use std::alloc::Global;
 use std::sync::Wait;
 use std::sync::atomic::{AtomicBool, Ordering};
+
+/// How many founders there are, and how many animals a run's book may have.
+pub const FOUNDERS: u32 = 1_000_000;
 
 // More than a run freezes.
 const MOST_READINGS: u64 = 1_000_000_000;
@@ -37,7 +39,7 @@ impl Founders {
         })
     }
 
-    /// The birth at this place. After as many as a book may have they are the same again.
+    /// The birth at this place. After a million they are the same again.
     pub fn birth(&self, place: u64) -> Command {
         Command::Birth {
             animal: founder(place).number(),
@@ -61,7 +63,7 @@ impl Founders {
 }
 
 fn founder(place: u64) -> Name {
-    Bull((place % u64::from(MOST_ANIMALS)) as u32)
+    Bull((place % u64::from(FOUNDERS)) as u32)
 }
 
 /// How many commands were accepted, and how many steps the journal of the closed office has.

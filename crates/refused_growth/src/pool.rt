@@ -1,11 +1,11 @@
 //! Coefficients that two workers compute.
 ghost use Rattle.herd_frozen.specs.declared.TheConstants.{DEPTH_LIMIT};
-ghost use Rattle.herd_kinship.specs.Coefficients.{AreCoefficients};
+ghost use Rattle.herd_advice.specs.BookCoefficients.{AreBookCoefficients};
 
+use herd_advice::{Coefficients, coefficients, fraction};
 use herd_fixtures::generations;
 use herd_frozen::Frozen;
-use herd_kinship::{Coefficients, fraction};
-use herd_pool::{NoGate, PoolFault, coefficients};
+use herd_pool::{NoGate, PoolFault};
 use std::alloc::Global;
 use std::io;
 use std::sync::Wait;
@@ -38,7 +38,7 @@ fn tell_list(
     frozen: &Frozen<Global>,
     coefficients: &Coefficients<Global>,
 ) -> io::Result<()>
-    requires { AreCoefficients DEPTH_LIMIT frozen.now coefficients.now }
+    requires { AreBookCoefficients DEPTH_LIMIT frozen.now coefficients.now }
 {
     print!(rt; "pool:")?;
     for rank in 0..frozen.len() {

@@ -6,6 +6,5 @@ pub mod AgeOrderFacts
 pub mod RankFacts
 pub mod RowsFacts
 pub mod NextRowFacts
-pub mod LevelFacts
 pub mod FreezeFacts
 pub mod LinkFacts

@@ -1,12 +1,11 @@
 -- A frozen book: its records in age order, with the ranks of their known parents and their depths.
-use Rattle.std.specs.Prelude.{◌≡◌, ℕ, ◌+◌, ◌==◌, List, map, length, slice_get, slice_index_or, Option, Some, IsSorted, IsPermutation}
+use Rattle.std.specs.Prelude.{◌≡◌, ℕ, List, map, slice_get, slice_index_or, Option, Some, IsSorted, IsPermutation}
 use Rattle.std.specs.declared.cmp.Ordering.{Ordering}
 use Rattle.std.specs.Cmp.Lexicographic.{slice_cmp}
-use Rattle.std.specs.List.{filter, range_with_len}
 use Rattle.std.specs.Ordering.{int_cmp, nat_cmp, ordering_then}
 use Rattle.herd_frozen.specs.declared.rules.animal.Animal.{Animal}
 use Rattle.herd_frozen.specs.declared.freezing.frozen.Row.{Row}
-use Rattle.herd_frozen.specs.declared.freezing.frozen.Parents.{Parents}
+use Rattle.herd_lineage.specs.declared.lineage.Parents.{Parents}
 use Rattle.herd_frozen.specs.rules.Book.{Book, IsDepthOf}
 use Rattle.herd_frozen.specs.rules.Lawful.{IsLawful}
 use Rattle.herd_frozen.specs.places.Places.{IsIndexIn}
@@ -50,11 +49,3 @@ parents_of row = record { sire = row.sire; dam = row.dam; depth = row.depth }
 -- the depth at a rank, and 0 where there is none
 abbrev pub depth_at : List Row → ℕ → ℕ
 depth_at rows rank = slice_index_or (map (λ row. row.depth) rows) rank 0
-
--- the ranks of a depth, ascending
-unfoldable pub level_of : ℕ → List Row → List ℕ
-level_of depth rows = filter (λ rank. depth_at rows rank == depth) (range_with_len 0 (length rows))
-
--- the ranks of each depth up to l
-unfoldable pub levels_of : ℕ → List Row → List (List ℕ)
-levels_of l rows = map (λ depth. level_of depth rows) (range_with_len 0 (l + 1))

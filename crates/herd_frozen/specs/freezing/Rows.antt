@@ -1,9 +1,10 @@
 -- The rows of a frozen book, kept with the ranks of the parents for their numbers.
-use Rattle.std.specs.Prelude.{◌≡◌, ℕ, ◌<◌, List, [], ◌∷◌, map, length, slice_get, Some, IfSome}
+use Rattle.std.specs.Prelude.{◌≡◌, ℕ, List, [], ◌∷◌, map, length}
+use Rattle.herd_lineage.specs.Lineage.{IsLineage}
+use Rattle.herd_lineage.specs.declared.TheConstants.{DEPTH_LIMIT, MOST_ANIMALS}
 use Rattle.herd_frozen.specs.declared.rules.animal.Animal.{Animal}
-use Rattle.herd_frozen.specs.declared.freezing.frozen.Parents.{Parents}
+use Rattle.herd_lineage.specs.declared.lineage.Parents.{Parents}
 use Rattle.herd_frozen.specs.declared.freezing.frozen.Row.{Row}
-use Rattle.herd_frozen.specs.declared.freezing.rows.PackedParents.{PackedParents}
 use Rattle.herd_frozen.specs.declared.freezing.rows.RowRecord.{RowRecord}
 use Rattle.herd_frozen.specs.places.Places.{number_at}
 
@@ -17,14 +18,6 @@ kept_of entry = record {
   since = entry.1.since;
   left = entry.1.left;
 }
-
--- what is kept of a row's parents
-abbrev pub packed_parents : Parents → PackedParents
-packed_parents parents = record { sire = parents.sire; dam = parents.dam; depth = parents.depth }
-
--- and the parents of which this is kept
-abbrev pub parents_kept : PackedParents → Parents
-parents_kept packed = record { sire = packed.sire; dam = packed.dam; depth = packed.depth }
 
 -- the row of an animal of which this is kept, with parents of these numbers by rank
 abbrev pub row_kept : List (List ℕ) → RowRecord → Parents → Row
@@ -45,26 +38,20 @@ row_kept numbers kept parents = record {
 }
 
 -- the rows of which these are kept, one by one
-unfoldable pub rows_with : List (List ℕ) → List RowRecord → List PackedParents → List Row
+unfoldable pub rows_with : List (List ℕ) → List RowRecord → List Parents → List Row
 rows_with numbers [] parents = []
 rows_with numbers (first ∷ rest) [] = []
 rows_with numbers (first ∷ rest) (parents ∷ others) =
-    row_kept numbers first (parents_kept parents) ∷ rows_with numbers rest others
+    row_kept numbers first parents ∷ rows_with numbers rest others
 
 abbrev pub numbers_kept : List RowRecord → List (List ℕ)
 numbers_kept records = map (λ kept. kept.number) records
 
 -- the rows of which all this is kept
-abbrev pub rows_kept : List RowRecord → List PackedParents → List Row
+abbrev pub rows_kept : List RowRecord → List Parents → List Row
 rows_kept records parents = rows_with (numbers_kept records) records parents
 
--- parents stand among n rows
-abbrev pub ParentsAmong : ℕ → List PackedParents → Type 0
-ParentsAmong n parents =
-    (rank : ℕ) (its : PackedParents) → slice_get parents rank ≡ Some its →
-    IfSome its.sire (λ p. p < n) × IfSome its.dam (λ p. p < n)
-
--- each row has its parents, and they stand among the rows
-pub record AreKept (records : List RowRecord) (parents : List PackedParents) : Type 0 where
+-- each row has its parents, and these are a lineage
+pub record AreKept (records : List RowRecord) (parents : List Parents) : Type 0 where
   pub long : length parents ≡ length records
-  pub closed : ParentsAmong (length records) parents
+  pub lineage : IsLineage DEPTH_LIMIT MOST_ANIMALS parents

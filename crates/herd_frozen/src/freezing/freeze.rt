@@ -1,19 +1,20 @@
-ghost use Rattle.std.specs.Prelude.{◌≡◌, ◌<◌, length, slice_get, IfOk, IfSome};
+ghost use Rattle.std.specs.Prelude.{◌≡◌, ◌<◌, length, map, slice_get, IfOk, IfSome};
 ghost use Rattle.std.specs.Option.{option_and_then, option_map};
-ghost use Rattle.herd_frozen.specs.freezing.Frozen.{IsFrozenFrom, depth_at, numbers_of};
+ghost use Rattle.herd_frozen.specs.freezing.Frozen.{IsFrozenFrom, depth_at, numbers_of, parents_of};
+ghost use Rattle.herd_lineage.specs.Lineage.{IsNextOf};
 ghost use Rattle.herd_frozen.specs.freezing.Freeze.{AreRows, IsRanked, IsRowOf};
 ghost use Rattle.herd_frozen.specs.freezing.Rows.{row_kept};
 ghost use Rattle.herd_frozen.specs.rules.Lawful.{IsLawful};
 ghost use Rattle.herd_frozen.specs.declared.TheConstants.{DEPTH_LIMIT, MOST_ANIMALS};
 
 use crate::freezing::age_order::{AgeKey, by_age, ranks_of};
-use crate::freezing::frozen::{Frozen, Parents};
+use crate::freezing::frozen::Frozen;
 use crate::freezing::listed::{Listed, places_by_number};
 use crate::freezing::registered::Registered;
 use crate::freezing::rows::{RowRecord, Rows};
 use crate::rules::animal::Animal;
-use crate::rules::depth::depth_of_calf;
 use herd_animal::AnimalNumber;
+use herd_lineage::{Parents, depth_of_calf};
 use std::alloc::{AllocError, Allocator};
 
 /// The book of a list of records, in age order. The only error is a growth of memory that is refused.
@@ -44,7 +45,7 @@ pub fn frozen_from<A: Allocator + Clone, S: Registered>(
     let keys = by_age(alloc.clone()?, records)?;
     let ranks = ranks_of(alloc.clone()?, &keys)?;
     let rows = rows_of(alloc.clone()?, records, &keys, &ranks)?;
-    // Their memory is given back before the levels and the index take theirs.
+    // Their memory is given back before the index takes its own.
     drop(keys);
     drop(ranks);
     Frozen::from_rows(alloc, rows)
@@ -84,8 +85,7 @@ fn next_row<A: Allocator, S: Registered>(
     requires more { length rows.now < length keys.now }
     ensures row { IfSome (slice_get keys.now (length rows.now))
         (λ key. IsRowOf (S.book records.now) keys.now key (row_kept (numbers_of rows.now) result.0 result.1)) }
-    ensures sire { IfSome result.1.sire (λ rank. rank < length rows.now) }
-    ensures dam { IfSome result.1.dam (λ rank. rank < length rows.now) }
+    ensures next { IsNextOf DEPTH_LIMIT MOST_ANIMALS (map parents_of rows.now) result.1 }
 {
     let key = keys[rows.len()];
     let place = key.place as usize;

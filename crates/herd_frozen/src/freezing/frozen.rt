@@ -1,13 +1,14 @@
 ghost use Rattle.std.specs.Prelude.{◌≡◌, ◌==◌, ◌<◌, false, length, map, slice_get, Some, IfOk, IfSome, IfNone};
 ghost use Rattle.herd_frozen.specs.rules.Book.{is_there};
-ghost use Rattle.herd_frozen.specs.freezing.Frozen.{IsFrozen, book_of, level_of, numbers_of, parents_of};
+ghost use Rattle.herd_frozen.specs.freezing.Frozen.{IsFrozen, book_of, numbers_of, parents_of};
 ghost use Rattle.herd_frozen.specs.declared.TheConstants.{DEPTH_LIMIT, MOST_ANIMALS};
+ghost use Rattle.herd_lineage.specs.Lineage.{IsLineage};
 
-use crate::freezing::levels::levels_of;
 use crate::freezing::number_index::NumberIndex;
 use crate::freezing::rows::Rows;
 use crate::rules::animal::Animal;
 use herd_animal::AnimalNumber;
+use herd_lineage::{Lineage, Parents};
 use std::alloc::{AllocError, Allocator};
 use std::marker::Model;
 
@@ -26,29 +27,17 @@ pub struct Row {
     pub depth: u8,
 }
 
-/// The part of a row that is read to follow its paths.
-#[derive(Clone, Copy, Debug, PartialEq, Eq)]
-pub struct Parents {
-    /// The rank of the sire, where it is known.
-    pub sire: Option<u32>,
-    /// The rank of the dam, where it is known.
-    pub dam: Option<u32>,
-    /// The number of parent steps on the longest known path.
-    pub depth: u8,
-}
-
 /// A book in age order, which doesn't change any more.
 #[derive(Drop)]
 pub struct Frozen<A: Allocator> {
     rows: Rows<A>,
-    levels: Vec<Vec<u32, A>, A>,
     index: NumberIndex<A>,
 }
 
 impl<A: Allocator> Model for Frozen<A> {
-    ghost use Rattle.std.specs.Prelude.{List, ◌≡◌, length, map};
+    ghost use Rattle.std.specs.Prelude.{List};
     ghost use Rattle.herd_frozen.specs.declared.freezing.frozen.Row.{Row};
-    ghost use Rattle.herd_frozen.specs.freezing.Frozen.{IsFrozen, levels_of};
+    ghost use Rattle.herd_frozen.specs.freezing.Frozen.{IsFrozen};
     ghost use Rattle.herd_frozen.specs.freezing.NumberIndex.{IsIndexOf};
     ghost use Rattle.herd_frozen.specs.declared.TheConstants.{DEPTH_LIMIT, MOST_ANIMALS};
 
@@ -56,9 +45,7 @@ impl<A: Allocator> Model for Frozen<A> {
 
     ghost view = { λ f. f.rows };
 
-    ghost invariant = { λ f. IsFrozen DEPTH_LIMIT MOST_ANIMALS f.rows
-        × (map (λ level. level.items) f.levels.items ≡ levels_of DEPTH_LIMIT f.rows)
-        × IsIndexOf f.rows f.index };
+    ghost invariant = { λ f. IsFrozen DEPTH_LIMIT MOST_ANIMALS f.rows × IsIndexOf f.rows f.index };
 }
 
 impl<A: Allocator> Frozen<A> {
@@ -117,15 +104,14 @@ impl<A: Allocator> Frozen<A> {
         self.rows.parents(rank)
     }
 
-    /// The ranks of the animals of a depth, ascending; none beyond the limit.
-    pub fn level(&self, depth: u8) -> &[u32]
-        ensures level { result.now ≡ level_of depth self.now }
+    /// From whom its animals come, by their ranks.
+    #[inline(always)]
+    pub fn lineage(&self) -> &Lineage<A>
+        ensures value { result.now ≡ map parents_of self.now }
+        ensures lineage { IsLineage DEPTH_LIMIT MOST_ANIMALS result.now }
         ensures frozen { IsFrozen DEPTH_LIMIT MOST_ANIMALS self.now }
     {
-        match self.levels.get(depth as usize) {
-            Some(level) => level.as_slice(),
-            None => &[],
-        }
+        self.rows.lineage()
     }
 }
 
@@ -135,12 +121,7 @@ impl<A: Allocator + Clone> Frozen<A> {
         requires { IsFrozen DEPTH_LIMIT MOST_ANIMALS rows }
         ensures { IfOk result (λ frozen. frozen ≡ rows) }
     {
-        let levels = levels_of(alloc.clone()?, &rows)?;
         let index = NumberIndex::of(alloc, &rows)?;
-        Ok(Frozen {
-            rows,
-            levels,
-            index,
-        })
+        Ok(Frozen { rows, index })
     }
 }

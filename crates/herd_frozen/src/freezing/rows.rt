@@ -1,14 +1,15 @@
 //! The rows of a frozen book, which keep the ranks of the parents for their numbers.
 ghost use Rattle.std.specs.Prelude.{◌≡◌, ◌<◌, [], ◌++◌, ◌∷◌, length, map, slice_get, Some, IfOk, IfSome, OnErr, OnOk};
 ghost use Rattle.herd_frozen.specs.freezing.Frozen.{depth_at, numbers_of, parents_of};
-ghost use Rattle.herd_frozen.specs.places.PackedIndex.{nowhere};
+ghost use Rattle.herd_lineage.specs.Lineage.{IsLineage, IsNextOf};
+ghost use Rattle.herd_lineage.specs.declared.TheConstants.{DEPTH_LIMIT, MOST_ANIMALS};
 ghost use Rattle.herd_frozen.specs.places.Places.{number_at};
-ghost use Rattle.herd_frozen.specs.freezing.Rows.{kept_of, packed_parents, row_kept};
+ghost use Rattle.herd_frozen.specs.freezing.Rows.{kept_of, row_kept};
 
-use crate::freezing::frozen::{Parents, Row};
-use crate::places::packed_index::PackedIndex;
+use crate::freezing::frozen::Row;
 use crate::rules::animal::Animal;
 use herd_animal::{AnimalNumber, Day, Herd};
+use herd_lineage::{Lineage, Parents};
 use std::alloc::{AllocError, Allocator};
 use std::marker::Model;
 
@@ -29,19 +30,11 @@ pub struct RowRecord {
     pub left: Option<Day>,
 }
 
-/// What is kept of a row's parents, in twelve bytes.
-#[derive(Clone, Copy)]
-pub struct PackedParents {
-    sire: PackedIndex,
-    dam: PackedIndex,
-    depth: u8,
-}
-
 /// Rows by rank, which counts from 0.
 #[derive(Drop)]
 pub struct Rows<A: Allocator> {
     records: Vec<RowRecord, A>,
-    parents: Vec<PackedParents, A>,
+    lineage: Lineage<A>,
 }
 
 impl<A: Allocator> Model for Rows<A> {
@@ -51,9 +44,9 @@ impl<A: Allocator> Model for Rows<A> {
 
     ghost Value = { List Row };
 
-    ghost view = { λ r. rows_kept r.records.items r.parents.items };
+    ghost view = { λ r. rows_kept r.records.items r.lineage };
 
-    ghost invariant = { λ r. AreKept r.records.items r.parents.items };
+    ghost invariant = { λ r. AreKept r.records.items r.lineage };
 }
 
 impl RowRecord {
@@ -73,22 +66,6 @@ impl RowRecord {
     }
 }
 
-impl PackedParents {
-    // What is kept of a row's parents.
-    #[inline(always)]
-    fn of(parents: Parents) -> PackedParents
-        requires sire { IfSome parents.sire (λ rank. rank < nowhere) }
-        requires dam { IfSome parents.dam (λ rank. rank < nowhere) }
-        ensures { result ≡ packed_parents parents }
-    {
-        PackedParents {
-            sire: PackedIndex::of(parents.sire),
-            dam: PackedIndex::of(parents.dam),
-            depth: parents.depth,
-        }
-    }
-}
-
 impl<A: Allocator + Clone> Rows<A> {
     /// No rows, with room for so many.
     pub fn with_capacity(alloc: A, rows: usize) -> Result<Rows<A>, AllocError>
@@ -96,7 +73,7 @@ impl<A: Allocator + Clone> Rows<A> {
     {
         Ok(Rows {
             records: Vec::with_capacity(alloc.clone()?, rows)?,
-            parents: Vec::with_capacity(alloc, rows)?,
+            lineage: Lineage::with_capacity(alloc, rows)?,
         })
     }
 }
@@ -126,12 +103,16 @@ impl<A: Allocator> Rows<A> {
         requires { rank < length self.now }
         ensures { slice_get (map parents_of self.now) rank ≡ Some result }
     {
-        let packed = &self.parents[rank as usize];
-        Parents {
-            sire: packed.sire.get(),
-            dam: packed.dam.get(),
-            depth: packed.depth,
-        }
+        self.lineage.parents(rank)
+    }
+
+    /// The lineage of the rows.
+    #[inline(always)]
+    pub fn lineage(&self) -> &Lineage<A>
+        ensures value { result.now ≡ map parents_of self.now }
+        ensures lineage { IsLineage DEPTH_LIMIT MOST_ANIMALS result.now }
+    {
+        &self.lineage
     }
 
     /// The depth of the row at a rank.
@@ -140,7 +121,7 @@ impl<A: Allocator> Rows<A> {
         requires { rank < length self.now }
         ensures { result ≡ depth_at self.now rank }
     {
-        self.parents[rank as usize].depth
+        self.lineage.depth(rank)
     }
 
     /// The row at a rank.
@@ -181,16 +162,13 @@ impl<A: Allocator> Rows<A> {
     /// parents are read from these rows. The only error is a growth of memory that is refused; then all is as it was.
     #[inline(always)]
     pub(crate) fn push(&mut self, kept: RowRecord, parents: Parents) -> Result<(), AllocError>
-        requires few { length self.old < nowhere }
-        requires sire { IfSome parents.sire (λ rank. rank < length self.old) }
-        requires dam { IfSome parents.dam (λ rank. rank < length self.old) }
+        requires { IsNextOf DEPTH_LIMIT MOST_ANIMALS (map parents_of self.old) parents }
         ensures ok { OnOk result (self.new ≡ self.old ++ row_kept (numbers_of self.old) kept parents ∷ []) }
         ensures err { OnErr result (self.new ≡ self.old) }
     {
         self.records.reserve(1)?;
-        self.parents.reserve(1)?;
+        self.lineage.push_known(parents)?;
         self.records.push_reserved(kept);
-        self.parents.push_reserved(PackedParents::of(parents));
         Ok(())
     }
 }

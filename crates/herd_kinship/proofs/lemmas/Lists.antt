@@ -8,7 +8,7 @@ use Rattle.std.proofs.lemmas.List.Elements.{All-contains, All-cons, All-map, All
 use Rattle.std.proofs.lemmas.List.Kept.{AllPairs-cons}
 use Rattle.std.proofs.lemmas.List.Sums.{sum_by-cons}
 use Rattle.std.proofs.lemmas.Option.{get_or_from_slice_get, slice_get-get_or}
-use Rattle.herd_frozen.proofs.lemmas.Contained.{contains_cases}
+use Rattle.herd_lineage.proofs.lemmas.Contained.{contains_cases}
 
 all_mapped : {X Y : Type 0} (f : X → Y) (xs : List X) → All (λ v. Contains (map f xs) (f v)) xs
 all_mapped f [] = All-nil (λ v. Contains [] (f v))

@@ -2,3 +2,4 @@
 pub mod Decompose
 pub mod ColumnSums
 pub mod RowProducts
+pub mod LawFacts

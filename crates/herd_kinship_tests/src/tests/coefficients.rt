@@ -3,10 +3,10 @@
 ghost use Rattle.std.specs.Prelude.{◌<◌, length};
 
 use super::books::{father_and_daughter, half_cousins, half_sibs};
+use herd_advice::*;
 use herd_fixtures::Name::{Bull, Cow};
 use herd_fixtures::{Birth, Name, frozen_of, full_sibs, generations};
 use herd_frozen::Frozen;
-use herd_kinship::*;
 use std::alloc::Global;
 use std::process::Abort;
 use std::test::Fail;

@@ -3,7 +3,7 @@
 ghost use Rattle.std.specs.Prelude.{◌*◌, ◌^◌, ◌<◌, false};
 ghost use Rattle.herd_frozen.specs.declared.TheConstants.{DEPTH_LIMIT};
 
-use herd_kinship::{Fraction, fraction, hundredths};
+use herd_advice::{Fraction, fraction, hundredths};
 use std::process::Abort;
 
 fn tells(rt: &impl Abort, coefficient: u128, numerator: u128, denominator: u128, rounded: u32)

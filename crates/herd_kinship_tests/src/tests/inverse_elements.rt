@@ -3,11 +3,11 @@
 ghost use Rattle.std.specs.Prelude.{false};
 
 use super::books::{with_inbred_parents, with_one_parent};
+use herd_advice::*;
 use herd_animal::AnimalNumber;
 use herd_fixtures::Name::{Bull, Cow};
 use herd_fixtures::{Birth, Name, frozen_of};
 use herd_frozen::Frozen;
-use herd_kinship::*;
 use std::alloc::Global;
 use std::process::Abort;
 use std::test::Fail;

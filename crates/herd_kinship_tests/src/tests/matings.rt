@@ -1,10 +1,10 @@
 //! Matings of one pair, and by the dam.
 
+use herd_advice::*;
 use herd_animal::AnimalNumber;
 use herd_fixtures::Name::{Bull, Cow};
 use herd_fixtures::{frozen_of, full_sibs, generations};
 use herd_frozen::Frozen;
-use herd_kinship::*;
 use std::alloc::Global;
 use std::process::Abort;
 use std::test::Fail;

@@ -1,12 +1,12 @@
 //! Growths that are refused.
 
 ghost use Rattle.herd_frozen.specs.declared.TheConstants.{DEPTH_LIMIT};
-ghost use Rattle.herd_kinship.specs.Coefficients.{AreCoefficients};
+ghost use Rattle.herd_advice.specs.BookCoefficients.{AreBookCoefficients};
 
+use herd_advice::*;
 use herd_fixtures::Name::{Bull, Cow};
 use herd_fixtures::{frozen_of, full_sibs};
 use herd_frozen::Frozen;
-use herd_kinship::*;
 use linked_list_allocator::LocalHeap;
 use std::alloc::Global;
 use std::test::Fail;
@@ -23,7 +23,7 @@ fn advises(
     frozen: &Frozen<Global>,
     coefficients: &Coefficients<Global>,
 ) -> Option<bool>
-    requires { AreCoefficients DEPTH_LIMIT frozen.now coefficients.now }
+    requires { AreBookCoefficients DEPTH_LIMIT frozen.now coefficients.now }
 {
     match mating(
         heap,
@@ -44,7 +44,7 @@ fn traces(
     frozen: &Frozen<Global>,
     coefficients: &Coefficients<Global>,
 ) -> Option<bool>
-    requires { AreCoefficients DEPTH_LIMIT frozen.now coefficients.now }
+    requires { AreBookCoefficients DEPTH_LIMIT frozen.now coefficients.now }
 {
     let Some(rank) = frozen.rank(&Bull(5).number()) else {
         return Some(false);

@@ -5,24 +5,25 @@ ghost use Rattle.herd_kinship.specs.CalfLinks.{AreCalvesOf};
 use herd_fixtures::Name::{Bull, Cow};
 use herd_fixtures::{Name, frozen_of, full_sibs};
 use herd_frozen::Frozen;
-use herd_kinship::*;
+use herd_kinship::{CalfCoefficient, Calves, Mates, ONE, coefficients_plain};
+use herd_lineage::Lineage;
 use std::alloc::{AllocError, Global};
 use std::process::Abort;
 use std::test::Fail;
 
 fn append_calves(
     alloc: Global,
-    frozen: &Frozen<Global>,
+    lineage: &Lineage<Global>,
     calves: &Calves<Global>,
     sire: u32,
     list: &mut Vec<CalfCoefficient>,
 ) -> Result<(), AllocError>
-    requires calves { AreCalvesOf frozen.now calves.now }
-    requires sire { sire < length frozen.now }
+    requires calves { AreCalvesOf lineage.now calves.now }
+    requires sire { sire < length lineage.now }
 {
-    let coefficients = coefficients_plain(alloc, frozen)?;
-    let mut mates = Mates::with_room(alloc, frozen)?;
-    mates.append_calves(frozen, calves, coefficients.list(), sire, list)
+    let coefficients = coefficients_plain(alloc, lineage)?;
+    let mut mates = Mates::with_room(alloc, lineage)?;
+    mates.append_calves(lineage, calves, coefficients.list(), sire, list)
 }
 
 // The sire's calves by known dams, each with its coefficient; as many as are counted.
@@ -33,10 +34,11 @@ fn calves_by_known_dams(
     sire: Name,
 ) -> Result<Vec<CalfCoefficient>, Fail> {
     let sire = frozen.rank(&sire.number()).ok_or("absent")?;
-    let calves = Calves::of(alloc, frozen)?;
+    let lineage = frozen.lineage();
+    let calves = Calves::of(alloc, lineage)?;
     let mut list = Vec::new(alloc);
-    append_calves(alloc, frozen, &calves, sire, &mut list)?;
-    assert_eq!(rt; calves.count(frozen, sire) as usize, list.len());
+    append_calves(alloc, lineage, &calves, sire, &mut list)?;
+    assert_eq!(rt; calves.count(lineage, sire) as usize, list.len());
     Ok(list)
 }
 

@@ -1,9 +1,9 @@
 //! The list of coefficients beside the tabular method.
 
 use super::books::{father_and_daughter, half_cousins, half_sibs, with_one_parent};
+use herd_advice::*;
 use herd_fixtures::{Birth, frozen_of, full_sibs, generations};
 use herd_frozen::Frozen;
-use herd_kinship::*;
 use std::alloc::Global;
 use std::process::Abort;
 use std::test::Fail;

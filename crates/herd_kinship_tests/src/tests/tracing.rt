@@ -2,12 +2,12 @@
 
 ghost use Rattle.std.specs.Prelude.{◌<◌};
 
+use herd_advice::*;
 use herd_fixtures::Name::{Bull, Cow};
 use herd_fixtures::{
     Birth, BirthFault, Name, Pair, UNKNOWN, file_birth, frozen_of, full_sibs, new_year,
 };
 use herd_frozen::Frozen;
-use herd_kinship::*;
 use herd_pedigree::Pedigree;
 use std::alloc::Global;
 use std::process::Abort;

@@ -118,10 +118,11 @@ fn has_family_parents<A: Allocator>(frozen: &Frozen<A>) -> bool
 }
 
 fn has_family_levels<A: Allocator>(frozen: &Frozen<A>) -> bool {
-    frozen.level(0) == [0, 1].as_slice()
-        && frozen.level(1) == [2].as_slice()
-        && frozen.level(2).is_empty()
-        && frozen.level(61).is_empty()
+    let lineage = frozen.lineage();
+    lineage.level(0) == [0, 1].as_slice()
+        && lineage.level(1) == [2].as_slice()
+        && lineage.level(2).is_empty()
+        && lineage.level(61).is_empty()
 }
 
 fn expect_family<A: Allocator>(

@@ -1,6 +1,6 @@
 //! Gates that hold a thread until another has come, gates that count, and gates that refuse memory.
 use herd_fixtures::Meeting;
-use herd_frozen::Frozen;
+use herd_lineage::Lineage;
 use herd_pool::Gate;
 use std::alloc::{AllocError, Allocator, Global};
 use std::sync::atomic::{AtomicU64, Ordering};
@@ -27,7 +27,7 @@ impl Gate for AtAnimals {
     fn trace<F: Allocator, A: Allocator + Clone>(
         &self,
         alloc: A,
-        frozen: &Frozen<F>,
+        lineage: &Lineage<F>,
         known: &[u128],
         rank: u32,
     ) -> Result<u128, AllocError> {
@@ -35,7 +35,7 @@ impl Gate for AtAnimals {
             self.meeting.arrive();
             self.meeting.wait();
         }
-        herd_kinship::trace(alloc, frozen, known, rank)
+        herd_kinship::trace(alloc, lineage, known, rank)
     }
 }
 
@@ -47,7 +47,7 @@ impl Gate for ThirdFirst {
     fn trace<F: Allocator, A: Allocator + Clone>(
         &self,
         alloc: A,
-        frozen: &Frozen<F>,
+        lineage: &Lineage<F>,
         known: &[u128],
         rank: u32,
     ) -> Result<u128, AllocError> {
@@ -56,7 +56,7 @@ impl Gate for ThirdFirst {
             2 => self.0.arrive(),
             _ => {}
         }
-        herd_kinship::trace(alloc, frozen, known, rank)
+        herd_kinship::trace(alloc, lineage, known, rank)
     }
 }
 
@@ -107,11 +107,11 @@ impl Gate for OtherHeld {
     fn trace<F: Allocator, A: Allocator + Clone>(
         &self,
         alloc: A,
-        frozen: &Frozen<F>,
+        lineage: &Lineage<F>,
         known: &[u128],
         rank: u32,
     ) -> Result<u128, AllocError> {
-        let value = herd_kinship::trace(alloc, frozen, known, rank)?;
+        let value = herd_kinship::trace(alloc, lineage, known, rank)?;
         if self.first <= rank && rank < self.end {
             self.traced.arrive();
         }
@@ -183,7 +183,7 @@ impl Gate for Counts {
     fn trace<F: Allocator, A: Allocator + Clone>(
         &self,
         alloc: A,
-        frozen: &Frozen<F>,
+        lineage: &Lineage<F>,
         known: &[u128],
         rank: u32,
     ) -> Result<u128, AllocError> {
@@ -191,7 +191,7 @@ impl Gate for Counts {
             self.others.fetch_add(1, Ordering::SeqCst);
         }
         self.count(&self.traced, rank);
-        herd_kinship::trace(alloc, frozen, known, rank)
+        herd_kinship::trace(alloc, lineage, known, rank)
     }
 }
 
@@ -215,14 +215,14 @@ impl Gate for OneRefused {
     fn trace<F: Allocator, A: Allocator + Clone>(
         &self,
         alloc: A,
-        frozen: &Frozen<F>,
+        lineage: &Lineage<F>,
         known: &[u128],
         rank: u32,
     ) -> Result<u128, AllocError> {
         if self.traced.fetch_add(1, Ordering::SeqCst) == self.refused {
             return Err(AllocError);
         }
-        herd_kinship::trace(alloc, frozen, known, rank)
+        herd_kinship::trace(alloc, lineage, known, rank)
     }
 }
 

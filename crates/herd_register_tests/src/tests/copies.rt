@@ -8,7 +8,7 @@ use herd_fixtures::{Birth, Pair, UNKNOWN, heap_of, herd_of};
 use herd_frozen::Animal;
 use herd_register::{Change, Copybook, Limits, Refusal, Register, Reply};
 use linked_list_allocator::LocalHeap;
-use std::alloc::{Allocator, Global};
+use std::alloc::{AllocError, Allocator, Global};
 use std::process::Abort;
 use std::test::Fail;
 
@@ -42,8 +42,7 @@ fn file_and_copy<A: Allocator>(
     reply: Reply,
 ) -> Result<(), Fail> {
     file(rt, register, text, reply)?;
-    copybook.take_over(&register.last_change());
-    Ok(())
+    Ok(copybook.take_over(&register.last_change())?)
 }
 
 fn file_and_copy_eight<A: Allocator>(
@@ -94,8 +93,8 @@ fn expect_full(rt: &impl Abort, copybook: &mut Copybook<Global>) -> Result<(), F
     assert!(rt; has_records(copybook, &records));
     // It would set a record.
     let (number, animal) = records[1];
-    copybook.take_over(&Change::Set(0, number, animal));
-    assert!(rt; has_records(copybook, &records));
+    copybook.take_over(&Change::Set(0, number, animal))?;
+    assert!(rt; has_records(copybook, &records) && copybook.is_full());
     assert_eq!(rt; copybook.steps(), 8);
     Ok(())
 }
@@ -111,7 +110,7 @@ fn expect_copied(
 
 #[test]
 fn takes_over_as_many_steps_as_the_limits_allow(rt: HostRuntime) -> Result<(), Fail> {
-    let mut copybook = Copybook::new(rt.alloc(), limits())?;
+    let mut copybook = Copybook::new(rt.alloc(), limits());
     expect_copied(&rt, rt.alloc(), &mut copybook)
 }
 
@@ -119,27 +118,28 @@ fn takes_over_as_many_steps_as_the_limits_allow(rt: HostRuntime) -> Result<(), F
 fn take_over_more_than_fits<A: Allocator>(
     copybook: &mut Copybook<A>,
     records: &[(AnimalNumber, Animal); 2],
-) {
+) -> Result<(), AllocError> {
     let [first, other] = records;
-    copybook.take_over(&Change::Added(first.0, first.1));
-    copybook.take_over(&Change::Added(other.0, other.1));
-    copybook.take_over(&Change::Set(1, other.0, other.1));
-    copybook.take_over(&Change::Set(u32::MAX, other.0, other.1));
-    copybook.take_over(&Change::Nothing);
+    copybook.take_over(&Change::Added(first.0, first.1))?;
+    copybook.take_over(&Change::Added(other.0, other.1))?;
+    copybook.take_over(&Change::Set(1, other.0, other.1))?;
+    copybook.take_over(&Change::Set(u32::MAX, other.0, other.1))?;
+    copybook.take_over(&Change::Nothing)
 }
 
-// No memory is taken for them.
+// Once there is room for the one record, no memory is taken for them.
 fn expect_nothing_set(
     rt: &impl Abort,
     heap: &LocalHeap,
     copybook: &mut Copybook<&LocalHeap>,
 ) -> Result<(), Fail> {
+    copybook.make_room()?;
     let used = heap.used();
     let records = [
         Birth(Bull(1), *b"2000-01-01", UNKNOWN).entry()?,
         Birth(Bull(2), *b"2000-01-01", UNKNOWN).entry()?,
     ];
-    take_over_more_than_fits(copybook, &records);
+    take_over_more_than_fits(copybook, &records)?;
     assert!(rt; has_records(copybook, &records[..1]));
     assert_eq!(rt; (copybook.steps(), heap.used()), (5, used));
     Ok(())
@@ -152,6 +152,6 @@ fn takes_over_steps_that_set_nothing(rt: HostRuntime) -> Result<(), Fail> {
         steps: 5,
     };
     let heap = heap_of(rt.alloc(), 4096)?;
-    let mut copybook = Copybook::new(&heap, limits)?;
+    let mut copybook = Copybook::new(&heap, limits);
     expect_nothing_set(&rt, &heap, &mut copybook)
 }

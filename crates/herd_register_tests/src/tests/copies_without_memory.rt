@@ -20,14 +20,18 @@ fn takes_no_memory(
     Ok(copybook.steps() == 8 && heap.used() == used)
 }
 
-// Whether a heap has room for a copy of a register.
+// Whether a heap has room for a copy of a register. Where it has none, the copy is empty.
 fn is_copied(rt: &impl Abort, alloc: Global, heap: &LocalHeap) -> Result<bool, Fail> {
-    match Copybook::new(heap, limits()) {
-        Ok(mut copybook) => {
-            assert!(rt; takes_no_memory(rt, alloc, heap, &mut copybook)?);
+    let mut copybook = Copybook::new(heap, limits());
+    match copybook.make_room() {
+        Ok(()) => {
+            assert!(rt; copybook.room() == 4 && takes_no_memory(rt, alloc, heap, &mut copybook)?);
             Ok(true)
         }
-        Err(AllocError) => Ok(false),
+        Err(AllocError) => {
+            assert!(rt; copybook.room() == 0 && copybook.records().is_empty());
+            Ok(false)
+        }
     }
 }
 

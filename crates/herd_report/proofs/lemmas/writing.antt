@@ -5,6 +5,7 @@ pub mod Pieces
 pub mod CoefficientFacts
 pub mod AncestorFacts
 pub mod CertificateFacts
+pub mod RecordFacts
 pub mod MatingFacts
 pub mod ContributionFacts
 pub mod RelationshipFacts

@@ -1,5 +1,5 @@
 -- The certificate of an animal as text.
-use Rattle.std.specs.Prelude.{◌≡◌, ℕ, List, [], ◌++◌, map, Option, Some, None, ℤ, codes, decimal, false, true}
+use Rattle.std.specs.Prelude.{◌≡◌, ℕ, List, [], ◌++◌, map, Option, codes, decimal, false, true}
 use Rattle.std.specs.Io.KnownBytes.{Appends}
 use Rattle.std.specs.List.{flat_map}
 use Rattle.std.specs.Option.{option_map_or}
@@ -12,11 +12,12 @@ use Rattle.herd_frozen.specs.declared.TheConstants.{DEPTH_LIMIT}
 use Rattle.herd_frozen.specs.declared.freezing.frozen.Row.{Row}
 use Rattle.herd_frozen.specs.rules.Book.{Book, is_there, record_of}
 use Rattle.herd_frozen.specs.freezing.Frozen.{book_of}
-use Rattle.herd_kinship.specs.FrozenAncestry.{ancestry_of}
+use Rattle.herd_advice.specs.FrozenAncestry.{ancestry_of}
 use Rattle.herd_kinship.specs.Table.{coefficient}
 use Rattle.herd_report.specs.declared.writing.ancestors.Parent.{Parent}
 use Rattle.herd_report.specs.writing.Ancestors.{ancestor_of, letter_of, three_generations}
 use Rattle.herd_report.specs.writing.CoefficientText.{coefficient_text}
+use Rattle.herd_report.specs.writing.RecordLine.{known_text, left_text}
 use Rattle.herd_report.specs.writing.Text.{AppendsFront}
 use Rattle.herd_report.specs.declared.writing.certificate_fault.CertificateFault.{CertificateFault}
 use Rattle.herd_report.specs.declared.writing.certificate_fault.CertificateFault.TheVariants.{NotRegistered, Report}
@@ -29,11 +30,6 @@ abbrev pub sex_text : Sex → List ℕ
 sex_text Male = codes "male"
 sex_text Female = codes "female"
 
--- the day on which an animal left, or a dash
-abbrev pub left_text : Option ℤ → List ℕ
-left_text None = codes "-"
-left_text (Some day) = day_text day
-
 -- the seven lines on an animal itself
 abbrev pub animal_text : List ℕ → Animal → ℕ → List ℕ
 animal_text number animal numerator =
@@ -44,11 +40,6 @@ animal_text number animal numerator =
     ++ labelled_line (codes "since") (day_text animal.since)
     ++ labelled_line (codes "left") (left_text animal.left)
     ++ labelled_line (codes "inbreeding") (coefficient_text (codes " ") numerator)
-
--- an animal, or `0` where it is unknown
-abbrev pub known_text : Option (List ℕ) → List ℕ
-known_text None = codes "0"
-known_text (Some number) = number
 
 -- the line of an ancestor, named by the letters of the parents that lead to it
 abbrev pub ancestor_line : Book → List ℕ → List Parent → List ℕ

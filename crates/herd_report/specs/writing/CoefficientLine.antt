@@ -5,7 +5,7 @@ use Rattle.herd_frozen.specs.rules.Book.{is_there}
 use Rattle.herd_frozen.specs.freezing.Frozen.{book_of}
 use Rattle.herd_frozen.specs.declared.TheConstants.{DEPTH_LIMIT}
 use Rattle.herd_frozen.specs.declared.freezing.frozen.Row.{Row}
-use Rattle.herd_kinship.specs.FrozenAncestry.{ancestry_of}
+use Rattle.herd_advice.specs.FrozenAncestry.{ancestry_of}
 use Rattle.herd_kinship.specs.Table.{coefficient}
 use Rattle.herd_report.specs.writing.CoefficientText.{coefficient_line}
 use Rattle.herd_report.specs.writing.Text.{AppendsFront}

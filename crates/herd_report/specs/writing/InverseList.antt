@@ -5,8 +5,8 @@ use Rattle.herd_frozen.specs.declared.TheConstants.{DEPTH_LIMIT}
 use Rattle.herd_frozen.specs.declared.freezing.frozen.Row.{Row}
 use Rattle.herd_kinship.specs.declared.contribution.Contribution.{Contribution}
 use Rattle.herd_kinship.specs.declared.fractions.Fraction.{Fraction}
-use Rattle.herd_kinship.specs.Contributions.{contributions_of}
-use Rattle.herd_kinship.specs.FrozenAncestry.{number_of_row}
+use Rattle.herd_advice.specs.BookContributions.{book_contributions_of}
+use Rattle.herd_advice.specs.FrozenAncestry.{number_of_row}
 use Rattle.herd_kinship.specs.Fraction.{fraction_text}
 
 -- what stands in the line of an element after the numbers: its value
@@ -22,7 +22,7 @@ contribution_line rows number element =
 -- the lines of what the animal at a rank contributes
 abbrev pub contributions_text : List Row → ℕ → List ℕ
 contributions_text rows rank =
-    flat_map (contribution_line rows (number_of_row rows rank)) (contributions_of DEPTH_LIMIT rows rank)
+    flat_map (contribution_line rows (number_of_row rows rank)) (book_contributions_of DEPTH_LIMIT rows rank)
 
 -- the lines of the animals of a frozen book in age order
 abbrev pub inverse_text : List Row → List ℕ

@@ -4,9 +4,9 @@ use Rattle.std.specs.List.{flat_map}
 use Rattle.std.specs.Option.{option_map_or}
 use Rattle.herd_frozen.specs.declared.TheConstants.{DEPTH_LIMIT}
 use Rattle.herd_frozen.specs.rules.Book.{Book}
-use Rattle.herd_kinship.specs.declared.mating_advice.MatingFault.{MatingFault}
-use Rattle.herd_kinship.specs.FrozenAncestry.{book_ancestry}
-use Rattle.herd_kinship.specs.Mating.{mating_fault, number_of_mating_fault}
+use Rattle.herd_advice.specs.declared.mating_advice.MatingFault.{MatingFault}
+use Rattle.herd_advice.specs.FrozenAncestry.{book_ancestry}
+use Rattle.herd_advice.specs.Mating.{mating_fault, number_of_mating_fault}
 use Rattle.herd_kinship.specs.Table.{entry}
 use Rattle.herd_report.specs.writing.CoefficientText.{coefficient_line}
 use Rattle.herd_report.specs.writing.RefusedText.{refused_line_end}

@@ -5,7 +5,7 @@ use Rattle.herd_frozen.specs.declared.TheConstants.{DEPTH_LIMIT}
 use Rattle.herd_frozen.specs.declared.freezing.frozen.Row.{Row}
 use Rattle.herd_frozen.specs.freezing.Frozen.{book_of, numbers_of}
 use Rattle.herd_frozen.specs.rules.Book.{Book, is_there}
-use Rattle.herd_kinship.specs.FrozenAncestry.{book_ancestry}
+use Rattle.herd_advice.specs.FrozenAncestry.{book_ancestry}
 use Rattle.herd_kinship.specs.Fraction.{halved}
 use Rattle.herd_kinship.specs.Table.{entry}
 use Rattle.herd_report.specs.declared.writing.relationship_list.Asked.{Asked}

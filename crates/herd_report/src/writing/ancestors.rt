@@ -1,7 +1,7 @@
 ghost use Rattle.std.specs.Prelude.{◌≡◌, ◌<◌, ◌++◌, length, map, OnOk};
 ghost use Rattle.std.specs.List.{flat_map};
 ghost use Rattle.herd_frozen.specs.freezing.Frozen.{book_of};
-ghost use Rattle.herd_kinship.specs.FrozenAncestry.{number_of_row};
+ghost use Rattle.herd_advice.specs.FrozenAncestry.{number_of_row};
 ghost use Rattle.herd_report.specs.writing.Ancestors.{ancestor_of, letter_of, parent_rank};
 ghost use Rattle.herd_report.specs.writing.Certificate.{ancestor_line, ancestors_text};
 

@@ -2,20 +2,21 @@ ghost use Rattle.std.specs.Prelude.{◌≡◌, ◌<◌, ◌++◌, false, codes, 
 ghost use Rattle.herd_frozen.specs.rules.Book.{is_there};
 ghost use Rattle.herd_frozen.specs.freezing.Frozen.{book_of};
 ghost use Rattle.herd_frozen.specs.declared.TheConstants.{DEPTH_LIMIT};
-ghost use Rattle.herd_kinship.specs.Coefficients.{AreCoefficients};
-ghost use Rattle.herd_kinship.specs.FrozenAncestry.{ancestry_of, number_of_row};
+ghost use Rattle.herd_advice.specs.BookCoefficients.{AreBookCoefficients};
+ghost use Rattle.herd_advice.specs.FrozenAncestry.{ancestry_of, number_of_row};
 ghost use Rattle.herd_kinship.specs.Table.{coefficient};
 ghost use Rattle.herd_report.specs.writing.Certificate.{EndsCertificate, IsCertified};
-ghost use Rattle.herd_report.specs.writing.Certificate.{animal_text, certificate_of, labelled_line, left_text, sex_text};
+ghost use Rattle.herd_report.specs.writing.Certificate.{animal_text, certificate_of, labelled_line, sex_text};
 ghost use Rattle.herd_report.specs.writing.CoefficientText.{coefficient_text};
+ghost use Rattle.herd_report.specs.writing.RecordLine.{left_text};
 
 use crate::writing::ancestors::push_ancestors;
 use crate::writing::certificate_fault::CertificateFault;
 use crate::writing::coefficient_text::{Coefficient, push_coefficient};
 use crate::writing::text::Text;
+use herd_advice::{Coefficients, coefficients_plain};
 use herd_animal::{AnimalNumber, Day, Sex};
 use herd_frozen::{Frozen, Row};
-use herd_kinship::{Coefficients, coefficients_plain};
 use itoa::Buffer;
 use std::alloc::{AllocError, Allocator};
 use std::io::Write;
@@ -28,7 +29,7 @@ pub fn write_certificate<W: Write, A: Allocator, F: Allocator, C: Allocator>(
     number: AnimalNumber,
     writer: &mut W,
 ) -> Result<(), CertificateFault>
-    requires { AreCoefficients DEPTH_LIMIT frozen.now coefficients.now }
+    requires { AreBookCoefficients DEPTH_LIMIT frozen.now coefficients.now }
     ensures ok { OnOk result (IsCertified frozen.now number (W.contents writer.old) (W.contents writer.new)) }
     ensures err { IfErr result (EndsCertificate frozen.now number (W.contents writer.old) (W.contents writer.new)) }
     ensures untouched { is_there (book_of frozen.now) number ≡ false → writer.new ≡ writer.old }
@@ -44,7 +45,7 @@ pub(crate) fn certify<W: Write, A: Allocator, F: Allocator, C: Allocator>(
     number: AnimalNumber,
     writer: &mut W,
 ) -> Result<(), CertificateFault>
-    requires { IfSome given (λ list. AreCoefficients DEPTH_LIMIT frozen.now list.now) }
+    requires { IfSome given (λ list. AreBookCoefficients DEPTH_LIMIT frozen.now list.now) }
     ensures ok { OnOk result (IsCertified frozen.now number (W.contents writer.old) (W.contents writer.new)) }
     ensures err { IfErr result (EndsCertificate frozen.now number (W.contents writer.old) (W.contents writer.new)) }
     ensures untouched { is_there (book_of frozen.now) number ≡ false → writer.new ≡ writer.old }
@@ -66,7 +67,7 @@ fn coefficient_at<A: Allocator, F: Allocator, C: Allocator>(
     rank: u32,
 ) -> Result<Coefficient, AllocError>
     requires rank { rank < length frozen.now }
-    requires given { IfSome given (λ list. AreCoefficients DEPTH_LIMIT frozen.now list.now) }
+    requires given { IfSome given (λ list. AreBookCoefficients DEPTH_LIMIT frozen.now list.now) }
     ensures { IfOk result
         (λ own. own.numerator ≡ coefficient (ancestry_of frozen.now) DEPTH_LIMIT (number_of_row frozen.now rank)) }
 {

@@ -2,15 +2,15 @@ ghost use Rattle.std.specs.Prelude.{◌≡◌, false, IfErr, OnOk};
 ghost use Rattle.herd_frozen.specs.rules.Book.{is_there};
 ghost use Rattle.herd_frozen.specs.freezing.Frozen.{book_of};
 ghost use Rattle.herd_frozen.specs.declared.TheConstants.{DEPTH_LIMIT};
-ghost use Rattle.herd_kinship.specs.Coefficients.{AreCoefficients};
+ghost use Rattle.herd_advice.specs.BookCoefficients.{AreBookCoefficients};
 ghost use Rattle.herd_report.specs.writing.CoefficientLine.{EndsCoefficient, IsCoefficientTold};
 
 use crate::writing::certificate_fault::CertificateFault;
 use crate::writing::coefficient_text::{Coefficient, push_coefficient_line};
 use crate::writing::text::Text;
+use herd_advice::Coefficients;
 use herd_animal::AnimalNumber;
 use herd_frozen::Frozen;
-use herd_kinship::Coefficients;
 use std::alloc::Allocator;
 use std::io::Write;
 
@@ -22,7 +22,7 @@ pub fn write_coefficient<W: Write, A: Allocator, F: Allocator, C: Allocator>(
     number: AnimalNumber,
     writer: &mut W,
 ) -> Result<(), CertificateFault>
-    requires { AreCoefficients DEPTH_LIMIT frozen.now coefficients.now }
+    requires { AreBookCoefficients DEPTH_LIMIT frozen.now coefficients.now }
     ensures ok { OnOk result (IsCoefficientTold frozen.now number (W.contents writer.old) (W.contents writer.new)) }
     ensures err { IfErr result (EndsCoefficient frozen.now number (W.contents writer.old) (W.contents writer.new)) }
     ensures untouched { is_there (book_of frozen.now) number ≡ false → writer.new ≡ writer.old }

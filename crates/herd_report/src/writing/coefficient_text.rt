@@ -5,8 +5,8 @@ ghost use Rattle.herd_report.specs.writing.CoefficientText.{coefficient_line, co
 
 use crate::writing::line_end::LastValue;
 use crate::writing::text::Text;
+use herd_advice::{Fraction, fraction, hundredths};
 use herd_animal::AnimalNumber;
-use herd_kinship::{Fraction, fraction, hundredths};
 use std::alloc::{AllocError, Allocator};
 
 /// A coefficient in units of 2^-120.

@@ -1,8 +1,8 @@
 ghost use Rattle.std.specs.Prelude.{◌≡◌, ◌++◌, OnErr, OnOk};
 ghost use Rattle.std.specs.Io.KnownBytes.{Appends};
 ghost use Rattle.herd_frozen.specs.declared.TheConstants.{DEPTH_LIMIT};
-ghost use Rattle.herd_kinship.specs.Coefficients.{AreCoefficients};
-ghost use Rattle.herd_kinship.specs.FrozenAncestry.{ancestry_of};
+ghost use Rattle.herd_advice.specs.BookCoefficients.{AreBookCoefficients};
+ghost use Rattle.herd_advice.specs.FrozenAncestry.{ancestry_of};
 ghost use Rattle.herd_kinship.specs.Table.{coefficient};
 ghost use Rattle.herd_report.specs.writing.CoefficientText.{coefficient_line};
 ghost use Rattle.herd_report.specs.writing.InbreedingList.{inbreeding_text};
@@ -12,9 +12,9 @@ use crate::writing::coefficient_text::Coefficient;
 use crate::writing::line_end::LineEnd;
 use crate::writing::report_fault::ReportFault;
 use crate::writing::text::Text;
+use herd_advice::Coefficients;
 use herd_animal::AnimalNumber;
 use herd_frozen::Frozen;
-use herd_kinship::Coefficients;
 use std::alloc::{AllocError, Allocator};
 use std::io::Write;
 
@@ -25,7 +25,7 @@ pub fn write_inbreeding<W: Write, A: Allocator, F: Allocator, C: Allocator>(
     coefficients: &Coefficients<C>,
     writer: &mut W,
 ) -> Result<(), ReportFault>
-    requires { AreCoefficients DEPTH_LIMIT frozen.now coefficients.now }
+    requires { AreBookCoefficients DEPTH_LIMIT frozen.now coefficients.now }
     ensures ok { OnOk result (Appends (W.contents writer.old) (W.contents writer.new)
         (inbreeding_text (coefficient (ancestry_of frozen.now) DEPTH_LIMIT) frozen.now)) }
     ensures err { OnErr result (AppendsFront (W.contents writer.old) (W.contents writer.new)

@@ -2,8 +2,8 @@ ghost use Rattle.std.specs.Prelude.{◌≡◌, ◌<◌, ◌++◌, All, codes, le
 ghost use Rattle.std.specs.Io.KnownBytes.{Appends};
 ghost use Rattle.std.specs.List.{flat_map};
 ghost use Rattle.herd_frozen.specs.declared.TheConstants.{DEPTH_LIMIT};
-ghost use Rattle.herd_kinship.specs.Coefficients.{AreCoefficients};
-ghost use Rattle.herd_kinship.specs.FrozenAncestry.{number_of_row};
+ghost use Rattle.herd_advice.specs.BookCoefficients.{AreBookCoefficients};
+ghost use Rattle.herd_advice.specs.FrozenAncestry.{number_of_row};
 ghost use Rattle.herd_report.specs.writing.InverseList.{contribution_line, contributions_text, inverse_text, IsWithin};
 ghost use Rattle.herd_report.specs.writing.Text.{AppendsFront};
 
@@ -11,9 +11,9 @@ use crate::writing::coefficient_text::push_fraction;
 use crate::writing::line_end::{LastValue, LineEnd};
 use crate::writing::report_fault::ReportFault;
 use crate::writing::text::Text;
+use herd_advice::{Coefficients, Contribution, Fraction, contributions};
 use herd_animal::AnimalNumber;
 use herd_frozen::Frozen;
-use herd_kinship::{Coefficients, Contribution, Fraction, contributions};
 use std::alloc::{AllocError, Allocator};
 use std::io::Write;
 
@@ -24,7 +24,7 @@ pub fn write_inverse<W: Write, A: Allocator, F: Allocator, C: Allocator>(
     coefficients: &Coefficients<C>,
     writer: &mut W,
 ) -> Result<(), ReportFault>
-    requires { AreCoefficients DEPTH_LIMIT frozen.now coefficients.now }
+    requires { AreBookCoefficients DEPTH_LIMIT frozen.now coefficients.now }
     ensures ok { OnOk result (Appends (W.contents writer.old) (W.contents writer.new) (inverse_text frozen.now)) }
     ensures err { OnErr result
         (AppendsFront (W.contents writer.old) (W.contents writer.new) (inverse_text frozen.now)) }
@@ -47,7 +47,7 @@ fn push_contributions<A: Allocator, F: Allocator, C: Allocator>(
     rank: u32,
 ) -> Result<(), AllocError>
     requires rank { rank < length frozen.now }
-    requires coefficients { AreCoefficients DEPTH_LIMIT frozen.now coefficients.now }
+    requires coefficients { AreBookCoefficients DEPTH_LIMIT frozen.now coefficients.now }
     ensures { OnOk result (text.new ≡ text.old ++ contributions_text frozen.now rank) }
 {
     let number = frozen.number(rank);

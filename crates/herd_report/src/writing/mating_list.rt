@@ -2,7 +2,7 @@ ghost use Rattle.std.specs.Prelude.{◌≡◌, ◌++◌, OnErr, OnOk};
 ghost use Rattle.std.specs.Io.KnownBytes.{Appends};
 ghost use Rattle.herd_frozen.specs.declared.TheConstants.{DEPTH_LIMIT};
 ghost use Rattle.herd_frozen.specs.freezing.Frozen.{book_of};
-ghost use Rattle.herd_kinship.specs.Coefficients.{AreCoefficients};
+ghost use Rattle.herd_advice.specs.BookCoefficients.{AreBookCoefficients};
 ghost use Rattle.herd_report.specs.writing.MatingList.{mating_line, mating_text, refused_line};
 ghost use Rattle.herd_report.specs.writing.Text.{AppendsFront};
 
@@ -10,9 +10,9 @@ use crate::writing::coefficient_text::{Coefficient, push_coefficient_line};
 use crate::writing::refused_text::push_refused_line_end;
 use crate::writing::report_fault::ReportFault;
 use crate::writing::text::Text;
+use herd_advice::{Coefficients, DamMatings, MatingFault};
 use herd_animal::AnimalNumber;
 use herd_frozen::Frozen;
-use herd_kinship::{Coefficients, DamMatings, MatingFault};
 use std::alloc::{AllocError, Allocator};
 use std::io::Write;
 
@@ -27,7 +27,7 @@ pub fn write_mating<W: Write, A: Allocator, F: Allocator, C: Allocator>(
     sires: &[AnimalNumber],
     writer: &mut W,
 ) -> Result<(), ReportFault>
-    requires { AreCoefficients DEPTH_LIMIT frozen.now coefficients.now }
+    requires { AreBookCoefficients DEPTH_LIMIT frozen.now coefficients.now }
     ensures ok { OnOk result
         (Appends (W.contents writer.old) (W.contents writer.new) (mating_text (book_of frozen.now) dam sires.now)) }
     ensures err { OnErr result (AppendsFront (W.contents writer.old) (W.contents writer.new)

@@ -3,7 +3,7 @@ ghost use Rattle.std.specs.Io.KnownBytes.{Appends};
 ghost use Rattle.std.specs.List.{flat_map};
 ghost use Rattle.herd_frozen.specs.declared.TheConstants.{DEPTH_LIMIT};
 ghost use Rattle.herd_frozen.specs.freezing.Frozen.{book_of};
-ghost use Rattle.herd_kinship.specs.Coefficients.{AreCoefficients};
+ghost use Rattle.herd_advice.specs.BookCoefficients.{AreBookCoefficients};
 ghost use Rattle.herd_report.specs.RunFault.{EndsReport};
 ghost use Rattle.herd_report.specs.writing.RefusedText.{refused_line_end};
 ghost use Rattle.herd_report.specs.writing.RelationshipList.{AreAsked, IsAsked, absent_line, column_lines, lines_with, names_of};
@@ -15,9 +15,9 @@ use crate::writing::line_end::LastValue;
 use crate::writing::refused_text::push_refused_line_end;
 use crate::writing::report_fault::ReportFault;
 use crate::writing::text::Text;
+use herd_advice::{Coefficients, Relationships, fraction, relationships};
 use herd_animal::AnimalNumber;
 use herd_frozen::Frozen;
-use herd_kinship::{Coefficients, Relationships, fraction};
 use std::alloc::{AllocError, Allocator};
 use std::io::Write;
 
@@ -41,7 +41,7 @@ pub fn write_relationships<W: Write, A: Allocator, F: Allocator, C: Allocator>(
     others: &[AnimalNumber],
     writer: &mut W,
 ) -> Result<(), ReportFault>
-    requires { AreCoefficients DEPTH_LIMIT frozen.now coefficients.now }
+    requires { AreBookCoefficients DEPTH_LIMIT frozen.now coefficients.now }
     ensures ok { OnOk result (Appends (W.contents writer.old) (W.contents writer.new)
         (relationships_text (book_of frozen.now) numbers.now others.now)) }
     ensures err { IfErr result (EndsReport (W.contents writer.old) (W.contents writer.new)
@@ -126,7 +126,7 @@ fn write_lines<W: Write, T: Allocator, A: Allocator, F: Allocator, C: Allocator>
     partners: &[Asked],
     writer: &mut W,
 ) -> Result<(), ReportFault>
-    requires coefficients { AreCoefficients DEPTH_LIMIT frozen.now coefficients.now }
+    requires coefficients { AreBookCoefficients DEPTH_LIMIT frozen.now coefficients.now }
     requires first { IsAsked frozen.now first }
     requires partners { All (IsAsked frozen.now) partners.now }
     ensures ok { OnOk result (PassesOn (W.contents writer.old) (W.contents writer.new)
@@ -137,7 +137,7 @@ fn write_lines<W: Write, T: Allocator, A: Allocator, F: Allocator, C: Allocator>
     if partners.is_empty() {
         return Ok(());
     }
-    let column = Relationships::of(alloc, frozen, coefficients, first.rank)?;
+    let column = relationships(alloc, frozen, coefficients, first.rank)?;
     write_column(text, first.number, &column, partners, writer)
 }
 

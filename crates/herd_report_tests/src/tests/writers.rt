@@ -1,14 +1,14 @@
 //! The text of each writer, or want of memory with nothing written.
 
 use super::stops_after::{StopsAfter, Then};
+use herd_advice::coefficients_plain;
 use herd_animal::Day;
 use herd_fixtures::Name::{Bull, Cow};
 use herd_fixtures::{founders, frozen_of, full_sibs};
-use herd_kinship::coefficients_plain;
 use herd_register::{Command, Refusal, Reply, Step};
 use herd_report::{
     CertificateFault, ReportFault, write_certificate, write_inbreeding, write_inverse,
-    write_mating, write_relationships, write_replies,
+    write_mating, write_records, write_relationships, write_replies,
 };
 use linked_list_allocator::LocalHeap;
 use std::process::Abort;
@@ -45,6 +45,14 @@ DSS 0
 DSD 0
 DDS 0
 DDD 0
+";
+
+const RECORDS: &[u8] = b"HOLGBRF000000000002,2000-01-01,0,0,1,2000-01-01,-,
+HOLGBRM000000000001,2000-01-01,0,0,1,2000-01-01,-,
+HOLGBRF000000000004,2002-01-01,HOLGBRM000000000001,HOLGBRF000000000002,1,2002-01-01,-,
+HOLGBRM000000000003,2002-01-01,HOLGBRM000000000001,HOLGBRF000000000002,1,2002-01-01,-,
+HOLGBRF000000000006,2004-01-01,HOLGBRM000000000001,HOLGBRF000000000004,1,2004-01-01,-,
+HOLGBRM000000000005,2004-01-01,HOLGBRM000000000003,HOLGBRF000000000004,1,2004-01-01,-,
 ";
 
 const ADVICE: &[u8] = b"HOLGBRM000000000003,1/4,25.00
@@ -119,6 +127,14 @@ fn writes_a_certificate(rt: HostRuntime) -> Result<(), Fail> {
     assert_eq!(rt; outcome, Err(ReportFault::Write.into()));
     expect_memory_or_text(&rt, CERTIFICATE, |alloc, writer| {
         write_certificate(alloc, &frozen, &coefficients, number, writer)
+    })
+}
+
+#[test]
+fn writes_records(rt: HostRuntime) -> Result<(), Fail> {
+    let frozen = frozen_of(rt.alloc(), &full_sibs())?;
+    expect_memory_or_text(&rt, RECORDS, |alloc, writer| {
+        write_records(alloc, &frozen, &[], writer)
     })
 }
 

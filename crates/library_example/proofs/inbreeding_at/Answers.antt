@@ -5,7 +5,7 @@ use Rattle.std.proofs.lemmas.Option.{get_or_from_slice_get}
 use Rattle.herd_frozen.specs.declared.TheConstants.{DEPTH_LIMIT}
 use Rattle.herd_frozen.specs.freezing.Frozen.{numbers_of}
 use Rattle.herd_kinship.specs.Fraction.{halved}
-use Rattle.herd_kinship.specs.FrozenAncestry.{ancestry_of}
+use Rattle.herd_advice.specs.FrozenAncestry.{ancestry_of}
 use Rattle.herd_kinship.specs.Table.{coefficient}
 use Rattle.library_example.proofs.inbreeding_at.Goals as goal
 

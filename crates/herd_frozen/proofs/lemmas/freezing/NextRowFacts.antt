@@ -1,5 +1,5 @@
 -- The row of a record, once those of the older ones are made.
-use Rattle.std.proofs.Common.{ℕ, ◌+◌, ◌<◌, ◌≤◌, ◌≡◌, ⊎_elim, arith, refl, sym, ap, ◌∙◌, subst, List, [], ◌∷◌, ◌++◌, Option, Some, None, length, slice_get, get_or, map}
+use Rattle.std.proofs.Common.{ℕ, zero, suc, ◌+◌, ◌<◌, ◌≤◌, ◌≡◌, ⊎_elim, arith, refl, sym, ap, ◌∙◌, subst, List, [], ◌∷◌, ◌++◌, Option, Some, None, length, slice_get, get_or, map}
 use Rattle.std.specs.Prelude.{ℤ, ◌<ℤ◌, IfSome}
 use Rattle.std.specs.Map.{keys_of}
 use Rattle.std.specs.Option.{option_and_then}
@@ -7,14 +7,15 @@ use Rattle.std.proofs.lemmas.List.{get_or-map, length-map}
 use Rattle.std.proofs.lemmas.Option.{slice_get-map, slice_get_read, slice_get_within, get_or_from_slice_get, same_Some}
 use Rattle.herd_frozen.specs.declared.rules.animal.Animal.{Animal}
 use Rattle.herd_frozen.specs.declared.freezing.age_order.AgeKey.{AgeKey}
-use Rattle.herd_frozen.specs.declared.freezing.frozen.Parents.{Parents}
+use Rattle.herd_lineage.specs.declared.lineage.Parents.{Parents}
 use Rattle.herd_frozen.specs.declared.freezing.frozen.Row.{Row}
 use Rattle.herd_frozen.specs.declared.freezing.rows.RowRecord.{RowRecord}
 use Rattle.herd_frozen.specs.declared.places.links.Link.{Link}
 use Rattle.herd_frozen.specs.rules.Book.{Book, IsDepthOf, parentage_of, record_of}
 use Rattle.herd_frozen.specs.rules.Depths.{depth_above, depth_from}
 use Rattle.herd_frozen.specs.rules.Lawful.{IsLawfulRecord}
-use Rattle.herd_frozen.specs.freezing.Frozen.{depth_at, numbers_of}
+use Rattle.herd_lineage.specs.Lineage.{IsNextOf, depth_at as depth_by}
+use Rattle.herd_frozen.specs.freezing.Frozen.{depth_at, numbers_of, parents_of}
 use Rattle.herd_frozen.specs.freezing.Freeze.{AreRows, IsAbove, IsRanked, IsRowOf, places_of}
 use Rattle.herd_frozen.specs.freezing.Rows.{kept_of, row_kept}
 use Rattle.herd_frozen.specs.places.Links.{IsLinkAt}
@@ -158,3 +159,26 @@ rows-more book keys rows row made next_made rank key other at_key at_row =
     let here : slice_get keys (length rows) ≡ Some key = ap (λ n. slice_get keys n) (sym last.0) ∙ at_key in
     subst (λ r. IsRowOf book keys key r) last.1 (rw here at next_made))
     (push_cases rows row other rank at_row)
+
+-- depths by rows are depths by their parents
+pub depth_at-lineage : (rows : List Row) (rank : ℕ) → depth_at rows rank ≡ depth_by (map parents_of rows) rank
+depth_at-lineage [] rank = refl
+depth_at-lineage (row ∷ rows) zero = refl
+depth_at-lineage (row ∷ rows) (suc rank) = depth_at-lineage rows rank
+
+parent-early : (o : Option ℕ) (n m : ℕ) → n ≡ m → IfSome o (λ rank. rank < n) → (p : ℕ) → o ≡ Some p → p < m
+parent-early None n m e early p is = absurd (cc)
+parent-early (Some q) n m e early p is = let same : q ≡ p = cc in omega (arith, early, e, same)
+
+-- the parents of the row whose turn it is
+pub next-of : (l most : ℕ) (rows : List Row) (parents : Parents) → length rows < most → IfSome parents.sire (λ rank. rank < length rows) → IfSome parents.dam (λ rank. rank < length rows) →
+    parents.depth ≡ depth_from (depth_at rows) parents.sire parents.dam → parents.depth ≤ l → IsNextOf l most (map parents_of rows) parents
+next-of l most rows parents few sire dam depth shallow =
+    let long : length (map parents_of rows) ≡ length rows = length-map rows parents_of in
+    record {
+      few = omega (arith, long, few);
+      sire = parent-early parents.sire (length rows) (length (map parents_of rows)) (sym long) sire;
+      dam = parent-early parents.dam (length rows) (length (map parents_of rows)) (sym long) dam;
+      depth = depth ∙ ap (λ (f : ℕ → ℕ). depth_from f parents.sire parents.dam) (λ i rank. depth_at-lineage rows rank i);
+      shallow = shallow;
+    }

@@ -1,60 +1,79 @@
 -- Rows and what is kept of them.
-use Rattle.std.proofs.Common.{ℕ, zero, suc, ◌+◌, ◌<◌, ◌≡◌, ⊎_elim, arith, refl, sym, ap, ◌∙◌, subst, List, [], ◌∷◌, ◌++◌, Option, Some, IfSome, length, slice_get, map}
-use Rattle.std.proofs.lemmas.List.{get_or-map, length-map, length_push, map_push}
+use Rattle.std.proofs.Common.{ℕ, zero, suc, ◌<◌, ◌≡◌, arith, refl, sym, ap, ◌∙◌, subst, List, [], ◌∷◌, ◌++◌, Option, None, Some, IfSome, length, slice_get, map}
+use Rattle.std.proofs.lemmas.List.{get_or-map, length-map, map_push}
 use Rattle.std.proofs.lemmas.Option.{get_or_from_slice_get, same_Some, slice_get-map, slice_get_within}
 use Rattle.herd_frozen.specs.declared.rules.animal.Animal.{Animal}
-use Rattle.herd_frozen.specs.declared.freezing.frozen.Parents.{Parents}
+use Rattle.herd_lineage.specs.declared.lineage.Parents.{Parents}
 use Rattle.herd_frozen.specs.declared.freezing.frozen.Row.{Row}
-use Rattle.herd_frozen.specs.declared.freezing.rows.PackedParents.{PackedParents}
 use Rattle.herd_frozen.specs.declared.freezing.rows.RowRecord.{RowRecord}
 use Rattle.herd_frozen.specs.declared.freezing.rows.Rows.TheInside.{Inside}
 use Rattle.herd_frozen.specs.freezing.Frozen.{depth_at, numbers_of, parents_of}
-use Rattle.herd_frozen.specs.places.PackedIndex.{nowhere}
+use Rattle.herd_lineage.specs.Lineage.{IsLineage, IsNextOf}
+use Rattle.herd_lineage.specs.declared.TheConstants.{DEPTH_LIMIT, MOST_ANIMALS}
+use Rattle.std.specs.Option.{option_and_then}
 use Rattle.herd_frozen.specs.places.Places.{IsIndexIn, number_at}
-use Rattle.herd_frozen.specs.freezing.Rows.{AreKept, ParentsAmong, kept_of, numbers_kept, packed_parents, parents_kept, row_kept, rows_kept, rows_with}
-use Rattle.herd_frozen.proofs.lemmas.ListFacts.{push_cases, there}
-use Rattle.herd_frozen.proofs.lemmas.places.NumberFacts.{further, number_at-place, number_at-push}
+use Rattle.herd_frozen.specs.freezing.Rows.{AreKept, kept_of, numbers_kept, row_kept, rows_kept, rows_with}
+use Rattle.herd_frozen.proofs.lemmas.ListFacts.{there}
+use Rattle.herd_frozen.proofs.lemmas.places.NumberFacts.{number_at-place, number_at-push}
+
+-- parents stand among n rows
+abbrev ParentsAmong : ℕ → List Parents → Type 0
+ParentsAmong n parents =
+    (rank : ℕ) (its : Parents) → slice_get parents rank ≡ Some its →
+    IfSome its.sire (λ p. p < n) × IfSome its.dam (λ p. p < n)
+
+below : (parent : Option ℕ) (n : ℕ) → ((p : ℕ) → parent ≡ Some p → p < n) → IfSome parent (λ p. p < n)
+below None n h = tt
+below (Some p) n h = h p refl
+
+-- as those of a lineage do
+among : (l most : ℕ) (ps : List Parents) → IsLineage l most ps → ParentsAmong (length ps) ps
+among l most ps is rank its at =
+    let within = slice_get_within ps rank its at in (
+      below its.sire (length ps) (λ p e. let low : p < rank = is.sire rank p (ap (option_and_then (λ (r : Parents). r.sire)) at ∙ e) in omega (arith, low, within)),
+      below its.dam (length ps) (λ p e. let low : p < rank = is.dam rank p (ap (option_and_then (λ (r : Parents). r.dam)) at ∙ e) in omega (arith, low, within)),
+    )
 
 module _ (numbers : List (List ℕ)) where
-  pub length-rows_with : (rs : List RowRecord) (ps : List PackedParents) → length ps ≡ length rs → length (rows_with numbers rs ps) ≡ length rs
+  pub length-rows_with : (rs : List RowRecord) (ps : List Parents) → length ps ≡ length rs → length (rows_with numbers rs ps) ≡ length rs
   unfolding rows_with
   length-rows_with [] ps long = refl
   length-rows_with (r ∷ rs) [] long = absurd (cc)
   length-rows_with (r ∷ rs) (p ∷ ps) long = ap (λ n. suc n) (length-rows_with rs ps (omega (arith, long)))
 
-  pub numbers-rows_with : (rs : List RowRecord) (ps : List PackedParents) → length ps ≡ length rs → numbers_of (rows_with numbers rs ps) ≡ numbers_kept rs
+  pub numbers-rows_with : (rs : List RowRecord) (ps : List Parents) → length ps ≡ length rs → numbers_of (rows_with numbers rs ps) ≡ numbers_kept rs
   unfolding rows_with
   numbers-rows_with [] ps long = refl
   numbers-rows_with (r ∷ rs) [] long = absurd (cc)
   numbers-rows_with (r ∷ rs) (p ∷ ps) long = ap (λ ns. r.number ∷ ns) (numbers-rows_with rs ps (omega (arith, long)))
 
   -- the row at a rank
-  pub row-at : (rs : List RowRecord) (ps : List PackedParents) (i : ℕ) (r : RowRecord) (p : PackedParents) → slice_get rs i ≡ Some r → slice_get ps i ≡ Some p → slice_get (rows_with numbers rs ps) i ≡ Some (row_kept numbers r (parents_kept p))
+  pub row-at : (rs : List RowRecord) (ps : List Parents) (i : ℕ) (r : RowRecord) (p : Parents) → slice_get rs i ≡ Some r → slice_get ps i ≡ Some p → slice_get (rows_with numbers rs ps) i ≡ Some (row_kept numbers r p)
   unfolding rows_with
   row-at [] ps i r p at_r at_p = absurd (cc)
   row-at (x ∷ rs) [] i r p at_r at_p = absurd (cc)
-  row-at (x ∷ rs) (y ∷ ps) zero r p at_r at_p = λ i. Some (row_kept numbers (same_Some x r at_r i) (parents_kept (same_Some y p at_p i)))
+  row-at (x ∷ rs) (y ∷ ps) zero r p at_r at_p = λ i. Some (row_kept numbers (same_Some x r at_r i) (same_Some y p at_p i))
   row-at (x ∷ rs) (y ∷ ps) (suc i) r p at_r at_p = row-at rs ps i r p at_r at_p
 
-  rows_with-push : (rs : List RowRecord) (ps : List PackedParents) (r : RowRecord) (p : PackedParents) → length ps ≡ length rs → rows_with numbers (rs ++ r ∷ []) (ps ++ p ∷ []) ≡ rows_with numbers rs ps ++ row_kept numbers r (parents_kept p) ∷ []
+  rows_with-push : (rs : List RowRecord) (ps : List Parents) (r : RowRecord) (p : Parents) → length ps ≡ length rs → rows_with numbers (rs ++ r ∷ []) (ps ++ p ∷ []) ≡ rows_with numbers rs ps ++ row_kept numbers r p ∷ []
   unfolding rows_with
   rows_with-push [] [] r p long = refl
   rows_with-push [] (y ∷ ps) r p long = absurd (cc)
   rows_with-push (x ∷ rs) [] r p long = absurd (cc)
-  rows_with-push (x ∷ rs) (y ∷ ps) r p long = ap (λ rows. row_kept numbers x (parents_kept y) ∷ rows) (rows_with-push rs ps r p (omega (arith, long)))
+  rows_with-push (x ∷ rs) (y ∷ ps) r p long = ap (λ rows. row_kept numbers x (y) ∷ rows) (rows_with-push rs ps r p (omega (arith, long)))
 
   -- one number more changes no row of those before it
   row_kept-push : (x : List ℕ) (r : RowRecord) (p : Parents) → IfSome p.sire (λ s. s < length numbers) → IfSome p.dam (λ d. d < length numbers) → row_kept (numbers ++ x ∷ []) r p ≡ row_kept numbers r p
   row_kept-push x r p s d =
       λ i. record (row_kept numbers r p) { animal = record (row_kept numbers r p).animal { sire = number_at-push numbers x p.sire s i; dam = number_at-push numbers x p.dam d i } }
 
-  rows_with-more : (x : List ℕ) (rs : List RowRecord) (ps : List PackedParents) → ParentsAmong (length numbers) ps → rows_with (numbers ++ x ∷ []) rs ps ≡ rows_with numbers rs ps
+  rows_with-more : (x : List ℕ) (rs : List RowRecord) (ps : List Parents) → ParentsAmong (length numbers) ps → rows_with (numbers ++ x ∷ []) rs ps ≡ rows_with numbers rs ps
   unfolding rows_with
   rows_with-more x [] ps closed = refl
   rows_with-more x (r ∷ rs) [] closed = refl
   rows_with-more x (r ∷ rs) (p ∷ ps) closed =
       let first = closed 0 p refl in
-      let same = row_kept-push x r (parents_kept p) first.0 first.1 in
+      let same = row_kept-push x r p first.0 first.1 in
       let rest = rows_with-more x rs ps (λ rank its at. closed (suc rank) its at) in
       λ i. same i ∷ rest i
 
@@ -72,50 +91,39 @@ animal-back numbers entry kept parents is sire dam =
       left = (sym is i).left;
     }
 
-module _ (rs : List RowRecord) (ps : List PackedParents) (kept : AreKept rs ps) where
+-- the parents of the rows
+lineage-rows : (numbers : List (List ℕ)) (rs : List RowRecord) (ps : List Parents) → length ps ≡ length rs → map parents_of (rows_with numbers rs ps) ≡ ps
+unfolding rows_with
+lineage-rows numbers [] [] long = refl
+lineage-rows numbers [] (p ∷ ps) long = absurd (cc)
+lineage-rows numbers (r ∷ rs) [] long = absurd (cc)
+lineage-rows numbers (r ∷ rs) (p ∷ ps) long = ap (λ l. p ∷ l) (lineage-rows numbers rs ps (omega (arith, long)))
+
+module _ (rs : List RowRecord) (ps : List Parents) (kept : AreKept rs ps) where
   pub length-rows : length (rows_kept rs ps) ≡ length rs
   length-rows = length-rows_with (numbers_kept rs) rs ps kept.long
+
+  -- their parents are those that are kept
+  pub lineage-told : {rows : List Row} → rows_kept rs ps ≡ rows → ps ≡ map parents_of rows
+  lineage-told told = sym (lineage-rows (numbers_kept rs) rs ps kept.long) ∙ ap (λ (l : List Row). map parents_of l) told
 
   pub numbers-rows : numbers_of (rows_kept rs ps) ≡ numbers_kept rs
   numbers-rows = numbers-rows_with (numbers_kept rs) rs ps kept.long
 
-  module _ (rows : List Row) (told : rows_kept rs ps ≡ rows) (r : RowRecord) (parents : Parents) (sire : IfSome parents.sire (λ p. p < length rows)) (dam : IfSome parents.dam (λ p. p < length rows)) where
-    long_told : length rows ≡ length rs
-    long_told = sym (ap (λ (l : List Row). length l) told) ∙ length-rows
+  numbers_long : length (numbers_kept rs) ≡ length ps
+  numbers_long = length-map rs (λ r. r.number) ∙ sym kept.long
 
-    numbers_long : length (numbers_kept rs) ≡ length rs
-    numbers_long = length-map rs (λ r. r.number)
-
-    -- the ranks of its parents can be packed
-    pub parents-packed : length rows < nowhere → IfSome parents.sire (λ p. p < nowhere) × IfSome parents.dam (λ p. p < nowhere)
-    parents-packed few = (further parents.sire (omega (arith, few)) sire, further parents.dam (omega (arith, few)) dam)
-
-    pub kept-push : AreKept (rs ++ r ∷ []) (ps ++ packed_parents parents ∷ [])
-    kept-push =
-        let one_more : length (rs ++ r ∷ []) ≡ length rs + 1 = length_push rs r in
-        record {
-          long = length_push ps (packed_parents parents) ∙ ap (λ n. n + 1) kept.long ∙ sym one_more;
-          closed = λ rank its at.
-              ⊎_elim
-              (λ (before : slice_get ps rank ≡ Some its).
-              let within = kept.closed rank its before in
-              (further its.sire (omega (arith, one_more)) within.0, further its.dam (omega (arith, one_more)) within.1))
-              (λ last.
-              subst (λ (p : PackedParents). IfSome p.sire (λ s. s < length (rs ++ r ∷ [])) × IfSome p.dam (λ d. d < length (rs ++ r ∷ []))) last.1
-              (further parents.sire (omega (arith, one_more, long_told)) sire, further parents.dam (omega (arith, one_more, long_told)) dam))
-              (push_cases ps (packed_parents parents) its rank at);
-        }
-
+  module _ (rows : List Row) (told : rows_kept rs ps ≡ rows) (r : RowRecord) (parents : Parents) (next : IsNextOf DEPTH_LIMIT MOST_ANIMALS ps parents) where
     -- one more row
-    pub rows-push : rows_kept (rs ++ r ∷ []) (ps ++ packed_parents parents ∷ []) ≡ rows ++ row_kept (numbers_of rows) r parents ∷ []
+    pub rows-push : rows_kept (rs ++ r ∷ []) (ps ++ parents ∷ []) ≡ rows ++ row_kept (numbers_of rows) r parents ∷ []
     rows-push =
         let numbers : List (List ℕ) = numbers_kept rs in
-        let closed : ParentsAmong (length numbers) ps = subst (λ n. ParentsAmong n ps) (sym numbers_long) kept.closed in
-        let sire_here : IfSome parents.sire (λ p. p < length numbers) = further parents.sire (omega (arith, numbers_long, long_told)) sire in
-        let dam_here : IfSome parents.dam (λ p. p < length numbers) = further parents.dam (omega (arith, numbers_long, long_told)) dam in
+        let closed : ParentsAmong (length numbers) ps = subst (λ n. ParentsAmong n ps) (sym numbers_long) (among DEPTH_LIMIT MOST_ANIMALS ps kept.lineage) in
+        let sire_here = below parents.sire (length numbers) (λ p e. rw numbers_long (next.sire p e)) in
+        let dam_here = below parents.dam (length numbers) (λ p e. rw numbers_long (next.dam p e)) in
         let numbers_told : numbers ≡ numbers_of rows = sym numbers-rows ∙ ap (λ (l : List Row). numbers_of l) told in
-        ap (λ ns. rows_with ns (rs ++ r ∷ []) (ps ++ packed_parents parents ∷ [])) (map_push (λ r. r.number) rs r)
-        ∙ rows_with-push (numbers ++ r.number ∷ []) rs ps r (packed_parents parents) kept.long
+        ap (λ ns. rows_with ns (rs ++ r ∷ []) (ps ++ parents ∷ [])) (map_push (λ r. r.number) rs r)
+        ∙ rows_with-push (numbers ++ r.number ∷ []) rs ps r parents kept.long
         ∙ (λ i. rows_with-more numbers r.number rs ps closed i ++ row_kept-push numbers r.number r parents sire_here dam_here i ∷ [])
         ∙ (λ i. told i ++ row_kept (numbers_told i) r parents ∷ [])
 
@@ -123,17 +131,17 @@ module _ (rs : List RowRecord) (ps : List PackedParents) (kept : AreKept rs ps) 
   pub number-told : (i : ℕ) (r : RowRecord) → slice_get rs i ≡ Some r → slice_get (numbers_of (rows_kept rs ps)) i ≡ Some r.number
   number-told i r at = ap (λ ns. slice_get ns i) numbers-rows ∙ slice_get-map (λ k. k.number) rs i ∙ rw at refl
 
-  module _ (i : ℕ) (p : PackedParents) (at : slice_get ps i ≡ Some p) where
+  module _ (i : ℕ) (p : Parents) (at : slice_get ps i ≡ Some p) where
     its_record : (r : RowRecord) × (slice_get rs i ≡ Some r)
     its_record = let within = slice_get_within ps i p at in there rs i (omega (arith, within, kept.long))
 
     abbrev its_row : Row
-    its_row = row_kept (numbers_kept rs) its_record.0 (parents_kept p)
+    its_row = row_kept (numbers_kept rs) its_record.0 p
 
     its_row-at : slice_get (rows_kept rs ps) i ≡ Some its_row
     its_row-at = row-at (numbers_kept rs) rs ps i its_record.0 p its_record.1 at
 
-    pub parents-told : slice_get (map parents_of (rows_kept rs ps)) i ≡ Some (parents_kept p)
+    pub parents-told : slice_get (map parents_of (rows_kept rs ps)) i ≡ Some p
     parents-told = slice_get-map parents_of (rows_kept rs ps) i ∙ rw its_row-at refl
 
     pub depth-told : depth_at (rows_kept rs ps) i ≡ p.depth
@@ -154,7 +162,7 @@ module _ (rs : List RowRecord) (ps : List PackedParents) (kept : AreKept rs ps) 
   row-told i r at parents told sire dam s d =
       let within = slice_get_within rs i r at in
       let p = there ps i (omega (arith, within, kept.long)) in
-      let same : parents_kept p.0 ≡ parents = same_Some _ _ (sym (parents-told i p.0 p.1) ∙ told) in
+      let same : p.0 ≡ parents = same_Some _ _ (sym (parents-told i p.0 p.1) ∙ told) in
       let named : (o : Option ℕ) → number_at (numbers_kept rs) o ≡ number_at (numbers_of (rows_kept rs ps)) o = λ o. ap (λ ns. number_at ns o) (sym numbers-rows) in
       let by_sire : number_at (numbers_kept rs) p.0.sire ≡ sire = named p.0.sire ∙ ap (λ (q : Parents). number_at (numbers_of (rows_kept rs ps)) q.sire) same ∙ sym s in
       let by_dam : number_at (numbers_kept rs) p.0.dam ≡ dam = named p.0.dam ∙ ap (λ (q : Parents). number_at (numbers_of (rows_kept rs ps)) q.dam) same ∙ sym d in
@@ -167,11 +175,10 @@ module _ (rs : List RowRecord) (ps : List PackedParents) (kept : AreKept rs ps) 
         depth = (same j).depth;
       }))
 
--- a rank of the rows is within the vectors that keep them
-pub rank-within : {A : Type 0} (inside : Inside A) → AreKept inside.records.items inside.parents.items → {rows : List Row} → rows_kept inside.records.items inside.parents.items ≡ rows → (rank : ℕ) → rank < length rows → (rank < inside.records.len) × (rank < inside.parents.len)
+-- a rank of the rows is within what keeps them
+pub rank-within : {A : Type 0} (inside : Inside A) → AreKept inside.records.items inside.lineage → {rows : List Row} → rows_kept inside.records.items inside.lineage ≡ rows → (rank : ℕ) → rank < length rows → (rank < inside.records.len) × (rank < length inside.lineage)
 rank-within inside kept {rows} told rank within =
-    let long : length rows ≡ length inside.records.items = sym (ap (λ (l : List Row). length l) told) ∙ length-rows inside.records.items inside.parents.items kept in
+    let long : length rows ≡ length inside.records.items = sym (ap (λ (l : List Row). length l) told) ∙ length-rows inside.records.items inside.lineage kept in
     let both = kept.long in
     let records = inside.records.ok.0 in
-    let parents = inside.parents.ok.0 in
-    (omega (arith, within, long, records), omega (arith, within, long, both, parents))
+    (omega (arith, within, long, records), omega (arith, within, long, both))

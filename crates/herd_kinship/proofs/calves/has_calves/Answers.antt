@@ -8,7 +8,7 @@ use Rattle.herd_kinship.proofs.calves.has_calves.Goals as goal
 
 pub loop-calf-preserved : goal.loop-calf-preserved
 loop-calf-preserved g c =
-    let rows = c.args.frozen.now in
+    let rows = c.args.lineage.now in
     let i : ℕ = c.loop-calf.calf in
     let none : is_some c.sire_of_pair.result ≡ false = cc in
     let unknown : (c.parents.result.sire ≡ None) ⊎ (c.parents.result.dam ≡ None) = if-none c.sire_of_pair.result none c.sire_of_pair.ensures.unknown in
@@ -22,7 +22,7 @@ loop-calf-preserved g c =
 
 pub returns-clause-no : goal.returns-clause-no
 returns-clause-no g c = λ _ s x calf.
-    let within = calf-within c.args.frozen.now s x calf in
+    let within = calf-within c.args.lineage.now s x calf in
     let end = c.len-calf-end.ensures.value in
     let past = c.loop-calf-test.false in
     c.loop-calf.invariant s x (omega arith) calf
@@ -32,4 +32,4 @@ returns-then-is_some-clause-yes g c = λ _.
     let some : is_some c.sire_of_pair.result ≡ true = cc in
     let sire = if-some (λ s. c.parents.result.sire ≡ Some s) c.sire_of_pair.result some c.sire_of_pair.ensures.sire in
     let dam = if-some (λ s. is_some c.parents.result.dam ≡ true) c.sire_of_pair.result some c.sire_of_pair.ensures.dam in
-    (sire.0, c.loop-calf.calf, calf-pair c.args.frozen.now c.loop-calf.calf sire.0 c.parents.result c.parents.ensures.parents sire.1 dam.1)
+    (sire.0, c.loop-calf.calf, calf-pair c.args.lineage.now c.loop-calf.calf sire.0 c.parents.result c.parents.ensures.parents sire.1 dam.1)

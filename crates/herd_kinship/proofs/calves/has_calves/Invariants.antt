@@ -4,4 +4,4 @@ use Rattle.herd_kinship.proofs.calves.has_calves.Given as goal
 
 -- none of the animals so far has both parents known
 abbrev pub invariant-loop-calf : goal.invariant-loop-calf
-invariant-loop-calf g l = (s x : ℕ) → x < l.calf → IsCalf l.frozen s x → ⊥
+invariant-loop-calf g l = (s x : ℕ) → x < l.calf → IsCalf l.lineage s x → ⊥

@@ -1,6 +1,6 @@
 -- `write_all`: its clauses `no_calves` and `known`.
 use Rattle.std.proofs.Common.{length}
-use Rattle.herd_frozen.specs.declared.TheConstants.{DEPTH_LIMIT}
+use Rattle.herd_lineage.specs.declared.TheConstants.{DEPTH_LIMIT}
 use Rattle.herd_kinship.specs.Coefficients.{IsBefore}
 use Rattle.herd_kinship.proofs.lemmas.sires.BySires.{reached-nobody}
 use Rattle.herd_kinship.proofs.coefficients.write_all.Goals as goal
@@ -12,4 +12,4 @@ returns-then-has_calves-clause-no_calves g c = λ none.
 
 pub returns-else-has_calves-clause-known : goal.returns-else-has_calves-clause-known
 returns-else-has_calves-clause-known g c =
-    reached-nobody DEPTH_LIMIT c.args.frozen.now (IsBefore 0) (IsBefore (length c.args.frozen.now)) c.args.known.now (c.has_calves.ensures.no c.if-has_calves.false) c.requires
+    reached-nobody DEPTH_LIMIT c.args.lineage.now (IsBefore 0) (IsBefore (length c.args.lineage.now)) c.args.known.now (c.has_calves.ensures.no c.if-has_calves.false) c.requires

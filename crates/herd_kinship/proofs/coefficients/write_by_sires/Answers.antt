@@ -1,6 +1,6 @@
 -- `write_by_sires`: its loop and its result.
 use Rattle.std.proofs.Common.{◌≡◌, length, arith, subst}
-use Rattle.herd_frozen.specs.declared.TheConstants.{DEPTH_LIMIT}
+use Rattle.herd_lineage.specs.declared.TheConstants.{DEPTH_LIMIT}
 use Rattle.herd_kinship.specs.Coefficients.{IsBefore, KnowsReached}
 use Rattle.herd_kinship.proofs.coefficients.write_by_sires.Goals as goal
 
@@ -13,7 +13,7 @@ loop-sire-init g c = record {
 -- once all sires have been gone through, all calves are reached
 pub returns : goal.returns
 returns g c =
-    let rows = c.args.frozen.now in
+    let rows = c.args.lineage.now in
     let end = c.len-sire-end.ensures.value in
     let past = c.loop-sire-test.false in
     let within = c.loop-sire.auto.sire-end in

@@ -1,5 +1,5 @@
 -- What a lawful ancestry is, its paths and depths, and ancestries that differ in the names of the animals alone.
-use Rattle.std.proofs.Common.{ℕ, zero, suc, ◌+◌, ◌≤◌, ◌≡◌, ◌⊎◌, ◌↔◌, IsTrue, Some, Contains, map}
+use Rattle.std.proofs.Common.{ℕ, zero, suc, ◌+◌, ◌≤◌, ◌≡◌, ◌⊎◌, ◌↔◌, IsTrue, Contains, map}
 use Rattle.std.specs.List.{count_by}
 use Rattle.std.specs.List.Sorted.{IsPermutation}
 use Rattle.std.specs.Option.{option_map}
@@ -13,7 +13,6 @@ pub record IsLawful {A : Type 0} (kin : Ancestry A) : Type 0 where
   pub chain : (x y z : A) → IsTrue (kin.before x y) → IsTrue (kin.before y z) → IsTrue (kin.before x z)
   pub total : (x y : A) → Contains kin.animals x → Contains kin.animals y →
       (x ≡ y) ⊎ (IsTrue (kin.before x y) ⊎ IsTrue (kin.before y x))
-  pub two : (p x : A) → Contains kin.animals x → kin.sire x ≡ Some p → ¬ (kin.dam x ≡ Some p)
   pub parents : (p x : A) → Contains kin.animals x → IsParentIn kin p x →
       Contains kin.animals p × IsTrue (kin.before p x)
 

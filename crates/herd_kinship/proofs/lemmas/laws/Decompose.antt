@@ -2,6 +2,7 @@
 use Rattle.std.proofs.Common.{ℕ, zero, suc, ◌+◌, ◌*◌, ◌^◌, ◌<◌, ◌≤◌, ◌≡◌, ⊎_elim, false, cond, Option, Some, None, IsTrue, arith, refl, sym, Contains, ◌∙◌, ap, subst}
 use Rattle.std.proofs.lemmas.Nat.{pow-add}
 use Rattle.std.proofs.lemmas.Bool.{false_from_ne_true, cases_Bool, cases_lt}
+use Rattle.herd_kinship.specs.Laws.{IsDecomposed}
 use Rattle.herd_kinship.specs.Ancestry.{Ancestry}
 use Rattle.herd_kinship.specs.Table.{entry, mendelian}
 use Rattle.herd_kinship.specs.Shares.{share, shared}
@@ -115,10 +116,6 @@ other_sums : (c D E P Q : ℕ) → 2 * D ≡ c * P + c * Q → 2 * E ≡ P + Q �
 other_sums c D E P Q e f =
     let f' : c * (2 * E) ≡ c * (P + Q) = ap (λ n. c * n) f in
     omega arith
-
--- the law for a pair of animals, unknown ones too
-abbrev pub IsDecomposed : {A : Type 0} → Ancestry A → ℕ → Option A → Option A → Type 0
-IsDecomposed kin l x y = shared kin l x y ≡ 2 ^ (2 * l) * entry kin (2 * l) x y
 
 decomposed_same : {A : Type 0} (kin : Ancestry A) → IsLawful kin → (l : ℕ) (x : A) → Below kin (suc l) (Some x) →
     IsDecomposed kin l (kin.sire x) (kin.sire x) → IsDecomposed kin l (kin.sire x) (kin.dam x) → IsDecomposed kin l (kin.dam x) (kin.dam x) →

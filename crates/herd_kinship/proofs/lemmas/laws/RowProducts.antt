@@ -1,5 +1,5 @@
 -- Two rows of the inverse's factor through the numerator relationship matrix.
-use Rattle.std.proofs.Common.{ℕ, ◌+◌, ◌*◌, ◌≡◌, inl, inr, ⊎_elim, Bool, true, false, cond, ◌||◌, Option, Some, None, IsTrue, arith, refl, sym, Contains, ◌∙◌, ap, subst}
+use Rattle.std.proofs.Common.{ℕ, ◌+◌, ◌*◌, ◌≡◌, inl, inr, ⊎_elim, Bool, true, false, cond, Option, Some, None, IsTrue, arith, refl, sym, Contains, ◌∙◌, ap, subst}
 use Rattle.std.specs.List.{sum_by}
 use Rattle.std.proofs.lemmas.Int.{ints}
 use Rattle.std.proofs.lemmas.Bool.{false_from_ne_true}
@@ -31,15 +31,15 @@ not_itself : {A : Type 0} (kin : Ancestry A) → IsLawful kin → (i : A) → Co
 not_itself kin w i c is =
     let b = (w.parents i i c is).1 in w.one_way i i b b
 
-row_cases : (s a b : Bool) → (s ≡ true → a ≡ false) → (s ≡ true → b ≡ false) → (a ≡ true → b ≡ false) →
-    cond s (pos 2) (cond (a || b) (negsuc 0) (pos 0)) ≡ pos (cond s 2 0) -ℤ pos (cond a 1 0 + cond b 1 0)
-row_cases true true b f g k = absurd (cc (f refl))
-row_cases true false true f g k = absurd (cc (g refl))
-row_cases true false false f g k = refl
-row_cases false true true f g k = absurd (cc (k refl))
-row_cases false true false f g k = refl
-row_cases false false true f g k = refl
-row_cases false false false f g k = refl
+row_cases : (s a b : Bool) → (s ≡ true → a ≡ false) → (s ≡ true → b ≡ false) →
+    cond s (pos 2) (cond a (cond b (negsuc 1) (negsuc 0)) (cond b (negsuc 0) (pos 0))) ≡ pos (cond s 2 0) -ℤ pos (cond a 1 0 + cond b 1 0)
+row_cases true true b f g = absurd (cc (f refl))
+row_cases true false true f g = absurd (cc (g refl))
+row_cases true false false f g = refl
+row_cases false true true f g = refl
+row_cases false true false f g = refl
+row_cases false false true f g = refl
+row_cases false false false f g = refl
 
 row-difference : {A : Type 0} (kin : Ancestry A) → IsLawful kin → (i p : A) → Contains kin.animals i →
     half_row kin i p ≡ pos (above kin i p) -ℤ pos (under kin i p)
@@ -50,8 +50,6 @@ row-difference kin w i p c =
     not_itself kin w i c (inl (is_it-some kin w (kin.sire i) p t ∙ ap Some (sym ((w.same i p).0 s))))))
     (λ s. false_from_ne_true _ (λ t.
     not_itself kin w i c (inr (is_it-some kin w (kin.dam i) p t ∙ ap Some (sym ((w.same i p).0 s))))))
-    (λ s. false_from_ne_true _ (λ t.
-    w.two p i c (is_it-some kin w (kin.sire i) p s) (is_it-some kin w (kin.dam i) p t)))
 
 -- a sum over the animals that are i
 pick_term : (b : Bool) (n c v : ℕ) → (b ≡ true → v ≡ c) → cond b n 0 * v ≡ cond b (n * c) 0

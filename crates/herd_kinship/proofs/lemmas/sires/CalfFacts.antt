@@ -3,17 +3,16 @@ use Rattle.std.proofs.Common.{ℕ, ◌+◌, ◌<◌, ◌≤◌, ◌≡◌, ◌�
 use Rattle.std.proofs.lemmas.Bool.{cases_lt, cases_eq}
 use Rattle.std.proofs.lemmas.List.{get_or-set_same, get_or-set_other, length-set, get_or_read}
 use Rattle.std.proofs.lemmas.Option.{slice_get_within}
-use Rattle.herd_frozen.specs.declared.freezing.frozen.Parents.{Parents}
-use Rattle.herd_frozen.specs.declared.freezing.frozen.Row.{Row}
-use Rattle.herd_frozen.specs.freezing.Frozen.{IsFrozen}
+use Rattle.herd_lineage.specs.declared.lineage.Parents.{Parents}
+use Rattle.herd_lineage.specs.Lineage.{IsLineage, dam_rank, sire_rank}
 use Rattle.herd_kinship.specs.CalfLinks.{IsCalf, IsLink, AreLinked}
-use Rattle.herd_kinship.specs.Ranks.{AreParentsAt, HasUnknownParent, dam_rank, sire_rank}
-use Rattle.herd_frozen.proofs.lemmas.ListFacts.{option_cases}
-use Rattle.herd_kinship.proofs.lemmas.books.FrozenFacts.{frozen-ranked}
-use Rattle.herd_kinship.proofs.lemmas.books.ParentsFacts.{parents-sire, parents-dam, parents-within}
+use Rattle.herd_kinship.specs.Ranks.{AreParentsAt, HasUnknownParent}
+use Rattle.herd_lineage.proofs.lemmas.ListFacts.{option_cases}
+use Rattle.herd_kinship.proofs.lemmas.lineages.LineageFacts.{lineage-ranked}
+use Rattle.herd_kinship.proofs.lemmas.lineages.ParentsFacts.{parents-sire, parents-dam, parents-within}
 
 -- a border that passes an animal that is no calf of s
-link-kept : (rows : List Row) (s i : ℕ) (link : Option ℕ) → (IsCalf rows s i → ⊥) → IsLink rows s i link → IsLink rows s (i + 1) link
+link-kept : (rows : List Parents) (s i : ℕ) (link : Option ℕ) → (IsCalf rows s i → ⊥) → IsLink rows s i link → IsLink rows s (i + 1) link
 link-kept rows s i link none is = record {
   calf = λ y e. let at = is.calf y e in let low : y < i = at.0 in (omega arith, at.1);
   youngest = λ x lx c.
@@ -24,17 +23,17 @@ link-kept rows s i link none is = record {
 }
 
 -- a border that passes a calf of s
-link-new : (rows : List Row) (s i : ℕ) → IsCalf rows s i → IsLink rows s (i + 1) (Some i)
+link-new : (rows : List Parents) (s i : ℕ) → IsCalf rows s i → IsLink rows s (i + 1) (Some i)
 link-new rows s i c = record {
   calf = λ y e. let same : i ≡ y = cc in (omega arith, subst (λ v. IsCalf rows s v) same c);
   youngest = λ x lx _. (i, refl, omega arith);
 }
 
 -- an animal that has no known sire, or no known dam
-pub linked-other : (rows : List Row) (i : ℕ) (latest earlier : List (Option ℕ)) → ((s : ℕ) → IsCalf rows s i → ⊥) → AreLinked rows i latest earlier →
+pub linked-other : (rows : List Parents) (i : ℕ) (latest earlier : List (Option ℕ)) → ((s : ℕ) → IsCalf rows s i → ⊥) → AreLinked rows i latest earlier →
     AreLinked rows (i + 1) latest earlier
 linked-other rows i latest earlier none are = record {
-  frozen = are.frozen;
+  lineage = are.lineage;
   each_sire = are.each_sire;
   each_calf = are.each_calf;
   latest_is = λ s ls. link-kept rows s i (get_or latest s None) (none s) (are.latest_is s ls);
@@ -47,14 +46,14 @@ linked-other rows i latest earlier none are = record {
 }
 
 -- a calf of p
-pub linked-calf : (rows : List Row) (i p : ℕ) (latest earlier : List (Option ℕ)) → i < length rows → p < length rows → IsCalf rows p i → AreLinked rows i latest earlier →
+pub linked-calf : (rows : List Parents) (i p : ℕ) (latest earlier : List (Option ℕ)) → i < length rows → p < length rows → IsCalf rows p i → AreLinked rows i latest earlier →
     AreLinked rows (i + 1) (set latest p (Some i)) (set earlier i (get_or latest p None))
 linked-calf rows i p latest earlier li lp c are =
     let each_sire : length latest ≡ length rows = are.each_sire in
     let each_calf : length earlier ≡ length rows = are.each_calf in
     let only : (s : ℕ) → IsCalf rows s i → p ≡ s = λ s d. (let e : Some p ≡ Some s = sym c.0 ∙ d.0 in cc) in
     record {
-      frozen = are.frozen;
+      lineage = are.lineage;
       each_sire = length-set latest p (Some i) ∙ each_sire;
       each_calf = length-set earlier i (get_or latest p None) ∙ each_calf;
       latest_is = λ s ls.
@@ -88,7 +87,7 @@ linked-calf rows i p latest earlier li lp c are =
           (cases_eq x i);
     }
 
-pub calf-within : (rows : List Row) (s x : ℕ) → IsCalf rows s x → x < length rows
+pub calf-within : (rows : List Parents) (s x : ℕ) → IsCalf rows s x → x < length rows
 calf-within rows s x c =
     ⊎_elim
     (λ none. let unknown : sire_rank rows x ≡ None = rw none refl in let known = c.0 in absurd (cc))
@@ -96,7 +95,7 @@ calf-within rows s x c =
     (option_cases (slice_get rows x))
 
 -- what the parents of a row say
-pub calf-pair : (rows : List Row) (i p : ℕ) (parents : Parents) → AreParentsAt rows i parents → parents.sire ≡ Some p → is_some parents.dam ≡ true → IsCalf rows p i
+pub calf-pair : (rows : List Parents) (i p : ℕ) (parents : Parents) → AreParentsAt rows i parents → parents.sire ≡ Some p → is_some parents.dam ≡ true → IsCalf rows p i
 calf-pair rows i p parents at sire dam =
     ⊎_elim
     (λ (none : parents.dam ≡ None). let some : is_some parents.dam ≡ false = ap is_some none in absurd (cc))
@@ -104,20 +103,20 @@ calf-pair rows i p parents at sire dam =
     (option_cases parents.dam)
 
 -- no calf of a pair has an unknown parent
-pub pair-known : {P : Type 0} (rows : List Row) (s x : ℕ) → IsCalf rows s x → HasUnknownParent rows x → P
+pub pair-known : {P : Type 0} (rows : List Parents) (s x : ℕ) → IsCalf rows s x → HasUnknownParent rows x → P
 pair-known rows s x calf unknown =
     let sire = calf.0 in
     let dam = calf.2 in
     ⊎_elim (λ (none : sire_rank rows x ≡ None). absurd (cc)) (λ (none : dam_rank rows x ≡ None). absurd (cc)) unknown
 
--- a known dam stands in the book
-pub dam-within : (l most : ℕ) (rows : List Row) (x : ℕ) (parents : Parents) → IsFrozen l most rows → AreParentsAt rows x parents → (d : ℕ) → parents.dam ≡ Some d → d < length rows
-dam-within l most rows x parents frozen at d is =
+-- a known dam stands in the lineage
+pub dam-within : (l most : ℕ) (rows : List Parents) (x : ℕ) (parents : Parents) → IsLineage l most rows → AreParentsAt rows x parents → (d : ℕ) → parents.dam ≡ Some d → d < length rows
+dam-within l most rows x parents lineage at d is =
     let here = parents-within rows x parents at in
-    let lower : d < x = (frozen-ranked l most rows frozen).below x d here (inr (parents-dam rows x parents at ∙ is)) in
+    let lower : d < x = (lineage-ranked l most rows lineage).below x d here (inr (parents-dam rows x parents at ∙ is)) in
     omega arith
 
-pub no-calf : (rows : List Row) (i : ℕ) (parents : Parents) → AreParentsAt rows i parents → (parents.sire ≡ None) ⊎ (parents.dam ≡ None) → (s : ℕ) → IsCalf rows s i → ⊥
+pub no-calf : (rows : List Parents) (i : ℕ) (parents : Parents) → AreParentsAt rows i parents → (parents.sire ≡ None) ⊎ (parents.dam ≡ None) → (s : ℕ) → IsCalf rows s i → ⊥
 no-calf rows i parents at unknown s calf =
     let sire = parents-sire rows i parents at in
     let dam = parents-dam rows i parents at in
@@ -126,7 +125,7 @@ no-calf rows i parents at unknown s calf =
     ⊎_elim (λ (none : parents.sire ≡ None). absurd (cc)) (λ (none : parents.dam ≡ None). absurd (cc)) unknown
 
 -- the link that is read at a sire
-pub latest-link : (rows : List Row) (s : ℕ) (latest earlier : List (Option ℕ)) (link : Option ℕ) → s < length rows → AreLinked rows (length rows) latest earlier →
+pub latest-link : (rows : List Parents) (s : ℕ) (latest earlier : List (Option ℕ)) (link : Option ℕ) → s < length rows → AreLinked rows (length rows) latest earlier →
     link ≡ get_or latest s link → IsLink rows s (length rows) link
 latest-link rows s latest earlier link ls are read =
     let each : length latest ≡ length rows = are.each_sire in

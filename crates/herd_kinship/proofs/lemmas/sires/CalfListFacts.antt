@@ -5,16 +5,16 @@ use Rattle.std.proofs.lemmas.Bool.{cases_eq}
 use Rattle.std.proofs.lemmas.List.{get_or-map, get_or-set_other, get_or-set_same, length-map}
 use Rattle.std.proofs.lemmas.List.Elements.{All-append, All-contains, All-map, All-more, All-same, All-weaker}
 use Rattle.std.proofs.lemmas.Option.{same_Some}
+use Rattle.herd_lineage.specs.Lineage.{sire_rank}
 use Rattle.herd_kinship.proofs.lemmas.Lists.{any-left, any-right, pairs-append, pairs-map}
-use Rattle.herd_frozen.specs.declared.freezing.frozen.Row.{Row}
+use Rattle.herd_lineage.specs.declared.lineage.Parents.{Parents}
 use Rattle.herd_kinship.specs.CalfCoefficients.{AreCalvesWith, GoesOnWith, HasWritten, HaveValues, IsCalfWith, Keeps}
 use Rattle.herd_kinship.specs.CalfLinks.{calves_of_sire, IsCalf}
-use Rattle.herd_kinship.specs.Ranks.{sire_rank}
 use Rattle.herd_kinship.specs.declared.calves.CalfCoefficient.{CalfCoefficient}
 use Rattle.herd_kinship.proofs.lemmas.sires.CalfFacts.{calf-within}
 use Rattle.herd_kinship.proofs.lemmas.sires.CalvesBelow.{below-all, below-descending, below-each}
 
-module _ (rows : List Row) where
+module _ (rows : List Parents) where
   -- other sires without calves, or fewer of them
   pub calves-same : (P Q : ℕ → Type 0) (f : ℕ → ℕ) (calves : List CalfCoefficient) → ((s : ℕ) → P s → Q s) → ((s x : ℕ) → Q s → IsCalf rows s x → P s) →
       AreCalvesWith rows P f calves → AreCalvesWith rows Q f calves
@@ -61,7 +61,7 @@ module _ (rows : List Row) where
   pub calves-alone : (N : ℕ → Type 0) (f : ℕ → ℕ) (old new : List CalfCoefficient) → old ≡ [] → GoesOnWith rows N f old new → AreCalvesWith rows N f new
   calves-alone N f old new none on = subst (λ xs. AreCalvesWith rows N f xs) (sym (on.appended ∙ ap (λ (xs : List CalfCoefficient). xs ++ on.more) none)) on.calves
 
-  -- each stands at a rank of the book
+  -- each stands at a rank of the lineage
   pub calves-within : (P : ℕ → Type 0) (f : ℕ → ℕ) (calves : List CalfCoefficient) → AreCalvesWith rows P f calves → All (λ calf. calf.rank < length rows) calves
   calves-within P f calves are = All-weaker (IsCalfWith rows P f) (λ calf. calf.rank < length rows) (λ calf is. calf-within rows is.sire calf.rank is.is_calf) calves are.each
 
@@ -77,7 +77,7 @@ module _ (rows : List Row) where
       subst (λ v. get_or new v 0 ≡ f v) at.4 (subst (λ (c : CalfCoefficient). get_or new c.rank 0 ≡ f c.rank) at.3 (has.written at.0 at.1 at.2))
 
 -- all calves of s, each made of its rank, go on a list
-pub goes-on : (rows : List Row) (s : ℕ) (f : ℕ → ℕ) (make : ℕ → CalfCoefficient) (old new : List CalfCoefficient) → ((x : ℕ) → (make x).rank ≡ x) → ((x : ℕ) → IsCalf rows s x → (make x).numerator ≡ f x) →
+pub goes-on : (rows : List Parents) (s : ℕ) (f : ℕ → ℕ) (make : ℕ → CalfCoefficient) (old new : List CalfCoefficient) → ((x : ℕ) → (make x).rank ≡ x) → ((x : ℕ) → IsCalf rows s x → (make x).numerator ≡ f x) →
     new ≡ old ++ map make (calves_of_sire rows s) → GoesOnWith rows (λ t. t ≡ s) f old new
 goes-on rows s f make old new rank value push =
     let calves = calves_of_sire rows s in

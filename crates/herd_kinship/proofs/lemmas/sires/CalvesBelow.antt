@@ -4,9 +4,9 @@ use Rattle.std.specs.Option.{option_map_or}
 use Rattle.std.proofs.lemmas.Bool.{cases_eq, eq-eqb, eqb-true}
 use Rattle.std.proofs.lemmas.List.Elements.{All-append, All-nil, All-push, All-weaker, Contains-append_left, Contains-append_right, Contains-push}
 use Rattle.std.proofs.lemmas.List.Kept.{AllPairs-cons}
-use Rattle.herd_frozen.specs.declared.freezing.frozen.Row.{Row}
+use Rattle.herd_lineage.specs.declared.lineage.Parents.{Parents}
+use Rattle.herd_lineage.specs.Lineage.{dam_rank, sire_rank}
 use Rattle.herd_kinship.specs.CalfLinks.{AreLinked, calf_count, calves_below, chain, is_calf, IsCalf, IsLink, LeadToOlder}
-use Rattle.herd_kinship.specs.Ranks.{sire_rank, dam_rank}
 use Rattle.herd_kinship.proofs.lemmas.sires.CalfFacts.{calf-within}
 
 test-yes : (s d : ℕ) (sire dam : Option ℕ) → sire ≡ Some s → dam ≡ Some d → (is_some dam && option_map_or (nat_eq s) sire false) ≡ true
@@ -22,12 +22,12 @@ not_true true h = absurd (h refl)
 not_true false h = refl
 
 -- the next animal is the youngest of them, or no calf of s
-abbrev Step : List Row → ℕ → ℕ → Type 0
+abbrev pub Step : List Parents → ℕ → ℕ → Type 0
 Step rows s x =
     (IsCalf rows s x × (calves_below rows s (suc x) ≡ x ∷ calves_below rows s x))
     ⊎ ((IsCalf rows s x → ⊥) × (calves_below rows s (suc x) ≡ calves_below rows s x))
 
-step-by : (rows : List Row) (s x : ℕ) (b : Bool) → is_calf rows s x ≡ b → Step rows s x
+step-by : (rows : List Parents) (s x : ℕ) (b : Bool) → is_calf rows s x ≡ b → Step rows s x
 unfolding calves_below
 step-by rows s x true is =
     inl (test-is s (sire_rank rows x) (dam_rank rows x) is, ap (λ (b : Bool). cond b (x ∷ calves_below rows s x) (calves_below rows s x)) is)
@@ -37,11 +37,11 @@ step-by rows s x false is =
       ap (λ (b : Bool). cond b (x ∷ calves_below rows s x) (calves_below rows s x)) is,
     )
 
-step : (rows : List Row) (s x : ℕ) → Step rows s x
+pub step : (rows : List Parents) (s x : ℕ) → Step rows s x
 step rows s x = step-by rows s x (is_calf rows s x) refl
 
 -- each is a calf of s
-pub below-each : (rows : List Row) (s n : ℕ) → All (IsCalf rows s) (calves_below rows s n)
+pub below-each : (rows : List Parents) (s n : ℕ) → All (IsCalf rows s) (calves_below rows s n)
 unfolding calves_below
 below-each rows s zero = All-nil (IsCalf rows s)
 below-each rows s (suc n) = elim (step rows s n) [
@@ -51,11 +51,11 @@ below-each rows s (suc n) = elim (step rows s n) [
   | inr at ↦ subst (All (IsCalf rows s)) (sym at.1) (below-each rows s n)
 ]
 
-pub below-within : (rows : List Row) (s n : ℕ) → All (λ x. x < length rows) (calves_below rows s n)
+pub below-within : (rows : List Parents) (s n : ℕ) → All (λ x. x < length rows) (calves_below rows s n)
 below-within rows s n = All-weaker (IsCalf rows s) (λ x. x < length rows) (calf-within rows s) (calves_below rows s n) (below-each rows s n)
 
 -- it stands below the border
-below-border : (rows : List Row) (s n : ℕ) → All (λ x. x < n) (calves_below rows s n)
+below-border : (rows : List Parents) (s n : ℕ) → All (λ x. x < n) (calves_below rows s n)
 unfolding calves_below
 below-border rows s zero = All-nil (λ x. x < 0)
 below-border rows s (suc n) =
@@ -68,7 +68,7 @@ below-border rows s (suc n) =
     ]
 
 -- and before the older ones
-pub below-descending : (rows : List Row) (s n : ℕ) → AllPairs (λ x y. y < x) (calves_below rows s n)
+pub below-descending : (rows : List Parents) (s n : ℕ) → AllPairs (λ x y. y < x) (calves_below rows s n)
 unfolding calves_below
 below-descending rows s zero = λ i j d before within. absurd (omega (arith, within))
 below-descending rows s (suc n) = elim (step rows s n) [
@@ -79,7 +79,7 @@ below-descending rows s (suc n) = elim (step rows s n) [
 ]
 
 -- and they are all below the border
-pub below-all : (rows : List Row) (s n x : ℕ) → x < n → IsCalf rows s x → Contains (calves_below rows s n) x
+pub below-all : (rows : List Parents) (s n x : ℕ) → x < n → IsCalf rows s x → Contains (calves_below rows s n) x
 below-all rows s zero x low calf = absurd (omega (arith, low))
 below-all rows s (suc n) x low calf = elim (step rows s n) [
   | inl at ↦
@@ -92,7 +92,7 @@ below-all rows s (suc n) x low calf = elim (step rows s n) [
       (below-all rows s n x (⊎_elim (λ (same : x ≡ n). absurd (at.0 (subst (IsCalf rows s) same calf))) (λ (other : x ≡ n → ⊥). omega arith) (cases_eq x n)) calf)
 ]
 
-below-few : (rows : List Row) (s n : ℕ) → length (calves_below rows s n) ≤ n
+below-few : (rows : List Parents) (s n : ℕ) → length (calves_below rows s n) ≤ n
 unfolding calves_below
 below-few rows s zero = omega arith
 below-few rows s (suc n) = let few = below-few rows s n in elim (step rows s n) [
@@ -101,7 +101,7 @@ below-few rows s (suc n) = let few = below-few rows s n in elim (step rows s n) 
 ]
 
 -- there are no more of them than animals
-pub calf_count-few : (rows : List Row) (s : ℕ) → calf_count rows s ≤ length rows
+pub calf_count-few : (rows : List Parents) (s : ℕ) → calf_count rows s ≤ length rows
 calf_count-few rows s = below-few rows s (length rows)
 
 module _ (earlier : List (Option ℕ)) (older : LeadToOlder earlier) where
@@ -125,7 +125,7 @@ module _ (earlier : List (Option ℕ)) (older : LeadToOlder earlier) where
       (chain-steps n (suc n) (get_or earlier y None) (λ z e. let next = older y z e in omega (arith, low, next)) (λ z e. let next = older y z e in omega (arith, low, next)))
 
   -- from the youngest one below a border the links lead through all
-  pub chain-below : (rows : List Row) (s : ℕ) (latest : List (Option ℕ)) → AreLinked rows (length rows) latest earlier → (n : ℕ) (link : Option ℕ) → IsLink rows s n link →
+  pub chain-below : (rows : List Parents) (s : ℕ) (latest : List (Option ℕ)) → AreLinked rows (length rows) latest earlier → (n : ℕ) (link : Option ℕ) → IsLink rows s n link →
       chain earlier n link ≡ calves_below rows s n
   unfolding calves_below
   chain-below rows s latest are zero link is = refl

@@ -4,14 +4,14 @@ use Rattle.std.proofs.Math.Seq.{get_or-append_seam}
 use Rattle.std.proofs.lemmas.Bool.{cases_lt, cases_eq}
 use Rattle.std.proofs.lemmas.List.{get_or_append_left, get_or-set_same, get_or-set_other, length_push}
 use Rattle.std.proofs.lemmas.List.Elements.{Contains-append_left, Contains-append_right}
-use Rattle.herd_frozen.specs.declared.freezing.frozen.Row.{Row}
-use Rattle.herd_frozen.specs.freezing.Frozen.{IsFrozen}
+use Rattle.herd_lineage.specs.declared.lineage.Parents.{Parents}
+use Rattle.herd_lineage.specs.Lineage.{IsLineage, dam_rank, sire_rank}
 use Rattle.herd_kinship.specs.Ancestry.{IsParentIn}
 use Rattle.herd_kinship.specs.Columns.{IsCollection, HasAll}
 use Rattle.herd_kinship.specs.Pending.{mark, Marks}
-use Rattle.herd_kinship.specs.Ranks.{sire_rank, dam_rank, ranked}
+use Rattle.herd_kinship.specs.Ranks.{ranked}
 use Rattle.herd_kinship.specs.Tracing.{GivesMark}
-use Rattle.herd_kinship.proofs.lemmas.books.FrozenFacts.{frozen-ranked}
+use Rattle.herd_kinship.proofs.lemmas.lineages.LineageFacts.{lineage-ranked}
 
 -- the rank is collected or marked
 abbrev pub IsHeld : ℕ → List ℕ → List ℕ → ℕ → Type 0
@@ -27,7 +27,7 @@ border_of-push last y xs =
     ∙ get_or-append_seam xs y [] (last + 1)
 
 -- what is collected down to the border, and what is marked below it
-pub record IsCollecting (rows : List Row) (last : ℕ) (start : List ℕ) (border : ℕ) (chunks collected : List ℕ) : Type 0 where
+pub record IsCollecting (rows : List Parents) (last : ℕ) (start : List ℕ) (border : ℕ) (chunks collected : List ℕ) : Type 0 where
   pub room : last < 64 * length chunks
   pub near : (e : ℕ) → mark chunks e ≡ 1 → (e ≤ last) × (last - e < border)
   pub within : (k : ℕ) → k < length collected → (border ≤ get_or collected k 0) × (get_or collected k 0 ≤ last)
@@ -57,8 +57,8 @@ gives-room last old new None is = ap length is
 gives-room last old new (Some p) is = is.room
 
 -- a parent of a rank up to the last is one too
-pub parent-older : (l most : ℕ) (rows : List Row) → IsFrozen l most rows → (last y p : ℕ) → last < length rows → y ≤ last → IsParentIn (ranked rows) p y → p ≤ last
-parent-older l most rows f last y p ll ly parent = let lower : p < y = (frozen-ranked l most rows f).below y p (omega arith) parent in omega arith
+pub parent-older : (l most : ℕ) (rows : List Parents) → IsLineage l most rows → (last y p : ℕ) → last < length rows → y ≤ last → IsParentIn (ranked rows) p y → p ≤ last
+parent-older l most rows f last y p ll ly parent = let lower : p < y = (lineage-ranked l most rows f).below y p (omega arith) parent in omega arith
 
 -- 0 at each rank of a list, once it is written for one rank more
 pub zero-next : (column xs : List ℕ) (y : ℕ) → y < length column → HasAll column xs (λ _. 0) → HasAll (set column y 0) (xs ++ y ∷ []) (λ _. 0)
@@ -78,7 +78,7 @@ zero-next column xs y within so_far = λ k lk.
     (cases_lt k (length xs)))
     (cases_eq at y)
 
-module _ (l most : ℕ) (rows : List Row) (f : IsFrozen l most rows) (last : ℕ) (ll : last < length rows) (start : List ℕ) where
+module _ (l most : ℕ) (rows : List Parents) (f : IsLineage l most rows) (last : ℕ) (ll : last < length rows) (start : List ℕ) where
   -- One animal more is collected: y, at the nearest mark d. Its mark is taken away and those of its parents are set,
   -- which are older than y: so all marks stand below y, and the collection stays descending. Who was held still is,
   -- since y is collected now and all other marks stay.
@@ -102,7 +102,7 @@ module _ (l most : ℕ) (rows : List Row) (f : IsFrozen l most rows) (last : ℕ
       let low : (k : ℕ) → k < length xs → get_or ys k 0 ≡ get_or xs k 0 = λ k lk. get_or_append_left xs (y ∷ []) 0 k lk in
       let end : get_or ys (length xs) 0 ≡ y = get_or-append_seam xs y [] 0 in
       let parent_near : (p : ℕ) → IsParentIn (ranked rows) p y → (e : ℕ) → e ≡ last - p → (e ≤ last) × (last - e < y) =
-      λ p parent e is. let lower : p < y = (frozen-ranked l most rows f).below y p (omega arith) parent in (omega arith, omega arith) in
+      λ p parent e is. let lower : p < y = (lineage-ranked l most rows f).below y p (omega arith) parent in (omega arith, omega arith) in
       let held : (p : ℕ) → p ≤ last → IsHeld last chunks xs p → IsHeld last w3 ys p =
       λ p lp h.
       ⊎_elim (λ (c : Contains xs p). inl (Contains-append_left xs (y ∷ []) p c))
@@ -160,7 +160,7 @@ module _ (l most : ℕ) (rows : List Row) (f : IsFrozen l most rows) (last : ℕ
             (λ (a : k < length xs).
             let was : IsParentIn (ranked rows) p (get_or xs k 0) = subst (λ v. IsParentIn (ranked rows) p v) (low k a) parent in
             let top = (so_far.within k a).1 in
-            let lower : p < get_or xs k 0 = (frozen-ranked l most rows f).below (get_or xs k 0) p (omega arith) was in
+            let lower : p < get_or xs k 0 = (lineage-ranked l most rows f).below (get_or xs k 0) p (omega arith) was in
             held p (omega arith) (so_far.closed k p a was))
             (λ (a : length xs ≤ k).
             let same : k ≡ length xs = omega (arith, long, lk) in
@@ -171,7 +171,7 @@ module _ (l most : ℕ) (rows : List Row) (f : IsFrozen l most rows) (last : ℕ
         all = λ p lp m. held p lp (so_far.all p lp m);
       }
 
-module _ (rows : List Row) (last : ℕ) (ll : last < length rows) (start : List ℕ) where
+module _ (rows : List Parents) (last : ℕ) (ll : last < length rows) (start : List ℕ) where
   all_held : (chunks xs : List ℕ) → ((e : ℕ) → mark chunks e ≡ 0) → (p : ℕ) → IsHeld last chunks xs p → Contains xs p
   all_held chunks xs empty p h = ⊎_elim (λ (c : Contains xs p). c) (λ (m : mark chunks (last - p) ≡ 1). let none = empty (last - p) in absurd (omega (arith, none, m))) h
 

@@ -1,15 +1,14 @@
--- The column of an animal s in a frozen book, by ranks and in whole numbers; its relationships with all, by numbers.
+-- The column of an animal s in a lineage, by ranks and in whole numbers; its relationships with all, by numbers.
 use Rattle.std.proofs.Common.{ℕ, suc, ◌+◌, ◌*◌, ◌-◌, ◌/◌, ◌^◌, ◌<◌, ◌≤◌, ◌≡◌, ◌⊎◌, inl, inr, ⊎_elim, List, length, get_or, Option, Some, arith, refl, sym, ◌∙◌, ap, subst}
 use Rattle.std.proofs.Math.Nat.{mul-div_cancel_left}
 use Rattle.std.proofs.Math.Pow.{pow_pos}
 use Rattle.std.proofs.lemmas.Nat.{pow-add}
-use Rattle.herd_frozen.specs.declared.TheConstants.{MOST_ANIMALS}
-use Rattle.herd_frozen.specs.declared.freezing.frozen.Row.{Row}
-use Rattle.herd_frozen.specs.freezing.Frozen.{IsFrozen, depth_at}
+use Rattle.herd_lineage.specs.declared.TheConstants.{MOST_ANIMALS}
+use Rattle.herd_lineage.specs.declared.lineage.Parents.{Parents}
+use Rattle.herd_lineage.specs.Lineage.{IsLineage, depth_at, dam_rank, sire_rank}
 use Rattle.herd_kinship.specs.Ancestry.{PathTo}
 use Rattle.herd_kinship.specs.Columns.{related, inherited, AreRelationships, IsColumn}
-use Rattle.herd_kinship.specs.FrozenAncestry.{ancestry_of, number_of_row}
-use Rattle.herd_kinship.specs.Ranks.{sire_rank, dam_rank, ranked}
+use Rattle.herd_kinship.specs.Ranks.{ranked}
 use Rattle.herd_kinship.specs.Shares.{share}
 use Rattle.herd_kinship.specs.Table.{coefficient, entry, mendelian}
 use Rattle.herd_kinship.specs.Tracing.{IsShareOf}
@@ -18,11 +17,9 @@ use Rattle.herd_kinship.proofs.lemmas.numbers.Sums.{cancel}
 use Rattle.herd_kinship.proofs.lemmas.laws.ColumnSums.{column}
 use Rattle.herd_kinship.proofs.lemmas.ancestry.Depth.{Below, Below-sire, Below-dam, known_some, unit}
 use Rattle.herd_kinship.proofs.lemmas.ancestry.Exact.{term-exact}
-use Rattle.herd_kinship.proofs.lemmas.books.FrozenDepths.{depth-at_most, parent-less_deep, ranked-below_depth, ranked-below_limit, ranked-depth}
-use Rattle.herd_kinship.proofs.lemmas.books.FrozenFacts.{frozen-renamed, ranked-lawful, ranked-shallow}
-use Rattle.herd_kinship.proofs.lemmas.tracing.KnownFacts.{entry-rank, mendelian-rank}
-use Rattle.herd_kinship.proofs.lemmas.books.Ranks.{rank-in}
-use Rattle.herd_kinship.proofs.lemmas.ancestry.Renamed.{coefficient-renamed}
+use Rattle.herd_kinship.proofs.lemmas.lineages.LineageFacts.{depth-at_most, parent-less_deep, ranked-below_depth, ranked-below_limit, ranked-depth}
+use Rattle.herd_kinship.proofs.lemmas.lineages.LineageFacts.{ranked-lawful, ranked-shallow}
+use Rattle.herd_kinship.proofs.lemmas.lineages.Ranks.{rank-in}
 use Rattle.herd_kinship.proofs.lemmas.ancestry.Shares.{share-itself}
 use Rattle.herd_kinship.proofs.lemmas.ancestry.Table.{entry-bound}
 
@@ -43,7 +40,7 @@ column_left c p t m e a b i square is all =
 square : (l : ℕ) → 2 ^ (2 * l) ≡ 2 ^ l * 2 ^ l
 square l = ap (λ n. 2 ^ n) (let e : 2 * l ≡ l + l = omega arith in e) ∙ pow-add 2 l l
 
-module _ (l most : ℕ) (rows : List Row) (f : IsFrozen l most rows) (s : ℕ) (ls : s < length rows) where
+module _ (l most : ℕ) (rows : List Parents) (f : IsLineage l most rows) (s : ℕ) (ls : s < length rows) where
   -- what s has of j's Mendelian sampling variance is whole in unit 2^-2l
   inherited-own : (j : ℕ) → j < length rows → depth_at rows j ≤ depth_at rows s →
       share (ranked rows) l (Some s) j * mendelian (ranked rows) l j
@@ -83,12 +80,12 @@ module _ (l most : ℕ) (rows : List Row) (f : IsFrozen l most rows) (s : ℕ) (
   inherited-none j none = multiple (2 ^ l) _ 0 (pow_pos l) (rw none (omega arith))
 
   -- by a share in its own unit
-  pub inherited-term : (j own part : ℕ) → j < length rows → IsShareOf rows s j own → part ≡ mendelian (ancestry_of rows) l (number_of_row rows j) →
+  pub inherited-term : (j own part : ℕ) → j < length rows → IsShareOf rows s j own → part ≡ mendelian (ranked rows) l j →
       part / 2 ^ (depth_at rows s - depth_at rows j) * own ≡ inherited l rows s j
   inherited-term j own part lj is part_is =
       let m : ℕ = mendelian (ranked rows) l j in
       let steps : ℕ = depth_at rows s - depth_at rows j in
-      let mine : part ≡ m = part_is ∙ sym (mendelian-rank l most rows f j lj) in
+      let mine : part ≡ m = part_is in
       let turned : part / 2 ^ steps * own ≡ own * (m / 2 ^ steps) = rw mine (omega arith) in
       turned ∙ (ap (λ v. v * (m / 2 ^ steps)) is.own_is ∙ sym (multiple (2 ^ l) _ _ (pow_pos l) (inherited-own j lj is.less_deep)))
 
@@ -101,8 +98,8 @@ module _ (l most : ℕ) (rows : List Row) (f : IsFrozen l most rows) (s : ℕ) (
       (reached-less_deep j lj)
 
   -- THE COLUMN, in unit 2^-2l
-  pub frozen-column : (j : ℕ) → j < length rows → IsColumn l rows s j
-  frozen-column j lj =
+  pub lineage-column : (j : ℕ) → j < length rows → IsColumn l rows s j
+  lineage-column j lj =
       let kin = ranked rows in
       let w = ranked-lawful l most rows f in
       cancel (2 ^ (2 * l)) _ _ (pow_pos (2 * l))
@@ -113,7 +110,7 @@ module _ (l most : ℕ) (rows : List Row) (f : IsFrozen l most rows) (s : ℕ) (
   pub column-step : (j : ℕ) → j < length rows →
       (related l rows s (sire_rank rows j) + related l rows s (dam_rank rows j)) / 2 + inherited l rows s j ≡ related l rows s (Some j)
   column-step j lj =
-      let c = frozen-column j lj in
+      let c = lineage-column j lj in
       omega (arith, c)
 
   -- each relationship is below 2, and so is what is inherited
@@ -122,7 +119,7 @@ module _ (l most : ℕ) (rows : List Row) (f : IsFrozen l most rows) (s : ℕ) (
 
   pub inherited-bound : (j : ℕ) → j < length rows → inherited l rows s j < 2 ^ suc (2 * l)
   inherited-bound j lj =
-      let c = frozen-column j lj in
+      let c = lineage-column j lj in
       let b = related-bound (Some j) in
       omega (arith, c, b)
 
@@ -132,7 +129,7 @@ module _ (l most : ℕ) (rows : List Row) (f : IsFrozen l most rows) (s : ℕ) (
 
   -- the coefficient of an animal of two known parents is half their relationship
   pub coefficient-related : (d x : ℕ) → x < length rows → sire_rank rows x ≡ Some s → dam_rank rows x ≡ Some d →
-      related l rows s (Some d) / 2 ≡ coefficient (ancestry_of rows) l (number_of_row rows x)
+      related l rows s (Some d) / 2 ≡ coefficient (ranked rows) l x
   coefficient-related d x lx is is' =
       let kin = ranked rows in
       let w = ranked-lawful l most rows f in
@@ -146,13 +143,13 @@ module _ (l most : ℕ) (rows : List Row) (f : IsFrozen l most rows) (s : ℕ) (
       let step = unit kin w k (Some s) (Some d) l l bs bd (omega arith) in
       let whole : related l rows s (Some d) ≡ 2 * entry kin k (Some s) (Some d) = ap (λ n. entry kin n (Some s) (Some d)) next ∙ step in
       let half : related l rows s (Some d) / 2 ≡ entry kin k (Some s) (Some d) = omega (arith, whole) in
-      half ∙ (half_of x d is is' ∙ sym (coefficient-renamed kin (ancestry_of rows) (number_of_row rows) w (frozen-renamed l most rows f) l x (rank-in (length rows) x lx)))
+      half ∙ half_of x d is is'
 
-module _ (l : ℕ) (rows : List Row) (f : IsFrozen l MOST_ANIMALS rows) where
+module _ (l : ℕ) (rows : List Parents) (f : IsLineage l MOST_ANIMALS rows) where
   -- by the numbers of the animals
   pub relationships-made : (rank : ℕ) (column : List ℕ) → rank < length rows → length column ≡ length rows →
       ((j : ℕ) → j < length rows → get_or column j 0 ≡ related l rows rank (Some j)) → AreRelationships l rows rank column
   relationships-made rank column lp each right = record {
     each = each;
-    right = λ j lj. right j lj ∙ entry-rank l MOST_ANIMALS rows f (2 * l) rank j lp lj;
+    right = λ j lj. right j lj;
   }

@@ -2,24 +2,22 @@
 use Rattle.std.proofs.Common.{ℕ, suc, ◌+◌, ◌*◌, ◌-◌, ◌/◌, ◌^◌, ◌<◌, ◌≤◌, ◌≡◌, inl, inr, ⊎_elim, List, length, get_or, set, Option, Some, None, Contains, arith, refl, sym, ◌∙◌, ap, subst}
 use Rattle.std.proofs.lemmas.Bool.{cases_lt, cases_eq}
 use Rattle.std.proofs.lemmas.List.{get_or-set_same, get_or-set_other, length-set}
-use Rattle.herd_frozen.specs.declared.freezing.frozen.Parents.{Parents}
-use Rattle.herd_frozen.specs.declared.freezing.frozen.Row.{Row}
-use Rattle.herd_frozen.specs.freezing.Frozen.{IsFrozen}
+use Rattle.herd_lineage.specs.declared.lineage.Parents.{Parents}
+use Rattle.herd_lineage.specs.Lineage.{IsLineage, dam_rank, sire_rank}
 use Rattle.herd_kinship.proofs.lemmas.Lists.{contains-at}
 use Rattle.herd_kinship.specs.Ancestry.{IsParentIn}
 use Rattle.herd_kinship.specs.Columns.{at_parent, related, inherited, passed_to, CanPassTo, HasAll, IsCollection}
-use Rattle.herd_kinship.specs.Ranks.{AreParentsAt, sire_rank, dam_rank, ranked}
-use Rattle.herd_kinship.specs.FrozenAncestry.{ancestry_of, number_of_row}
+use Rattle.herd_kinship.specs.Ranks.{AreParentsAt, ranked}
 use Rattle.herd_kinship.specs.Shares.{share}
 use Rattle.herd_kinship.specs.Table.{mendelian}
 use Rattle.herd_kinship.specs.Tracing.{IsMetAs, IsNext}
 use Rattle.herd_kinship.specs.declared.tracing.Met.{Met}
 use Rattle.herd_kinship.proofs.lemmas.tracing.Brought.{later_none}
 use Rattle.herd_kinship.proofs.lemmas.sires.ColumnFacts.{column-step, inherited-bound, inherited-none, inherited-term, related-bound}
-use Rattle.herd_kinship.proofs.lemmas.books.FrozenDepths.{depth-at_most}
-use Rattle.herd_kinship.proofs.lemmas.books.FrozenFacts.{frozen-ranked, ranked-shallow}
+use Rattle.herd_kinship.proofs.lemmas.lineages.LineageFacts.{depth-at_most}
+use Rattle.herd_kinship.proofs.lemmas.lineages.LineageFacts.{lineage-ranked, ranked-shallow}
 use Rattle.herd_kinship.proofs.lemmas.tracing.KnownFacts.{right-more}
-use Rattle.herd_kinship.proofs.lemmas.books.ParentsFacts.{parents-sire, parents-dam, parents-within}
+use Rattle.herd_kinship.proofs.lemmas.lineages.ParentsFacts.{parents-sire, parents-dam, parents-within}
 use Rattle.herd_kinship.proofs.lemmas.ancestry.Table.{entry-none_right}
 
 -- what all ranks of a collection have, each that is contained has
@@ -27,43 +25,43 @@ pub has-all : (column collected : List ℕ) (f : ℕ → ℕ) (p : ℕ) → HasA
 has-all column collected f p has c = subst (λ q. get_or column q 0 ≡ f q) (contains-at collected p c) (has c.0 c.1)
 
 -- from the border on the parts are written where there was 0
-pub record AreParts (l : ℕ) (rows : List Row) (s border : ℕ) (old now : List ℕ) : Type 0 where
+pub record AreParts (l : ℕ) (rows : List Parents) (s border : ℕ) (old now : List ℕ) : Type 0 where
   pub each : length now ≡ length old
   pub written : (j : ℕ) → border ≤ j → j < length rows → get_or old j 0 ≡ 0 → get_or now j 0 ≡ inherited l rows s j
   pub left : (j : ℕ) → j < border → get_or now j 0 ≡ get_or old j 0
 
 -- the collected ranks from the index k on have their relationships, the ones before it their parts
-pub record IsPassedOn (l : ℕ) (rows : List Row) (s : ℕ) (collected : List ℕ) (k : ℕ) (column : List ℕ) : Type 0 where
+pub record IsPassedOn (l : ℕ) (rows : List Parents) (s : ℕ) (collected : List ℕ) (k : ℕ) (column : List ℕ) : Type 0 where
   pub each : length column ≡ length rows
   pub done : (m : ℕ) → k ≤ m → m < length collected → get_or column (get_or collected m 0) 0 ≡ related l rows s (Some (get_or collected m 0))
   pub left : (m : ℕ) → m < k → m < length collected → get_or column (get_or collected m 0) 0 ≡ inherited l rows s (get_or collected m 0)
 
 -- the ranks below a border have their relationships, the others their parts
-pub record AreRelated (l : ℕ) (rows : List Row) (s border : ℕ) (column : List ℕ) : Type 0 where
+pub record AreRelated (l : ℕ) (rows : List Parents) (s border : ℕ) (column : List ℕ) : Type 0 where
   pub each : length column ≡ length rows
   pub done : (j : ℕ) → j < border → get_or column j 0 ≡ related l rows s (Some j)
   pub left : (j : ℕ) → border ≤ j → j < length rows → get_or column j 0 ≡ inherited l rows s j
 
 -- what a step may use at the index k
-pub record HasParents (l : ℕ) (rows : List Row) (s : ℕ) (column : List ℕ) (o : Option ℕ) : Type 0 where
+pub record HasParents (l : ℕ) (rows : List Parents) (s : ℕ) (column : List ℕ) (o : Option ℕ) : Type 0 where
   pub within : (p : ℕ) → o ≡ Some p → p < length column
   pub value : at_parent column o ≡ related l rows s o
   pub below_two : related l rows s o < 2 ^ suc (2 * l)
 
 -- a step can be made at the rank j, and makes its relationship
-pub record IsPassing (l : ℕ) (rows : List Row) (s : ℕ) (column : List ℕ) (j : ℕ) (parents : Parents) : Type 0 where
+pub record IsPassing (l : ℕ) (rows : List Parents) (s : ℕ) (column : List ℕ) (j : ℕ) (parents : Parents) : Type 0 where
   pub can : CanPassTo column parents j
   pub value : passed_to column parents j ≡ related l rows s (Some j)
 
 -- what a tracing's step writes for the ancestor that is met
-pub record IsPart (l : ℕ) (rows : List Row) (s variance : ℕ) (met : Met) : Type 0 where
+pub record IsPart (l : ℕ) (rows : List Parents) (s variance : ℕ) (met : Met) : Type 0 where
   pub shift : met.steps < 128
   pub fits : variance / 2 ^ met.steps * (met.share * 1) < 2 ^ 128
   pub value : variance / 2 ^ met.steps * (met.share * 1) ≡ inherited l rows s met.rank
 
-module _ (l most : ℕ) (rows : List Row) (f : IsFrozen l most rows) (s : ℕ) (ls : s < length rows) where
+module _ (l most : ℕ) (rows : List Parents) (f : IsLineage l most rows) (s : ℕ) (ls : s < length rows) where
   pub part-is : (b variance : ℕ) (met : Met) → l < 128 → 2 ^ suc (2 * l) < 2 ^ 128 → IsNext l rows s b met.rank met.share → IsMetAs rows s met →
-      variance ≡ mendelian (ancestry_of rows) l (number_of_row rows met.rank) → IsPart l rows s variance met
+      variance ≡ mendelian (ranked rows) l met.rank → IsPart l rows s variance met
   part-is b variance met small room next is of_met =
       let limit = depth-at_most l most rows f s ls in
       let below = inherited-bound l most rows f s ls met.rank is.within in
@@ -82,7 +80,7 @@ module _ (l most : ℕ) (rows : List Row) (f : IsFrozen l most rows) (s : ℕ) (
     each = refl;
     written = λ j b lj none.
         none ∙ sym (inherited-none l most rows f s ls j
-        (later_none (length rows) (sire_rank rows) (dam_rank rows) (frozen-ranked l most rows f) l (ranked-shallow l most rows f) s j (omega arith) lj));
+        (later_none (length rows) (sire_rank rows) (dam_rank rows) (lineage-ranked l most rows f) l (ranked-shallow l most rows f) s j (omega arith) lj));
     left = λ j b. refl;
   }
 
@@ -144,7 +142,7 @@ module _ (l most : ℕ) (rows : List Row) (f : IsFrozen l most rows) (s : ℕ) (
   }
   has-lower i column li so_far (Some q) parent =
       let each : length column ≡ length rows = so_far.each in
-      let lower : q < i = (frozen-ranked l most rows f).below i q li (parent q refl) in
+      let lower : q < i = (lineage-ranked l most rows f).below i q li (parent q refl) in
       record {
         within = λ p e. let same : q ≡ p = cc in omega arith;
         value = so_far.done q lower;
@@ -178,7 +176,7 @@ module _ (l most : ℕ) (rows : List Row) (f : IsFrozen l most rows) (s : ℕ) (
         let m : ℕ = c.0 in
         let lm : m < length collected = c.1 in
         let at : get_or collected m 0 ≡ p = contains-at collected p c in
-        let lower : p < get_or collected k 0 = (frozen-ranked l most rows f).below (get_or collected k 0) p (is.within k lk) parent in
+        let lower : p < get_or collected k 0 = (lineage-ranked l most rows f).below (get_or collected k 0) p (is.within k lk) parent in
         let later : k + 1 ≤ m =
         ⊎_elim (λ (a : k < m). let e : k + 1 ≤ m = omega arith in e)
         (λ (a : m ≤ k).
@@ -199,7 +197,7 @@ module _ (l most : ℕ) (rows : List Row) (f : IsFrozen l most rows) (s : ℕ) (
       within = λ p e.
           let same : q ≡ p = cc in
           let each : length column ≡ length rows = so_far.each in
-          let lower : q < get_or collected k 0 = (frozen-ranked l most rows f).below (get_or collected k 0) q (is.within k lk) (parent q refl) in
+          let lower : q < get_or collected k 0 = (lineage-ranked l most rows f).below (get_or collected k 0) q (is.within k lk) (parent q refl) in
           let top : get_or collected k 0 < length rows = is.within k lk in
           omega arith;
       value = parent-done k column lk so_far q (parent q refl);

@@ -8,14 +8,14 @@ use Rattle.herd_kinship.specs.Ancestry.{Ancestry}
 use Rattle.herd_kinship.specs.Shares.{share}
 use Rattle.herd_kinship.specs.Ranks.{ranks}
 use Rattle.herd_kinship.specs.Tracing.{brought}
-use Rattle.herd_frozen.proofs.lemmas.ListFacts.{option_cases}
+use Rattle.herd_lineage.proofs.lemmas.ListFacts.{option_cases}
 use Rattle.herd_kinship.proofs.lemmas.ancestry.LawfulAncestry.{IsLawful, IsShallow}
 use Rattle.herd_kinship.proofs.lemmas.ancestry.Depth.{Below, Below-shallow, known_some}
 use Rattle.herd_kinship.proofs.lemmas.ancestry.Shares.{share-none, share-itself, share-halved, share-later}
 use Rattle.herd_kinship.proofs.lemmas.ancestry.Exact.{share-even}
 use Rattle.herd_kinship.proofs.lemmas.numbers.Sums.{cancel}
-use Rattle.herd_frozen.proofs.lemmas.ListFacts.{range-more}
-use Rattle.herd_kinship.proofs.lemmas.books.Ranks.{AreRanked, ranks-are_lawful, rank-in}
+use Rattle.herd_lineage.proofs.lemmas.ListFacts.{range-more}
+use Rattle.herd_kinship.proofs.lemmas.lineages.Ranks.{AreRanked, ranks-are_lawful, rank-in}
 
 pub brought-more : (shares : ℕ → ℕ) (b : ℕ) (has : ℕ → ℕ) → brought shares (b + 1) has ≡ brought shares b has + shares b * has b
 brought-more shares b has =

@@ -3,7 +3,7 @@ use Rattle.std.proofs.Common.{ℕ, ◌+◌, ◌*◌, ◌<◌, ◌≤◌, ◌≡�
 use Rattle.std.specs.List.{sum_by, range_with_len}
 use Rattle.std.proofs.lemmas.Bool.{cases_lt, cases_order, lt-ltb, le-ltb, eq-eqb, ne_eqb}
 use Rattle.herd_kinship.proofs.lemmas.numbers.Sums.{sum_by-agree, sum_by-add, sum_by-one, sum_by-none}
-use Rattle.herd_kinship.proofs.lemmas.books.Ranks.{rank-below, rank-once}
+use Rattle.herd_kinship.proofs.lemmas.lineages.Ranks.{rank-below, rank-once}
 
 -- f of the ranks from `above` on, added up
 abbrev pub done : ℕ → (ℕ → ℕ) → ℕ → ℕ

@@ -5,13 +5,12 @@ use Rattle.std.proofs.Math.Nat.{mul-le-mul_left}
 use Rattle.std.proofs.Math.Pow.{pow_pos}
 use Rattle.std.proofs.lemmas.Bool.{cases_lt, lt-ltb, le-ltb}
 use Rattle.std.proofs.lemmas.List.Sums.{sum_by-le-sum_by}
-use Rattle.herd_frozen.specs.declared.freezing.frozen.Row.{Row}
-use Rattle.herd_frozen.specs.freezing.Frozen.{IsFrozen, depth_at}
+use Rattle.herd_lineage.specs.declared.lineage.Parents.{Parents}
+use Rattle.herd_lineage.specs.Lineage.{IsLineage, depth_at, dam_rank, sire_rank}
 use Rattle.herd_kinship.specs.Coefficients.{own_relationship}
-use Rattle.herd_kinship.specs.FrozenAncestry.{ancestry_of, number_of_row}
 use Rattle.herd_kinship.specs.Table.{entry, mendelian}
 use Rattle.herd_kinship.specs.Shares.{share, shared}
-use Rattle.herd_kinship.specs.Ranks.{sire_rank, dam_rank, ranked}
+use Rattle.herd_kinship.specs.Ranks.{ranked}
 use Rattle.herd_kinship.specs.Tracing.{IsMetAs, IsNext}
 use Rattle.herd_kinship.specs.declared.tracing.Met.{Met}
 use Rattle.herd_kinship.proofs.lemmas.numbers.Sums.{cancel}
@@ -20,33 +19,32 @@ use Rattle.herd_kinship.proofs.lemmas.laws.Decompose.{decomposition}
 use Rattle.herd_kinship.proofs.lemmas.ancestry.Depth.{known_some}
 use Rattle.herd_kinship.proofs.lemmas.tracing.Done.{done, done-start, done-step, done-end}
 use Rattle.herd_kinship.proofs.lemmas.ancestry.Exact.{term-exact}
-use Rattle.herd_kinship.proofs.lemmas.books.FrozenDepths.{ranked-depth, ranked-below_depth, depth-at_most}
-use Rattle.herd_kinship.proofs.lemmas.books.FrozenFacts.{frozen-ranked, ranked-lawful, ranked-shallow}
-use Rattle.herd_kinship.proofs.lemmas.tracing.KnownFacts.{entry-rank, mendelian-rank}
-use Rattle.herd_kinship.proofs.lemmas.books.Ranks.{rank-in}
+use Rattle.herd_kinship.proofs.lemmas.lineages.LineageFacts.{ranked-depth, ranked-below_depth, depth-at_most}
+use Rattle.herd_kinship.proofs.lemmas.lineages.LineageFacts.{lineage-ranked, ranked-lawful, ranked-shallow}
+use Rattle.herd_kinship.proofs.lemmas.lineages.Ranks.{rank-in}
 use Rattle.herd_kinship.proofs.lemmas.ancestry.Table.{entry-bound}
 
 -- what the ancestor at j adds to the relationship of x with itself, in unit 2^-4l
-abbrev pub term_of : ℕ → List Row → ℕ → ℕ → ℕ
+abbrev pub term_of : ℕ → List Parents → ℕ → ℕ → ℕ
 term_of l rows x j = share (ranked rows) l (Some x) j * share (ranked rows) l (Some x) j * mendelian (ranked rows) l j
 
 -- the terms of the ranks from the border on are added up, in unit 2^-2l
-abbrev pub IsSummed : ℕ → List Row → ℕ → ℕ → ℕ → Type 0
+abbrev pub IsSummed : ℕ → List Parents → ℕ → ℕ → ℕ → Type 0
 IsSummed l rows x border sum = 2 ^ (2 * l) * sum ≡ done (length rows) (term_of l rows x) border
 
 -- what is added for an ancestor of x that is met
-pub record IsAdded (l : ℕ) (rows : List Row) (x sum variance : ℕ) (met : Met) : Type 0 where
+pub record IsAdded (l : ℕ) (rows : List Parents) (x sum variance : ℕ) (met : Met) : Type 0 where
   pub shift : 2 * met.steps < 128
   pub fits : variance / 2 ^ (2 * met.steps) * (met.share * met.share) < 2 ^ 128
   pub sum_fits : sum + variance / 2 ^ (2 * met.steps) * (met.share * met.share) < 2 ^ 128
   pub summed : IsSummed l rows x met.rank (sum + variance / 2 ^ (2 * met.steps) * (met.share * met.share))
 
-module _ (l most : ℕ) (rows : List Row) (f : IsFrozen l most rows) (x : ℕ) (lx : x < length rows) where
+module _ (l most : ℕ) (rows : List Parents) (f : IsLineage l most rows) (x : ℕ) (lx : x < length rows) where
   -- a later animal is no ancestor
   pub summed-start : IsSummed l rows x (x + 1) 0
   summed-start =
       let none = done-start (length rows) (term_of l rows x) (x + 1) (λ j a b.
-      let z = later_none (length rows) (sire_rank rows) (dam_rank rows) (frozen-ranked l most rows f) l (ranked-shallow l most rows f) x j (omega arith) b in
+      let z = later_none (length rows) (sire_rank rows) (dam_rank rows) (lineage-ranked l most rows f) l (ranked-shallow l most rows f) x j (omega arith) b in
       rw z (omega arith)) in
       omega (arith, none)
 
@@ -88,7 +86,7 @@ module _ (l most : ℕ) (rows : List Row) (f : IsFrozen l most rows) (x : ℕ) (
 
   -- the term of the next ancestor is added
   pub added : (b sum variance : ℕ) (met : Met) → 2 * l < 128 → 2 ^ suc (2 * l) < 2 ^ 128 → IsNext l rows x b met.rank met.share → IsMetAs rows x met →
-      variance ≡ mendelian (ancestry_of rows) l (number_of_row rows met.rank) → IsSummed l rows x b sum → IsAdded l rows x sum variance met
+      variance ≡ mendelian (ranked rows) l met.rank → IsSummed l rows x b sum → IsAdded l rows x sum variance met
   added b sum variance met small room next is of_met so_far =
       let j : ℕ = met.rank in
       let own : ℕ = met.share in
@@ -97,7 +95,7 @@ module _ (l most : ℕ) (rows : List Row) (f : IsFrozen l most rows) (x : ℕ) (
       let steps : 2 * met.steps ≡ depth_at rows x + depth_at rows x - 2 * depth_at rows j = omega (arith, apart) in
       let term : variance / 2 ^ (2 * met.steps) * (own * own)
       ≡ own * own * (mendelian (ranked rows) l j / 2 ^ (depth_at rows x + depth_at rows x - 2 * depth_at rows j)) =
-      rw (steps, of_met, ← mendelian-rank l most rows f j is.within) (omega arith) in
+      rw (steps, of_met) (omega arith) in
       let summed : IsSummed l rows x j (sum + variance / 2 ^ (2 * met.steps) * (own * own)) =
       rw term (summed-next b j own sum is.within next so_far) in
       let below = summed-bound j (sum + variance / 2 ^ (2 * met.steps) * (own * own)) summed in
@@ -114,4 +112,3 @@ module _ (l most : ℕ) (rows : List Row) (f : IsFrozen l most rows) (x : ℕ) (
   summed-end border sum none so_far =
       cancel (2 ^ (2 * l)) sum (entry (ranked rows) (2 * l) (Some x) (Some x)) (pow_pos (2 * l))
       (so_far ∙ (done-end (length rows) (term_of l rows x) border (λ j a. let z = none j a in rw z (omega arith)) ∙ all_terms))
-      ∙ entry-rank l most rows f (2 * l) x x lx lx

@@ -1,39 +1,38 @@
--- A tracing over a frozen book: its start, its steps, and what is met.
+-- A tracing over a lineage: its start, its steps, and what is met.
 use Rattle.std.proofs.Common.{ℕ, zero, suc, ◌+◌, ◌*◌, ◌-◌, ◌/◌, ◌%◌, ◌^◌, ◌<◌, ◌≤◌, ◌≡◌, inl, inr, ⊎_elim, List, length, slice_get, get_or, set, Some, None, Option, arith, refl, sym, ap, subst, ◌∙◌}
 use Rattle.std.proofs.Math.Nat.{mod-eq_of_lt, mul-le-mul_left}
 use Rattle.std.proofs.Math.Pow.{pow_pos}
 use Rattle.std.proofs.lemmas.Bool.{cases_eq}
 use Rattle.std.proofs.lemmas.List.{get_or-set_same, get_or-set_other, length-set}
-use Rattle.herd_frozen.specs.declared.freezing.frozen.Parents.{Parents}
-use Rattle.herd_frozen.specs.declared.freezing.frozen.Row.{Row}
-use Rattle.herd_frozen.specs.declared.TheConstants.{MOST_ANIMALS}
-use Rattle.herd_frozen.specs.freezing.Frozen.{IsFrozen, depth_at}
+use Rattle.herd_lineage.specs.declared.lineage.Parents.{Parents}
+use Rattle.herd_lineage.specs.declared.TheConstants.{MOST_ANIMALS}
+use Rattle.herd_lineage.specs.Lineage.{IsLineage, depth_at, dam_rank, sire_rank}
 use Rattle.herd_kinship.specs.Ancestry.{PathTo}
 use Rattle.herd_kinship.specs.Shares.{share}
-use Rattle.herd_kinship.specs.Ranks.{AreParentsAt, sire_rank, dam_rank, ranked}
+use Rattle.herd_kinship.specs.Ranks.{AreParentsAt, ranked}
 use Rattle.herd_kinship.specs.Tracing.{brought, given, kept_share, HasRoom, IsTracing, IsNext, IsShareOf}
 use Rattle.herd_kinship.proofs.lemmas.ancestry.Ancestors.{share-reached, path-joined}
 use Rattle.herd_kinship.proofs.lemmas.tracing.Brought.{brought-agree, brought-more, brought-none, brought-add, share-within, of_known, own-share, lowered, passed_on}
 use Rattle.herd_kinship.proofs.lemmas.numbers.Sums.{cancel}
-use Rattle.herd_kinship.proofs.lemmas.books.FrozenDepths.{ranked-depth, ranked-below_depth, depth-at_most, parent-less_deep}
-use Rattle.herd_kinship.proofs.lemmas.books.FrozenFacts.{frozen-ranked, ranked-lawful, ranked-shallow}
+use Rattle.herd_kinship.proofs.lemmas.lineages.LineageFacts.{ranked-depth, ranked-below_depth, depth-at_most, parent-less_deep}
+use Rattle.herd_kinship.proofs.lemmas.lineages.LineageFacts.{lineage-ranked, ranked-lawful, ranked-shallow}
 use Rattle.herd_kinship.proofs.lemmas.tracing.OwnUnits.{half-own, share-own}
-use Rattle.herd_kinship.proofs.lemmas.books.ParentsFacts.{parents-depth}
-use Rattle.herd_kinship.proofs.lemmas.books.Ranks.{rank-in}
+use Rattle.herd_kinship.proofs.lemmas.lineages.ParentsFacts.{parents-depth}
+use Rattle.herd_kinship.proofs.lemmas.lineages.Ranks.{rank-in}
 
-pub length-given : (rows : List Row) (x : ℕ) (shares : List ℕ) (y own : ℕ) (o : Option ℕ) → length (given rows x shares y own o) ≡ length shares
+pub length-given : (rows : List Parents) (x : ℕ) (shares : List ℕ) (y own : ℕ) (o : Option ℕ) → length (given rows x shares y own o) ≡ length shares
 length-given rows x shares y own None = refl
 length-given rows x shares y own (Some p) = length-set shares (x - p) _
 
 -- what the depths of y and of its parent p say of the share that p gets
-pub record IsGift (l : ℕ) (rows : List Row) (x : ℕ) (shares : List ℕ) (y own p deep depth : ℕ) : Type 0 where
+pub record IsGift (l : ℕ) (rows : List Parents) (x : ℕ) (shares : List ℕ) (y own p deep depth : ℕ) : Type 0 where
   pub distance : p ≤ x
   pub less_deep : depth < deep
   pub steps : deep - depth - 1 < 64
   pub exact : own * 2 ^ (deep - depth - 1) % 2 ^ 64 ≡ own * 2 ^ (depth_at rows y - depth_at rows p - 1)
   pub fits : get_or shares (x - p) 0 + own * 2 ^ (deep - depth - 1) % 2 ^ 64 < 2 ^ 64
 
-pub gift-is : (l : ℕ) (rows : List Row) (x : ℕ) (shares : List ℕ) (y own p : ℕ) (deep : ℕ) (older : Parents) → l < 64 → 2 ^ l < 2 ^ 64 → HasRoom l rows x shares y own p →
+pub gift-is : (l : ℕ) (rows : List Parents) (x : ℕ) (shares : List ℕ) (y own p : ℕ) (deep : ℕ) (older : Parents) → l < 64 → 2 ^ l < 2 ^ 64 → HasRoom l rows x shares y own p →
     deep ≡ depth_at rows y → AreParentsAt rows p older → IsGift l rows x shares y own p deep older.depth
 gift-is l rows x shares y own p deep older small power h at there =
     let dy : depth_at rows y ≡ deep = sym at in
@@ -55,10 +54,10 @@ gift-is l rows x shares y own p deep older small power h at there =
     }
 
 -- a known parent of y: below it, and less deep
-abbrev pub IsLower : List Row → ℕ → Option ℕ → Type 0
+abbrev pub IsLower : List Parents → ℕ → Option ℕ → Type 0
 IsLower rows y o = (p : ℕ) → o ≡ Some p → (p < y) × (depth_at rows p < depth_at rows y)
 
-module _ (l : ℕ) (rows : List Row) (x : ℕ) (limit : depth_at rows x ≤ l) where
+module _ (l : ℕ) (rows : List Parents) (x : ℕ) (limit : depth_at rows x ≤ l) where
   -- what is kept for the parent grows by half of y's share
   given-parent : (shares : List ℕ) (y own p : ℕ) → p < y → y ≤ x → x < length shares → depth_at rows p < depth_at rows y →
       kept_share l rows x (given rows x shares y own (Some p)) p
@@ -89,7 +88,7 @@ module _ (l : ℕ) (rows : List Row) (x : ℕ) (limit : depth_at rows x ≤ l) w
       (λ q lq other. given-other shares y own p q (omega arith) (omega arith) other)
 
 -- what is kept for animals that are met stays
-given-met : (rows : List Row) (x : ℕ) (shares : List ℕ) (y own : ℕ) (o : Option ℕ) → y ≤ x → IsLower rows y o → (d : ℕ) → (d ≤ x → y ≤ x - d) →
+given-met : (rows : List Parents) (x : ℕ) (shares : List ℕ) (y own : ℕ) (o : Option ℕ) → y ≤ x → IsLower rows y o → (d : ℕ) → (d ≤ x → y ≤ x - d) →
     get_or (given rows x shares y own o) d 0 ≡ get_or shares d 0
 given-met rows x shares y own None ly lower d above = refl
 given-met rows x shares y own (Some p) ly lower d above =
@@ -101,7 +100,7 @@ abbrev pub emptied : ℕ → ℕ → List ℕ → List ℕ
 emptied x y shares = set shares (x - y) 0
 
 -- what is kept below y brings the same
-brought-emptied : (l : ℕ) (rows : List Row) (x y : ℕ) (shares : List ℕ) (has : ℕ → ℕ) → y ≤ x →
+brought-emptied : (l : ℕ) (rows : List Parents) (x y : ℕ) (shares : List ℕ) (has : ℕ → ℕ) → y ≤ x →
     brought (kept_share l rows x (emptied x y shares)) y has ≡ brought (kept_share l rows x shares) y has
 brought-emptied l rows x y shares has ly =
     brought-agree (kept_share l rows x (emptied x y shares)) (kept_share l rows x shares) y has has
@@ -117,15 +116,15 @@ le_halves s a b la lb =
     let y : s / 2 * b ≤ s / 2 * 1 = mul-le-mul_left (s / 2) lb in
     omega arith
 
-module _ (l : ℕ) (rows : List Row) (f : IsFrozen l MOST_ANIMALS rows) where
+module _ (l : ℕ) (rows : List Parents) (f : IsLineage l MOST_ANIMALS rows) where
   lower-sire : (y : ℕ) → y < length rows → IsLower rows y (sire_rank rows y)
   lower-sire y ly p e =
-      let low : p < y = (frozen-ranked l MOST_ANIMALS rows f).below y p ly (inl e) in
+      let low : p < y = (lineage-ranked l MOST_ANIMALS rows f).below y p ly (inl e) in
       (low, parent-less_deep l MOST_ANIMALS rows f y p ly (omega arith) (inl e))
 
   lower-dam : (y : ℕ) → y < length rows → IsLower rows y (dam_rank rows y)
   lower-dam y ly p e =
-      let low : p < y = (frozen-ranked l MOST_ANIMALS rows f).below y p ly (inr e) in
+      let low : p < y = (lineage-ranked l MOST_ANIMALS rows f).below y p ly (inr e) in
       (low, parent-less_deep l MOST_ANIMALS rows f y p ly (omega arith) (inr e))
 
   -- the share that is kept for the youngest pending rank is all that x has of it
@@ -134,7 +133,7 @@ module _ (l : ℕ) (rows : List Row) (f : IsFrozen l MOST_ANIMALS rows) where
   kept-is x y shares t =
       let lx : x < length rows = t.rank in
       let b : y + 1 ≤ x + 1 = t.border_in in
-      own-share (length rows) (sire_rank rows) (dam_rank rows) (frozen-ranked l MOST_ANIMALS rows f) l (ranked-shallow l MOST_ANIMALS rows f) x y
+      own-share (length rows) (sire_rank rows) (dam_rank rows) (lineage-ranked l MOST_ANIMALS rows f) l (ranked-shallow l MOST_ANIMALS rows f) x y
       (kept_share l rows x shares) (omega arith) t.pending
 
   -- where nothing is kept for it the border goes down
@@ -147,12 +146,12 @@ module _ (l : ℕ) (rows : List Row) (f : IsFrozen l MOST_ANIMALS rows) where
       let all = t.whole in
       let b : y + 1 ≤ x + 1 = t.border_in in
       record {
-        book = f;
+        lineage = f;
         rank = t.rank;
         border_in = omega arith;
         long = t.long;
         whole = omega (arith, more, all);
-        pending = lowered (length rows) (sire_rank rows) (dam_rank rows) (frozen-ranked l MOST_ANIMALS rows f) l (ranked-shallow l MOST_ANIMALS rows f) x y kept zero t.pending;
+        pending = lowered (length rows) (sire_rank rows) (dam_rank rows) (lineage-ranked l MOST_ANIMALS rows f) l (ranked-shallow l MOST_ANIMALS rows f) x y kept zero t.pending;
         met = λ d above.
             ⊎_elim
             (λ (e : x - y ≡ d). subst (λ v. get_or shares v 0 ≡ 0) e none)
@@ -204,12 +203,12 @@ module _ (l : ℕ) (rows : List Row) (f : IsFrozen l MOST_ANIMALS rows) where
       let g = grown x y shares t (λ _. 1) in
       let h = le_halves (kept y) _ _ (known_one (sire_rank rows y)) (known_one (dam_rank rows y)) in
       record {
-        book = f;
+        lineage = f;
         rank = lx;
         border_in = omega arith;
         long = given-long x first y own (dam_rank rows y) (given-long x empty y own (sire_rank rows y) long);
         whole = omega (arith, more, all, g, h);
-        pending = passed_on (length rows) (sire_rank rows) (dam_rank rows) (frozen-ranked l MOST_ANIMALS rows f) l (ranked-shallow l MOST_ANIMALS rows f) x y
+        pending = passed_on (length rows) (sire_rank rows) (dam_rank rows) (lineage-ranked l MOST_ANIMALS rows f) l (ranked-shallow l MOST_ANIMALS rows f) x y
             kept (kept_share l rows x (passed x y shares)) lx ly t.pending (grown x y shares t);
         met = λ d above.
             given-met rows x first y own (dam_rank rows y) (omega arith) (lower-dam y ly) d above
@@ -321,7 +320,7 @@ module _ (l : ℕ) (rows : List Row) (f : IsFrozen l MOST_ANIMALS rows) where
       let last : kept x * has x ≡ 2 ^ l * has x = ap (λ v. v * has x) own in
       omega (arith, more, none, last)) in
       record {
-        book = f;
+        lineage = f;
         rank = lx;
         border_in = omega arith;
         long = let e = length-set nothing 0 1 in omega (arith, e, long);
@@ -374,20 +373,20 @@ module _ (l : ℕ) (rows : List Row) (f : IsFrozen l MOST_ANIMALS rows) where
       }
 
 -- what a tracing's step finds at the youngest pending rank
-pub record IsStep (l : ℕ) (rows : List Row) (x y : ℕ) (shares : List ℕ) (own : ℕ) : Type 0 where
+pub record IsStep (l : ℕ) (rows : List Parents) (x y : ℕ) (shares : List ℕ) (own : ℕ) : Type 0 where
   pub tracing : IsTracing l rows x (y + 1) shares
   pub own_is : own ≡ get_or shares (x - y) 0
 
-module _ (l : ℕ) (rows : List Row) (x y : ℕ) (shares : List ℕ) (own : ℕ) (step : IsStep l rows x y shares own) where
-  f : IsFrozen l MOST_ANIMALS rows
-  f = step.tracing.book
+module _ (l : ℕ) (rows : List Parents) (x y : ℕ) (shares : List ℕ) (own : ℕ) (step : IsStep l rows x y shares own) where
+  f : IsLineage l MOST_ANIMALS rows
+  f = step.tracing.lineage
 
-  pub step-room_sire : (row : Row) → slice_get rows y ≡ Some row → (p : ℕ) → row.sire ≡ Some p → HasRoom l rows x (emptied x y shares) y own p
+  pub step-room_sire : (row : Parents) → slice_get rows y ≡ Some row → (p : ℕ) → row.sire ≡ Some p → HasRoom l rows x (emptied x y shares) y own p
   step-room_sire row e p is =
       subst (λ v. HasRoom l rows x (emptied x y shares) y v p) (sym step.own_is)
       (room-sire l rows f x y shares step.tracing p ((let s : sire_rank rows y ≡ row.sire = rw e refl in s) ∙ is))
 
-  pub step-room_dam : (row : Row) → slice_get rows y ≡ Some row → (p : ℕ) → row.dam ≡ Some p →
+  pub step-room_dam : (row : Parents) → slice_get rows y ≡ Some row → (p : ℕ) → row.dam ≡ Some p →
       HasRoom l rows x (given rows x (emptied x y shares) y own row.sire) y own p
   step-room_dam row e p is =
       let s : sire_rank rows y ≡ row.sire = rw e refl in
@@ -397,7 +396,7 @@ module _ (l : ℕ) (rows : List Row) (x y : ℕ) (shares : List ℕ) (own : ℕ)
       (room-dam l rows f x y shares step.tracing p (d ∙ is)))
 
   -- its share is passed on
-  pub step-next : (row : Row) → slice_get rows y ≡ Some row →
+  pub step-next : (row : Parents) → slice_get rows y ≡ Some row →
       IsTracing l rows x y (given rows x (given rows x (emptied x y shares) y own row.sire) y own row.dam)
   step-next row e =
       let s : sire_rank rows y ≡ row.sire = rw e refl in
@@ -414,35 +413,35 @@ module _ (l : ℕ) (rows : List Row) (x y : ℕ) (shares : List ℕ) (own : ℕ)
       subst (λ v. IsNext l rows x top y v) (sym is)
       (next-is l rows f x y top shares step.tracing low high between (let q : 0 < get_or shares (x - y) 0 = omega arith in q))
 
-  pub step-lower_sire : (row : Row) → slice_get rows y ≡ Some row → IsLower rows y row.sire
+  pub step-lower_sire : (row : Parents) → slice_get rows y ≡ Some row → IsLower rows y row.sire
   step-lower_sire row e =
       let lx : x < length rows = step.tracing.rank in
       let high : y + 1 ≤ x + 1 = step.tracing.border_in in
       subst (λ o. IsLower rows y o) (let s : sire_rank rows y ≡ row.sire = rw e refl in s) (lower-sire l rows f y (omega arith))
 
-  pub step-lower_dam : (row : Row) → slice_get rows y ≡ Some row → IsLower rows y row.dam
+  pub step-lower_dam : (row : Parents) → slice_get rows y ≡ Some row → IsLower rows y row.dam
   step-lower_dam row e =
       let lx : x < length rows = step.tracing.rank in
       let high : y + 1 ≤ x + 1 = step.tracing.border_in in
       subst (λ o. IsLower rows y o) (let d : dam_rank rows y ≡ row.dam = rw e refl in d) (lower-dam l rows f y (omega arith))
 
 -- the border goes down past ranks for which nothing is kept
-pub lowered-to : (l : ℕ) (rows : List Row) (x b n : ℕ) (shares : List ℕ) → IsTracing l rows x (n + b) shares →
+pub lowered-to : (l : ℕ) (rows : List Parents) (x b n : ℕ) (shares : List ℕ) → IsTracing l rows x (n + b) shares →
     ((j : ℕ) → b ≤ j → j < n + b → get_or shares (x - j) 0 ≡ 0) → IsTracing l rows x b shares
 lowered-to l rows x b zero shares t none = subst (λ v. IsTracing l rows x v shares) (let e : zero + b ≡ b = omega arith in e) t
 lowered-to l rows x b (suc n) shares t none =
     let e : suc n + b ≡ n + b + 1 = omega arith in
     let t' : IsTracing l rows x (n + b + 1) shares = subst (λ v. IsTracing l rows x v shares) e t in
-    lowered-to l rows x b n shares (tracing-lower l rows t'.book x (n + b) shares t' (none (n + b) (omega arith) (omega arith)))
+    lowered-to l rows x b n shares (tracing-lower l rows t'.lineage x (n + b) shares t' (none (n + b) (omega arith) (omega arith)))
     (λ j bj jb. none j bj (omega arith))
 
 -- of an animal for which nothing is kept, nor for those between it and the border, x has nothing
-pub share-none_kept : (l : ℕ) (rows : List Row) (x b : ℕ) (shares : List ℕ) → IsTracing l rows x b shares → (j : ℕ) → j < b →
+pub share-none_kept : (l : ℕ) (rows : List Parents) (x b : ℕ) (shares : List ℕ) → IsTracing l rows x b shares → (j : ℕ) → j < b →
     ((i : ℕ) → j ≤ i → i < b → get_or shares (x - i) 0 ≡ 0) → share (ranked rows) l (Some x) j ≡ 0
 share-none_kept l rows x b shares t j low none =
     let n : ℕ = b - (j + 1) in
     let e : b ≡ n + (j + 1) = omega arith in
     let t' : IsTracing l rows x (j + 1) shares =
     lowered-to l rows x (j + 1) n shares (subst (λ v. IsTracing l rows x v shares) e t) (λ i ji ib. none i (omega arith) (omega arith)) in
-    sym (kept-is l rows t.book x j shares t')
+    sym (kept-is l rows t.lineage x j shares t')
     ∙ (ap (λ v. v * 2 ^ (l - depth_at rows x + depth_at rows j)) (none j (omega arith) low) ∙ omega arith)

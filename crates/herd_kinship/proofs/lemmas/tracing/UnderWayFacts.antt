@@ -5,20 +5,18 @@ use Rattle.std.proofs.Math.Pow.{pow_pos}
 use Rattle.std.proofs.lemmas.Bool.{cases_eq, cases_lt}
 use Rattle.std.proofs.lemmas.Nat.Bits.{bit_at-lt}
 use Rattle.std.proofs.lemmas.List.{get_or-replicate, get_or-set_same, get_or-set_other, get_or_past, length-replicate, length-set}
-use Rattle.herd_frozen.specs.declared.TheConstants.{MOST_ANIMALS}
-use Rattle.herd_frozen.specs.declared.freezing.frozen.Parents.{Parents}
-use Rattle.herd_frozen.specs.declared.freezing.frozen.Row.{Row}
-use Rattle.herd_frozen.specs.freezing.Frozen.{IsFrozen, depth_at, parents_of}
+use Rattle.herd_lineage.specs.declared.TheConstants.{MOST_ANIMALS}
+use Rattle.herd_lineage.specs.declared.lineage.Parents.{Parents}
+use Rattle.herd_lineage.specs.Lineage.{IsLineage, depth_at}
 use Rattle.herd_kinship.specs.Pending.{mark, Marks}
 use Rattle.herd_kinship.specs.Ranks.{AreParentsAt, ranked}
 use Rattle.herd_kinship.specs.Shares.{share}
 use Rattle.herd_kinship.specs.Tracing.{given, GivesMark, HasRoom, AreIdle, IsMarked, IsNext, IsPendingAt, IsTracing, AreUnderWay}
 use Rattle.herd_kinship.proofs.lemmas.numbers.PendingFacts.{IsNearest}
-use Rattle.herd_kinship.proofs.lemmas.books.ParentsFacts.{row-at}
 use Rattle.herd_kinship.proofs.lemmas.tracing.TracingFacts.{IsLower, IsStep, length-given, lowered-to, share-none_kept, step-is, step-room_sire, step-room_dam, step-lower_sire, step-lower_dam, step-next, tracing-start}
 
 -- the animal itself alone is pending at first
-pub under_way-start : (l : ℕ) (rows : List Row) (x : ℕ) (nothing empty chunks : List ℕ) → IsFrozen l MOST_ANIMALS rows → x < length rows → AreIdle (x + 1) nothing empty →
+pub under_way-start : (l : ℕ) (rows : List Parents) (x : ℕ) (nothing empty chunks : List ℕ) → IsLineage l MOST_ANIMALS rows → x < length rows → AreIdle (x + 1) nothing empty →
     Marks empty chunks 0 1 → AreUnderWay l rows x (x + 1) (set nothing 0 1) chunks
 under_way-start l rows x nothing empty chunks f lx idle marks =
     let start : List ℕ = set nothing 0 1 in
@@ -51,7 +49,7 @@ under_way-start l rows x nothing empty chunks f lx idle marks =
     }
 
 -- a share that is given to a parent is marked
-given-marks : (rows : List Row) (x y own : ℕ) (shares chunks chunks' : List ℕ) (o : Option ℕ) → IsMarked x y shares chunks → 0 < own → y ≤ x → x < length shares →
+given-marks : (rows : List Parents) (x y own : ℕ) (shares chunks chunks' : List ℕ) (o : Option ℕ) → IsMarked x y shares chunks → 0 < own → y ≤ x → x < length shares →
     IsLower rows y o → GivesMark x chunks chunks' o → IsMarked x y (given rows x shares y own o) chunks'
 given-marks rows x y own shares chunks chunks' None m some high long lower gives = subst (λ v. IsMarked x y shares v) (sym gives) m
 given-marks rows x y own shares chunks chunks' (Some p) m some high long lower gives =
@@ -97,14 +95,14 @@ pub record IsTaken (shares chunks chunks' : List ℕ) (d own : ℕ) : Type 0 whe
   pub own_is : own ≡ get_or shares d 0
 
 -- what is met there: the next ancestor, room for what its parents get, and the tracing once they have it
-pub record IsMet (l : ℕ) (rows : List Row) (x b : ℕ) (shares chunks' : List ℕ) (d own : ℕ) (parents : Parents) : Type 0 where
+pub record IsMet (l : ℕ) (rows : List Parents) (x b : ℕ) (shares chunks' : List ℕ) (d own : ℕ) (parents : Parents) : Type 0 where
   pub next : IsNext l rows x b (x - d) own
   pub room_sire : (p : ℕ) → parents.sire ≡ Some p → HasRoom l rows x (set shares d 0) (x - d) own p
   pub room_dam : (p : ℕ) → parents.dam ≡ Some p → HasRoom l rows x (given rows x (set shares d 0) (x - d) own parents.sire) (x - d) own p
   pub under_way : (after last : List ℕ) → GivesMark x chunks' after parents.sire → GivesMark x after last parents.dam →
       AreUnderWay l rows x (x - d) (given rows x (given rows x (set shares d 0) (x - d) own parents.sire) (x - d) own parents.dam) last
 
-module _ (l : ℕ) (rows : List Row) (x b : ℕ) (shares chunks : List ℕ) (way : AreUnderWay l rows x b shares chunks) where
+module _ (l : ℕ) (rows : List Parents) (x b : ℕ) (shares chunks : List ℕ) (way : AreUnderWay l rows x b shares chunks) where
   -- nothing is kept for a rank below the border that isn't marked
   none-kept : (j : ℕ) → j < b → mark chunks (x - j) ≡ 0 → get_or shares (x - j) 0 ≡ 0
   none-kept j low none =
@@ -188,7 +186,7 @@ module _ (l : ℕ) (rows : List Row) (x b : ℕ) (shares chunks : List ℕ) (way
         }
 
     -- the shares given to both parents are marked
-    next-marks : (row : Row) → slice_get rows (x - d) ≡ Some row → (after last : List ℕ) → GivesMark x chunks' after row.sire → GivesMark x after last row.dam →
+    next-marks : (row : Parents) → slice_get rows (x - d) ≡ Some row → (after last : List ℕ) → GivesMark x chunks' after row.sire → GivesMark x after last row.dam →
         IsMarked x (x - d) (given rows x (given rows x (set shares d 0) (x - d) own row.sire) (x - d) own row.dam) last
     next-marks row e after last first second =
         let empty : List ℕ = set shares d 0 in
@@ -202,27 +200,26 @@ module _ (l : ℕ) (rows : List Row) (x b : ℕ) (shares chunks : List ℕ) (way
 
     pub taken-met : (parents : Parents) → AreParentsAt rows (x - d) parents → IsMet l rows x b shares chunks' d own parents
     taken-met parents is =
-        let at = row-at rows (x - d) parents is in
-        let row : Row = at.row in
-        let met : IsMet l rows x b shares chunks' d own (parents_of row) = record {
+        let row : Parents = parents in
+        let there : slice_get rows (x - d) ≡ Some row = is in
+        record {
           next = taken-next;
           room_sire = λ p is.
-              subst (λ v. HasRoom l rows x (set shares v 0) (x - d) own p) back (step-room_sire l rows x (x - d) shares own taken-step row at.there p is);
+              subst (λ v. HasRoom l rows x (set shares v 0) (x - d) own p) back (step-room_sire l rows x (x - d) shares own taken-step row there p is);
           room_dam = λ p is.
               subst (λ v. HasRoom l rows x (given rows x (set shares v 0) (x - d) own row.sire) (x - d) own p) back
-              (step-room_dam l rows x (x - d) shares own taken-step row at.there p is);
+              (step-room_dam l rows x (x - d) shares own taken-step row there p is);
           under_way = λ after last first second.
               record {
                 tracing =
                     subst (λ v. IsTracing l rows x (x - d) (given rows x (given rows x (set shares v 0) (x - d) own row.sire) (x - d) own row.dam)) back
-                    (step-next l rows x (x - d) shares own taken-step row at.there);
-                marks = next-marks row at.there after last first second;
+                    (step-next l rows x (x - d) shares own taken-step row there);
+                marks = next-marks row there after last first second;
               };
-        } in
-        subst (λ v. IsMet l rows x b shares chunks' d own v) (sym at.same) met
+        }
 
 -- a tracing whose animals are all met leaves nothing behind
-pub under_way-idle : (l : ℕ) (rows : List Row) (x animals : ℕ) (shares chunks : List ℕ) → AreUnderWay l rows x 0 shares chunks →
+pub under_way-idle : (l : ℕ) (rows : List Parents) (x animals : ℕ) (shares chunks : List ℕ) → AreUnderWay l rows x 0 shares chunks →
     animals ≤ length shares → animals ≤ 64 * length chunks → AreIdle animals shares chunks
 under_way-idle l rows x animals shares chunks way room marks = record {
   room = room;

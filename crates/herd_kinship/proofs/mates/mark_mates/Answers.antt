@@ -1,24 +1,24 @@
 -- `mark_mates`: what `mark_parent` requires and its loop.
 use Rattle.std.proofs.Common.{◌≡◌, ℕ, ◌-◌, ◌*◌, ◌<◌, ⊎_elim, List, length, Some, arith, sym, ◌∙◌}
 use Rattle.std.proofs.lemmas.List.Elements.{All-push, All-weaker}
-use Rattle.herd_frozen.specs.declared.TheConstants.{DEPTH_LIMIT, MOST_ANIMALS}
+use Rattle.herd_lineage.specs.declared.TheConstants.{DEPTH_LIMIT, MOST_ANIMALS}
+use Rattle.herd_lineage.specs.Lineage.{dam_rank}
 use Rattle.herd_kinship.specs.Pending.{mark}
-use Rattle.herd_kinship.specs.Ranks.{dam_rank}
 use Rattle.herd_kinship.specs.Tracing.{GivesMark}
-use Rattle.herd_kinship.proofs.lemmas.books.ParentsFacts.{parents-dam}
+use Rattle.herd_kinship.proofs.lemmas.lineages.ParentsFacts.{parents-dam}
 use Rattle.herd_kinship.proofs.lemmas.sires.CalfFacts.{dam-within}
 use Rattle.herd_kinship.proofs.lemmas.sires.Collecting.{gives-from, gives-it, gives-kept, gives-room}
 use Rattle.herd_kinship.proofs.mates.mark_mates.Goals as goal
 
 pub mark_parent-requires-clause-older : goal.mark_parent-requires-clause-older
 mark_parent-requires-clause-older g c = λ d e.
-    let within = dam-within DEPTH_LIMIT MOST_ANIMALS c.args.frozen.now c.in-Some.calf c.parents.result c.parents.ensures.frozen c.parents.ensures.parents d e in
+    let within = dam-within DEPTH_LIMIT MOST_ANIMALS c.args.lineage.now c.in-Some.calf c.parents.result c.parents.ensures.lineage c.parents.ensures.parents d e in
     let last = c.requires.last in
     omega arith
 
 pub loop-calf-preserved : goal.loop-calf-preserved
 loop-calf-preserved g c =
-    let rows = c.args.frozen.now in
+    let rows = c.args.lineage.now in
     let calf : ℕ = c.in-Some.calf in
     let last : ℕ = c.args.last in
     let chunks : List ℕ = c.loop-calf.marked.chunks.items in

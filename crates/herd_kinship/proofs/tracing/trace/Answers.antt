@@ -1,7 +1,7 @@
 -- `trace`: what `start`, `mendelian` and `term` require, its loop, that nothing overflows, and its clauses `value` and `unknown`.
 use Rattle.std.proofs.Common.{◌≡◌, ℕ, lit<, false, is_some, true, Some, arith, sym, ◌∙◌}
-use Rattle.herd_frozen.specs.declared.TheConstants.{DEPTH_LIMIT, MOST_ANIMALS}
-use Rattle.herd_kinship.proofs.lemmas.books.FrozenFacts.{frozen-few}
+use Rattle.herd_lineage.specs.declared.TheConstants.{DEPTH_LIMIT, MOST_ANIMALS}
+use Rattle.herd_kinship.proofs.lemmas.lineages.LineageFacts.{lineage-few}
 use Rattle.herd_kinship.proofs.lemmas.Lists.{if-none, if-some}
 use Rattle.herd_kinship.proofs.lemmas.sires.CalfFacts.{calf-pair, pair-known}
 use Rattle.herd_kinship.proofs.lemmas.tracing.KnownFacts.{entry-one_unknown, known-next}
@@ -12,7 +12,7 @@ use Rattle.herd_kinship.proofs.tracing.trace.Goals as goal
 
 pub loop-met-init : goal.loop-met-init
 loop-met-init g c =
-    let start = summed-start DEPTH_LIMIT MOST_ANIMALS c.args.frozen.now c.start.ensures.tracing.ancestors.tracing.book c.args.rank c.requires.rank in
+    let start = summed-start DEPTH_LIMIT MOST_ANIMALS c.args.lineage.now c.start.ensures.tracing.ancestors.tracing.lineage c.args.rank c.requires.rank in
     record {
       same = c.start.ensures.rank;
       tracing = c.start.ensures.tracing;
@@ -22,14 +22,14 @@ loop-met-init g c =
 pub mendelian-variance-requires-clause-known : goal.mendelian-variance-requires-clause-known
 mendelian-variance-requires-clause-known g c =
     let is = c.loop-met.invariant.tracing.ancestors.tracing in
-    known-next DEPTH_LIMIT MOST_ANIMALS c.args.frozen.now is.book c.args.known.now c.loop-met.tracing.rank c.loop-met.tracing.border c.in-Some.met.rank c.in-Some.met.share is.rank
+    known-next DEPTH_LIMIT MOST_ANIMALS c.args.lineage.now is.lineage c.args.known.now c.loop-met.tracing.rank c.loop-met.tracing.border c.in-Some.met.rank c.in-Some.met.share is.rank
     (rw c.loop-met.invariant.same c.requires.known) c.in-Some.ensures.next
 
 -- what is added for the ancestor that is met
-met : (g : Over) (c : After-mendelian-variance g) → IsAdded DEPTH_LIMIT c.args.frozen.now c.loop-met.tracing.rank c.loop-met.sum c.mendelian-variance.result c.in-Some.met
+met : (g : Over) (c : After-mendelian-variance g) → IsAdded DEPTH_LIMIT c.args.lineage.now c.loop-met.tracing.rank c.loop-met.sum c.mendelian-variance.result c.in-Some.met
 met g c =
     let is = c.loop-met.invariant.tracing.ancestors.tracing in
-    added DEPTH_LIMIT MOST_ANIMALS c.args.frozen.now is.book c.loop-met.tracing.rank is.rank c.loop-met.tracing.border c.loop-met.sum c.mendelian-variance.result c.in-Some.met
+    added DEPTH_LIMIT MOST_ANIMALS c.args.lineage.now is.lineage c.loop-met.tracing.rank is.rank c.loop-met.tracing.border c.loop-met.sum c.mendelian-variance.result c.in-Some.met
     (lit< tt) (lit< tt) c.in-Some.ensures.next c.in-Some.ensures.met c.mendelian-variance.ensures.value c.loop-met.invariant.summed
 
 pub overflow_mul-met : goal.overflow_mul-met
@@ -59,12 +59,12 @@ pub returns-clause-value : goal.returns-clause-value
 returns-clause-value g c =
     let x : ℕ = c.loop-met.tracing.rank in
     rw (← c.loop-met.invariant.same)
-    (summed-end DEPTH_LIMIT MOST_ANIMALS c.args.frozen.now c.parents.ensures.frozen x c.loop-met.invariant.tracing.ancestors.tracing.rank c.loop-met.tracing.border c.loop-met.sum
+    (summed-end DEPTH_LIMIT MOST_ANIMALS c.args.lineage.now c.parents.ensures.lineage x c.loop-met.invariant.tracing.ancestors.tracing.rank c.loop-met.tracing.border c.loop-met.sum
     c.in_default.ensures.all c.loop-met.invariant.summed)
 
 pub returns-clause-unknown : goal.returns-clause-unknown
 returns-clause-unknown g c = λ unknown.
-    let rows = c.args.frozen.now in
+    let rows = c.args.lineage.now in
     let parents = c.parents.result in
     let some : is_some c.sire_of_pair.result ≡ true = cc in
     let sire = if-some (λ s. parents.sire ≡ Some s) c.sire_of_pair.result some c.sire_of_pair.ensures.sire in
@@ -75,8 +75,8 @@ returns-clause-unknown g c = λ unknown.
 pub returns-then-is_none-clause-value : goal.returns-then-is_none-clause-value
 returns-then-is_none-clause-value g c =
     let none : is_some c.sire_of_pair.result ≡ false = cc in
-    sym (entry-one_unknown DEPTH_LIMIT MOST_ANIMALS c.args.frozen.now c.parents.ensures.frozen c.args.rank c.parents.result c.parents.ensures.parents
+    sym (entry-one_unknown DEPTH_LIMIT MOST_ANIMALS c.args.lineage.now c.parents.ensures.lineage c.args.rank c.parents.result c.parents.ensures.parents
     (if-none c.sire_of_pair.result none c.sire_of_pair.ensures.unknown))
 
 pub overflow_add-rank : goal.overflow_add-rank
-overflow_add-rank g c = let few = frozen-few DEPTH_LIMIT MOST_ANIMALS c.args.frozen.now c.parents.ensures.frozen in let within = c.requires.rank in omega arith
+overflow_add-rank g c = let few = lineage-few DEPTH_LIMIT MOST_ANIMALS c.args.lineage.now c.parents.ensures.lineage in let within = c.requires.rank in omega arith

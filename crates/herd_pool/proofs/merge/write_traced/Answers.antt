@@ -2,8 +2,8 @@
 use Rattle.std.proofs.Common.{ℕ, Vec, arith, ◌∙◌, ap, map, slice_index, subst, sym}
 use Rattle.std.specs.List.{All}
 use Rattle.std.proofs.lemmas.List.{take_all}
-use Rattle.herd_frozen.specs.freezing.Frozen.{level_of}
-use Rattle.herd_frozen.specs.declared.TheConstants.{DEPTH_LIMIT}
+use Rattle.herd_lineage.specs.Lineage.{level_of}
+use Rattle.herd_lineage.specs.declared.TheConstants.{DEPTH_LIMIT}
 use Rattle.herd_kinship.specs.Coefficients.{coefficient_at}
 use Rattle.herd_kinship.proofs.lemmas.sires.CalfListFacts.{kept-stays}
 use Rattle.herd_pool.specs.Levels.{AreTraced, HasAt, block_of}
@@ -14,13 +14,13 @@ use Rattle.herd_pool.proofs.merge.write_traced.Goals as goal
 
 pub write_block-requires : goal.write_block-requires
 write_block-requires g c = λ k d below.
-    let at = block_of-ranks c.args.level.frozen.now c.args.level.depth c.args.level.block c.block-item.result.number c.ranks.result.now c.ranks.ensures k d below in
+    let at = block_of-ranks c.args.level.lineage.now c.args.level.depth c.args.level.block c.block-item.result.number c.ranks.result.now c.ranks.ensures k d below in
     omega (arith, at.within)
 
 pub loop-block-preserved : goal.loop-block-preserved
 loop-block-preserved g c =
     let level = c.args.level in
-    let rows = level.frozen.now in
+    let rows = level.lineage.now in
     let f = coefficient_at DEPTH_LIMIT rows in
     let ranks = level_of level.depth rows in
     let block = c.block-item.result in
@@ -35,5 +35,5 @@ loop-block-preserved g c =
 pub returns-clause-written : goal.returns-clause-written
 returns-clause-written g c =
     let level = c.args.level in
-    let rows = level.frozen.now in
+    let rows = level.lineage.now in
     subst (All (HasBlock (coefficient_at DEPTH_LIMIT rows) level.block (level_of level.depth rows) c.loop-block.known)) (take_all c.loop-block.block-index c.args.blocks.now (omega arith)) c.loop-block.invariant.written

@@ -1,14 +1,14 @@
 -- Following a path of parents through a frozen book.
-use Rattle.std.proofs.Common.{◌≡◌, ◌∙◌, ℕ, ◌<◌, List, [], ◌∷◌, length, slice_get, Option, Some, None, ap, subst, sym, refl}
+use Rattle.std.proofs.Common.{◌≡◌, ◌∙◌, ℕ, ◌<◌, List, [], ◌∷◌, length, map, slice_get, Option, Some, None, ap, subst, sym, refl}
 use Rattle.std.proofs.lemmas.Option.{slice_get_within, get_or_from_slice_get}
 use Rattle.std.specs.Option.{option_and_then}
 use Rattle.herd_frozen.specs.declared.freezing.frozen.Row.{Row}
-use Rattle.herd_frozen.specs.declared.freezing.frozen.Parents.{Parents}
+use Rattle.herd_lineage.specs.declared.lineage.Parents.{Parents}
 use Rattle.herd_frozen.specs.freezing.Frozen.{IsFrozen, IsRankOf, book_of, numbers_of, parents_of}
-use Rattle.herd_kinship.specs.FrozenAncestry.{number_of_row}
+use Rattle.herd_advice.specs.FrozenAncestry.{number_of_row}
 use Rattle.herd_kinship.specs.Ranks.{AreParentsAt}
-use Rattle.herd_kinship.proofs.lemmas.books.FrozenFacts.{length-numbers_of, number_of_row-is, record_at-row}
-use Rattle.herd_kinship.proofs.lemmas.books.ParentsFacts.{row-at}
+use Rattle.herd_advice.proofs.lemmas.FrozenFacts.{length-numbers_of, number_of_row-is, record_at-row}
+use Rattle.herd_advice.proofs.lemmas.FrozenFacts.{row-at}
 use Rattle.herd_report.specs.declared.writing.ancestors.Parent.{Parent}
 use Rattle.herd_report.specs.declared.writing.ancestors.Parent.TheVariants.{Sire, Dam}
 use Rattle.herd_report.specs.writing.Ancestors.{ancestor_of, parent_of, parent_rank}
@@ -30,7 +30,7 @@ rank_told l most rows frozen rank row there Sire = rw (record_at-row l most rows
 rank_told l most rows frozen rank row there Dam = rw (record_at-row l most rows frozen rank row there) (frozen.each rank row there).dam
 
 -- the parents at a rank tell it
-parent_at : (l most : ℕ) (rows : List Row) → IsFrozen l most rows → (rank : ℕ) (parents : Parents) → AreParentsAt rows rank parents
+parent_at : (l most : ℕ) (rows : List Row) → IsFrozen l most rows → (rank : ℕ) (parents : Parents) → AreParentsAt (map parents_of rows) rank parents
     → (parent : Parent) → IsParentAt rows rank parent (parent_rank parent parents)
 parent_at l most rows frozen rank parents there parent =
     let at = row-at rows rank parents there in
@@ -61,7 +61,7 @@ rank_unknown rows (Some p) (Some number) is at = absurd (cc)
 
 -- the first parent of the path is known
 pub leads_on : {l most : ℕ} {rows : List Row} {start rank : ℕ} {path : List Parent} (parent : Parent) (rest : List Parent) (parents : Parents) (next : ℕ)
-    → IsFrozen l most rows → LeadsFrom rows start path rank (parent ∷ rest) → AreParentsAt rows rank parents → parent_rank parent parents ≡ Some next
+    → IsFrozen l most rows → LeadsFrom rows start path rank (parent ∷ rest) → AreParentsAt (map parents_of rows) rank parents → parent_rank parent parents ≡ Some next
     → LeadsFrom rows start path next rest
 leads_on {l} {most} {rows} {start} {rank} {path} parent rest parents next frozen leads there told =
     let book = book_of rows in
@@ -71,7 +71,7 @@ leads_on {l} {most} {rows} {start} {rank} {path} parent rest parents next frozen
 
 -- the first parent of the path is unknown
 pub leads_nowhere : {l most : ℕ} {rows : List Row} {start rank : ℕ} {path : List Parent} (parent : Parent) (rest : List Parent) (parents : Parents)
-    → IsFrozen l most rows → LeadsFrom rows start path rank (parent ∷ rest) → AreParentsAt rows rank parents → parent_rank parent parents ≡ None
+    → IsFrozen l most rows → LeadsFrom rows start path rank (parent ∷ rest) → AreParentsAt (map parents_of rows) rank parents → parent_rank parent parents ≡ None
     → ancestor_of (book_of rows) (number_of_row rows start) path ≡ None
 leads_nowhere {l} {most} {rows} {start} {rank} {path} parent rest parents frozen leads there told =
     let book = book_of rows in

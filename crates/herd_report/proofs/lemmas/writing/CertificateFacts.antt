@@ -11,10 +11,10 @@ use Rattle.herd_frozen.specs.declared.TheConstants.{DEPTH_LIMIT, MOST_ANIMALS}
 use Rattle.herd_frozen.specs.rules.Book.{Book, is_there, record_of}
 use Rattle.herd_frozen.specs.freezing.Frozen.{IsFrozen, book_of, numbers_of}
 use Rattle.herd_frozen.proofs.lemmas.ListFacts.{there}
-use Rattle.herd_kinship.specs.FrozenAncestry.{ancestry_of, number_of_row}
+use Rattle.herd_advice.specs.FrozenAncestry.{ancestry_of, number_of_row}
 use Rattle.herd_kinship.specs.Table.{coefficient}
-use Rattle.herd_kinship.proofs.lemmas.books.BookFacts.{record_there}
-use Rattle.herd_kinship.proofs.lemmas.books.FrozenFacts.{length-numbers_of, number_of_row-is, numbers_are_keys, record_at-row}
+use Rattle.herd_advice.proofs.lemmas.BookFacts.{record_there}
+use Rattle.herd_advice.proofs.lemmas.FrozenFacts.{length-numbers_of, number_of_row-is, numbers_are_keys, record_at-row}
 use Rattle.herd_report.specs.writing.Certificate.{ancestors_text, animal_text, certificate_of, labelled_line}
 
 -- the lines on the animal of the row there, and then those of its ancestors, are the certificate

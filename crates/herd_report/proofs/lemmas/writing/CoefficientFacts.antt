@@ -3,16 +3,16 @@ use Rattle.std.proofs.Common.{◌≡◌, ◌∙◌, ℕ, ◌<◌, List, length, 
 use Rattle.std.proofs.lemmas.Option.{slice_get_within}
 use Rattle.herd_frozen.specs.declared.freezing.frozen.Row.{Row}
 use Rattle.herd_frozen.specs.freezing.Frozen.{numbers_of}
-use Rattle.herd_kinship.specs.Coefficients.{AreCoefficients}
-use Rattle.herd_kinship.specs.FrozenAncestry.{ancestry_of}
+use Rattle.herd_advice.specs.BookCoefficients.{AreBookCoefficients}
+use Rattle.herd_advice.specs.FrozenAncestry.{ancestry_of}
 use Rattle.herd_kinship.specs.Table.{coefficient}
-use Rattle.herd_kinship.proofs.lemmas.books.FrozenFacts.{length-numbers_of, number_of_row-is}
+use Rattle.herd_advice.proofs.lemmas.FrozenFacts.{length-numbers_of, number_of_row-is}
 use Rattle.herd_report.proofs.lemmas.writing.CertificateFacts.{number_at_rank}
 use Rattle.herd_report.proofs.lemmas.writing.TextFacts.{some_after}
 use Rattle.herd_report.specs.writing.CoefficientText.{coefficient_line, coefficient_line_end}
 
 -- the numerator at a rank is the coefficient of the row there
-pub numerator_is : (l : ℕ) (rows : List Row) (numerators : List ℕ) → AreCoefficients l rows numerators
+pub numerator_is : (l : ℕ) (rows : List Row) (numerators : List ℕ) → AreBookCoefficients l rows numerators
     → (rank : ℕ) (row : Row) → slice_get rows rank ≡ Some row
     → slice_index numerators rank ≡ coefficient (ancestry_of rows) l row.number
 numerator_is l rows numerators are rank row there =
@@ -20,7 +20,7 @@ numerator_is l rows numerators are rank row there =
     ∙ ap (coefficient (ancestry_of rows) l) (number_of_row-is rows rank row there)
 
 -- the numerator at the rank of a number is its coefficient
-pub coefficient_at_rank : (l : ℕ) (rows : List Row) (numerators : List ℕ) → AreCoefficients l rows numerators
+pub coefficient_at_rank : (l : ℕ) (rows : List Row) (numerators : List ℕ) → AreBookCoefficients l rows numerators
     → (rank : ℕ) (number : List ℕ) → slice_get (numbers_of rows) rank ≡ Some number
     → slice_index numerators rank ≡ coefficient (ancestry_of rows) l number
 coefficient_at_rank l rows numerators are rank number stands =

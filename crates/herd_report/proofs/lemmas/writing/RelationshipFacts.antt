@@ -9,11 +9,11 @@ use Rattle.herd_frozen.specs.declared.TheConstants.{DEPTH_LIMIT}
 use Rattle.herd_frozen.specs.declared.freezing.frozen.Row.{Row}
 use Rattle.herd_frozen.specs.freezing.Frozen.{book_of, numbers_of}
 use Rattle.herd_frozen.specs.rules.Book.{Book, is_there}
-use Rattle.herd_kinship.specs.Columns.{AreRelationships}
-use Rattle.herd_kinship.specs.FrozenAncestry.{ancestry_of, book_ancestry}
+use Rattle.herd_advice.specs.BookCoefficients.{AreBookRelationships}
+use Rattle.herd_advice.specs.FrozenAncestry.{ancestry_of, book_ancestry}
 use Rattle.herd_kinship.specs.Fraction.{fraction_text, halved}
 use Rattle.herd_kinship.specs.Table.{entry}
-use Rattle.herd_kinship.proofs.lemmas.books.FrozenFacts.{length-numbers_of}
+use Rattle.herd_advice.proofs.lemmas.FrozenFacts.{length-numbers_of}
 use Rattle.herd_report.proofs.lemmas.writing.CertificateFacts.{number_is_there}
 use Rattle.herd_report.proofs.lemmas.writing.TextFacts.{Holds, front_waiting, holds_passed, holds_piece, passes_nothing, some_after, some_before}
 use Rattle.herd_report.specs.declared.writing.relationship_list.Asked.{Asked}
@@ -108,7 +108,7 @@ asked-within rows one is = omega (arith, slice_get_within (numbers_of rows) one.
 
 -- the relationship at a partner's rank is the entry of the two numbers
 pub relationship_is : (rows : List Row) (first partner : Asked) (column : List ℕ) → IsAsked rows first → IsAsked rows partner
-    → AreRelationships DEPTH_LIMIT rows first.rank column
+    → AreBookRelationships DEPTH_LIMIT rows first.rank column
     → slice_index column partner.rank ≡ entry (ancestry_of rows) (2 * DEPTH_LIMIT) (Some first.number) (Some partner.number)
 relationship_is rows first partner column is is' are =
     let within : partner.rank < length rows = asked-within rows partner is' in
@@ -118,7 +118,7 @@ relationship_is rows first partner column is is' are =
 
 -- a column has the entries of its animal
 pub column_lines-are : (rows : List Row) (first : Asked) (partners : List Asked) (column : List ℕ) → IsAsked rows first → All (IsAsked rows) partners
-    → AreRelationships DEPTH_LIMIT rows first.rank column
+    → AreBookRelationships DEPTH_LIMIT rows first.rank column
     → column_lines column first.number partners ≡ lines_with (book_of rows) first.number (names_of partners)
 column_lines-are rows first [] column is all are = refl
 column_lines-are rows first (partner ∷ partners) column is all are =
@@ -127,7 +127,7 @@ column_lines-are rows first (partner ∷ partners) column is all are =
     (column_lines-are rows first partners column is (All-tail (IsAsked rows) partner partners all) are)
 
 -- all of them are in it
-pub within-column : (rows : List Row) (rank : ℕ) (partners : List Asked) (column : List ℕ) → All (IsAsked rows) partners → AreRelationships DEPTH_LIMIT rows rank column
+pub within-column : (rows : List Row) (rank : ℕ) (partners : List Asked) (column : List ℕ) → All (IsAsked rows) partners → AreBookRelationships DEPTH_LIMIT rows rank column
     → All (λ partner. partner.rank < length column) partners
 within-column rows rank partners column all are =
     All-weaker (IsAsked rows) (λ partner. partner.rank < length column)

@@ -9,4 +9,5 @@ unfolding mating_line
 returns c =
     let bare = new_app (codes "mating") in
     let first = c.with_argument.ensures bare dam_rule c.named-bare.ensures c.dam_option.ensures in
-    c.with_argument-2.ensures (with_rule bare dam_rule) sires_rule first c.several_argument.ensures
+    c.with_limits.ensures (with_rule (with_rule bare dam_rule) sires_rule)
+    (c.with_argument-given.ensures (with_rule bare dam_rule) sires_rule first c.several_argument.ensures)

@@ -9,4 +9,5 @@ unfolding relationships_line
 returns c =
     let bare = new_app (codes "relationships") in
     let first = c.with_argument.ensures bare numbers_rule c.named-bare.ensures c.several_argument.ensures in
-    c.with_argument-2.ensures (with_rule bare numbers_rule) partners_rule first c.with_option.ensures
+    c.with_limits.ensures (with_rule (with_rule bare numbers_rule) partners_rule)
+    (c.with_argument-given.ensures (with_rule bare numbers_rule) partners_rule first c.with_option.ensures)

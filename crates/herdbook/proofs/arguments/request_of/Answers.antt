@@ -30,11 +30,11 @@ returns-in_ok-add_numbers-in-Some-relationships-default-2-clause-asked c =
     sym read ∙ first_are added.items more whole c.split_at.result.0.now c.len-count.result counted joined c.split_at.ensures.front in
     let others : texts_of (codes "with") rows ≡ c.split_at.result.1.now =
     more_are added.items more whole c.split_at.result.1.now c.len-count.result counted joined c.split_at.ensures.back in
-    (search rules, search (rules, first), search (rules, others))
+    (search rules, (search rules, search (rules, first), search (rules, others)))
 
 pub returns-in_default-clause-asked : goal.returns-in_default-clause-asked
 returns-in_default-clause-asked c =
     elim c.in_default.branch [
-      | in_default-via-in-Some+in_default w ↦ (search rules, search rules, search rules, search rules, search rules, search rules, search rules)
-      | in_default-via-in_default w ↦ (search rules, search rules, search rules, search rules, search rules, search rules, search rules)
+      | in_default-via-in-Some+in_default w ↦ (search rules, search rules, search rules, search rules, search rules, search rules, search rules, search rules)
+      | in_default-via-in_default w ↦ (search rules, search rules, search rules, search rules, search rules, search rules, search rules, search rules)
     ]

@@ -1,5 +1,4 @@
 -- What was done for a request ends the program.
-use Rattle.herdbook.specs.Limits.{program_limits}
 use Rattle.herdbook.specs.declared.arguments.Request.TheVariants.{File}
 use Rattle.herdbook.proofs.ProgramFacts.{ended-run, ended-session, possible-run, possible-session}
 use Rattle.herdbook.proofs.program.carry_out.Goals as goal
@@ -7,18 +6,18 @@ use Rattle.herdbook.proofs.program.carry_out.Goals as goal
 pub returns-in-Ok-File-clause-ended : goal.returns-in-Ok-File-clause-ended
 returns-in-Ok-File-clause-ended g c =
     let asked = rw c.in-Ok-File.field-0-is at c.in-Ok-File.ensures.asked in
-    rw c.of_run.ensures (ended-run (g.R.Read.remaining c.args.reader) program_limits _ _ _ File c.answer_file.result c.in-Ok-File.ensures.taken asked c.answer_file.ensures.ok c.answer_file.ensures.err)
+    rw c.of_run.ensures (ended-run (g.R.Read.remaining c.args.reader) _ _ _ (File c.in-Ok-File.book) c.answer_file.result c.in-Ok-File.ensures.taken asked c.answer_file.ensures.ok c.answer_file.ensures.err)
 
 pub returns-in-Ok-File-clause-possible : goal.returns-in-Ok-File-clause-possible
 returns-in-Ok-File-clause-possible g c =
     let asked = rw c.in-Ok-File.field-0-is at c.in-Ok-File.ensures.asked in
-    rw c.of_run.ensures (possible-run _ File c.answer_file.result c.in-Ok-File.ensures.taken asked c.answer_file.ensures.fault)
+    rw c.of_run.ensures (possible-run _ (File c.in-Ok-File.book) c.answer_file.result c.in-Ok-File.ensures.taken asked c.answer_file.ensures.fault)
 
 pub returns-in-Ok-Session-clause-ended : goal.returns-in-Ok-Session-clause-ended
 returns-in-Ok-Session-clause-ended g c =
     let plan = c.in-Ok-Session.plan in
     let asked = rw c.in-Ok-Session.field-0-is at c.in-Ok-Session.ensures.asked in
-    rw c.of_session.ensures (ended-session (g.R.Read.remaining c.args.reader) program_limits _ _ _ plan c.session.result c.in-Ok-Session.ensures.taken asked c.session.ensures)
+    rw c.of_session.ensures (ended-session (g.R.Read.remaining c.args.reader) _ _ _ plan c.session.result c.in-Ok-Session.ensures.taken asked c.session.ensures)
 
 pub returns-in-Ok-Session-clause-possible : goal.returns-in-Ok-Session-clause-possible
 returns-in-Ok-Session-clause-possible g c =

@@ -1,11 +1,12 @@
--- `next_row`: what its calls require, that the depth fits, and its clauses `row`, `sire` and `dam`.
-use Rattle.std.proofs.Common.{arith, ◌≡◌, Some, length, slice_get}
+-- `next_row`: what its calls require, that the depth fits, and its clauses `row` and `next`.
+use Rattle.std.proofs.Common.{arith, ◌≡◌, ◌<◌, Some, length, slice_get}
 use Rattle.std.specs.Option.{option_and_then}
 use Rattle.herd_frozen.specs.declared.TheConstants.{DEPTH_LIMIT, MOST_ANIMALS}
 use Rattle.herd_frozen.specs.freezing.Frozen.{depth_at}
 use Rattle.herd_frozen.specs.rules.Depths.{depth_from}
 use Rattle.herd_frozen.proofs.lemmas.rules.DepthsFacts.{depth_from-read}
-use Rattle.herd_frozen.proofs.lemmas.freezing.NextRowFacts.{IsNext, depth_next-le, key-read, next, place-within, row-next}
+use Rattle.herd_frozen.proofs.lemmas.freezing.NextRowFacts.{IsNext, depth_next-le, key-read, next, next-of, place-within, row-next}
+use Rattle.herd_frozen.proofs.lemmas.freezing.AgeOrderFacts.{length-keys}
 use Rattle.herd_frozen.proofs.freezing.freeze.next_row.Given.{Over}
 use Rattle.herd_frozen.proofs.freezing.freeze.next_row.Goals.{After-depth_of_calf-depth, After-index-keys-len, After-link_at-link}
 use Rattle.herd_frozen.proofs.freezing.freeze.next_row.Goals as goal
@@ -62,8 +63,19 @@ returns-clause-row g c =
     rw key (row-next _ _ _ _ _ c.args.rows.now c.requires.ranked c.requires.rows c.index-keys-len.result key c.kept_at-kept.result c.link_at-link.result
     (known g here.After-link_at-link) c.requires.more _ c.rank_of-sire.ensures c.rank_of-dam.ensures (depth g here.After-depth_of_calf-depth))
 
-pub returns-clause-sire : goal.returns-clause-sire
-returns-clause-sire g c = rw c.rank_of-sire.ensures (known g (goal.at.returns-clause-sire g c).After-link_at-link).sire.earlier
-
-pub returns-clause-dam : goal.returns-clause-dam
-returns-clause-dam g c = rw c.rank_of-dam.ensures (known g (goal.at.returns-clause-dam g c).After-link_at-link).dam.earlier
+pub returns-clause-next : goal.returns-clause-next
+returns-clause-next g c =
+    let here = goal.at.returns-clause-next g c in
+    let is = depth g here.After-depth_of_calf-depth in
+    let le = depth_next-le _ _ _ _ _ c.args.rows.now c.requires.ranked c.requires.rows c.index-keys-len.result (at g here.After-index-keys-len) _ _ (known g here.After-link_at-link) in
+    let keys = length-keys (g.S.Registered.book c.args.records.now) c.args.keys.now c.requires.ranked.ordered in
+    let few = c.requires.ranked.lawful.few in
+    let more = c.requires.more in
+    let fits : c.depth_of_calf-depth.result < 256 = omega (arith, is, le) in
+    let depth_is = is in
+    let sire_is = c.rank_of-sire.ensures in
+    let dam_is = c.rank_of-dam.ensures in
+    next-of DEPTH_LIMIT MOST_ANIMALS c.args.rows.now _ (omega (arith, keys, few, more))
+    (rw c.rank_of-sire.ensures (known g here.After-link_at-link).sire.earlier)
+    (rw c.rank_of-dam.ensures (known g here.After-link_at-link).dam.earlier)
+    (rw (sire_is, dam_is) is) (omega (arith, is, le))

@@ -1,12 +1,9 @@
 -- `rows_of`: what `row` and `push` require and its loop.
-use Rattle.std.proofs.Common.{arith, ap, ◌∙◌, ◌+◌, ◌<◌}
+use Rattle.std.proofs.Common.{arith, ap, ◌∙◌, ◌+◌}
 use Rattle.std.proofs.lemmas.List.{length_push}
-use Rattle.herd_frozen.specs.declared.TheConstants.{MOST_ANIMALS}
 use Rattle.herd_frozen.specs.declared.freezing.frozen.Row.{Row}
 use Rattle.herd_frozen.specs.freezing.Frozen.{numbers_of}
 use Rattle.herd_frozen.specs.freezing.Rows.{row_kept}
-use Rattle.herd_frozen.specs.places.PackedIndex.{nowhere}
-use Rattle.herd_frozen.proofs.lemmas.freezing.AgeOrderFacts.{length-keys}
 use Rattle.herd_frozen.proofs.lemmas.freezing.NextRowFacts.{rows-more}
 use Rattle.herd_frozen.proofs.freezing.freeze.rows_of.Goals as goal
 
@@ -18,15 +15,6 @@ next_row-kept-requires-clause-more g c =
     let long = c.loop.invariant.0 in
     let more = c.loop-test.true in
     omega (arith, long, more)
-
-pub push-requires-clause-few : goal.push-requires-clause-few
-push-requires-clause-few g c =
-    let long = c.loop.invariant.0 in
-    let more = c.loop-test.true in
-    let keys = length-keys (g.S.Registered.book c.args.records.now) c.args.keys.now c.requires.ranked.ordered in
-    let few = c.requires.ranked.lawful.few in
-    let small : MOST_ANIMALS < nowhere = omega arith in
-    omega (arith, long, more, keys, few, small)
 
 pub loop-preserved : goal.loop-preserved
 loop-preserved g c =

@@ -1,12 +1,12 @@
 -- `Calves::of`: what `index` and `index_mut` require, its loop, and its result.
 use Rattle.std.proofs.Common.{◌≡◌, ℕ, ◌<◌, inl, List, length, Option, None, Some, arith, ◌∙◌, subst}
 use Rattle.std.proofs.lemmas.List.{get_or_read}
-use Rattle.herd_frozen.specs.declared.TheConstants.{DEPTH_LIMIT, MOST_ANIMALS}
+use Rattle.herd_lineage.specs.declared.TheConstants.{DEPTH_LIMIT, MOST_ANIMALS}
+use Rattle.herd_lineage.specs.Lineage.{sire_rank}
 use Rattle.herd_kinship.specs.CalfLinks.{AreLinked, IsCalf}
-use Rattle.herd_kinship.specs.Ranks.{sire_rank}
 use Rattle.herd_kinship.proofs.lemmas.sires.CalfFacts.{calf-pair, linked-calf, linked-other, no-calf}
-use Rattle.herd_kinship.proofs.lemmas.books.FrozenFacts.{frozen-ranked}
-use Rattle.herd_kinship.proofs.lemmas.books.ParentsFacts.{parents-sire, parents-within}
+use Rattle.herd_kinship.proofs.lemmas.lineages.LineageFacts.{lineage-ranked}
+use Rattle.herd_kinship.proofs.lemmas.lineages.ParentsFacts.{parents-sire, parents-within}
 use Rattle.herd_kinship.proofs.calves.Calves.of.Given.{Over}
 use Rattle.herd_kinship.proofs.calves.Calves.of.Goals.{in-Some, in_default, In-Some}
 use Rattle.herd_kinship.proofs.calves.Calves.of.Goals as goal
@@ -14,11 +14,11 @@ use Rattle.herd_kinship.proofs.calves.Calves.of.Goals as goal
 -- the sire stands before its calf
 within : (g : Over) (c : In-Some g) → c.in-Some.sire < length c.loop-calf.latest.items
 within g c =
-    let rows = c.args.frozen.now in
+    let rows = c.args.lineage.now in
     let i : ℕ = c.loop-calf.calf in
     let is : sire_rank rows i ≡ Some c.in-Some.sire = parents-sire rows i c.parents.result c.parents.ensures.parents ∙ c.in-Some.ensures.sire in
     let li = parents-within rows i c.parents.result c.parents.ensures.parents in
-    let lower : c.in-Some.sire < i = (frozen-ranked DEPTH_LIMIT MOST_ANIMALS rows c.len-animals.ensures.frozen).below i c.in-Some.sire li (inl is) in
+    let lower : c.in-Some.sire < i = (lineage-ranked DEPTH_LIMIT MOST_ANIMALS rows c.len-animals.ensures.lineage).below i c.in-Some.sire li (inl is) in
     let each : length c.loop-calf.latest.items ≡ length rows = c.loop-calf.invariant.each_sire in
     omega arith
 
@@ -30,7 +30,7 @@ index_mut-requires-in-Some g c = let low = within g (goal.at.index_mut-requires-
 
 pub loop-calf-preserved : goal.loop-calf-preserved
 loop-calf-preserved g c =
-    let rows = c.args.frozen.now in
+    let rows = c.args.lineage.now in
     let i : ℕ = c.loop-calf.calf in
     let latest : List (Option ℕ) = c.loop-calf.latest.items in
     let earlier : List (Option ℕ) = c.loop-calf.earlier.items in
@@ -39,7 +39,7 @@ loop-calf-preserved g c =
       | in-Some w ↦
           (let p : ℕ = w.in-Some.sire in
           let calf : IsCalf rows p i = calf-pair rows i p c.parents.result c.parents.ensures.parents w.in-Some.ensures.sire w.in-Some.ensures.dam in
-          let lower : p < i = (frozen-ranked DEPTH_LIMIT MOST_ANIMALS rows c.len-animals.ensures.frozen).below i p li (inl calf.0) in
+          let lower : p < i = (lineage-ranked DEPTH_LIMIT MOST_ANIMALS rows c.len-animals.ensures.lineage).below i p li (inl calf.0) in
           let each : length latest ≡ length rows = c.loop-calf.invariant.each_sire in
           let read = get_or_read latest p w.index.result.now (omega arith) w.index.ensures None in
           rw (w.latest-is, w.earlier-is, w.at.ensures, read) (linked-calf rows i p latest earlier li (omega arith) calf c.loop-calf.invariant))
@@ -49,7 +49,7 @@ loop-calf-preserved g c =
 
 pub returns : goal.returns
 returns g c =
-    let rows = c.args.frozen.now in
+    let rows = c.args.lineage.now in
     let end = c.len-calf-end.ensures.value in
     let past = c.loop-calf-test.false in
     let within = c.loop-calf.auto.calf-end in

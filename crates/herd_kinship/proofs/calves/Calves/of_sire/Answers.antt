@@ -6,7 +6,7 @@ use Rattle.herd_kinship.proofs.calves.Calves.of_sire.Goals as goal
 
 pub returns : goal.returns
 returns g c =
-    let rows = c.args.frozen.now in
+    let rows = c.args.lineage.now in
     let latest = c.args.self.now.latest.items in
     let earlier = c.args.self.now.earlier.items in
     let are = c.requires.calves in

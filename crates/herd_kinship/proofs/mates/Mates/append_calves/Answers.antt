@@ -3,7 +3,7 @@ use Rattle.std.proofs.Common.{◌≡◌, ℕ, ◌<◌, ◌++◌, All, length, ma
 use Rattle.std.proofs.lemmas.Bool.{eqb-true}
 use Rattle.std.proofs.lemmas.List.{append-nil, nil_from_length}
 use Rattle.std.proofs.lemmas.Result.{IfOk-weaker}
-use Rattle.herd_frozen.specs.declared.TheConstants.{DEPTH_LIMIT}
+use Rattle.herd_lineage.specs.declared.TheConstants.{DEPTH_LIMIT}
 use Rattle.herd_kinship.specs.CalfCoefficients.{GoesOnWith, with_half}
 use Rattle.herd_kinship.specs.Coefficients.{coefficient_at}
 use Rattle.herd_kinship.specs.declared.calves.CalfCoefficient.{CalfCoefficient}
@@ -13,12 +13,12 @@ use Rattle.herd_kinship.proofs.mates.Mates.append_calves.Goals as goal
 
 pub append_halves-requires-clause-calves : goal.append_halves-requires-clause-calves
 append_halves-requires-clause-calves g c =
-    let rows = c.args.frozen.now in
+    let rows = c.args.lineage.now in
     subst (λ xs. All (λ calf. calf < length rows) xs) (sym c.of_sire.ensures) (below-within rows c.args.sire (length rows))
 
 pub returns-clause-calves : goal.returns-clause-calves
 returns-clause-calves g c =
-    let rows = c.args.frozen.now in
+    let rows = c.args.lineage.now in
     let make = with_half rows c.deref.result.now in
     let old = c.args.list.now.items in
     let new = c.append_halves.new.list.items in
@@ -29,7 +29,7 @@ returns-clause-calves g c =
 
 pub returns-then-is_empty-clause-calves : goal.returns-then-is_empty-clause-calves
 returns-then-is_empty-clause-calves g c =
-    let rows = c.args.frozen.now in
+    let rows = c.args.lineage.now in
     let make : ℕ → CalfCoefficient = λ x. record { rank = x; numerator = coefficient_at DEPTH_LIMIT rows x } in
     let none = nil_from_length c.of_sire-its_calves.result (eqb-true _ _ (sym c.is_empty.ensures ∙ c.if-is_empty.true)) in
     goes-on rows c.args.sire (coefficient_at DEPTH_LIMIT rows) make c.args.list.now.items c.args.list.now.items (λ x. refl) (λ x _. refl)

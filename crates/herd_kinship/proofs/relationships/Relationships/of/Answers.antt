@@ -1,8 +1,8 @@
 -- `Relationships::of`: what `pass_to` requires, its loop, and its result.
 use Rattle.std.proofs.Common.{◌≡◌, ℕ, ◌+◌, List, length, lit<, arith, sym, ap, subst}
 use Rattle.std.proofs.lemmas.List.{get_or-replicate}
-use Rattle.herd_frozen.specs.declared.TheConstants.{DEPTH_LIMIT, MOST_ANIMALS}
-use Rattle.herd_kinship.proofs.lemmas.books.ParentsFacts.{parents-within}
+use Rattle.herd_lineage.specs.declared.TheConstants.{DEPTH_LIMIT, MOST_ANIMALS}
+use Rattle.herd_kinship.proofs.lemmas.lineages.ParentsFacts.{parents-within}
 use Rattle.herd_kinship.proofs.lemmas.sires.PassedOn.{AreRelated, IsPassing, related-next, related-passing}
 use Rattle.herd_kinship.proofs.lemmas.Lists.{take-written}
 use Rattle.herd_kinship.proofs.lemmas.sires.ColumnFacts.{relationships-made}
@@ -12,7 +12,7 @@ use Rattle.herd_kinship.proofs.relationships.Relationships.of.Goals as goal
 
 pub loop-j-init : goal.loop-j-init
 loop-j-init g c =
-    let rows = c.args.frozen.now in
+    let rows = c.args.lineage.now in
     let column : List ℕ = c.write_parts.new.column in
     let each : length column ≡ length c.deref_mut.result.now = c.write_parts.ensures.long in
     let value = ap length c.deref_mut.ensures.value in
@@ -28,9 +28,9 @@ loop-j-init g c =
     })
 
 -- the step can be made
-step : (g : Over) (c : After-parents g) → IsPassing DEPTH_LIMIT c.args.frozen.now c.args.rank c.loop-j.column.items c.loop-j.j c.parents.result
+step : (g : Over) (c : After-parents g) → IsPassing DEPTH_LIMIT c.args.lineage.now c.args.rank c.loop-j.column.items c.loop-j.j c.parents.result
 step g c =
-    related-passing DEPTH_LIMIT MOST_ANIMALS c.args.frozen.now c.parents.ensures.frozen c.args.rank c.requires.rank c.loop-j.j c.loop-j.column.items c.parents.result
+    related-passing DEPTH_LIMIT MOST_ANIMALS c.args.lineage.now c.parents.ensures.lineage c.args.rank c.requires.rank c.loop-j.j c.loop-j.column.items c.parents.result
     (lit< tt) c.parents.ensures.parents c.loop-j.invariant
 
 pub pass_to-requires : goal.pass_to-requires
@@ -38,12 +38,12 @@ pass_to-requires g c = rw c.deref_mut-in-loop-j.ensures.value (step g (goal.at.p
 
 pub loop-j-preserved : goal.loop-j-preserved
 loop-j-preserved g c =
-    let rows = c.args.frozen.now in
+    let rows = c.args.lineage.now in
     let items : List ℕ = c.loop-j.column.items in
     let column : List ℕ = c.pass_to.new.column in
     let next : AreRelated DEPTH_LIMIT rows c.args.rank (c.loop-j.j + 1) column =
     rw (c.pass_to.ensures, c.deref_mut-in-loop-j.ensures.value)
-    (related-next DEPTH_LIMIT MOST_ANIMALS rows c.parents.ensures.frozen c.args.rank c.requires.rank c.loop-j.j _ items
+    (related-next DEPTH_LIMIT MOST_ANIMALS rows c.parents.ensures.lineage c.args.rank c.requires.rank c.loop-j.j _ items
     (parents-within rows c.loop-j.j c.parents.result c.parents.ensures.parents)
     (step g (goal.at.loop-j-preserved g c).After-parents).value c.loop-j.invariant) in
     let each : length column ≡ length rows = next.each in
@@ -55,5 +55,5 @@ pub returns : goal.returns
 returns g c =
     let end = c.loop-j-test.false in
     let all = c.len-j-end.ensures.value in
-    relationships-made DEPTH_LIMIT c.args.frozen.now c.len-j-end.ensures.frozen c.args.rank c.loop-j.column.items c.requires.rank c.loop-j.invariant.each
+    relationships-made DEPTH_LIMIT c.args.lineage.now c.len-j-end.ensures.lineage c.args.rank c.loop-j.column.items c.requires.rank c.loop-j.invariant.each
     (λ j lj. c.loop-j.invariant.done j (omega arith))

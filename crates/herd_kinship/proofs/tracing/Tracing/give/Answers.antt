@@ -1,7 +1,7 @@
 -- `Tracing::give`: what `parents` requires, that nothing overflows, and its clause `shares`.
 use Rattle.std.proofs.Common.{◌≡◌, ◌-◌, get_or, lit<, arith, refl}
 use Rattle.std.proofs.lemmas.List.{get_or_read}
-use Rattle.herd_frozen.specs.declared.TheConstants.{DEPTH_LIMIT}
+use Rattle.herd_lineage.specs.declared.TheConstants.{DEPTH_LIMIT}
 use Rattle.herd_kinship.proofs.lemmas.tracing.TracingFacts.{IsGift, gift-is}
 use Rattle.herd_kinship.proofs.tracing.Tracing.give.Given.{Over}
 use Rattle.herd_kinship.proofs.tracing.Tracing.give.Goals.{After-parents, After-index_mut}
@@ -14,9 +14,9 @@ parents-requires g c =
 
 -- what the parent gets
 gift : (g : Over) (c : After-parents g) →
-    IsGift DEPTH_LIMIT c.args.frozen.now c.args.self.now.rank c.args.self.now.shares.items c.args.met.rank c.args.met.share c.in-Some.rank c.args.met.depth c.parents.result.depth
+    IsGift DEPTH_LIMIT c.args.lineage.now c.args.self.now.rank c.args.self.now.shares.items c.args.met.rank c.args.met.share c.in-Some.rank c.args.met.depth c.parents.result.depth
 gift g c =
-    gift-is DEPTH_LIMIT c.args.frozen.now c.args.self.now.rank c.args.self.now.shares.items c.args.met.rank c.args.met.share c.in-Some.rank c.args.met.depth c.parents.result
+    gift-is DEPTH_LIMIT c.args.lineage.now c.args.self.now.rank c.args.self.now.shares.items c.args.met.rank c.args.met.share c.in-Some.rank c.args.met.depth c.parents.result
     (lit< tt) (lit< tt) (c.requires.room c.in-Some.rank c.in-Some.is) c.requires.depth c.parents.ensures.parents
 
 pub overflow_sub-steps : goal.overflow_sub-steps

@@ -1,10 +1,10 @@
 -- `Tracing::meet_next`: what `give` requires and its clauses `tracing`, `all`, `shares`, `next` and `met`.
 use Rattle.std.proofs.Common.{◌≡◌, ℕ, ◌-◌, length, set, arith, refl, sym, ◌∙◌, ap, subst}
 use Rattle.std.proofs.lemmas.List.{get_or_read, length-set}
-use Rattle.herd_frozen.specs.declared.TheConstants.{DEPTH_LIMIT}
-use Rattle.herd_frozen.specs.freezing.Frozen.{depth_at}
+use Rattle.herd_lineage.specs.declared.TheConstants.{DEPTH_LIMIT}
+use Rattle.herd_lineage.specs.Lineage.{depth_at}
 use Rattle.herd_kinship.specs.Tracing.{given, GivesMark}
-use Rattle.herd_kinship.proofs.lemmas.books.ParentsFacts.{parents-depth, parents-within}
+use Rattle.herd_kinship.proofs.lemmas.lineages.ParentsFacts.{parents-depth, parents-within}
 use Rattle.herd_kinship.proofs.lemmas.tracing.TracingFacts.{length-given}
 use Rattle.herd_kinship.proofs.lemmas.tracing.UnderWayFacts.{IsMet, none-left, taken-met, under_way-end}
 use Rattle.herd_kinship.proofs.tracing.Tracing.meet_next.Given.{Over}
@@ -15,18 +15,18 @@ pub returns-in_default-clause-tracing : goal.returns-in_default-clause-tracing
 returns-in_default-clause-tracing g c = record {
   depth = c.requires.depth;
   ancestors = rw c.in_default.ensures.same
-      (under_way-end DEPTH_LIMIT c.args.frozen.now c.args.self.now.rank c.args.self.now.border c.args.self.now.shares.items c.args.self.now.pending.chunks.items
+      (under_way-end DEPTH_LIMIT c.args.lineage.now c.args.self.now.rank c.args.self.now.border c.args.self.now.shares.items c.args.self.now.pending.chunks.items
       c.requires.ancestors c.in_default.ensures.empty);
 }
 
 pub returns-in_default-clause-all : goal.returns-in_default-clause-all
 returns-in_default-clause-all g c =
-    none-left DEPTH_LIMIT c.args.frozen.now c.args.self.now.rank c.args.self.now.border c.args.self.now.shares.items c.args.self.now.pending.chunks.items
+    none-left DEPTH_LIMIT c.args.lineage.now c.args.self.now.rank c.args.self.now.border c.args.self.now.shares.items c.args.self.now.pending.chunks.items
     c.requires.ancestors c.in_default.ensures.empty
 
 -- what is met at the distance that is taken
 met : (g : Over) (c : After-index-share g) →
-    IsMet DEPTH_LIMIT c.args.frozen.now c.args.self.now.rank c.args.self.now.border c.args.self.now.shares.items c.take_nearest.new.self.chunks.items c.in-Some.distance
+    IsMet DEPTH_LIMIT c.args.lineage.now c.args.self.now.rank c.args.self.now.border c.args.self.now.shares.items c.take_nearest.new.self.chunks.items c.in-Some.distance
     c.index-share.result.now c.parents-parents.result
 met g c =
     let d : ℕ = c.in-Some.distance in
@@ -34,7 +34,7 @@ met g c =
     let chunks = c.args.self.now.pending.chunks.items in
     let near = (c.requires.ancestors.marks.pending d c.in-Some.ensures.found).near in
     let long = c.requires.ancestors.tracing.long in
-    taken-met DEPTH_LIMIT c.args.frozen.now c.args.self.now.rank c.args.self.now.border shares chunks c.requires.ancestors c.take_nearest.new.self.chunks.items d c.index-share.result.now
+    taken-met DEPTH_LIMIT c.args.lineage.now c.args.self.now.rank c.args.self.now.border shares chunks c.requires.ancestors c.take_nearest.new.self.chunks.items d c.index-share.result.now
     (record {
       distance = record { found = c.in-Some.ensures.found; nearest = c.in-Some.ensures.nearest; taken = c.in-Some.ensures.taken };
       own_is = get_or_read shares d c.index-share.result.now (omega (arith, near, long)) c.index-share.ensures 0;
@@ -44,15 +44,15 @@ met g c =
 pub overflow_sub-met : goal.overflow_sub-met
 overflow_sub-met g c =
     let mine = c.requires.depth in
-    let its = parents-depth c.args.frozen.now (c.args.self.now.rank - c.in-Some.distance) c.parents-parents.result c.parents-parents.ensures.parents in
+    let its = parents-depth c.args.lineage.now (c.args.self.now.rank - c.in-Some.distance) c.parents-parents.result c.parents-parents.ensures.parents in
     let less = (met g (goal.at.overflow_sub-met g c).After-index-share).next.share_is.less_deep in
     omega (arith, mine, its, less)
 
 pub give-requires-clause-depth : goal.give-requires-clause-depth
-give-requires-clause-depth g c = sym (parents-depth c.args.frozen.now (c.args.self.now.rank - c.in-Some.distance) c.parents-parents.result c.parents-parents.ensures.parents)
+give-requires-clause-depth g c = sym (parents-depth c.args.lineage.now (c.args.self.now.rank - c.in-Some.distance) c.parents-parents.result c.parents-parents.ensures.parents)
 
 pub give-requires-2-clause-depth : goal.give-requires-2-clause-depth
-give-requires-2-clause-depth g c = sym (parents-depth c.args.frozen.now (c.args.self.now.rank - c.in-Some.distance) c.parents-parents.result c.parents-parents.ensures.parents)
+give-requires-2-clause-depth g c = sym (parents-depth c.args.lineage.now (c.args.self.now.rank - c.in-Some.distance) c.parents-parents.result c.parents-parents.ensures.parents)
 
 pub give-requires-clause-room : goal.give-requires-clause-room
 give-requires-clause-room g c = (met g (goal.at.give-requires-clause-room g c).After-index-share).room_sire
@@ -63,7 +63,7 @@ give-requires-2-clause-room g c =
 
 pub returns-clause-shares : goal.returns-clause-shares
 returns-clause-shares g c =
-    let rows = c.args.frozen.now in
+    let rows = c.args.lineage.now in
     let x : ℕ = c.args.self.now.rank in
     let shares = c.args.self.now.shares.items in
     let d : ℕ = c.in-Some.distance in
@@ -75,7 +75,7 @@ returns-clause-shares g c =
 
 pub returns-clause-tracing : goal.returns-clause-tracing
 returns-clause-tracing g c =
-    let rows = c.args.frozen.now in
+    let rows = c.args.lineage.now in
     let x : ℕ = c.args.self.now.rank in
     let shares = c.args.self.now.shares.items in
     let d : ℕ = c.in-Some.distance in
@@ -98,7 +98,7 @@ returns-clause-next g c = (met g (goal.at.returns-clause-next g c).After-index-s
 
 pub returns-clause-met : goal.returns-clause-met
 returns-clause-met g c =
-    let rows = c.args.frozen.now in
+    let rows = c.args.lineage.now in
     let y : ℕ = c.args.self.now.rank - c.in-Some.distance in
     let at = c.parents-parents.ensures.parents in
     record {

@@ -1,5 +1,5 @@
 -- `SireLevel::count_calves`: what `calves` requires, that nothing overflows, its loop, and its result.
-use Rattle.std.proofs.Common.{◌≤◌, arith, ◌∙◌, ap, subst, sym}
+use Rattle.std.proofs.Common.{◌≤◌, arith, length, ◌∙◌, ap, subst, sym}
 use Rattle.std.specs.List.{sum_by}
 use Rattle.std.proofs.lemmas.List.{take_all}
 use Rattle.std.proofs.lemmas.List.Sums.{sum_by_more, sum_by_more_le}
@@ -11,17 +11,18 @@ use Rattle.herd_pool.proofs.sires.SireLevel.count_calves.Goals as goal
 pub count-calves-requires-clause-sire : goal.count-calves-requires-clause-sire
 count-calves-requires-clause-sire g c =
     let level = c.args.self.now.level in
-    (block_of-ranks level.frozen.now level.depth level.block c.args.number c.ranks-sire-items.result.now c.ranks-sire-items.ensures c.loop-sire.sire-index 0 c.loop-sire-test.true).within
+    (block_of-ranks level.lineage.now level.depth level.block c.args.number c.ranks-sire-items.result.now c.ranks-sire-items.ensures c.loop-sire.sire-index 0 c.loop-sire-test.true).within
 
 -- the calves so far and the next sire's are within those of the block
 pub overflow_add-calves : goal.overflow_add-calves
 overflow_add-calves g c =
     let level = c.args.self.now.level in
-    let rows = level.frozen.now in
+    let rows = level.lineage.now in
     let ranks = c.ranks-sire-items.result.now in
     let i = c.loop-sire.sire-index in
-    let most : sum_by (calf_count rows) ranks ≤ 3600000000 =
-    subst (λ xs. sum_by (calf_count rows) xs ≤ 3600000000) (sym c.ranks-sire-items.ensures) (calves-few rows c.requires.frozen level.depth level.block c.args.number) in
+    let most : sum_by (calf_count rows) ranks ≤ length rows =
+    subst (λ xs. sum_by (calf_count rows) xs ≤ length rows) (sym c.ranks-sire-items.ensures) (calves-few rows level.depth level.block c.args.number) in
+    let few = c.requires.lineage.few in
     let within = sum_by_more_le (calf_count rows) ranks i 0 c.loop-sire-test.true in
     let before = c.loop-sire.invariant.calves in
     let more = c.count-calves.ensures in
@@ -29,7 +30,7 @@ overflow_add-calves g c =
 
 pub loop-sire-preserved : goal.loop-sire-preserved
 loop-sire-preserved g c =
-    let rows = c.args.self.now.level.frozen.now in
+    let rows = c.args.self.now.level.lineage.now in
     let ranks = c.ranks-sire-items.result.now in
     let i = c.loop-sire.sire-index in
     record {
@@ -40,6 +41,6 @@ loop-sire-preserved g c =
 pub returns : goal.returns
 returns g c =
     let level = c.args.self.now.level in
-    let rows = level.frozen.now in
+    let rows = level.lineage.now in
     c.loop-sire.invariant.calves
     ∙ ap (sum_by (calf_count rows)) (take_all c.loop-sire.sire-index c.ranks-sire-items.result.now (omega arith) ∙ c.ranks-sire-items.ensures)

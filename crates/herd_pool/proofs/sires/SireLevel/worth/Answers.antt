@@ -8,21 +8,22 @@ use Rattle.herd_pool.proofs.sires.SireLevel.worth.Goals as goal
 pub overflow_add-busy : goal.overflow_add-busy
 overflow_add-busy g c =
     let level = c.args.self.now.level in
-    let few = busy_among-few level.frozen.now level.depth level.block c.loop-number.number in
+    let few = busy_among-few level.lineage.now level.depth level.block c.loop-number.number in
     let before = c.loop-number.invariant.busy in
     omega arith
 
 pub overflow_add-calves : goal.overflow_add-calves
 overflow_add-calves g c =
     let level = c.args.self.now.level in
-    let few = calves_among-few level.frozen.now c.requires.frozen level.depth level.block c.loop-number.number in
+    let few = calves_among-few level.lineage.now level.depth level.block c.loop-number.number in
+    let most = c.requires.lineage.few in
     let before = c.loop-number.invariant.calves in
     omega arith
 
 pub loop-number-preserved : goal.loop-number-preserved
 loop-number-preserved g c =
     let level = c.args.self.now.level in
-    let rows = level.frozen.now in
+    let rows = level.lineage.now in
     let n = c.loop-number.number in
     let before = c.loop-number.invariant in
     let is = c.count_calves-more.ensures in

@@ -1,7 +1,7 @@
 use Rattle.std.proofs.Common.{◌≡◌, ◌++◌, take}
 use Rattle.std.specs.List.{flat_map}
 use Rattle.herd_frozen.specs.freezing.Frozen.{book_of}
-use Rattle.herd_kinship.specs.FrozenAncestry.{number_of_row}
+use Rattle.herd_advice.specs.FrozenAncestry.{number_of_row}
 use Rattle.herd_report.specs.writing.Certificate.{ancestor_line}
 use Rattle.herd_report.proofs.writing.ancestors.push_lines.Given as goal
 

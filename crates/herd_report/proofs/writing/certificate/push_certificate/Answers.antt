@@ -2,7 +2,7 @@
 use Rattle.std.proofs.Common.{◌∙◌, ℕ, List, ◌++◌, ap, append_assoc}
 use Rattle.std.proofs.lemmas.Result.{IfOk-equal}
 use Rattle.herd_frozen.specs.freezing.Frozen.{book_of}
-use Rattle.herd_kinship.specs.FrozenAncestry.{number_of_row}
+use Rattle.herd_advice.specs.FrozenAncestry.{number_of_row}
 use Rattle.herd_report.proofs.lemmas.writing.CertificateFacts.{certificate_made}
 use Rattle.herd_report.specs.writing.Certificate.{ancestors_text, animal_text}
 use Rattle.herd_report.proofs.writing.certificate.push_certificate.Goals as goal

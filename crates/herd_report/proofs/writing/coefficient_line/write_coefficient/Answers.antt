@@ -1,7 +1,7 @@
 -- The coefficient at the rank of a number is that of the number. Where the line isn't made, nothing is written.
 use Rattle.std.proofs.Common.{◌∙◌}
 use Rattle.herd_frozen.specs.declared.TheConstants.{DEPTH_LIMIT}
-use Rattle.herd_kinship.specs.FrozenAncestry.{ancestry_of}
+use Rattle.herd_advice.specs.FrozenAncestry.{ancestry_of}
 use Rattle.herd_kinship.specs.Table.{coefficient}
 use Rattle.herd_report.proofs.lemmas.Exits.{if_err}
 use Rattle.herd_report.proofs.lemmas.writing.CertificateFacts.{number_is_there}

@@ -11,5 +11,5 @@ returns g c =
       before = c.args.self.now.before;
       fields = asked.fields;
       there = asked.there;
-      tag_is = inl (asked.tag_is ∙ sym c.text.ensures);
+      tag_is = inl (asked.tag_is ∙ sym c.again.ensures);
     })

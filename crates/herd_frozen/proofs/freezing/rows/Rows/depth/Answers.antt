@@ -1,18 +1,16 @@
--- `Rows::depth`: what `index` requires and its result.
+-- `Rows::depth`: what it requires and its result.
 use Rattle.std.proofs.Common.{sym, ap, ◌∙◌, List}
-use Rattle.std.proofs.lemmas.Option.{slice_get_read}
-use Rattle.herd_frozen.specs.declared.freezing.frozen.Row.{Row}
-use Rattle.herd_frozen.specs.freezing.Frozen.{depth_at}
-use Rattle.herd_frozen.proofs.lemmas.freezing.RowsFacts.{depth-told, rank-within}
+use Rattle.herd_lineage.specs.Lineage.{depth_at as depth_by}
+use Rattle.herd_lineage.specs.declared.lineage.Parents.{Parents}
+use Rattle.herd_frozen.proofs.lemmas.freezing.NextRowFacts.{depth_at-lineage}
+use Rattle.herd_frozen.proofs.lemmas.freezing.RowsFacts.{lineage-told, rank-within}
 use Rattle.herd_frozen.proofs.freezing.rows.Rows.depth.Goals as goal
 
-pub index-requires : goal.index-requires
-index-requires g c = (rank-within c.self.inside c.self.invariant c.self.view_is c.args.rank c.requires).1
+pub depth-requires : goal.depth-requires
+depth-requires g c = (rank-within c.self.inside c.self.invariant c.self.view_is c.args.rank c.requires).1
 
 pub returns : goal.returns
 returns g c =
     let rs = c.self.inside.records.items in
-    let ps = c.self.inside.parents.items in
-    let here = rank-within c.self.inside c.self.invariant c.self.view_is c.args.rank c.requires in
-    let at = slice_get_read ps c.self.inside.parents.len c.args.rank c.index.result.now c.self.inside.parents.ok.0 here.1 c.index.ensures in
-    sym (depth-told rs ps c.self.invariant c.args.rank c.index.result.now at) ∙ ap (λ (rows : List Row). depth_at rows c.args.rank) c.self.view_is
+    let same = lineage-told rs c.self.inside.lineage c.self.invariant c.self.view_is in
+    c.depth.ensures ∙ ap (λ (l : List Parents). depth_by l c.args.rank) same ∙ sym (depth_at-lineage _ c.args.rank)

@@ -12,7 +12,7 @@ index-requires g c = (rank-within c.self.inside c.self.invariant c.self.view_is 
 pub returns : goal.returns
 returns g c =
     let rs = c.self.inside.records.items in
-    let ps = c.self.inside.parents.items in
+    let ps = c.self.inside.lineage in
     let here = rank-within c.self.inside c.self.invariant c.self.view_is c.args.rank c.requires in
     let at = slice_get_read rs c.self.inside.records.len c.args.rank c.index.result.now c.self.inside.records.ok.0 here.0 c.index.ensures in
     subst (λ (rows : List Row). slice_get (numbers_of rows) c.args.rank ≡ Some c.index.result.now.number) c.self.view_is (number-told rs ps c.self.invariant c.args.rank c.index.result.now at)

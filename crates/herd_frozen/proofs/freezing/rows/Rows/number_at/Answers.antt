@@ -14,7 +14,7 @@ use Rattle.herd_frozen.proofs.freezing.rows.Rows.number_at.Goals as goal
 pub returns-in_err-kept : goal.returns-in_err-kept
 returns-in_err-kept g c =
     let rs = c.self.inside.records.items in
-    let ps = c.self.inside.parents.items in
+    let ps = c.self.inside.lineage in
     let rank : ℕ = c.in_ok-rank.field-0 in
     let records : List RowRecord = c.deref.result.now in
     let past : length records ≤ rank = ltb-false rank (length records) (sym c.in_err-kept.ensures.lookup.0) in
@@ -28,7 +28,7 @@ returns-in_err-kept g c =
 pub returns : goal.returns
 returns g c =
     let rs = c.self.inside.records.items in
-    let ps = c.self.inside.parents.items in
+    let ps = c.self.inside.lineage in
     let rank : ℕ = c.in_ok-rank.field-0 in
     let kept : RowRecord = c.in_ok-kept.kept.now in
     let records : List RowRecord = c.deref.result.now in

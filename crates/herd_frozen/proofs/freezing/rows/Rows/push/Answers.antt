@@ -1,29 +1,33 @@
--- `Rows::push`: what `of` requires, the invariant, and its result.
-use Rattle.std.proofs.Common.{rules, ◌≡◌, ◌∙◌, [], ◌∷◌, ◌++◌}
-use Rattle.herd_frozen.specs.freezing.Rows.{packed_parents, rows_kept}
-use Rattle.herd_frozen.proofs.lemmas.freezing.RowsFacts.{kept-push, parents-packed, rows-push}
+-- `Rows::push`: what `push_known` requires, the invariant, and its result.
+use Rattle.std.proofs.Common.{rules, sym, subst, ap, ◌≡◌, ◌∙◌, ◌+◌, [], ◌∷◌, ◌++◌, List}
+use Rattle.std.proofs.lemmas.List.{length_push}
+use Rattle.herd_lineage.specs.Lineage.{IsNextOf}
+use Rattle.herd_lineage.specs.declared.lineage.Parents.{Parents}
+use Rattle.herd_lineage.specs.declared.TheConstants.{DEPTH_LIMIT, MOST_ANIMALS}
+use Rattle.herd_frozen.specs.freezing.Rows.{rows_kept}
+use Rattle.herd_frozen.proofs.lemmas.freezing.RowsFacts.{lineage-told, rows-push}
+use Rattle.herd_frozen.proofs.freezing.rows.Rows.push.Goals.{After-push_reserved}
 use Rattle.herd_frozen.proofs.freezing.rows.Rows.push.Goals as goal
 
-pub of-requires-clause-sire : goal.of-requires-clause-sire
-of-requires-clause-sire g c =
-    (parents-packed c.self.inside.records.items c.self.inside.parents.items c.self.invariant _ c.self.view_is c.args.kept c.args.parents c.requires.sire c.requires.dam c.requires.few).0
-
-pub of-requires-clause-dam : goal.of-requires-clause-dam
-of-requires-clause-dam g c =
-    (parents-packed c.self.inside.records.items c.self.inside.parents.items c.self.invariant _ c.self.view_is c.args.kept c.args.parents c.requires.sire c.requires.dam c.requires.few).1
+pub push_known-requires : goal.push_known-requires
+push_known-requires g c =
+    subst (λ (l : List Parents). IsNextOf DEPTH_LIMIT MOST_ANIMALS l c.args.parents) (sym (lineage-told c.self.inside.records.items c.self.inside.lineage c.self.invariant c.self.view_is)) c.requires
 
 pub invariant_of-self-2 : goal.invariant_of-self-2
 invariant_of-self-2 g c =
     let rs = c.self.inside.records.items in
-    let ps = c.self.inside.parents.items in
+    let ps = c.self.inside.lineage in
     let records : c.push_reserved.new.self.items ≡ rs ++ c.args.kept ∷ [] = search rules in
-    let parents : c.push_reserved-2.new.self.items ≡ ps ++ packed_parents c.args.parents ∷ [] = search rules in
-    rw (records, parents) (kept-push rs ps c.self.invariant _ c.self.view_is c.args.kept c.args.parents c.requires.sire c.requires.dam)
+    record {
+      long = rw (records, c.in_ok-push_known.ensures.ok) (length_push ps c.args.parents ∙ ap (λ n. n + 1) c.self.invariant.long ∙ sym (length_push rs c.args.kept));
+      lineage = c.in_ok-push_known.ensures.lineage;
+    }
 
 pub returns-clause-ok : goal.returns-clause-ok
 returns-clause-ok g c =
     let rs = c.self.inside.records.items in
-    let ps = c.self.inside.parents.items in
+    let ps = c.self.inside.lineage in
     let records : c.push_reserved.new.self.items ≡ rs ++ c.args.kept ∷ [] = search rules in
-    let parents : c.push_reserved-2.new.self.items ≡ ps ++ packed_parents c.args.parents ∷ [] = search rules in
-    (λ i. rows_kept (records i) (parents i)) ∙ rows-push rs ps c.self.invariant _ c.self.view_is c.args.kept c.args.parents c.requires.sire c.requires.dam
+    let lineage : c.push_known.new.self ≡ ps ++ c.args.parents ∷ [] = c.in_ok-push_known.ensures.ok in
+    let next = subst (λ (l : List Parents). IsNextOf DEPTH_LIMIT MOST_ANIMALS l c.args.parents) (sym (lineage-told rs ps c.self.invariant c.self.view_is)) c.requires in
+    (λ i. rows_kept (records i) (lineage i)) ∙ rows-push rs ps c.self.invariant _ c.self.view_is c.args.kept c.args.parents next

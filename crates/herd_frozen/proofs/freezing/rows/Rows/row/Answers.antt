@@ -13,7 +13,7 @@ index-kept-requires g c = (rank-within c.self.inside c.self.invariant c.self.vie
 pub returns : goal.returns
 returns g c =
     let rs = c.self.inside.records.items in
-    let ps = c.self.inside.parents.items in
+    let ps = c.self.inside.lineage in
     let here = rank-within c.self.inside c.self.invariant c.self.view_is c.args.rank c.requires in
     let kept = c.index-kept.result.now in
     let parents = c.parents-parents.result in

@@ -1,0 +1,20 @@
+-- `relationships`: what `of` requires, and its result.
+use Rattle.std.proofs.lemmas.Result.{IfOk-weaker}
+use Rattle.herd_lineage.specs.declared.TheConstants.{DEPTH_LIMIT, MOST_ANIMALS}
+use Rattle.herd_advice.proofs.lemmas.FrozenFacts.{coefficients-lineage, long, relationships-book}
+use Rattle.herd_advice.proofs.book_relationships.relationships.Goals as goal
+
+pub of-requires-clause-rank : goal.of-requires-clause-rank
+of-requires-clause-rank g c =
+    let its = c.lineage.ensures in
+    rw (long DEPTH_LIMIT MOST_ANIMALS c.args.frozen.now its.frozen c.lineage.result.now its.value its.lineage) c.requires.rank
+
+pub of-requires-clause-coefficients : goal.of-requires-clause-coefficients
+of-requires-clause-coefficients g c =
+    let its = c.lineage.ensures in
+    coefficients-lineage DEPTH_LIMIT MOST_ANIMALS c.args.frozen.now its.frozen c.lineage.result.now its.value its.lineage c.args.coefficients.now c.requires.coefficients
+
+pub returns : goal.returns
+returns g c =
+    let its = c.lineage.ensures in
+    IfOk-weaker c.of.result _ _ (relationships-book DEPTH_LIMIT MOST_ANIMALS c.args.frozen.now its.frozen c.lineage.result.now its.value its.lineage c.args.rank c.requires.rank) c.of.ensures

@@ -1,0 +1,5 @@
+pub mod BookFacts
+pub mod BookPaths
+pub mod FrozenFacts
+pub mod ContributionFacts
+pub mod MatingFacts

@@ -1,0 +1,26 @@
+-- Coefficients of inbreeding and relationships of a frozen book's animals, in unit 2^-2l, by ranks.
+use Rattle.std.specs.Prelude.{◌≡◌, ℕ, ◌*◌, ◌<◌, List, length, slice_index, Some}
+use Rattle.herd_frozen.specs.declared.freezing.frozen.Row.{Row}
+use Rattle.herd_kinship.specs.Ancestry.{IsAncestor}
+use Rattle.herd_kinship.specs.Table.{coefficient, entry}
+use Rattle.herd_advice.specs.FrozenAncestry.{ancestry_of, number_of_row}
+
+-- there is a numerator for each animal, and it is its coefficient
+pub record AreBookCoefficients (l : ℕ) (rows : List Row) (numerators : List ℕ) : Type 0 where
+  pub each : length numerators ≡ length rows
+  pub right : (rank : ℕ) → rank < length rows
+      → slice_index numerators rank ≡ coefficient (ancestry_of rows) l (number_of_row rows rank)
+
+-- there is a numerator for each animal, and at the ancestors of the animal at a rank it is their coefficient
+pub record KnowsBookAncestors (l : ℕ) (rows : List Row) (known : List ℕ) (rank : ℕ) : Type 0 where
+  pub each : length known ≡ length rows
+  pub right : (p : ℕ) → p < length rows
+      → IsAncestor (ancestry_of rows) (number_of_row rows p) (number_of_row rows rank)
+      → slice_index known p ≡ coefficient (ancestry_of rows) l (number_of_row rows p)
+
+-- to each animal there is the relationship of the animal at a rank with it
+pub record AreBookRelationships (l : ℕ) (rows : List Row) (rank : ℕ) (relationships : List ℕ) : Type 0 where
+  pub each : length relationships ≡ length rows
+  pub right : (j : ℕ) → j < length rows
+      → slice_index relationships j
+      ≡ entry (ancestry_of rows) (2 * l) (Some (number_of_row rows rank)) (Some (number_of_row rows j))

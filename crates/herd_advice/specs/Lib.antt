@@ -1,0 +1,4 @@
+pub mod FrozenAncestry
+pub mod BookCoefficients
+pub mod BookContributions
+pub mod Mating

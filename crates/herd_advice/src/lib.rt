@@ -1,0 +1,31 @@
+//! What a frozen book's owner is told of its animals: coefficients of inbreeding, relationships, advice on matings, and
+//! contributions to A's inverse. Each call asks `herd_kinship` or `herd_pool` of the book's lineage; here its answer is
+//! that of the book, whose animals are named by their numbers.
+//!
+//! | | definition (`specs/`) | code (`src/`) | proof (`proofs/lemmas/`) |
+//! |---|---|---|---|
+//! | the ancestry that a book tells | `FrozenAncestry` | | `BookFacts`, `BookPaths`, `FrozenFacts` |
+//! | coefficients, relationships | `BookCoefficients` | `book_coefficients`, `workers`, `book_relationships` | `FrozenFacts` |
+//! | contributions | `BookContributions` | `book_contributions` | `ContributionFacts` |
+//! | mating advice | `Mating` | `mating_advice`, `dam_matings` | `MatingFacts` |
+//! | the laws | those of `herd_kinship` | `laws` | `FrozenFacts` |
+#![tactic(auto)]
+
+mod book_coefficients;
+mod book_contributions;
+mod book_relationships;
+mod dam_matings;
+pub mod laws;
+mod mating_advice;
+mod workers;
+
+pub use book_coefficients::{coefficients_plain, mendelian, trace};
+pub use book_contributions::contributions;
+pub use book_relationships::relationships;
+pub use dam_matings::DamMatings;
+pub use herd_kinship::{
+    Coefficients, Contribution, Contributions, Fraction, ONE, Relationships, fraction, hundredths,
+    inbred,
+};
+pub use mating_advice::{MatingFault, mating};
+pub use workers::{coefficients, coefficients_by_sires};

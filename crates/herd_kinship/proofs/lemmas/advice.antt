@@ -1,3 +1,0 @@
--- Mating advice, and contributions to the inverse.
-pub mod MatingFacts
-pub mod ContributionFacts

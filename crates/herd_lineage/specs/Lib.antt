@@ -1,0 +1,3 @@
+pub mod PackedIndex
+pub mod Lineage
+pub mod Builder

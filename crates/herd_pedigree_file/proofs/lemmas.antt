@@ -1,0 +1,3 @@
+pub mod NumberFacts
+pub mod GrammarFacts
+pub mod ReadingFacts

@@ -1,0 +1,4 @@
+pub mod PedigreeCause
+pub mod Number
+pub mod Grammar
+pub mod PedigreeFile

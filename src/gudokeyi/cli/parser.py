@@ -1,0 +1,141 @@
+"""The command line as a whole: its words, which the families add, and what is told where it can't be read."""
+from __future__ import annotations
+
+import argparse
+import pathlib
+import re
+from collections.abc import Callable
+from typing import TYPE_CHECKING, NoReturn
+
+from gudokeyi.cli.output import tell
+from gudokeyi.domain.messages import CALLED, Mistake
+from gudokeyi.domain.spelling import closest
+from gudokeyi.engine.program import Herdbook
+from gudokeyi.store.opening import opened
+
+if TYPE_CHECKING:
+    from gudokeyi.packages import Group
+    from gudokeyi.store.book import Book
+
+# What is told where the words of a call can't be read: argparse's messages in plain sentences.
+
+# what argparse tells, and what is told in its place
+SENTENCES = (
+    (r"the following arguments are required: WORD", "a word is lacking that says what to do, as import, list or show"),
+    (r"the following arguments are required: (?P<what>.*)", "{what} is lacking"),
+    (r"unrecognized arguments: (?P<what>-\S*).*", "there is no option {what} here"),
+    (r"unrecognized arguments: (?P<what>.*)",
+     "there is no room for '{what}' here: put an id or a name with blanks between quotation marks"),
+    (r"argument (?P<what>\S+): expected .*", "nothing stands behind {what}, which needs something there"),
+    (r"argument (?P<what>\S+): not allowed with argument (?P<other>\S+)", "{what} and {other} don't go together"),
+    (r"argument (?P<what>--\S+): invalid choice: '(?P<word>.*)' \(choose from (?P<some>.*)\)",
+     "{what}: '{word}' is none of {some}"),
+    (r"argument (?P<what>--\S+): (?P<why>.*)", "{what}: {why}"),
+)  # fmt: skip
+NO_SUCH_WORD = re.compile(r"argument WORD: invalid choice: '(?P<word>.*)' \(choose from (?P<some>.*)\)", re.DOTALL)
+
+
+def plainly(message: str) -> str:
+    """A message of argparse in plain words."""
+    no_word = NO_SUCH_WORD.fullmatch(message)
+    if no_word:
+        return no_such_word(no_word["word"], re.findall("'(.*?)'", no_word["some"]))
+    for form, sentence in SENTENCES:
+        found = re.fullmatch(form, message, re.DOTALL)
+        if found:
+            parts = found.groupdict()
+            return sentence.format(**parts | {"some": parts.get("some", "").replace("'", "")})
+    return message
+
+
+def no_such_word(word: str, words: list[str]) -> str:
+    near = closest(word.casefold(), words, least=0.6)
+    return f"there is no word '{word}'" + (f": is {' or '.join(near)} meant?" if near else "")
+
+
+# The command line as a whole: its words, which the families add, and what is told where it can't be read.
+
+ABOUT = """Keeps a society's herd book in a folder: takes its spreadsheet, and writes lists, certificates, mating advice
+and pictures. Every refusal and every coefficient comes from the program herdbook; the front desk around it isn't
+proved."""
+EXAMPLES = """examples:
+  ./gudokeyi import sheet.csv                   from a spreadsheet to a book in the folder `book`
+  ./gudokeyi list --out list.csv                all animals with their coefficients
+  ./gudokeyi find berta                         animals by a part of id, name, number or owner
+  ./gudokeyi show HA-17/3                       its record, relatives and history
+  ./gudokeyi certificate HA-17/3                a page for the printer
+  ./gudokeyi mating --dam HA-17/3               each living male, the least related first
+  ./gudokeyi import --pedigree triples.txt      from `id sire dam`, for geneticists
+  ./gudokeyi inverse --matrix-market inverse.mtx
+
+The status is 0 where it is done, and 1 after a mistake; nothing is written then. It is 3 where `mating` is asked for
+sires by name and each of them is refused."""
+
+# what a word does, given its options
+Does = Callable[[argparse.Namespace], None]
+
+
+class Parser(argparse.ArgumentParser):
+    def read(self, words: list[str]) -> argparse.Namespace:
+        """The options of a word; what it doesn't know is told with its own help."""
+        asked, unknown = self.parse_known_args(words)
+        if unknown:
+            self.prog = f"{self.prog} {asked.word}"
+            self.error(f"unrecognized arguments: {' '.join(unknown)}")
+        return asked
+
+    def error(self, message: str) -> NoReturn:
+
+        told = plainly(message)
+        raise Mistake(f"{told}{'' if told[-1] == '?' else ':'} `{self.prog} --help` shows what can be written")
+
+
+class CommandWords:
+    """The words of the command line. Each family adds its own."""
+
+    def __init__(self) -> None:
+        as_written = argparse.RawDescriptionHelpFormatter
+        self.parser = Parser(prog=CALLED, description=ABOUT, epilog=EXAMPLES, formatter_class=as_written)
+        self.words = self.parser.add_subparsers(dest="word", metavar="WORD", required=True)
+
+    def add(self, name: str, does: Does, help: str, more: str = "") -> Parser:
+        """A word with the option `--book`; `does` is called with its options."""
+        one: Parser = self.words.add_parser(name, help=help, description=f"{help[0].upper()}{help[1:]}. {more}".strip())
+        one.add_argument(
+            "--book", type=pathlib.Path, default=pathlib.Path("book"), metavar="FOLDER",
+            help="the book's folder [book]",
+        )  # fmt: skip
+        one.set_defaults(does=does, status=0)
+        return one
+
+    def add_for_book(
+        self, name: str, does: Callable[[argparse.Namespace, Book, Herdbook], None], help: str, more: str = "",
+        group: Group | None = None,
+    ) -> Parser:  # fmt: skip
+        """A word for a book that is there, with the packages that it needs; the book's notes are told behind what it
+        does."""
+
+        def does_with_book(asked: argparse.Namespace) -> None:
+            if group:
+                from gudokeyi.packages import need
+
+                need(group)
+            program = Herdbook()
+            with opened(asked.book, program) as book:
+                does(asked, book, program)
+            for note in book.notes:
+                tell(note)
+
+        return self.add(name, does_with_book, help, more)
+
+
+def joined(words: list[str]) -> list[str]:
+    """The words, with `import`, as `import` was called before, as `import`, and with `--unknown -9,00` as
+    `--unknown=-9,00`: else `-9,00` would be taken for an option."""
+    found: list[str] = ["import" if word == "take" else word for word in words[:1]]
+    for word in words[1:]:
+        if found and found[-1] == "--unknown" and re.match("-(?!-.)", word):
+            found[-1] += f"={word}"
+        else:
+            found.append(word)
+    return found

@@ -1,0 +1,125 @@
+"""The words that file one command: `birth`, `parents`, `transfer` and `exit`."""
+from __future__ import annotations
+
+import argparse
+from collections.abc import Callable
+from dataclasses import replace
+
+from gudokeyi.cli.arguments import day, sex, three_letters
+from gudokeyi.cli.output import tell
+from gudokeyi.cli.parser import CommandWords, Parser
+from gudokeyi.domain.animals import SocietyRecord
+from gudokeyi.domain.changes import Option
+from gudokeyi.domain.findings import What
+from gudokeyi.domain.kinds import ChangeKind
+from gudokeyi.domain.messages import Mistake
+from gudokeyi.engine.program import Herdbook
+from gudokeyi.ingest.words import clean
+from gudokeyi.services.filing import (
+    FiledCommand, Offspring, born, departed, file, parent_named, transferred, with_parents,
+)  # fmt: skip
+from gudokeyi.services.search import find
+from gudokeyi.store.book import Book
+from gudokeyi.store.opening import export, there_to_change
+
+# the command that somebody wishes, given the book
+Wished = Callable[[argparse.Namespace, Book], FiledCommand]
+# what isn't an option of a command
+NO_OPTIONS = ("word", "book", "does", "id")
+
+
+def add_words(words: CommandWords) -> None:
+    kept = "A refused one is kept in the book's history too, with the program's reply."
+    birth = words.add("birth", does(wished_birth), "file a birth", kept)
+    birth.add_argument("id", metavar="ID", help="the newborn's id")
+    birth.add_argument("--sex", type=sex, required=True, metavar="SEX", help="m or f")
+    birth.add_argument("--name", default="", help="its name")
+    add_parents(birth, "[unknown]")
+    birth.add_argument("--owner", default="", metavar="NAME", help="its owner [not known]")
+    birth.add_argument("--embryo", action="store_true", help="it comes from a stored embryo")
+    for option in "--breed", "--country":
+        birth.add_argument(
+            option, type=three_letters, metavar="ABC", help=f"the number's {option[2:]} [as set, or as in the book]"
+        )
+    parents = words.add("parents", does(wished_parents), "file other parents of an animal", kept)
+    add_parents(parents, "or 0 for an unknown one [as in the book]")
+    transfer = words.add("transfer", does(wished_transfer), "file another owner of an animal", kept)
+    transfer.add_argument("--to", required=True, metavar="OWNER", help="the new owner")
+    transfer.add_argument("--from", dest="from_owner", metavar="OWNER", help="who gives it [its owner in the book]")
+    exit = words.add("exit", does(wished_exit), "file that an animal left, by death or sale", kept)
+    for one in parents, transfer, exit:
+        one.add_argument("id", metavar="ID", help="the animal, by id, name or number")
+    for one in birth, transfer, exit:
+        one.add_argument("--day", type=day, required=True, metavar="DAY", help="the day, as 2001-03-01")
+
+
+def add_parents(word: Parser, otherwise: str) -> None:
+    for role in "sire", "dam":
+        word.add_argument(f"--{role}", metavar="ID", help=f"the {role}, by id, name or number {otherwise}")
+
+
+def does(wished: Wished) -> Callable[[argparse.Namespace], None]:
+    def filed(asked: argparse.Namespace) -> None:
+        program = Herdbook()
+        with there_to_change(asked.book, program) as book:
+            one = replace(wished(asked, book), options=options_of(asked))
+            change, refusal = file(book, program, one)
+            notes = book.notes + export(book.folder)
+        for note in notes:
+            tell(note)
+        if refusal:
+            raise Mistake(
+                f"{one.known.id}: {what(one)} refused: {one.refused(refusal).why()}. The animals are as "
+                f"before; change {change.number} of the history tells of it"
+            )
+        print(f"{one.known.id} ({one.known.number}): {what(one)} accepted: change {change.number}")
+        for finding in one.findings:
+            if finding.what is What.WARNING:
+                tell(f"{one.known.id}: {finding.words()}")
+
+    return filed
+
+
+def what(one: FiledCommand) -> str:
+    """What is refused or accepted."""
+    if one.kind is ChangeKind.PARENTS:
+        return "the parents are"
+    return f"the {one.kind.value} on {one.command.day} is"
+
+
+def options_of(asked: argparse.Namespace) -> tuple[Option, ...]:
+    """The options as they were given."""
+    names = {"from_owner": "from"}
+    given = ((name, value) for name, value in vars(asked).items() if name not in NO_OPTIONS)
+    return tuple(
+        Option(f"--{names.get(name, name)}", "" if value is True else str(value)) for name, value in given if value
+    )
+
+
+def parent(book: Book, word: str | None) -> SocietyRecord | None:
+    """The animal that is named; none where none is, or a word for an unknown one."""
+    return None if word is None else parent_named(book, word)
+
+
+def wished_birth(asked: argparse.Namespace, book: Book) -> FiledCommand:
+    offspring = Offspring(
+        clean(asked.id), asked.sex, asked.day, clean(asked.name), parent(book, asked.sire),
+        parent(book, asked.dam), clean(asked.owner), asked.embryo, asked.breed or "", asked.country or "",
+    )  # fmt: skip
+    return born(book, offspring)
+
+
+def wished_parents(asked: argparse.Namespace, book: Book) -> FiledCommand:
+    if asked.sire is None and asked.dam is None:
+        raise Mistake("parents needs one parent or both: name them by --sire and --dam, 0 for an unknown one")
+    sire, dam = (None if word is None else parent(book, word) or "" for word in (asked.sire, asked.dam))
+    return with_parents(book, find(book, asked.id), sire, dam)
+
+
+def wished_transfer(asked: argparse.Namespace, book: Book) -> FiledCommand:
+    from_owner = None if asked.from_owner is None else clean(asked.from_owner)
+    return transferred(book, find(book, asked.id), asked.day, clean(asked.to), from_owner)
+
+
+def wished_exit(asked: argparse.Namespace, book: Book) -> FiledCommand:
+    return departed(book, find(book, asked.id), asked.day)

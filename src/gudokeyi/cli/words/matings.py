@@ -1,0 +1,121 @@
+"""The word that advises on matings: `mating`."""
+from __future__ import annotations
+
+import argparse
+import pathlib
+from typing import TYPE_CHECKING
+
+from gudokeyi.cli.arguments import add_output
+from gudokeyi.cli.output import tell
+from gudokeyi.cli.parser import CommandWords
+from gudokeyi.domain.messages import Mistake
+from gudokeyi.process import is_the_only_one, keep
+
+if TYPE_CHECKING:
+    from gudokeyi.engine.program import Herdbook
+    from gudokeyi.services.matings import Advice
+    from gudokeyi.store.book import Book
+
+# the status where each sire that was named is refused: a script reads no message
+ALL_REFUSED = 3
+
+
+def add_words(words: CommandWords) -> None:
+    mating = words.add_for_book(
+        "mating", do_mating, "write the coefficient that offspring of each sire would have, the least first",
+        "For many dams it is a table of all pairs.",
+    )  # fmt: skip
+    mating.add_argument("--dam", metavar="ID", help="the dam, by id, name or number")
+    mating.add_argument("sires", nargs="*", metavar="SIRE", help="sires, by id, name or number [all living males]")
+    mating.add_argument("--all", action="store_true", help="all living males, as where no sire is named")
+    mating.add_argument("--left", action="store_true", help="with the males that left too")
+    mating.add_argument(
+        "--dams",
+        type=pathlib.Path,
+        metavar="FILE",
+        help="the dams that a file names, one id a line [all living females]",
+    )
+    mating.add_argument(
+        "--sires",
+        dest="sires_in",
+        type=pathlib.Path,
+        metavar="FILE",
+        help="the sires that a file names [all living males]",
+    )
+    mating.add_argument(
+        "--matrix", action="store_true", help="a line for each dam, and a column of percentages for each sire"
+    )
+    add_output(mating)
+
+
+def do_mating(asked: argparse.Namespace, book: Book, program: Herdbook) -> None:
+    if asked.dams or asked.sires_in:
+        do_many_matings(asked, book, program)
+        return
+    if not asked.dam:
+        raise Mistake("mating needs a dam: name one by --dam, or many in a file by --dams")
+    if asked.matrix:
+        raise Mistake("--matrix is for many dams: name a file by --dams")
+    if asked.sires and (asked.all or asked.left):
+        raise Mistake("mating takes sires that are named, or all of them, not both: leave out --all and --left")
+    advice = advice_for(asked, book, program)
+    from gudokeyi.cli.answers import give_table
+
+    is_the_only_one()
+    keep(advice)
+    give_table(asked, book, advice.table)
+    for refused in advice.refused:
+        tell(refused)
+    if advice.sires.left:
+        tell(f"males that left: {advice.sires.left} aren't listed: --left lists them too")
+    for sentence in advice.sires.told():
+        tell(sentence)
+    if asked.sires and not len(advice.table):
+        asked.status = ALL_REFUSED
+
+
+def advice_for(asked: argparse.Namespace, book: Book, program: Herdbook) -> Advice:
+    """What is needed further is imported while the journal is read."""
+    from gudokeyi.services.search import find
+
+    dam, named = find(book, asked.dam), [find(book, sire) for sire in asked.sires]
+    if named:
+        from gudokeyi.services.matings import advise_on_named
+
+        return advise_on_named(book, program, dam, named)
+    from gudokeyi.services.selection import MatesRead
+    from gudokeyi.domain.kinds import Role
+
+    with book.journal_read_beside():
+        sires = MatesRead(book, Role.SIRE, asked.left)
+        begun = program.begin_matings(dam.number, sires.numbers, book)
+        import gudokeyi.cli.answers
+        from gudokeyi.services.matings import advise_on_all
+
+        return advise_on_all(book, program, dam, sires, begun, asked.left)
+
+
+def do_many_matings(asked: argparse.Namespace, book: Book, program: Herdbook) -> None:
+    """A table of all pairs."""
+    from gudokeyi.services.matings import candidates_of
+    from gudokeyi.services.matings import mates_matrix, mates_table, told_of_refused
+    from gudokeyi.domain.kinds import Role
+    from gudokeyi.services.search import find
+    from gudokeyi.services.relationships import pairs_of
+    from gudokeyi.cli.answers import give_table, named_in
+
+    if asked.dam and asked.dams or asked.sires and asked.sires_in:
+        raise Mistake("mating takes animals that are named, or those of a file, not both")
+    if asked.all or asked.left:
+        raise Mistake("--all and --left are for one dam: a table has all living males where no sire is named")
+    named = {
+        Role.DAM: [find(book, asked.dam)] if asked.dam else named_in(asked.dams, book) if asked.dams else None,
+        Role.SIRE: named_in(asked.sires_in, book) if asked.sires_in else [find(book, id) for id in asked.sires] or None,
+    }
+    dams, sires = (candidates_of(book, role, named[role]) for role in (Role.DAM, Role.SIRE))
+    pairs = pairs_of(book, program, dams.numbers, sires.numbers)
+    give_table(asked, book, (mates_matrix if asked.matrix else mates_table)(dams, sires, pairs))
+    for sentence in told_of_refused(book, pairs) + dams.told() + sires.told():
+        tell(sentence)
+    if named[Role.SIRE] and not pairs.coefficients:
+        asked.status = ALL_REFUSED

@@ -1,0 +1,112 @@
+"""The words that make pages and pictures: `certificate`, `pedigree` and `trend`."""
+from __future__ import annotations
+
+import argparse
+import datetime
+import pathlib
+
+from gudokeyi.cli.answers import named_in
+from gudokeyi.cli.arguments import add_choice, add_force, day, file, generations
+from gudokeyi.cli.parser import CommandWords
+from gudokeyi.domain.animals import SocietyRecord
+from gudokeyi.domain.messages import Mistake, counted
+from gudokeyi.engine.program import Herdbook
+from gudokeyi.packages import Group
+from gudokeyi.render.drawing import file_name
+from gudokeyi.render.languages import Language
+from gudokeyi.services.search import find
+from gudokeyi.store.book import Book
+from gudokeyi.store.coefficients import kept_coefficients
+from gudokeyi.store.output_files import write_outs, write_page
+from gudokeyi.store.settings import LANGUAGES, Setting, settings_of
+from gudokeyi.store.verification import refuse_to_certify
+
+
+def add_words(words: CommandWords) -> None:
+    certificate = words.add_for_book(
+        "certificate",
+        do_certificate,
+        "write certificates, a page for each animal in one file for the printer",
+        "They show what `settings` says of the society.",
+        Group.PAGES,
+    )
+    certificate.add_argument("ids", nargs="*", metavar="ID", help="the animals, by id, name or number")
+    certificate.add_argument(
+        "--among", type=pathlib.Path, metavar="FILE", help="those that a file names, one id a line"
+    )
+    add_choice(certificate)
+    certificate.add_argument(
+        "--day", type=day, default=datetime.date.today(), metavar="DAY", help="the day of issue [today]"
+    )
+    certificate.add_argument(
+        "--title", default="", help="what stands above the animal [Certificate of pedigree, in the language]"
+    )
+    pedigree = words.add_for_book(
+        "pedigree", do_pedigree, "draw an animal with its known ancestors, inbred and common ones marked",
+        "More than five generations go on on further pages of one file.",
+    )  # fmt: skip
+    pedigree.add_argument("--generations", type=generations, default=4, metavar="N", help="how many, 1 to 10 [4]")
+    pedigree.add_argument("id", metavar="ID", help="the animal, by id, name or number")
+    trend = words.add_for_book(
+        "trend", do_trend, "draw the mean coefficient by birth year, with how many animals each year has"
+    )
+    for one in certificate, pedigree, trend:
+        one.add_argument("--language", choices=LANGUAGES, default="en", help="the language, en, de or fr [en]")
+        one.add_argument("--out", type=file, metavar="FILE", help="write to this file [one in the book's folder]")
+        add_force(one)
+
+
+def do_certificate(asked: argparse.Namespace, book: Book, program: Herdbook) -> None:
+    from gudokeyi.render.certificates import Issue, certificates_page
+
+    animals = animals_asked_for(asked, book)
+    refuse_to_certify(book, program)
+    settings = settings_of(book)
+    issue = Issue(asked.title, settings[Setting.NAME], settings[Setting.ADDRESS], asked.day)
+    page = certificates_page(book, animals, Language(asked.language), issue)
+    name = file_name("certificate", animals[0].id, ".html") if len(animals) == 1 else "certificates.html"
+    give(asked, book, page, name, f", {counted(len(animals), 'page')}" * (len(animals) > 1))
+
+
+def animals_asked_for(asked: argparse.Namespace, book: Book) -> list[SocietyRecord]:
+    """Those that are named, or those of an owner or that live; each once."""
+    from gudokeyi.services.selection import Choice, chosen
+    from gudokeyi.store.animal_rows import known_of
+
+    choice = Choice(asked.living, "", asked.owner)
+    named = [find(book, id) for id in asked.ids] + (named_in(asked.among, book) if asked.among else [])
+    if named and not choice.is_everything:
+        raise Mistake("certificate takes animals that are named, or those of --owner and --living, not both")
+    if not named and choice.is_everything:
+        raise Mistake("certificate needs animals: name them, or choose some by --owner or --living")
+    animals = named or [known_of(row) for row in chosen(book, choice)]
+    if not animals:
+        raise Mistake("there is no such animal: `list` with the same options shows which there are")
+    return list({known.number: known for known in animals}.values())
+
+
+def do_pedigree(asked: argparse.Namespace, book: Book, program: Herdbook) -> None:
+    from gudokeyi.render.pedigree_pictures import Pedigree
+
+    known = find(book, asked.id)
+    drawn = Pedigree(book, known, kept_coefficients(book), asked.generations, Language(asked.language))
+    if drawn.is_long and asked.out and asked.out.suffix.lower() == ".svg":
+        raise Mistake(f"{counted(asked.generations, 'generation')} stand on several pages: name a file as tree.html")
+    pages = f", {counted(len(drawn.tops), 'page')}" * drawn.is_long
+    give(asked, book, drawn.text(), file_name("pedigree", known.id, ".html" if drawn.is_long else ".svg"), pages)
+
+
+def do_trend(asked: argparse.Namespace, book: Book, program: Herdbook) -> None:
+    from gudokeyi.render.trend_pictures import trend_picture
+
+    give(asked, book, trend_picture(book, kept_coefficients(book), Language(asked.language)), "trend.svg")
+
+
+def give(asked: argparse.Namespace, book: Book, text: str, name: str, what: str = "") -> None:
+    """Writes a page or picture, where no file is named to one in the book's folder."""
+    path = asked.out or asked.book / name
+    if asked.out:
+        write_outs(book, {path: text.encode()}, asked.force)
+    else:
+        write_page(book, path, text.encode())
+    print(f"{path} is written{what}: open it in a browser, and print it there")

@@ -1,0 +1,1 @@
+"""Values of the front desk, without input or output."""

@@ -1,0 +1,40 @@
+"""What the society knows of an animal, beside what the register has of it."""
+from __future__ import annotations
+
+from typing import NamedTuple
+
+from gudokeyi.domain.kinds import Field, Standing
+from gudokeyi.domain.provenance import GIVEN_BIRTH, GIVEN_EXIT, BirthBasis, ExitBasis, OwnerDay, SexSource
+
+# the breed and the country of numbers where none is given
+BREED, COUNTRY = "HOL", "GBR"
+# no field was changed by hand
+NO_FIELDS: frozenset[Field] = frozenset()
+
+
+class SocietyRecord(NamedTuple):
+    """What an animal's number stands for, and what was inferred of it."""
+
+    number: str
+    id: str
+    name: str = ""
+    standing: Standing = Standing.ROW
+    birth: BirthBasis = GIVEN_BIRTH
+    exit: ExitBasis = GIVEN_EXIT
+    sex: SexSource = SexSource.GIVEN
+    # a male that can't be a sire any more
+    castrated: bool = False
+    # what the sheet writes of a parent that was left out, or that is written by its name
+    written_sire: str = ""
+    written_dam: str = ""
+    # what was filed by hand since the last sheet
+    by_hand: frozenset[Field] = NO_FIELDS
+    owner_day: OwnerDay = OwnerDay.GIVEN
+
+    @property
+    def is_male(self) -> bool:
+        return self.number[6] == "M"
+
+    def written(self, role: str) -> str:
+        """What the sheet writes of its `sire` or `dam`, where that isn't the parent's id."""
+        return self.written_sire if role == "sire" else self.written_dam

@@ -1,0 +1,28 @@
+"""Who works at a book, and what each may do."""
+from __future__ import annotations
+
+import enum
+from dataclasses import dataclass
+
+
+class AccountRole(enum.StrEnum):
+    """What somebody may do. Each may do also what the ones before may."""
+
+    # reads all
+    INSPECTOR = "inspector"
+    # files commands and takes sheets
+    CLERK = "clerk"
+    # brings back earlier states, and changes settings and accounts
+    KEEPER = "keeper"
+
+    def may(self, least: AccountRole) -> bool:
+        order = list(AccountRole)
+        return order.index(self) >= order.index(least)
+
+
+@dataclass(frozen=True)
+class Person:
+    """Who asks. Whoever has no name here is named by the system."""
+
+    name: str
+    role: AccountRole

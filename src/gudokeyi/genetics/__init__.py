@@ -1,0 +1,1 @@
+"""Pedigrees as arrays, relationships, measures of a breed, and plans of matings."""

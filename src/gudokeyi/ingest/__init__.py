@@ -1,0 +1,1 @@
+"""From a sheet or a pedigree's file to what it says of animals."""

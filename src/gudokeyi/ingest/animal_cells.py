@@ -1,0 +1,237 @@
+"""Reads the cells of an animal's row: its parents, its sex, its days, and whether it is a stored embryo; and what of a
+sheet's cells can't be read."""
+from __future__ import annotations
+
+import collections
+from collections.abc import Callable
+
+from gudokeyi.domain.findings import Finding, Report
+from gudokeyi.domain.kinds import Field
+from gudokeyi.domain.provenance import ExitBasis, ExitSource
+from gudokeyi.ingest.animals import SheetAnimal
+from gudokeyi.ingest.day_cells import DayCell, DayCells
+from gudokeyi.ingest.days import ANY_DAY, DayFault, Span
+from gudokeyi.ingest.encodings import Letters
+from gudokeyi.ingest.findings.cells import (
+    DayLeftOut, EmbryoUnread, ErrorValue, ExitInferred, ExitsInOtherWords, ExitsWithoutDay, SexUnread, TextTooLong,
+)  # fmt: skip
+from gudokeyi.ingest.findings.columns import SheetFinding
+from gudokeyi.ingest.findings.sheets import MOST_TEXTS, Cells, CellsUnread, ErrorCells, ErrorColumn, TextCount
+from gudokeyi.ingest.sexes import Sexes
+from gudokeyi.ingest.sheets import Sheet
+from gudokeyi.ingest.unknown_parents import UnknownParents, names_no_owner
+from gudokeyi.ingest.words import KNOWN_NO, KNOWN_YES, exit_word, is_error_value
+from gudokeyi.store.messages import MOST_IN_NAME, MOST_IN_OWNER
+from gudokeyi.store.state import CELL_FIELDS
+
+# The cells of a sheet that can't be read: which texts there are, and whether they are most of a column.
+
+# a text, and its line
+Cell = tuple[str, int]
+
+
+class Unread:
+    """For each column, by its field, the texts that can't be read, and how many cells say something: an empty one or
+    a word for unknown doesn't, nor does one for a living animal tell of an exit. `titles` are the columns' own."""
+
+    def __init__(self, titles: dict[str, str]) -> None:
+        self.titles = titles
+        self.cells: collections.defaultdict[str, list[Cell]] = collections.defaultdict(list)
+        # texts such as `sold`, which say something, though no day
+        self.exits: list[Cell] = []
+        # texts with a day that is taken for that of an exit, though no word tells of one
+        self.other_words: list[Cell] = []
+        self.read: collections.Counter[str] = collections.Counter()
+
+    def add(self, field: str, text: str, line: int) -> None:
+        cells = self.exits if field == "exit" and exit_word(text) else self.cells[field]
+        cells.append((text, line))
+
+    def found(self) -> list[SheetFinding]:
+        told: list[SheetFinding] = [CellsUnread(self.of(field, cells)) for field, cells in self.cells.items()]
+        told += [ExitsWithoutDay(self.of(Field.EXIT, self.exits))] if self.exits else []
+        return told + ([ExitsInOtherWords(self.of(Field.EXIT, self.other_words))] if self.other_words else [])
+
+    def of(self, field: str, cells: list[Cell]) -> Cells:
+        counts = collections.Counter(text for text, _ in cells).most_common()
+        texts = tuple(TextCount(text, count) for text, count in counts[:MOST_TEXTS])
+        return Cells(
+            Field(field), self.titles[field], len(cells), self.read[field], cells[0][1], texts, len(counts) - len(texts)
+        )
+
+    def mostly(self) -> list[SheetFinding]:
+        """A column is a mistake where more than half of its cells that say something, and at least three, can't be
+        read: hardly anything of it would be taken."""
+        columns = self.cells.items()
+        return [
+            CellsUnread(self.of(field, cells)) for field, cells in columns if len(cells) > max(2, self.read[field] // 2)
+        ]
+
+
+# Cells that show a spreadsheet's error value, as `#REF!`: they are empty, and told.
+
+
+class ErrorValues:
+    """The error values of a sheet: for each its line, its column and its text."""
+
+    def __init__(self, sheet: Sheet, columns: dict[str, int]) -> None:
+        self.sheet, self.columns = sheet, columns
+        rows = sheet.rows if may_have(sheet.together) else []
+        self.found = [
+            (line, at, text)
+            for line, cells in rows
+            if may_have("\t".join(cells))
+            for at, text in enumerate(cells)
+            if is_error_value(text)
+        ]
+
+    @staticmethod
+    def is_one(text: str) -> bool:
+        return is_error_value(text)
+
+    def title(self, at: int) -> str:
+        return self.sheet.titles[at] if at < len(self.sheet.titles) else f"{at + 1}"
+
+    def leave_out(self, animals: dict[str, SheetAnimal], report: Report) -> None:
+        """Each is left out; what the book has of the animal stays."""
+        names = {at: name for name, at in self.columns.items()}
+        by_line = {animal.line: animal for animal in animals.values()}
+        for line, at, text in self.found:
+            animal = by_line.get(line)
+            if at in names and animal:
+                animal.unread.append(names[at])
+            id = animal.id if animal else ""
+            report.add(line, id, ErrorValue(self.title(at), text))
+
+    def told(self) -> list[SheetFinding]:
+        if not self.found:
+            return []
+        texts = tuple(dict.fromkeys(text for _, _, text in self.found))
+        titles = tuple(self.title(at) for at in dict.fromkeys(at for _, at, _ in self.found))
+        return [ErrorCells(len(self.found), titles, self.found[0][0], texts)]
+
+    def mostly(self) -> list[SheetFinding]:
+        """A column is a mistake where most of its cells are error values, and at least three."""
+        if not self.found:
+            return []
+        counts = collections.Counter(at for _, at, _ in self.found)
+        faults: list[SheetFinding] = []
+        for name, at in self.columns.items():
+            filled = sum(1 for _, cells in self.sheet.rows if at < len(cells) and cells[at])
+            if counts[at] > max(2, filled // 2):
+                faults.append(ErrorColumn(Field(name), self.title(at), counts[at], filled))
+        return faults
+
+
+def may_have(cells: str) -> bool:
+    """Can one of the cells of a text show an error value? Few sheets and few rows have a sign of one."""
+    return "#" in cells or "Err" in cells
+
+
+# Reads the cells of an animal's row: its parents, its sex, its days, and whether it is a stored embryo.
+
+# where a row has no cell
+NO_TEXTS = ("",) * len(CELL_FIELDS)
+# so many letters are kept of a cell
+KEPT = {Field.NAME: MOST_IN_NAME, Field.OWNER: MOST_IN_OWNER, Field.SIRE: MOST_IN_NAME, Field.DAM: MOST_IN_NAME}
+
+
+class AnimalCells:
+    """Makes animals of the cells of their rows, by the fields of these. What can't be read is counted and told."""
+
+    def __init__(
+        self, unknown: UnknownParents, sexes: Sexes, unread: Unread, report: Report, month_first: bool
+    ) -> None:
+        self.unknown, self.sexes, self.unread, self.report = unknown, sexes, unread, report
+        self.days, self.letters = DayCells(unknown, month_first), Letters()
+
+    def animal(self, line: int, id: str, cells: dict[str, str]) -> SheetAnimal:
+        """The animal of a row, by the cells of its other columns."""
+        said: Callable[[str, str], str] = cells.get
+        name, sex, birth, sire, dam, owner, since, exit, embryo = map(said, CELL_FIELDS, NO_TEXTS)
+        sire = "" if self.unknown.is_one(sire) else sire
+        dam = "" if self.unknown.is_one(dam) else dam
+        owner = "" if names_no_owner(owner) else owner
+        animal = SheetAnimal(id, line, name, "", ANY_DAY, sire, dam, owner, cells)
+        if not f"{id}{name}{owner}{sire}{dam}".isascii():
+            self.look_at_letters(animal)
+        if len(f"{name}{owner}{sire}{dam}") > MOST_IN_NAME:
+            self.leave_out_long(animal)
+        self.read_sex(animal, sex)
+        if birth:
+            animal.birth = self.span(animal, Field.BIRTH, birth, self.days.day(Field.BIRTH, birth)) or ANY_DAY
+        if exit:
+            self.read_exit(animal, exit)
+        if since:
+            animal.since = self.span(animal, Field.SINCE, since, self.days.day(Field.SINCE, since))
+        if embryo:
+            animal.embryo = self.is_embryo(animal, embryo)
+        return animal
+
+    def look_at_letters(self, animal: SheetAnimal) -> None:
+        for text in animal.id, animal.name, animal.owner, animal.sire, animal.dam:
+            if not text.isascii():
+                self.letters.look(animal.line, text)
+
+    def leave_out_long(self, animal: SheetAnimal) -> None:
+        """A parent may be written by its name."""
+        for field, most in KEPT.items():
+            text = getattr(animal, field)
+            if len(text) > most:
+                setattr(animal, field, "")
+                self.not_taken(animal, field, TextTooLong(field, len(text), most))
+
+    def leave_out(self, animal: SheetAnimal, name: str, text: str, found: Finding) -> None:
+        """A cell that can't be read."""
+        self.unread.add(name, text, animal.line)
+        self.not_taken(animal, name, found)
+
+    def not_taken(self, animal: SheetAnimal, name: str, found: Finding) -> None:
+        animal.unread.append(name)
+        self.report.add(animal.line, animal.id, found)
+
+    def read_sex(self, animal: SheetAnimal, text: str) -> None:
+        animal.sex, animal.castrated = self.sexes.read(text)
+        if animal.sex:
+            self.unread.read[Field.SEX] += 1
+        elif text not in self.unknown:
+            self.unread.read[Field.SEX] += 1
+            self.leave_out(animal, Field.SEX, text, SexUnread(text))
+
+    def span(self, animal: SheetAnimal, field: Field, text: str, day: DayCell) -> Span | None:
+        """The days of a cell; one that isn't taken is told."""
+        self.unread.read[field] += day.says_something
+        if day.fault and day.is_unread:
+            self.leave_out(animal, field, text, day.fault)
+        elif day.fault:
+            self.not_taken(animal, field, day.fault)
+        return day.span
+
+    def read_exit(self, animal: SheetAnimal, text: str) -> None:
+        exit = self.days.exit(text)
+        if exit is None:
+            return
+        left = self.span(animal, Field.EXIT, text, exit.day)
+        if left and left.last < animal.birth.first:
+            if exit.is_span:
+                self.not_taken(animal, Field.EXIT, DayLeftOut(Field.EXIT, DayFault.BEFORE_BIRTH, text, True))
+            else:
+                found = DayLeftOut(Field.EXIT, DayFault.WITHIN_BEFORE_BIRTH, text, True)
+                self.leave_out(animal, Field.EXIT, text, found)
+            left = None
+        if left:
+            animal.left, animal.exit_basis = left.last, exit.basis
+            if not exit.is_span and not exit_word(text):
+                self.unread.other_words.append((text, animal.line))
+            if animal.exit_basis.is_inferred or not exit.is_span:
+                inferred = ExitInferred(animal.left, animal.exit_basis, "" if exit.is_span else text)
+                self.report.add(animal.line, animal.id, inferred)
+        elif Field.EXIT in animal.unread and not exit.is_later:
+            animal.exit_basis = ExitBasis(ExitSource.UNKNOWN_DAY, text=text)
+
+    def is_embryo(self, animal: SheetAnimal, text: str) -> bool:
+        is_told = text not in self.unknown or text.casefold() in KNOWN_NO
+        self.unread.read[Field.EMBRYO] += is_told
+        if is_told and text.casefold() not in KNOWN_YES | KNOWN_NO:
+            self.leave_out(animal, Field.EMBRYO, text, EmbryoUnread(text))
+        return text.casefold() in KNOWN_YES

@@ -1,0 +1,100 @@
+"""An animal as a sheet has it, and as it is to stand in the book."""
+from __future__ import annotations
+
+import datetime
+import operator
+from collections.abc import Collection
+from dataclasses import dataclass, field
+
+from gudokeyi.domain.kinds import Role
+from gudokeyi.domain.messages import MessageText
+from gudokeyi.domain.provenance import GIVEN_BIRTH, GIVEN_EXIT, BirthBasis, ExitBasis, OwnerDay, SexSource
+from gudokeyi.ingest.days import ANY_DAY, Precision, Span
+from gudokeyi.ingest.messages import Where
+
+SIRE, DAM, DAY = Role.SIRE, Role.DAM, Precision.DAY
+ROLES = {role: role.sex for role in Role}
+
+
+@dataclass(slots=True)
+class SheetAnimal:
+    """An animal as it is to stand in the book. Parents are ids, and empty where they are unknown."""
+
+    id: str
+    line: int = 0
+    name: str = ""
+    sex: str = ""
+    birth: Span = ANY_DAY
+    sire: str = ""
+    dam: str = ""
+    owner: str = ""
+    # its cells as they are written, by their fields
+    cells: dict[str, str] = field(default_factory=dict)
+    # since when it has this owner, where the sheet says it
+    since: Span | None = None
+    left: datetime.date | None = None
+    embryo: bool = False
+    owner_day: OwnerDay = OwnerDay.GIVEN
+    # a male that is castrated, as the sheet's word for its sex says
+    castrated: bool = False
+    # what is found for it later: its birth day, its number, and what was inferred and from what
+    born: datetime.date = ANY_DAY.first
+    number: str = ""
+    birth_basis: BirthBasis = GIVEN_BIRTH
+    exit_basis: ExitBasis = GIVEN_EXIT
+    sex_source: SexSource = SexSource.GIVEN
+    # for a parent without a row the line that names it
+    named_in: int = 0
+    # the fields whose cells can't be read
+    unread: list[str] = field(default_factory=list)
+
+    def parents(self) -> list[tuple[Role, str]]:
+        """The known parents, each with its role."""
+        found = []
+        if self.sire:
+            found.append((SIRE, self.sire))
+        if self.dam:
+            found.append((DAM, self.dam))
+        return found
+
+    def parent_ids(self) -> list[str]:
+        return [parent for parent in (self.sire, self.dam) if parent]
+
+    def parent(self, role: Role) -> str:
+        return self.sire if role is Role.SIRE else self.dam
+
+    def set_parent(self, role: Role, id: str) -> None:
+        if role is Role.SIRE:
+            self.sire = id
+        else:
+            self.dam = id
+
+    def has_day(self) -> bool:
+        return self.birth.precision is DAY
+
+    def where(self) -> MessageText:
+        """How a sentence about it begins."""
+        return Where.LINE.said(line=self.line, id=self.id) if self.line else Where.ANIMAL.said(id=self.id)
+
+
+SIRE_OF, DAM_OF = operator.attrgetter("sire"), operator.attrgetter("dam")
+# an offspring, the role of a parent of its, and that parent
+Link = tuple[SheetAnimal, Role, str]
+
+
+def links_outside(progeny: Collection[SheetAnimal], ids: Collection[str]) -> list[Link]:
+    """The known parents that aren't among some ids. Few are outside of most sheets."""
+    parents = {*map(SIRE_OF, progeny), *map(DAM_OF, progeny)} - {""}
+    outside = {parent for parent in parents if parent not in ids}
+    found: list[Link] = []
+    for offspring in progeny if outside else ():
+        if offspring.sire in outside:
+            found.append((offspring, SIRE, offspring.sire))
+        if offspring.dam in outside:
+            found.append((offspring, DAM, offspring.dam))
+    return found
+
+
+def parents_of_all(animals: dict[str, SheetAnimal]) -> dict[str, list[str]]:
+    """The known parents of each animal."""
+    return {id: animal.parent_ids() for id, animal in animals.items()}

@@ -1,0 +1,237 @@
+"""Which columns have the ids, and which may have a field that no title tells of, as their cells show."""
+from __future__ import annotations
+
+import collections
+import functools
+from collections.abc import Collection
+from typing import TYPE_CHECKING, Container, NamedTuple
+
+from gudokeyi.domain.kinds import Field
+from gudokeyi.domain.spelling import closest
+from gudokeyi.ingest.days import Unreadable, read_span
+from gudokeyi.ingest.findings.columns import IdsCountRows, IdsFromOther, IdsMoved, LikelyColumn
+from gudokeyi.ingest.titles import KNOWN_TITLES
+from gudokeyi.ingest.words import KNOWN_EXITS, KNOWN_SEXES, KNOWN_STAYS, has_word, nearly, plain, sex_word
+
+if TYPE_CHECKING:
+    from gudokeyi.ingest.columns import Columns
+
+# Which column has the ids: in a first sheet the one in which the parents' cells are found, later the one that has the
+# ids of the book.
+
+# of so many rows row numbers can be told
+FEW = 3
+# so many of the cells of a column of ids are different ones
+MOSTLY = 0.95
+# no number of a row has so many digits
+MOST_DIGITS = 10
+
+
+class Fit(NamedTuple):
+    """How well a column of ids fits: how many of the parents' cells are found in it, in these columns; whether it isn't
+    one of row numbers; and how likely its title is."""
+
+    found: int
+    is_no_row_number: bool
+    likely: int
+    at: int
+    parents: dict[str, int]
+
+
+class Ids:
+    """The cells of a column, among which others are sought as ids are compared."""
+
+    def __init__(self, cells: list[str]) -> None:
+        self.cells = {cell for cell in cells if cell}
+
+    @functools.cached_property
+    def near(self) -> set[str]:
+        return {nearly(cell) for cell in self.cells}
+
+    def has(self, cell: str) -> bool:
+        return cell in self.cells or nearly(cell) in self.near
+
+
+class IdColumn:
+    """Finds the column of the ids of a sheet, and those of the parents that are wanted. `ids` are those of the book,
+    and `before` the title that their column had."""
+
+    def __init__(
+        self, columns: Columns, wanted: list[Field], unknown: Container[str], ids: Collection[str], before: str
+    ) -> None:
+        self.columns, self.wanted, self.unknown = columns, wanted, unknown
+        self.ids, self.before = ids, before
+
+    def find(self) -> None:
+        at = self.columns.found.get(Field.ID)
+        if at is None and self.ids:
+            at = self.of_book()
+        fit = self.fit(at, 0) if at is not None else self.best()
+        if fit is None:
+            for name in self.wanted:
+                self.columns.found |= {name: at for at in self.columns.titled(KNOWN_TITLES[name])[:1]}
+            return
+        self.columns.found[Field.ID] = fit.at
+        self.columns.found |= fit.parents
+
+    # -- the ids of the book
+
+    def of_book(self) -> int | None:
+        """The column that has the most ids of the book, where these are most of its cells; else the one with the
+        title that the book's has."""
+        columns = self.columns
+        parents = {at for role in (Field.SIRE, Field.DAM) for at in columns.titled(KNOWN_TITLES[role])}
+        free = [at for at, title in enumerate(columns.sheet.titles) if title and columns.is_free(at)]
+        free = [at for at in free if at not in parents]
+        of_name = columns.found.get(Field.NAME)
+        free += [of_name] if of_name is not None and plain(columns.title(of_name)) == plain(self.before) else []
+        matches = {at: len({*columns.cells(at)} & {*self.ids}) for at in free}
+        titled = [at for at in free if plain(columns.title(at)) == plain(self.before)]
+        best = max(free, key=lambda at: (matches[at], at in titled), default=None)
+        if best is not None and 2 * matches[best] >= min(len(columns.sheet.rows), len(self.ids)):
+            if best not in titled and self.before:
+                columns.notes.append(IdsMoved(columns.title(best), self.before))
+            return best
+        if titled:
+            return titled[0]
+        columns.lacks_ids = self.before
+        return None
+
+    # -- the ids of a first sheet
+
+    def best(self) -> Fit | None:
+        """The best of the columns with a usual title; another one where hardly a parent is found in these."""
+        columns = self.columns
+        usual = columns.titled(KNOWN_TITLES[Field.ID])
+        fits = [self.fit(at, -likely) for likely, at in enumerate(usual)]
+        parents = {at for fit in fits for at in fit.parents.values()}
+        name = columns.found.get(Field.NAME)
+        others = [at for at, title in enumerate(columns.sheet.titles) if title and columns.is_free(at)]
+        others = [at for at in others if at not in usual and at not in parents]
+        best = max(fits, default=None, key=lambda fit: fit[:3])
+        # parents that are written by name are found by the names, where the animals have ids besides
+        others += [name] if name is not None and not (best and best.is_no_row_number) else []
+        more = [self.fit(at, -len(usual)) for at in others if self.are_different(at)]
+        other = max(more, default=None, key=lambda fit: fit[:3])
+        if other and 2 * other.found > self.links(other) and other.found > 9 * (best.found if best else 0):
+            best = other
+        if best and usual and best.at != usual[0]:
+            columns.notes.append(IdsFromOther(columns.title(best.at), best.found, columns.title(usual[0])))
+        texts = [fit.at for fit in more if fit.is_no_row_number and "" not in columns.cells(fit.at)]
+        if best and not best.is_no_row_number and not best.found and texts:
+            columns.notes.append(IdsCountRows(columns.title(best.at), columns.title(texts[0])))
+        return best
+
+    def fit(self, at: int, likely: int) -> Fit:
+        ids = Ids(self.columns.cells(at))
+        parents, found = {}, 0
+        for name in self.wanted:
+            counts = {one: self.count(one, ids) for one in self.columns.titled(KNOWN_TITLES[name]) if one != at}
+            if counts:
+                parents[str(name)] = max(counts, key=lambda one: counts[one])
+                found += counts[parents[name]]
+        for name in (Field.SIRE, Field.DAM):
+            if name not in self.wanted and name in self.columns.found:
+                found += self.count(self.columns.found[name], ids)
+        return Fit(found, not self.are_row_numbers(at), likely, at, parents)
+
+    def count(self, at: int, ids: Ids) -> int:
+        """How many parents' cells of a column are ids."""
+        # most parents have several offspring
+        counts = collections.Counter(self.columns.cells(at))
+        return sum(count for cell, count in counts.items() if cell not in self.unknown and ids.has(cell))
+
+    def links(self, fit: Fit) -> int:
+        """How many cells name a parent."""
+        places = {name: at for name, at in self.columns.found.items() if name in (Field.SIRE, Field.DAM)} | fit.parents
+        return sum(cell not in self.unknown for at in places.values() for cell in self.columns.cells(at))
+
+    def are_different(self, at: int) -> bool:
+        cells = self.columns.cells(at)
+        return len({*cells} - {""}) >= MOSTLY * len(cells)
+
+    def are_row_numbers(self, at: int) -> bool:
+        """Does each row have a number that is one more than that of the row above?"""
+        cells = [cell for cell in self.columns.cells(at) if cell]
+        numbers = [int(cell) for cell in cells if cell.isdecimal() and len(cell) < MOST_DIGITS]
+        steps = sum(after == before + 1 for before, after in zip(numbers, numbers[1:]))
+        return len(numbers) >= FEW and len(numbers) >= MOSTLY * len(cells) and steps >= MOSTLY * (len(numbers) - 1)
+
+
+# Which columns may have a field that no title tells of, as their cells show: for commands that are suggested.
+
+# shorter titles stand in others by chance
+LEAST_LETTERS = 4
+
+
+class LikelyColumns:
+    """Looks at the columns of a sheet that have no field. `unknown` are the words for unknown parents."""
+
+    def __init__(self, columns: Columns, unknown: Container[str]) -> None:
+        self.columns, self.unknown = columns, unknown
+        titles = columns.sheet.titles
+        self.free = [at for at in range(len(titles)) if titles[at] and columns.is_free(at)]
+
+    def said(self, at: int) -> list[str]:
+        return [cell for cell in self.columns.cells(at) if cell and cell not in self.unknown]
+
+    def of_needed(self, missing: list[Field]) -> tuple[LikelyColumn, ...]:
+        """A column for each field that is missing, or none."""
+        found: dict[Field, int | None] = {Field.BIRTH: self.of_days()} if Field.BIRTH in missing else {}
+        parents = [field for field in (Field.SIRE, Field.DAM) if field in missing]
+        left = [at for at in self.free if at not in found.values()]
+        id = self.columns.found.get(Field.ID)
+        ids: list[int] = left if id is None else [id]
+        links = {at: self.of_parents(at, [one for one in left if one != at]) for at in ids}
+        best = max(links, key=lambda at: len(links[at]), default=-1)
+        if parents and len(links.get(best, ())) >= len(parents):
+            found |= {Field.ID: best} | dict(zip(parents, links[best]))
+        places = [(field, found.get(field)) for field in missing]
+        return tuple(LikelyColumn(field, self.columns.title(at)) for field, at in places if at is not None)
+
+    def of_days(self) -> int | None:
+        """The column that has most days."""
+        days = {at: sum(map(is_day, self.said(at))) for at in self.free}
+        likely = [at for at in self.free if 2 * days[at] > len(self.said(at))]
+        return max(likely, key=lambda at: days[at]) if likely else None
+
+    def of_parents(self, id: int, columns: list[int]) -> list[int]:
+        """The columns most of whose cells are ids of other rows, in their order; none where the ids aren't different."""
+        ids = [nearly(cell) for cell in self.columns.cells(id)]
+        known = {*ids}
+        if "" in known or len(known) < len(ids):
+            return []
+        return [at for at in columns if self.are_parents(at, ids, known)]
+
+    def are_parents(self, at: int, ids: list[str], known: set[str]) -> bool:
+        """Are most cells of a column ids, and none that of its own row?"""
+        cells = [
+            (id, nearly(cell)) for id, cell in zip(ids, self.columns.cells(at)) if cell and cell not in self.unknown
+        ]
+        return 2 * sum(cell in known for _, cell in cells) > len(cells) and all(id != cell for id, cell in cells)
+
+    def of_lost(self, field: Field, before: str) -> str:
+        """The title of the column that may have a field which the last sheet had under another one, or nothing: as its
+        cells tell, or where they tell nothing, as it is called."""
+        tells = {
+            Field.SEX: lambda cell: sex_word(cell) in KNOWN_SEXES,
+            Field.EXIT: lambda cell: has_word(cell, KNOWN_EXITS | KNOWN_STAYS) or is_day(cell),
+            Field.SINCE: is_day,
+        }.get(field)
+        usual = [title for title in KNOWN_TITLES[field] if len(title) >= LEAST_LETTERS]
+        for at in self.free:
+            cells = self.said(at)
+            if tells and 2 * sum(map(tells, cells)) > len(cells):
+                return self.columns.title(at)
+            if not tells and any(title in plain(self.columns.title(at)) for title in usual):
+                return self.columns.title(at)
+        near = [] if tells else closest(before, [self.columns.title(at) for at in self.free], 1)
+        return near[0] if near else ""
+
+
+def is_day(text: str) -> bool:
+    try:
+        read_span(text, legible=False)
+    except Unreadable:
+        return False
+    return True

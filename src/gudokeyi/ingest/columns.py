@@ -1,0 +1,173 @@
+"""Which column of a sheet has what: by the titles that are named, by those of the last time, and by the usual ones."""
+from __future__ import annotations
+
+from collections.abc import Collection, Mapping
+from dataclasses import dataclass, field
+from typing import Container
+
+from gudokeyi.domain.kinds import Field
+from gudokeyi.domain.spelling import closest
+from gudokeyi.ingest.column_detection import IdColumn, LikelyColumns
+from gudokeyi.ingest.days import is_span
+from gudokeyi.ingest.encodings import Letters, decoded_twice
+from gudokeyi.ingest.findings.columns import (
+    ColumnLost, ColumnsLack, LikelierColumn, NamedColumnLacks, SheetFinding, TellsNoExits, TitleTwice,
+)  # fmt: skip
+from gudokeyi.ingest.sheets import Sheet
+from gudokeyi.ingest.titles import KNOWN_DOUBTFUL, KNOWN_PAIRS, KNOWN_TITLES, NEEDED, TITLES
+from gudokeyi.ingest.words import KNOWN_EXITS, KNOWN_STAYS, has_word, plain
+
+PARENTS = Field.SIRE, Field.DAM
+
+
+@dataclass
+class Columns:
+    """For each field its column; what keeps the sheet from being taken, and what is told."""
+
+    sheet: Sheet
+    found: dict[str, int] = field(default_factory=dict)
+    faults: list[SheetFinding] = field(default_factory=list)
+    # the title of the book's ids, where no column has these
+    lacks_ids: str = ""
+    notes: list[SheetFinding] = field(default_factory=list)
+
+    def cells(self, at: int) -> list[str]:
+        return self.sheet.column(at)
+
+    def title(self, at: int) -> str:
+        return self.sheet.titles[at]
+
+    def titled(self, usual: Collection[str]) -> list[int]:
+        """The columns that have one of these titles and no other field, the likeliest title first."""
+        titles = [plain(title) for title in self.sheet.titles]
+        return [at for title in usual for at, one in enumerate(titles) if one == title and self.is_free(at)]
+
+    def is_free(self, at: int) -> bool:
+        return at not in self.found.values()
+
+    def in_order(self) -> dict[str, int]:
+        return {name: self.found[name] for name in TITLES if name in self.found}
+
+    def titles_not_read(self) -> tuple[str, ...]:
+        return tuple(title for at, title in enumerate(self.sheet.titles) if title and self.is_free(at))
+
+    def titles_found(self) -> list[tuple[str, str]]:
+        """The fields with their titles, as the book remembers them."""
+        return [(name, self.title(at)) for name, at in self.in_order().items()]
+
+
+def find_columns(
+    sheet: Sheet,
+    given: Mapping[str, str],
+    before: Mapping[str, str],
+    unknown: Container[str],
+    ids: Collection[str] = (),
+) -> Columns:
+    """The columns by the titles that are `given`, else by those of the last time, `before`, and else by the usual ones.
+    `ids` are those of the book."""
+    columns = Columns(sheet)
+    tell_doubles(columns)
+    titles = {plain(title) for title in sheet.titles}
+    named = {name: title for name, title in before.items() if not title or plain(title) in titles} | dict(given)
+    for name in TITLES:
+        # which column has the ids of a book is seen in its cells
+        if named.get(name) and (name != Field.ID or name in given):
+            name_column(columns, name, named)
+    find_pair(columns, [name for name in PARENTS if name not in named])
+    for name in TITLES:
+        if name not in named and name not in (Field.ID, *PARENTS):
+            usual_column(columns, name)
+    parents = [name for name in PARENTS if name not in named and name not in columns.found]
+    IdColumn(columns, parents, unknown, ids, before.get(Field.ID, "")).find()
+    tell_likelier(columns, given, before)
+    likely = LikelyColumns(columns, unknown)
+    tell_missing(columns, named, likely)
+    tell_lost(columns, before, likely)
+    return columns
+
+
+def name_column(columns: Columns, name: str, named: Mapping[str, str]) -> None:
+    title = named[name]
+    places = [at for at, one in enumerate(columns.sheet.titles) if one == title]
+    places += [at for at, one in enumerate(columns.sheet.titles) if plain(one) == plain(title)]
+    if places:
+        columns.found[name] = places[0]
+        return
+    titles = columns.sheet.titles
+    meant = closest(title, [one for one in titles if one and one not in named.values()], 1)
+    lacks = NamedColumnLacks(columns.sheet.line, Field(name), title, tuple(titles), meant[0] if meant else "")
+    columns.faults.append(lacks)
+
+
+def usual_column(columns: Columns, name: str) -> None:
+    titled = columns.titled(KNOWN_TITLES[name])
+    # one that has nothing is read where no other has its field
+    for at in sorted(titled, key=lambda one: not any(columns.cells(one))):
+        if plain(columns.title(at)) not in KNOWN_DOUBTFUL or tells_exits(columns, at):
+            columns.found[name] = at
+            return
+
+
+def tells_exits(columns: Columns, at: int) -> bool:
+    """Do most cells of the column tell that an animal left, or that it lives?"""
+    cells = [cell for cell in columns.cells(at) if cell]
+    known = sum(is_span(cell) or has_word(cell, KNOWN_EXITS) or has_word(cell, KNOWN_STAYS) for cell in cells)
+    if 2 * known <= len(cells) and known:
+        columns.notes.append(TellsNoExits(columns.title(at)))
+    return 2 * known > len(cells)
+
+
+def find_pair(columns: Columns, wanted: list[Field]) -> None:
+    """The parents are in columns such as `Dog` and `Bitch` where none has a title for a sire or a dam."""
+    usual = [one for name in wanted for one in KNOWN_TITLES[name] if one not in KNOWN_PAIRS[name]]
+    pair = [columns.titled(KNOWN_PAIRS[name]) for name in wanted]
+    if len(pair) == len(PARENTS) and all(pair) and not columns.titled(usual):
+        columns.found |= {name: places[0] for name, places in zip(wanted, pair)}
+
+
+def tell_doubles(columns: Columns) -> None:
+    titles = columns.sheet.titles
+    for title in dict.fromkeys(plain(title) for title in titles if plain(title)):
+        places = [at for at, one in enumerate(titles) if plain(one) == title]
+        if len(places) > 1:
+            same = all(columns.cells(at) == columns.cells(places[0]) for at in places)
+            columns.notes.append(TitleTwice(titles[places[0]], tuple(at + 1 for at in places), same))
+
+
+def tell_likelier(columns: Columns, given: Mapping[str, str], before: Mapping[str, str]) -> None:
+    """A column that is read as at the last time, where the sheet has one besides whose title is likelier."""
+    for name in (one for one in before if one in columns.found and one not in given and one != Field.ID):
+        usual = KNOWN_TITLES[name]
+        title = plain(columns.title(columns.found[name]))
+        likelier = columns.titled(usual[: usual.index(title)] if title in usual else usual)
+        if likelier:
+            title = columns.title(columns.found[name])
+            columns.notes.append(LikelierColumn(Field(name), title, columns.title(likelier[0])))
+
+
+def tell_missing(columns: Columns, named: Mapping[str, str], likely: LikelyColumns) -> None:
+    missing = [name for name in NEEDED if name not in columns.found and (name == Field.ID or named.get(name) != "")]
+    # a title that is named and isn't there is told already
+    missing = [name for name in missing if not (named.get(name) and columns.faults)]
+    wrong_letters = letters_of_titles(columns.sheet)
+    (columns.faults if missing else columns.notes).extend(wrong_letters)
+    if wrong_letters:
+        meant = {plain(decoded_twice(title)) for title in columns.sheet.titles}
+        missing = [name for name in missing if not meant & {*KNOWN_TITLES[name]}]
+    if missing:
+        titles = tuple(columns.sheet.titles)
+        columns.faults.append(ColumnsLack(columns.sheet.line, tuple(missing), titles, likely.of_needed(missing)))
+
+
+def letters_of_titles(sheet: Sheet) -> list[SheetFinding]:
+    letters = Letters()
+    for title in sheet.titles:
+        letters.look(sheet.line, title)
+    return letters.told()
+
+
+def tell_lost(columns: Columns, before: Mapping[str, str], likely: LikelyColumns) -> None:
+    """The last sheet had a column that this one lacks, as where it has another title now."""
+    for name, title in before.items():
+        if title and name not in columns.found and name not in NEEDED:
+            columns.notes.append(ColumnLost(Field(name), title, likely.of_lost(Field(name), title)))

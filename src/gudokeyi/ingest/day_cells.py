@@ -1,0 +1,144 @@
+"""What the cells of days say, and whether days with slashes or hyphens have the day first or the month."""
+from __future__ import annotations
+
+import datetime
+import functools
+import re
+from collections.abc import Iterable
+from dataclasses import replace
+from typing import Container, NamedTuple
+
+from gudokeyi.domain.collections import made
+from gudokeyi.domain.kinds import Field
+from gudokeyi.domain.provenance import GIVEN_EXIT, ExitBasis, ExitSource
+from gudokeyi.ingest.days import (
+    DayFault, Precision, Span, Unreadable, behind_since, is_span, read_span, span_within, usual_day,
+)  # fmt: skip
+from gudokeyi.ingest.findings.cells import DayLeftOut
+from gudokeyi.ingest.findings.sheets import NoOrderShown, Place, WrongOrder
+from gudokeyi.ingest.words import exit_word, lives, word_fault
+
+# Whether days with slashes or hyphens have the day first or the month, as a sheet's own days show.
+
+SLASHED = re.compile(r"(?<!\d)(\d{1,2})([/-])(\d{1,2})\2\d{4}(?!\d)")
+
+
+class Order:
+    """The days of a sheet that are written with slashes or hyphens: those that show that the month stands first, those
+    that show that the day does, each with the place where it stands, and how many show neither."""
+
+    def __init__(self, cells: Iterable[Place]) -> None:
+        self.months_first: list[Place] = []
+        self.days_first: list[Place] = []
+        self.either = 0
+        for cell in cells:
+            for found in SLASHED.finditer(cell.text):
+                first, second = int(found[1]), int(found[3])
+                if first > 12 >= second:
+                    self.days_first.append(replace(cell, text=found[0]))
+                elif second > 12 >= first:
+                    self.months_first.append(replace(cell, text=found[0]))
+                else:
+                    self.either += first != second
+
+    @staticmethod
+    def may_show(text: str) -> bool:
+        """Can a text have such a day?"""
+        return SLASHED.search(text) is not None
+
+    def fault(self, month_first: bool) -> WrongOrder | None:
+        """Why the days can't be read in the order that is wished."""
+        wrong = self.days_first if month_first else self.months_first
+        right = self.months_first if month_first else self.days_first
+        return WrongOrder(month_first, wrong[0], len(wrong), right[0] if right else None) if wrong else None
+
+    def note(self, month_first: bool) -> NoOrderShown | None:
+        """What is told where no day shows the order."""
+        if not self.either or self.days_first or self.months_first or month_first:
+            return None
+        return NoOrderShown(self.either)
+
+
+# What the cells of days say. The same texts stand in many cells, and each is read once.
+
+
+class DayCell(NamedTuple):
+    """A text in a column of days: the days that it leaves open, where it says any; and why it isn't taken, either since
+    it can't be read or since the day can't be."""
+
+    span: Span | None = None
+    says_something: bool = True
+    fault: DayLeftOut | None = None
+    is_unread: bool = False
+
+
+SAYS_NOTHING = DayCell(says_something=False)
+
+
+class ExitCell(NamedTuple):
+    """A text in the column of exits: its day, whether it is nothing but a day, a month or a year, and whether one that
+    isn't taken is after today."""
+
+    day: DayCell
+    is_span: bool
+    is_later: bool
+
+    @property
+    def basis(self) -> ExitBasis:
+        """Of an exit on a day that the text has."""
+        span = self.day.span
+        assert span is not None
+        return GIVEN_EXIT if span.is_day else ExitBasis(ExitSource.PERIOD, span.period())
+
+
+class DayCells:
+    """Reads the texts of days. An exit is a day, a text with a day, or a word, such as `sold`: then the animal has left
+    on a day that isn't known."""
+
+    def __init__(self, unknown: Container[str], month_first: bool) -> None:
+        self.unknown, self.month_first, self.today = unknown, month_first, datetime.date.today()
+        self.day = functools.cache(self.read_day)
+        # nothing for an animal that lives
+        self.exit = functools.cache(self.read_exit)
+
+    def read_exit(self, text: str) -> ExitCell | None:
+        is_day = usual_day(text) is not None
+        if not is_day and lives(text):
+            return None
+        day = self.day(Field.EXIT, text)
+        return ExitCell(day, is_day or is_span(text), day.fault is not None and self.is_later(text))
+
+    def read_day(self, field: Field, text: str) -> DayCell:
+        if (day := usual_day(text)) and text not in self.unknown:
+            return self.possible(field, text, made(Span, (day, day, "", "", Precision.DAY)))
+        is_exit, said = field is Field.EXIT, behind_since(text) if field is Field.SINCE else text
+        has_left = is_exit and exit_word(text)
+        if said in self.unknown and not has_left:
+            return SAYS_NOTHING
+        try:
+            within = span_within(text, self.month_first) if is_exit and not is_span(text) else None
+            span = within or read_span(said, self.month_first, legible=not is_exit)
+        except Unreadable as error:
+            # days in the wrong order keep the whole sheet from being taken, and are told once
+            if error.fault is DayFault.WRONG_ORDER:
+                return DayCell()
+            told = (word_fault(text), text) if has_left else (error.fault, text if error.text == said else error.text)
+            return DayCell(fault=DayLeftOut(field, *told, is_exit), is_unread=True)
+        return self.possible(field, text, span)
+
+    def possible(self, field: Field, text: str, span: Span) -> DayCell:
+        """A text with these days, which aren't taken where they are after today."""
+        # the day of a transfer is looked at where it is filed
+        if field is Field.SINCE:
+            return DayCell(span)
+        if span.first > self.today:
+            return DayCell(fault=DayLeftOut(field, DayFault.AFTER_TODAY, text))
+        return made(DayCell, (span.until(self.today), True, None, False))
+
+    def is_later(self, text: str) -> bool:
+        """Is it a day after today?"""
+        try:
+            span = span_within(text, self.month_first) or read_span(text, self.month_first, False)
+        except Unreadable:
+            return False
+        return span.first > self.today

@@ -1,0 +1,71 @@
+"""Reads the words for sexes of a sheet, also short ones whose long form the column has."""
+from __future__ import annotations
+
+import collections
+import functools
+import re
+from typing import NamedTuple
+
+from gudokeyi.ingest.findings.columns import SheetFinding
+from gudokeyi.ingest.findings.sheets import SexWord, SexWordsShort, TextCount
+from gudokeyi.ingest.words import KNOWN_CASTRATED, KNOWN_SEXES, has_word, plain, sex_word
+
+
+class Meaning(NamedTuple):
+    """The sex of a text, empty where it isn't known, and the word for which the text is taken where it is none itself."""
+
+    sex: str
+    is_castrated: bool
+    word: str
+
+
+class Sexes:
+    """The words of a column, and those that are named by `--sexes`."""
+
+    def __init__(self, texts: list[str], given: dict[str, str]) -> None:
+        self.known = KNOWN_SEXES | given
+        self.short = self.short_words(texts)
+        # the same words stand in many cells
+        self.meaning = functools.cache(self.find)
+        # how often a text is taken for a known word
+        self.taken_for: collections.Counter[tuple[str, str]] = collections.Counter()
+
+    def short_words(self, texts: list[str]) -> dict[str, list[tuple[str, str]]]:
+        """The sexes of the column's known words, by their first letters: for each the word and its sex."""
+        found: dict[str, list[tuple[str, str]]] = {}
+        for word in sorted(set(texts)):
+            known, sex = sex_word(word), self.known.get(sex_word(word), "")
+            for length in range(1, len(known) if sex else 0):
+                found.setdefault(known[:length], []).append((word, sex))
+        return found
+
+    def read(self, text: str) -> tuple[str, bool]:
+        """The sex, or nothing where it isn't known, and whether the animal is castrated."""
+        found = self.meaning(text)
+        if found.word:
+            self.taken_for[text, found.word] += 1
+        return found.sex, found.is_castrated
+
+    def find(self, text: str) -> Meaning:
+        word = sex_word(text)
+        sex, longer = self.known.get(word, ""), self.short.get(word, [])
+        taken_for = ""
+        if not sex and text and len({sex for _, sex in longer}) == 1:
+            taken_for, sex = longer[0]
+        elif not sex:
+            taken_for, sex = self.among_words(text)
+        return Meaning(sex, sex == "M" and has_word(text, KNOWN_CASTRATED), taken_for)
+
+    def among_words(self, text: str) -> tuple[str, str]:
+        """A word of the text and its sex, where that is the only one in it, as in `Rüde (kastriert)`."""
+        words = [word for word in re.split(r"[\s,;/()]+", text) if len(plain(word)) > 1 or word in "mwfMWF"]
+        found = {word: self.known[plain(word)] for word in words if plain(word) in self.known}
+        if len(words) < 2 or len(set(found.values())) != 1:
+            return "", ""
+        return next(iter(found.items()))
+
+    def told(self) -> list[SheetFinding]:
+        """Which words are taken for others."""
+        counts = sorted(self.taken_for.items())
+        taken = tuple(SexWord(TextCount(text, count), whole) for (text, whole), count in counts)
+        return [SexWordsShort(taken)] if taken else []

@@ -1,0 +1,307 @@
+"""The animals of a sheet: which rows are taken, which may be no animals or have one id, and what is seen of the sheet
+as a whole."""
+from __future__ import annotations
+
+import collections
+import datetime
+import operator
+import re
+from collections.abc import Callable, Iterable, Iterator, Mapping, Sequence
+from typing import Container
+
+from gudokeyi.domain.findings import Report
+from gudokeyi.domain.kinds import Field, Role
+from gudokeyi.ingest.animal_cells import AnimalCells, ErrorValues, Unread
+from gudokeyi.ingest.animals import ROLES, SheetAnimal
+from gudokeyi.ingest.day_cells import Order
+from gudokeyi.ingest.days import Span, Unreadable, read_span
+from gudokeyi.ingest.findings.cells import (
+    DAYS, IdAgain, IdAlone, IdTooLong, LikeASum, NoAnimal, NoId, TitlesAgain, TooManyCells,
+)  # fmt: skip
+from gudokeyi.ingest.findings.columns import SheetFinding
+from gudokeyi.ingest.findings.sheets import CutNumber, FormulaCell, Place
+from gudokeyi.ingest.sexes import Sexes
+from gudokeyi.ingest.sheets import Sheet, SheetRow
+from gudokeyi.ingest.spellings import CUT
+from gudokeyi.ingest.titles import parts_of
+from gudokeyi.ingest.unknown_parents import UnknownParents
+from gudokeyi.ingest.words import KNOWN_SUMS, is_error_value, nearly, plain
+from gudokeyi.reconcile.ids import YEARS_LATER, tell_used_again
+from gudokeyi.store.messages import MOST_IN_ID
+
+# Rows that may be no animals: those that count or sum up, and those that have an id alone. They are taken, and told,
+# unless somebody says by a word of theirs that they are none.
+
+# what a row says of an animal; an owner's cell may have a word of a row that sums up
+SAYS = (Field.NAME, Field.SEX, Field.BIRTH, Field.SIRE, Field.DAM, Field.EXIT)
+# what stands around a word that sums up
+SIGNS = ":;.,=–-"
+
+
+class NoAnimals:
+    """The words of rows that are said to be no animals: whole ids, words that sum up and begin an id, and cells of rows
+    that say no sex and no birth day."""
+
+    def __init__(self, words: Iterable[str]) -> None:
+        self.words = {plain(word) for word in parts_of(list(words))} - {""}
+
+    def __bool__(self) -> bool:
+        return bool(self.words)
+
+    def of_id(self, id: str) -> str:
+        """The word by which a row with this id is no animal, empty where there is none."""
+        if plain(id) in self.words:
+            return id
+        first = first_sum(id)
+        return first if plain(first) in self.words else ""
+
+    def of_cells(self, cells: list[str]) -> str:
+        """The same of the cells of a row that says nothing of an animal."""
+        return next((cell for cell in cells if plain(cell) in self.words), "")
+
+
+def tell_odd_rows(animals: dict[str, SheetAnimal], rows: list[SheetRow], report: Report) -> None:
+    without_day = {animal.line: animal for animal in animals.values() if not animal.cells.get(Field.BIRTH)}
+    cells = {row.line: row.cells for row in rows if row.line in without_day} if without_day else {}
+    likely = [one for one in animals.values() if may_be_sum(one.id) or one.line in cells]
+    sums = {one.id: word for one in likely if (word := sum_of(one, cells.get(one.line, [])))}
+    for id, word in sums.items():
+        report.add(animals[id].line, id, LikeASum(word))
+    alone = [one for one in without_day.values() if not any(map(one.cells.get, SAYS))]
+    # a list of ids is no sheet with odd rows
+    if not alone or 2 * len(alone) > len(animals):
+        return
+    parents = {nearly(parent) for animal in animals.values() for parent in animal.parent_ids()}
+    for animal in alone:
+        if animal.id not in sums and nearly(animal.id) not in parents:
+            report.add(animal.line, animal.id, IdAlone(animal.id))
+
+
+def may_be_sum(id: str) -> bool:
+    """Can it begin with a word that sums up? None ends with a digit, as most ids of one word do."""
+    return not id[-1].isdigit() or " " in id
+
+
+def sum_of(animal: SheetAnimal, cells: list[str]) -> str:
+    """The word such as `Summe` with which its id begins, or which is a cell of a row without a birth day."""
+    return first_sum(animal.id) or next((cell.strip(SIGNS) for cell in cells if plain(cell) in KNOWN_SUMS), "")
+
+
+def first_sum(id: str) -> str:
+    """The first word of an id, where it sums up."""
+    word = id.split()[0]
+    # no word that sums up ends with a digit, as most ids do
+    return word.strip(SIGNS) if not word[-1].isdigit() and plain(word) in KNOWN_SUMS else ""
+
+
+# Rows that have one id: which of them is taken, and what the others say otherwise.
+
+
+class SameIds:
+    """Compares rows of one id. `born` are the birth days that animals of the book have by their ids."""
+
+    def __init__(self, unknown: Container[str], month_first: bool, born: Mapping[str, datetime.date]) -> None:
+        self.unknown, self.month_first, self.born = unknown, month_first, born
+
+    def is_of_book(self, id: str, cells: dict[str, str]) -> bool:
+        """Has the row the birth day that the book has of this id?"""
+        span = self.birth(cells)
+        return span is not None and span.is_day and self.born.get(id) == span.first
+
+    def birth(self, cells: dict[str, str]) -> Span | None:
+        try:
+            return read_span(cells.get(Field.BIRTH, ""), self.month_first)
+        except Unreadable:
+            return None
+
+    def again(self, animal: SheetAnimal, first: dict[str, str], cells: dict[str, str]) -> IdAgain:
+        """What a second row of an id says otherwise than the first, which became an animal."""
+        fields = [name for name in cells if name not in ROLES]
+        differing = tuple((name, cells[name], first[name]) for name in fields if cells[name] != first[name])
+        here = self.parent(cells, Role.SIRE), self.parent(cells, Role.DAM)
+        return IdAgain(animal.line, (animal.sire, animal.dam), here, differing)
+
+    def parent(self, cells: dict[str, str], role: Role) -> str:
+        text = cells.get(role, "")
+        return "" if text in self.unknown else text
+
+    def are_years_apart(self, animal: SheetAnimal, cells: dict[str, str]) -> bool:
+        """Was the animal of a second row of an id born years before or after that of the first?"""
+        here = self.birth(cells)
+        is_known = here is not None and here.is_day and animal.has_day()
+        return here is not None and is_known and abs((here.first - animal.birth.first).days) >= YEARS_LATER
+
+    def is_preferred(self, first: SheetAnimal, second: SheetAnimal) -> bool:
+        """Of two animals with one id the one that the book has is taken, else the one that was born first: is it the
+        second?"""
+        born, days = self.born.get(second.id), [animal.birth.first for animal in (first, second)]
+        return born == days[1] or (born != days[0] and days[1] < days[0])
+
+
+# The animals of a sheet: which rows are taken, and what is seen of the sheet as a whole.
+
+# how a spreadsheet shows a formula in place of its value, and a sign that it has, as a number that is cut has one
+PLUS = "+"
+FORMULA, EQUALS = re.compile(r"=.+", re.DOTALL), "="
+
+CELLS_OF = operator.attrgetter("cells")
+
+
+def chooser(places: list[int]) -> Callable[[list[str]], Sequence[str]]:
+    """What chooses the cells at some places of a row."""
+    if len(places) > 1:
+        return operator.itemgetter(*places)
+    return lambda cells: [cells[at] for at in places]
+
+
+class Rows:
+    """Reads the rows of a sheet. `born` are the birth days that animals of the book have by their ids, `no_animals` the
+    words of rows that are none."""
+
+    def __init__(
+        self,
+        sheet: Sheet,
+        columns: dict[str, int],
+        unknown: UnknownParents,
+        sexes: dict[str, str],
+        report: Report,
+        month_first: bool = False,
+        born: Mapping[str, datetime.date] | None = None,
+        no_animals: Sequence[str] = (),
+    ) -> None:
+        self.sheet, self.columns, self.unknown, self.report = sheet, columns, unknown, report
+        self.no_animals = NoAnimals(no_animals)
+        self.month_first = month_first
+        # rows that end before it get empty cells
+        self.width = 1 + max(columns.values(), default=0)
+        self.chosen = chooser([*columns.values()])
+        self.errors = ErrorValues(sheet, columns)
+        self.sexes = Sexes(self.texts(Field.SEX), sexes)
+        self.unread = Unread({name: sheet.titles[at] for name, at in columns.items()})
+        self.cells = AnimalCells(unknown, self.sexes, self.unread, report, month_first)
+        self.same_ids = SameIds(unknown, month_first, born or {})
+        # what keeps the sheet from being taken, and what may be wrong
+        self.faults: list[SheetFinding] = []
+        self.notes: list[SheetFinding] = []
+
+    def texts(self, name: str) -> list[str]:
+        """A column, in which error values are empty."""
+        at = self.columns.get(name)
+        if at is None:
+            return [""] * len(self.sheet.rows)
+        texts = self.sheet.column(at)
+        return [self.value(text) for text in texts] if self.errors.found else texts
+
+    def value(self, text: str) -> str:
+        return "" if is_error_value(text) else text
+
+    def said(self, cells: list[str]) -> dict[str, str]:
+        """The cells of a row by their fields; error values are empty."""
+        if len(cells) < self.width:
+            cells = cells + [""] * (self.width - len(cells))
+        texts = self.chosen(cells)
+        return dict(zip(self.columns, map(self.value, texts) if self.errors.found else texts))
+
+    def said_of(self) -> Callable[[list[str]], dict[str, str]]:
+        """What answers the same, quicker where no row has an error value or ends before a column."""
+        if self.errors.found or min(map(len, map(CELLS_OF, self.sheet.rows)), default=0) < self.width:
+            return self.said
+        columns, chosen = self.columns, self.chosen
+        return lambda cells: dict(zip(columns, chosen(cells)))
+
+    def animals(self) -> dict[str, SheetAnimal]:
+        """The animals by id, in the order of the rows."""
+        found: dict[str, SheetAnimal] = {}
+        # animals of other years that have the id of another one
+        others: list[SheetAnimal] = []
+        titles, usual = len(self.sheet.titles), self.usual_length()
+        may_be_none, said_of = bool(self.no_animals), self.said_of()
+        id_title = self.sheet.titles[self.columns[Field.ID]]
+        for line, cells in self.sheet.rows:
+            said = said_of(cells)
+            id = said.pop(Field.ID)
+            if len(id) > MOST_IN_ID:
+                self.report.add(line, "", IdTooLong(len(id), MOST_IN_ID))
+            elif len(cells) > titles and (len(cells) > usual or any(cells[titles:])):
+                self.report.add(line, id, TooManyCells(len(cells), titles))
+            elif self.unknown.is_one(id):
+                self.report.add(line, id, NoId(id))
+            elif id == id_title and cells[:titles] == self.sheet.titles:
+                self.report.add(line, "", TitlesAgain())
+            elif may_be_none and (word := self.no_animal(id, cells, said)):
+                self.report.add(line, id, NoAnimal(word))
+            elif id not in found:
+                found[id] = self.cells.animal(line, id, said)
+            elif self.same_ids.are_years_apart(found[id], said):
+                others.append(self.of_two(found, self.cells.animal(line, id, said)))
+            else:
+                self.take_one(found, line, id, said)
+        tell_used_again(found, others, self.report)
+        self.look_at_all(found)
+        return found
+
+    def no_animal(self, id: str, cells: list[str], said: dict[str, str]) -> str:
+        """The word by which a row is no animal, as somebody says; empty where it is one."""
+        word = self.no_animals.of_id(id)
+        if word or not (in_cell := self.no_animals.of_cells(cells)):
+            return word
+        says_day = said.get(Field.BIRTH) and self.same_ids.birth(said)
+        return "" if says_day or self.sexes.meaning(said.get(Field.SEX, "")).sex else in_cell
+
+    def usual_length(self) -> int:
+        """How many cells a row may have. Many sheets have empty ones at the end of all rows."""
+        lengths = collections.Counter(map(len, map(CELLS_OF, self.sheet.rows)))
+        common = [length for length, count in lengths.items() if 2 * count > len(self.sheet.rows)]
+        return max([len(self.sheet.titles), *common])
+
+    def of_two(self, found: dict[str, SheetAnimal], second: SheetAnimal) -> SheetAnimal:
+        """Takes one of two animals with one id, and answers the other."""
+        first = found[second.id]
+        if not self.same_ids.is_preferred(first, second):
+            return second
+        found[second.id] = second
+        return first
+
+    def take_one(self, found: dict[str, SheetAnimal], line: int, id: str, said: dict[str, str]) -> None:
+        """Of two rows with one id the one that agrees with the book is taken, else the first."""
+        first = found[id]
+        if self.same_ids.is_of_book(id, said) and not self.same_ids.is_of_book(id, first.cells):
+            found[id] = self.cells.animal(line, id, said)
+            self.report.add(first.line, id, self.same_ids.again(found[id], said, first.cells))
+        else:
+            self.report.add(line, id, self.same_ids.again(first, first.cells, said))
+
+    def look_at_all(self, animals: dict[str, SheetAnimal]) -> None:
+        """What is told of the sheet as a whole, and of rows that seem to count or to sum up."""
+        self.errors.leave_out(animals, self.report)
+        tell_odd_rows(animals, self.sheet.rows, self.report)
+        order = Order(self.slashed_days())
+        fault, note = order.fault(self.month_first), order.note(self.month_first)
+        self.faults += [*([fault] if fault else []), *self.cut_numbers(), *self.unread.mostly(), *self.errors.mostly()]
+        self.notes += [*self.cells.letters.told(), *self.errors.told(), *([note] if note else [])]
+        self.notes += [*self.unread.found(), *self.sexes.told()]
+
+    def slashed_days(self) -> Iterator[Place]:
+        """The cells of days that may show their order, each with its place."""
+        for name, what in DAYS.items():
+            texts = self.texts(name)
+            slashed = {text for text in {*texts} if Order.may_show(text)}
+            places = zip(self.sheet.rows, texts) if slashed else ()
+            for (line, cells), text in places:
+                if text in slashed:
+                    yield Place(line, self.said(cells)[Field.ID], what, text)
+
+    def cut_numbers(self) -> list[SheetFinding]:
+        """Ids that the spreadsheet has cut, and formulas in place of their values."""
+        ids = [self.columns[name] for name in (Field.ID, *ROLES) if name in self.columns]
+        cut = self.cells_like(CUT, PLUS, ids)
+        formulas = self.cells_like(FORMULA, EQUALS, [*self.columns.values()])
+        found: list[SheetFinding] = [CutNumber(*cell, len(cut)) for cell in cut[:1]]
+        return found + [FormulaCell(*cell, len(formulas)) for cell in formulas[:1]]
+
+    def cells_like(self, pattern: re.Pattern[str], sign: str, columns: list[int]) -> list[tuple[int, str]]:
+        """The cells of some columns that a pattern fits, each with its line. Few sheets and few rows have the sign of one."""
+        rows = self.sheet.rows if sign in self.sheet.together else []
+        rows = [row for row in rows if sign in "\t".join(row.cells)]
+        places = [(line, cells[at]) for line, cells in rows for at in columns if at < len(cells)]
+        return [(line, text) for line, text in places if pattern.fullmatch(text)]

@@ -1,0 +1,162 @@
+"""A spreadsheet as rows of cells: CSV in one of three separators and three encodings, or `.xlsx`."""
+from __future__ import annotations
+
+import csv
+import functools
+import io
+import itertools
+import operator
+import unicodedata
+from collections.abc import Callable
+from dataclasses import dataclass, field
+from typing import NamedTuple
+
+from gudokeyi.domain.cells import from_spreadsheets, may_have_texts
+from gudokeyi.domain.collections import made
+from gudokeyi.domain.messages import Mistake
+from gudokeyi.ingest.encodings import decoding
+from gudokeyi.ingest.files import GivenFile, check_bounds
+from gudokeyi.ingest.findings.columns import SheetFinding
+from gudokeyi.ingest.messages import SheetFault
+from gudokeyi.ingest.words import clean
+from gudokeyi.ingest.workbooks import read_workbook
+
+SEPARATORS = ";\t,"
+# blanks that cells are read without
+BLANKS = ("  ", " \n", "\n ", " \r", "\r ")
+# the titles stand in one of so many rows
+BEGINNING = 5
+Score = Callable[[list[str]], int]
+
+
+class SheetRow(NamedTuple):
+    """A row that has a cell with text. `line` is that of the file in which it begins, the first line is 1."""
+
+    line: int
+    cells: list[str]
+
+
+@dataclass(frozen=True)
+class Sheet:
+    """The row of titles with its line, the rows below it, how the file was read, in words, and what keeps it from
+    being taken."""
+
+    line: int
+    titles: list[str]
+    rows: list[SheetRow]
+    how: str
+    faults: list[SheetFinding]
+    # the columns that were asked for, by their places
+    kept: dict[int, list[str]] = field(default_factory=dict)
+
+    def column(self, at: int) -> list[str]:
+        """The cells of a column; a row that ends before it has an empty one."""
+        if at not in self.kept:
+            self.kept[at] = column_of(self.rows, at)
+        return self.kept[at]
+
+    @functools.cached_property
+    def together(self) -> str:
+        """The cells of all rows as one text: that none of them has a sign is seen there at once."""
+        return "\t".join(itertools.chain.from_iterable(cells for _, cells in self.rows))
+
+
+def column_of(rows: list[SheetRow], at: int) -> list[str]:
+    """The cells of a column; a row that ends before it has an empty one."""
+    try:
+        return [*map(operator.itemgetter(at), map(operator.itemgetter(1), rows))]
+    except IndexError:
+        return [cells[at] if at < len(cells) else "" for _, cells in rows]
+
+
+def read_sheet(file: GivenFile, score: Score, worksheet: str = "") -> Sheet:
+    """The rows of a file. `score` says how many titles of a row are known: the separator that gives most is taken, and the
+    worksheet where none is named."""
+    path, data = file.path, file.data
+    faults: list[SheetFinding]
+    if file.is_zipped() and not file.is_workbook():
+        raise Mistake(SheetFault.ODS.said(path=path))
+    if file.is_workbook():
+        found = read_workbook(path, data, score, BEGINNING, worksheet)
+        rows, how, faults = [SheetRow(*one) for one in found.rows], found.how, found.faults
+    else:
+        if worksheet:
+            raise Mistake(SheetFault.NO_WORKSHEETS.said(path=path))
+        text, encoding, fault = decoding(path, data)
+        rows, separator = read_text(text, score)
+        how = f"{encoding}, cells separated by " + {";": "semicolons", "\t": "tabs", ",": "commas"}[separator]
+        faults = [fault] if fault else []
+    if not rows:
+        raise Mistake(SheetFault.EMPTY.said(path=path))
+    at = title_row([row.cells for row in rows[:BEGINNING]], score)
+    line, titles = rows[at]
+    check_bounds(path, rows, at + 1)
+    return Sheet(line, titles, rows[at + 1 :], how, faults)
+
+
+def title_row(rows: list[list[str]], score: Score) -> int:
+    """The first row, or a later one that has the titles where the first has less of them, as below a heading."""
+    best = max(range(len(rows)), key=lambda at: score(rows[at]))
+    return best if score(rows[best]) >= 3 and score(rows[best]) > score(rows[0]) else 0
+
+
+def read_text(text: str, score: Score) -> tuple[list[SheetRow], str]:
+    # a first line that names the separator, as Excel reads it
+    named = text[:4].lower() == "sep=" and text[4:5] in SEPARATORS and text[4:5]
+    if named:
+        return read_records(text, named)[1:], named
+    # the file's first lines, each with any separator
+    beginning = [line for line in text[:20_000].splitlines() if line.strip()][:BEGINNING]
+
+    def likely(separator: str) -> tuple[int, int]:
+        rows = [next(csv.reader([line], delimiter=separator)) for line in beginning]
+        return max((score(row), len(row)) for row in rows) if rows else (0, 0)
+
+    separator = max(SEPARATORS, key=likely)
+    return read_records(text, separator), separator
+
+
+class Cleaned(dict[str, str]):
+    """Cells as they are read, by what the file has. The same texts stand in many cells, and each is cleaned once."""
+
+    def __missing__(self, cell: str) -> str:
+        # `="007"` is how some programs keep a spreadsheet from taking away zeros
+        is_kept = cell[:2] == '="' and cell[-1:] == '"'
+        self[cell] = found = from_spreadsheets(clean(cell[2:-1] if is_kept else cell))
+        return found
+
+
+def is_clean(text: str, separator: str) -> bool:
+    """Is each cell of a text as it is read, so that none has to be cleaned? Those of most sheets are. A text in quotes,
+    or with a sign that isn't printed, isn't looked at any closer."""
+    if '"' in text or any(around in text for around in BLANKS) or text[:1] == " " or text[-1:] == " ":
+        return False
+    if f" {separator}" in text or f"{separator} " in text or may_have_texts(text):
+        return False
+    in_lines = text.replace("\n", "").replace("\r", "").replace(separator, "")
+    return in_lines.isprintable() and unicodedata.is_normalized("NFC", text)
+
+
+def read_records(text: str, separator: str) -> list[SheetRow]:
+    if not is_clean(text, separator):
+        return cleaned_records(text, separator)
+    reader = csv.reader(io.StringIO(text, newline=""), delimiter=separator, strict=True)
+    try:
+        # without quotes each line is a row
+        return [made(SheetRow, (line, cells)) for line, cells in enumerate(reader, 1) if any(cells)]
+    except csv.Error:
+        raise Mistake(SheetFault.OPEN_QUOTE.said(line=reader.line_num)) from None
+
+
+def cleaned_records(text: str, separator: str) -> list[SheetRow]:
+    reader = csv.reader(io.StringIO(text, newline=""), delimiter=separator, strict=True)
+    rows, begins, cleaned = [], 1, Cleaned()
+    try:
+        for cells in reader:
+            texts = list(map(cleaned.__getitem__, cells))
+            if any(texts):
+                rows.append(made(SheetRow, (begins, texts)))
+            begins = reader.line_num + 1
+    except csv.Error:
+        raise Mistake(SheetFault.OPEN_QUOTE.said(line=begins)) from None
+    return rows

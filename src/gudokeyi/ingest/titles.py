@@ -1,0 +1,141 @@
+"""What a column of a sheet may have, the usual titles in English, German and French, and the options that name
+others."""
+from __future__ import annotations
+
+import csv
+from collections.abc import Iterable
+
+from gudokeyi.domain.kinds import Field
+from gudokeyi.domain.messages import Mistake
+from gudokeyi.ingest.messages import SheetFault
+from gudokeyi.ingest.words import KNOWN_SEXES, composed, listed, plain, sex_word
+
+# What a column of a sheet may have, and the usual titles in English, German and French.
+
+# The usual titles, the likelier first: where a sheet has both a column of days and one of words, as `Abgangsdatum` and
+# `Abgang`, the one of days is read; a column of all exits is read before one of deaths alone. They are compared in
+# small letters, without accents, blanks and signs. A parent's column may also have a word for the parent beside one
+# for the id, as `Vater Ohrmarke`.
+TITLES = {
+    Field.ID: "id, animal id, ear tag, eartag, ear tag number, ear tag no, tag, tag number, tag no, animal number, "
+    "animal no, registration, registration number, registration no, reg no, reg, reg number, registered number, "
+    "herd book number, herd book no, stud book number, stud book no, stud no, flock book no, passport no, microchip, "
+    "chip, chip no, chip number, UELN, tattoo, tattoo number, tattoo no, pedigree number, pedigree no, "
+    "identification, ident, Ohrmarke, Ohrmarkennummer, Ohrmarken-Nr, Ohrm, Lebensnummer, Lebens-Nr, Lebensohrmarke, "
+    "Herdbuchnummer, Herdbuch-Nr, Stammbuchnummer, Stammbuch-Nr, Zuchtbuchnummer, Zuchtbuch-Nr, ZB-Nr, Chipnummer, "
+    "Chip-Nr, Tiernummer, Tier-Nr, "
+    "Tier-ID, LOM, HB-Nr, LNr, Kennzeichen, Kennung, Tätowierung, Halsbandnummer, Halsband, Stallnummer, "
+    "numéro national, n° national, numéro d'identification, "
+    "identifiant, n° d'identification, n° SIRE, numéro SIRE, LOF, n° LOF, tatouage, puce, "
+    "boucle, matricule, animal, Tier, number, no, nr, Nummer, numéro, n°",
+    Field.NAME: "name, registered name, animal name, full name, Tiername, Zuchtname, "
+    "Name des Tieres, nom, nom de l'animal, nom du chien, nom du cheval, dog name, name of dog, horse name, "
+    "name of horse, Name des Hundes, Name des Pferdes, Pferdename, Hundename, dog, horse, Hund, Pferd, chien, cheval, "
+    "Rufname, call name, nom usuel, nom d'usage",
+    Field.SEX: "sex, gender, Geschlecht, Geschl, sexe, genre, sex m/f, Geschlecht m/w, sexe m/f, m/w, m/f, w/m, f/m",
+    Field.BIRTH: "birth date, date of birth, birthday, birth day, dob, date born, Geburtsdatum, Geburtstag, "
+    "geboren am, geb. am, "
+    "geb-Datum, Geb.-Dat, Geburtsdat, date de naissance, date naissance, né le, née le, né(e) le, ddn, date naiss, "
+    "date de nais, "
+    "whelping date, date whelped, foaling date, date foaled, lambing date, date lambed, Wurfdatum, Wurftag, Lammdatum, "
+    "Kalbedatum, Abfohldatum, "
+    "born, birth, whelped, foaled, lambed, calved, geboren, Geburt, geb, gew, geworfen, gewölft, naissance, né, née, "
+    "birth year, year of birth, year, Geburtsjahr, Jahrgang, année de naissance, année",
+    Field.SIRE: "sire, of sire, father, Vater, des Vaters, Vatertier, père, du père, père SIRE, "
+    "sire name, name of sire, sire's name, father name, Name Vater, Vatername, Name des Vaters, nom du père, nom père, "
+    "sire registered name",
+    Field.DAM: "dam, of dam, mother, Mutter, der Mutter, Muttertier, mère, de la mère, mère SIRE, "
+    "dam name, name of dam, dam's name, mother name, Name Mutter, Muttername, Name der Mutter, nom de la mère, "
+    "nom mère, dam registered name",
+    Field.OWNER: "owner, current owner, present owner, owner name, name of owner, owner's name, aktueller Besitzer, "
+    "propriétaire actuel, herd, flock, farm, holding, keeper, Besitzer, Besitzerin, "
+    "Eigentümer, Eigentümerin, Halter, Tierhalter, Betrieb, propriétaire, détenteur, élevage, exploitation, "
+    "herd name, flock name, farm name, name of farm, keeper name, name of keeper, Name Besitzer, Name des Besitzers, "
+    "Besitzername, Name Eigentümer, Name des Eigentümers, Eigentümername, Name Halter, Name des Halters, Haltername, "
+    "Name Tierhalter, Name des Tierhalters, Betriebsname, Name des Betriebs, nom du propriétaire, nom propriétaire, "
+    "nom du détenteur, nom détenteur, nom de l'élevage, nom élevage, nom de l'exploitation, nom exploitation",
+    Field.SINCE: "owner since, owned since, since, date of transfer, transfer date, transferred, date of purchase, "
+    "purchase date, bought, acquired, Besitzer seit, im Besitz seit, seit, Besitzwechsel, Besitzerwechsel, "
+    "Besitzwechsel am, Besitzerwechsel am, Wechseldatum, Halter seit, Eigentümer seit, gekauft am, Kaufdatum, "
+    "Zugangsdatum, Zugang am, Zugang, propriétaire depuis, depuis, date d'achat, date de transfert, "
+    "date d'acquisition, acheté le",
+    Field.EXIT: "exit date, date of exit, Abgangsdatum, Abgang am, abgegangen am, date de sortie, date left, "
+    "left on, sorti le, "
+    "exit, left, departure, Abgang, abgegangen, sortie, "
+    "date of death, Todesdatum, gestorben am, verstorben am, date de décès, mort le, décédé le, died, death, "
+    "gestorben, verstorben, mort, décès, "
+    "Verbleib, fate, whereabouts, disposal, devenir, status, Tierstatus, statut, état",
+    Field.EMBRYO: "embryo, embryo calf, stored embryo, embryo transfer, et, et calf, Embryotransfer, ET-Kalb, "
+    "Embryokalb, embryon, transfert d'embryon",
+}  # fmt: skip
+# the sire and the dam of a sheet that has one column for each of a pair, and none of the titles above
+PAIRS = {Field.SIRE: "dog, stallion, ram, buck, bull, Rüde, Hengst, Bock, Bulle, étalon, bélier, chien",
+         Field.DAM: "bitch, mare, ewe, doe, cow, Hündin, Stute, Aue, Ziege, Kuh, jument, brebis, chienne"}  # fmt: skip
+# titles whose columns may have something else than exits
+DOUBTFUL_EXITS = "Verbleib, fate, whereabouts, disposal, devenir, status, Tierstatus, statut, état"
+# Columns that a sheet has to have; `--columns sire=` says that there is none.
+NEEDED = (Field.ID, Field.BIRTH, Field.SIRE, Field.DAM)
+
+
+# letters for a parent that stand before a word for the id, as `V-Ohrmarke`
+SHORT = {Field.SIRE: "v", Field.DAM: "m"}
+# the number that French horses have is no sire's
+KNOWN_OTHERS = {plain("n° SIRE"), plain("numéro SIRE")}
+
+
+def usual_titles(field: Field) -> list[str]:
+    """The titles of a field as they are compared: for a parent those with a word for the id come first."""
+    alone = [plain(title) for title in listed(TITLES[field])]
+    if field not in (Field.SIRE, Field.DAM):
+        return list(dict.fromkeys(alone))
+    ids = [plain(title) for title in listed(TITLES[Field.ID])]
+    pairs = [plain(title) for title in listed(PAIRS[field])]
+    both = [both for id in ids for one in [*alone, SHORT[field]] for both in (one + id, id + one)]
+    return [one for one in dict.fromkeys(both + alone + pairs) if one not in KNOWN_OTHERS]
+
+
+KNOWN_TITLES: dict[str, list[str]] = {field: usual_titles(field) for field in TITLES}
+KNOWN_PAIRS = {field: {plain(title) for title in listed(titles)} for field, titles in PAIRS.items()}
+KNOWN_DOUBTFUL = {plain(title) for title in listed(DOUBTFUL_EXITS)}
+
+
+def known_titles(titles: list[str]) -> int:
+    """How many titles are known."""
+    known = {one for usual in KNOWN_TITLES.values() for one in usual}
+    return sum(plain(title) in known for title in titles)
+
+
+def title_list(titles: Iterable[str]) -> str:
+    return ", ".join(f"'{title}'" for title in titles if title)
+
+
+# Reads the options of `import` that say how cells are read.
+
+
+def parts_of(words: list[str]) -> list[str]:
+    """The parts between commas; one that has a comma itself stands in quotation marks. An end of a line is a blank, as it
+    is in a sheet's cells."""
+    lines = (" ".join(composed(word).splitlines()) for word in words)
+    return [part for line in lines for part in next(csv.reader([line], skipinitialspace=True), [""])]
+
+
+def read_given(words: list[str]) -> dict[str, str]:
+    """The fields and titles of `--columns id=Ohrmarke,sire=Vater`."""
+    given = {}
+    for part in parts_of(words):
+        field, equals, title = (piece.strip() for piece in part.partition("="))
+        if not equals or field not in TITLES:
+            raise Mistake(SheetFault.COLUMN_OPTION.said(part=part, fields=", ".join(TITLES)))
+        given[field] = title
+    return given
+
+
+def read_sexes(words: list[str]) -> dict[str, str]:
+    """The words and sexes of `--sexes Aue=f,Bk=m`, each word as it is compared."""
+    given = {}
+    for part in parts_of(words):
+        word, equals, sex = (piece.strip() for piece in part.partition("="))
+        if not equals or not word or plain(sex) not in KNOWN_SEXES:
+            raise Mistake(SheetFault.SEX_OPTION.said(part=part))
+        given[sex_word(word)] = KNOWN_SEXES[plain(sex)]
+    return given

@@ -1,0 +1,71 @@
+"""Which texts stand for an unknown parent."""
+from __future__ import annotations
+
+import functools
+import re
+from collections.abc import Collection
+
+from gudokeyi.ingest.words import UNKNOWN, is_error_value, listed
+
+# signs alone, as `?`, `*` and `---`, zeros alone, as `00` and `0.0`, and the usual numbers as pandas writes them, as `-9.0`
+SIGNS = re.compile(r"[-–—?.*/_~+]+|[-+]?0[0.,]*|-(?:1|9{1,4})[.,]0+")
+BEGIN_OF_SIGNS = frozenset("-–—?.*/_~+0")
+POINTS = re.compile(r"\.\s*")
+# the words of a geneticist's pedigree
+PEDIGREE = (
+    "0, -, --, ?, ., n/a, #n/a, #nv, na, nan, none, null, unknown, unbekannt, unbek, unbek., k.A., keine Angabe, "
+    "inconnu, inconnue"
+)
+
+
+def compared(text: str) -> str:
+    """The text in small letters, without the points of abbreviations and the blanks behind them."""
+    folded = text.casefold()
+    return POINTS.sub("", folded) if "." in folded else folded
+
+
+KNOWN_UNKNOWN = {compared(word) for word in listed(UNKNOWN)}
+# how texts begin, in small letters, that may stand for an unknown parent: these words, signs and error values
+BEGINNINGS = BEGIN_OF_SIGNS | {word[0] for word in KNOWN_UNKNOWN} | {"#", "e"}
+
+
+def unknown_words(more: list[str]) -> set[str]:
+    """The words for an unknown parent of a pedigree, in small letters: the usual ones, with `more`."""
+    return {""} | {word.casefold() for one in [PEDIGREE, *more] for word in listed(one)}
+
+
+# so many letters may be an owner's initials
+INITIALS = 2
+
+
+class UnknownParents:
+    """The texts that stand for an unknown parent: the usual ones, those that the society names besides, and not those
+    that it says are known."""
+
+    def __init__(self, more: Collection[str] = (), known: Collection[str] = ()) -> None:
+        self.more = {word.casefold() for one in more for word in listed(one)}
+        self.known = {word.casefold() for one in known for word in listed(one)}
+        # the same texts stand in many cells
+        self.is_one = functools.cache(self.is_unknown)
+
+    def __contains__(self, text: object) -> bool:
+        return isinstance(text, str) and self.is_one(text)
+
+    def is_unknown(self, text: str) -> bool:
+        folded = text.casefold()
+        if not folded or folded in self.known:
+            return not folded
+        if folded in self.more or folded[0] not in BEGINNINGS:
+            return folded in self.more
+        if compared(text) in KNOWN_UNKNOWN or is_error_value(text):
+            return True
+        return text[0] in BEGIN_OF_SIGNS and SIGNS.fullmatch(text) is not None
+
+
+USUAL = UnknownParents()
+
+
+@functools.lru_cache(10_000)
+def names_no_owner(text: str) -> bool:
+    """Is it one of the usual texts for what isn't known? Two letters may be initials of an owner."""
+    return USUAL.is_one(text) and not (len(text) == INITIALS and text.isalpha())

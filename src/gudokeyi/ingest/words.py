@@ -1,0 +1,193 @@
+"""The words that cells of sheets have, in English, German and French, how texts and ids are compared, and what a cell
+for an exit says in words."""
+from __future__ import annotations
+
+import functools
+import itertools
+import re
+import unicodedata
+from collections.abc import Container, Iterator
+
+from gudokeyi.ingest.days import DayFault
+
+# The words that cells of sheets have, in English, German and French, and how texts are compared.
+
+UNKNOWN = (
+    "na, <na>, nan, n/a, nn, none, null, unknown, unk, not known, not recorded, not available, unknown sire, unknown dam, "
+    "unbekannt, unbek, nicht bekannt, nb, ka, keine angabe, keine angaben, fehlt, inconnu, inconnue, non connu, "
+    "non connue, pas connu, non renseigné, non renseignée, nc, nr, -1, -9, -99, -999, -9999"
+)
+# `M` is male in all three languages, and `W` is weiblich; single letters that mean two things aren't here.
+SEXES = {
+    "M": "m, male, bull, ram, tup, buck, billy, stallion, colt, boar, dog, stud, jack, ♂, "
+    "männlich, männl, männliche, Bulle, Jungbulle, Zuchtbulle, Deckbulle, Stier, Jungstier, Zuchtstier, Muni, Bock, "
+    "Schafbock, Ziegenbock, Zuchtbock, Jungbock, Altbock, Bocklamm, Widder, Hengst, Junghengst, Eber, Rüde, Kater, "
+    "Bullenkalb, Stierkalb, Hengstfohlen, mâle, taureau, taurillon, bélier, bouc, étalon, poulain, chien, "
+    "agneau mâle, verrat, masculin, masc",
+    "F": "f, female, fem, cow, heifer, ewe, gimmer, doe, nanny, mare, filly, sow, gilt, bitch, brood bitch, queen, "
+    "jenny, ♀, w, weiblich, weibl, "
+    "weibliche, Kuh, Jungkuh, Mutterkuh, Färse, Kalbin, Kalbe, Sterke, Starke, Kuhkalb, Aue, Au, Jungaue, Altaue, "
+    "Aulamm, Auenlamm, Mutter, Muttertier, Mutterschaf, Zibbe, Zibbenlamm, Ziege, Geiß, Geiss, Mutterziege, "
+    "Jungziege, Stute, Jungstute, Zuchtstute, Stutfohlen, Sau, Hündin, Kätzin, Katze, femelle, vache, génisse, brebis, "
+    "antenaise, agnelle, agneau femelle, chèvre, chevrette, jument, pouliche, truie, chienne, féminin, fém",
+}
+# males that have no offspring any more
+CASTRATED = (
+    "ox, steer, bullock, wether, gelding, barrow, neutered male, castrated, castrate, male castrated, Ochse, Hammel, "
+    "Schöps, Wallach, Kastrat, kastriert, männlich kastriert, Rüde kastriert, Borg, Kapaun, hongre, boeuf, bœuf, "
+    "mouton castré, castré, mâle castré"
+)
+# what cells for an exit say of animals that haven't left, and of those that have
+STAYS = (
+    "lebt, lebend, lebendig, vorhanden, im Bestand, in Bestand, Bestand, aktiv, Zuchttier, in Zucht, alive, living, "
+    "lives, active, present, in herd, in flock, current, breeding, vivant, vivante, en vie, actif, active, présent, "
+    "présente"
+)
+EXITS = (
+    "ja, yes, oui, x, verkauft, verk, Verkauf, geschlachtet, Schlachtung, geschl, gestorben, verstorben, verendet, "
+    "tot, Tod, abgegangen, Abgang, ausgeschieden, exportiert, gekeult, euthanasiert, notgetötet, eingeschläfert, "
+    "getötet, verunglückt, abgegeben, verliehen, ausgeliehen, gestohlen, gerissen, weg, inaktiv, sold, sale, slaughtered, slaughter, dead, died, death, deceased, culled, exported, gone, left, lost, "
+    "stolen, killed, euthanised, euthanized, rehomed, "
+    "vendu, vendue, vente, abattu, abattue, abattage, mort, morte, décédé, décédée, réformé, réformée, réforme, sorti, "
+    "sortie, exporté, exportée, volé, volée, euthanasié, euthanasiée, inactif, inactive"
+)
+# with one of these a word for a living animal tells of one that has left
+NEGATIONS = "nicht, kein, keine, nimmer, not, no, never, pas, plus, non"
+YES = "1, x, yes, y, true, et, embryo, ja, j, wahr, oui, o, vrai"
+NO = "0, -, no, n, false, nein, falsch, non, faux"
+# ids of rows that count or sum up
+SUMS = (
+    "Summe, gesamt, Gesamtsumme, Gesamtzahl, insgesamt, Anzahl, Zwischensumme, Durchschnitt, Mittelwert, Mittel, sum, "
+    "total, totals, subtotal, grand total, count, average, mean, somme, nombre, moyenne, total général"
+)
+# what spreadsheets show in place of a value that they can't compute
+ERROR_VALUE = re.compile(
+    r"#(REF|BEZUG|N/A|NV|WERT|VALUE|VALEUR|NAME|NOM|DIV/0|NUM|ZAHL|NOMBRE|NULL|ÜBERLAUF|SPILL|PROPAGATION|CALC|KALK|"
+    r"FIELD|FELD|CHAMP|BLOCKED|GETTING_DATA)[!?]?|Err:\d{3}|#{3,}",
+    re.IGNORECASE,
+)
+# what words are written with, but for digits
+LETTER = re.compile(r"[^\W\d_]|[°♂♀]")
+# signs that no one sees, which text copied from a page may have
+INVISIBLE = dict.fromkeys(map(ord, "\u00ad\u200b\u200c\u200d\u200e\u200f\u2060\ufeff"))
+
+
+def clean(text: str) -> str:
+    """The text with composed letters, with one blank for several or for a line's end, and without any at its ends."""
+    return " ".join(composed(text).split())
+
+
+def composed(text: str) -> str:
+    """The text with composed letters, and without signs that no one sees."""
+    return text if text.isascii() else unicodedata.normalize("NFC", text.translate(INVISIBLE))
+
+
+def as_known(text: str, known: Container[str]) -> str:
+    """The text as it is written; cleaned where it isn't known so."""
+    written = " ".join(text.split())
+    return written if written in known else clean(text)
+
+
+@functools.lru_cache(100_000)
+def plain(text: str) -> str:
+    """The text in small letters, without accents, blanks and signs but `°`, `♂` and `♀`."""
+    apart = unicodedata.normalize("NFKD", text.casefold().replace("°", "o"))
+    return "".join(one for one in apart if one.isalnum() or one in "♂♀")
+
+
+def listed(text: str) -> list[str]:
+    return [one.strip() for one in composed(text).split(",")]
+
+
+def is_error_value(text: str) -> bool:
+    """Is it what a spreadsheet shows in place of a value?"""
+    return (text[:1] == "#" or text[:3] == "Err") and ERROR_VALUE.fullmatch(text) is not None
+
+
+KNOWN_SEXES = {plain(word): sex for sex, words in SEXES.items() for word in listed(words)}
+KNOWN_CASTRATED = {plain(word) for word in listed(CASTRATED)}
+KNOWN_SEXES |= {word: "M" for word in KNOWN_CASTRATED}
+KNOWN_YES = {word.casefold() for word in listed(YES)}
+KNOWN_NO = {word.casefold() for word in listed(NO)}
+KNOWN_STAYS = {plain(word) for word in listed(STAYS)}
+KNOWN_EXITS = {plain(word) for word in listed(EXITS)}
+KNOWN_NEGATIONS = {plain(word) for word in listed(NEGATIONS)}
+KNOWN_SUMS = {plain(word) for word in listed(SUMS)}
+
+
+def sex_word(text: str) -> str:
+    """A word for a sex as it is compared."""
+    return plain(text) or text.casefold()
+
+
+def has_word(text: str, known: set[str]) -> bool:
+    """Are some words of the text that follow one another among those that are known? Each of these has a letter."""
+    if not LETTER.search(text):
+        return False
+    words = [found for word in re.split(r"[^\w°♂♀]+", text) if word and (found := plain(word))]
+    longest = max(map(len, known), default=0)
+    return any(begin in known for at in range(len(words)) for begin in beginnings(words, at, longest))
+
+
+def beginnings(words: list[str], at: int, longest: int) -> Iterator[str]:
+    """The words from a place on, one and more as one text, as long as that may be one of those that are known."""
+    text = ""
+    for word in itertools.islice(words, at, None):
+        text += word
+        if len(text) > longest:
+            return
+        yield text
+
+
+# How ids are compared that are meant alike.
+
+ZEROS = re.compile(r"(?<!\d)0+(?=\d)")
+# stands in no id, and isn't a blank
+BETWEEN = "\0"
+
+
+@functools.lru_cache(200_000)
+def nearly(id: str) -> str:
+    """An id in small letters, without blanks and without zeros before a number: two that differ in these alone are
+    meant alike."""
+    return ZEROS.sub("", "".join(id.casefold().split()))
+
+
+def nearly_all(ids: list[str]) -> list[str]:
+    """The same of many, which are looked at as one text."""
+    together = BETWEEN.join(ids)
+    if together.count(BETWEEN) != len(ids) - 1:
+        return [*map(nearly, ids)]
+    return ZEROS.sub("", "".join(together.casefold().split())).split(BETWEEN)
+
+
+# What a cell for an exit says in words: that an animal lives, or that it left.
+
+# `x`, `ja` and the like tell of an exit only where they stand alone
+TELLING_EXITS = KNOWN_EXITS - {plain(word) for word in KNOWN_YES}
+# the signs of a death
+DEAD = re.compile(r"†|✝|^\+(?=\s*\d)")
+
+
+def lives(text: str) -> bool:
+    """Does it say that the animal hasn't left, as `lebt (Stand 2024)`?"""
+    if not text or text.casefold() in KNOWN_NO:
+        return True
+    return has_word(text, KNOWN_STAYS) and not has_word(text, TELLING_EXITS | KNOWN_NEGATIONS)
+
+
+def exit_word(text: str) -> str:
+    """The first word by which animals leave, if it has one."""
+    if DEAD.search(text):
+        return "died"
+    if not LETTER.search(text):
+        return ""
+    words = text.split()
+    known = next((word for word in words if plain(word) in KNOWN_EXITS), "")
+    # `lebt nicht mehr`
+    return known or (text if has_word(text, KNOWN_STAYS) and has_word(text, KNOWN_NEGATIONS) else "")
+
+
+def word_fault(text: str) -> DayFault:
+    """What a text for an exit lacks: it may have a day with two digits for the year, several days, or a price."""
+    return DayFault.WORD_WITH_NUMBERS if re.search(r"\d", text) else DayFault.WORD_ALONE

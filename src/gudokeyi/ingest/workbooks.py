@@ -1,0 +1,251 @@
+"""Reads `.xlsx` files by openpyxl: which worksheet, and each cell as the spreadsheet shows it. Cells are counted before
+they are made, since a file of few bytes may ask for very many."""
+from __future__ import annotations
+
+import datetime
+import io
+import lzma
+import pathlib
+import re
+import xml.parsers.expat
+import zipfile
+import zlib
+from collections import Counter
+from collections.abc import Callable
+from typing import Any, NamedTuple
+
+from gudokeyi.domain.cells import from_spreadsheets
+from gudokeyi.domain.findings import ImportRefused
+from gudokeyi.domain.messages import Mistake
+from gudokeyi.ingest.files import MOST_CELLS
+from gudokeyi.ingest.findings.columns import SheetFinding
+from gudokeyi.ingest.findings.files import DigitsLost, FormulasWithoutValue, WorksheetLacks, WorksheetUnclear
+from gudokeyi.ingest.messages import SheetFault
+from gudokeyi.ingest.words import clean
+
+# What the parts of a workbook would become: their cells are counted before they are made, since a file of few bytes may
+# ask for very many.
+
+# so many bytes the parts of a file have at most, unpacked, and so many are read at once
+MOST_UNPACKED, AT_ONCE = 400_000_000, 256 << 10
+# what stands between two angle brackets is read again and again until its end is there
+LONGEST_TAG = 256 << 10
+# what a part is that isn't XML, or is damaged
+UNREAD = (
+    xml.parsers.expat.ExpatError, zipfile.BadZipFile, zlib.error, lzma.LZMAError, EOFError, OSError,
+    NotImplementedError, RuntimeError,
+)  # fmt: skip
+# elements of which much is made, each with as how many cells it counts: those of a kind are bounded together
+WEIGHTS = {"c": 1, "si": 1, "row": 10, "xf": 10, "definedName": 10, "sheet": 100}
+# elements that make all cells of a range
+OF_RANGE = ("mergeCell", "hyperlink", "comment")
+RANGE = re.compile(r"\$?([A-Z]{1,3})\$?([0-9]{1,7}):\$?([A-Z]{1,3})\$?([0-9]{1,7})")
+
+
+def check_unpacked(path: pathlib.Path, data: bytes) -> None:
+    """A mistake where a small file would become a very large one."""
+    try:
+        with zipfile.ZipFile(io.BytesIO(data)) as archive:
+            size = sum(one.file_size for one in archive.infolist())
+            if size > MOST_UNPACKED:
+                most = round(MOST_UNPACKED / 1e6)
+                raise Mistake(SheetFault.UNPACKED.said(path=path, size=round(size / 1e6), most=most))
+            cells = Cells(path)
+            for part in archive.infolist():
+                cells.count(archive, part)
+    except zipfile.BadZipFile:
+        # openpyxl tells what is wrong with it
+        return
+
+
+class Cells:
+    """Counts those of all worksheets, and what else is made of elements."""
+
+    def __init__(self, path: pathlib.Path) -> None:
+        self.path, self.found = path, Counter[str]()
+
+    def count(self, archive: zipfile.ZipFile, part: zipfile.ZipInfo) -> None:
+        parser = xml.parsers.expat.ParserCreate(namespace_separator=" ")
+        parser.StartElementHandler = self.begin
+        parser.StartDoctypeDeclHandler = self.refuse
+        given = 0
+        try:
+            with archive.open(part) as file:
+                while text := file.read(AT_ONCE):
+                    parser.Parse(text, False)
+                    given += len(text)
+                    if given - max(parser.CurrentByteIndex, 0) > LONGEST_TAG:
+                        self.refuse()
+        except UNREAD:
+            # openpyxl tells what is wrong with it, if it reads this part
+            return
+
+    def begin(self, name: str, attributes: dict[str, str]) -> None:
+        kind = name.rpartition(" ")[2]
+        if kind in WEIGHTS:
+            self.add(kind, WEIGHTS[kind])
+        elif kind in OF_RANGE:
+            count = cells_of(attributes.get("ref", ""))
+            if count is None:
+                self.refuse()
+            else:
+                self.add("c", count)
+
+    def add(self, kind: str, count: int) -> None:
+        self.found[kind] += count
+        if self.found[kind] > MOST_CELLS:
+            raise Mistake(SheetFault.TOO_MANY_CELLS.said(path=self.path, most=MOST_CELLS))
+
+    def refuse(self, *_: object) -> None:
+        """A mistake where a part is written as no spreadsheet writes it."""
+        raise odd(self.path)
+
+
+def odd(path: pathlib.Path) -> Mistake:
+    return Mistake(SheetFault.NO_WORKBOOK.said(path=path, error="it is written as no spreadsheet writes it"))
+
+
+def cells_of(ref: str) -> int | None:
+    """How many a range has, as `A1:C5`; none where it is written otherwise, as one without an end is."""
+    found = RANGE.fullmatch(ref.upper())
+    if found is None:
+        return None if ":" in ref else 1
+    (first, last), (top, bottom) = sorted(map(number_of, found.group(1, 3))), sorted(map(int, found.group(2, 4)))
+    return (last - first + 1) * (bottom - top + 1)
+
+
+def number_of(column: str) -> int:
+    """That of a column's letters: A is 1."""
+    number = 0
+    for letter in column:
+        number = 26 * number + ord(letter) - ord("A") + 1
+    return number
+
+
+# Reads `.xlsx` files by openpyxl: which worksheet, and each cell as the spreadsheet shows it.
+
+# a number with more digits than a spreadsheet keeps
+TOO_LONG = 10**15
+# what stands between quotation marks, brackets or behind a backslash in a format isn't part of a date
+QUOTED = re.compile(r'"[^"]*"|\[[^\]]*\]|\\.')
+Score = Callable[[list[str]], int]
+
+
+class Worksheet(NamedTuple):
+    """The rows of a worksheet that have a cell with text, each with its number, and which one it is, in words."""
+
+    rows: list[tuple[int, list[str]]]
+    how: str
+    faults: list[SheetFinding]
+
+
+def read_workbook(path: pathlib.Path, data: bytes, score: Score, most: int, named: str) -> Worksheet:
+    """The worksheet that is named, or else the one whose titles fit: `score` says how many titles of a row are known,
+    and they stand in one of the first `most` rows."""
+    check_unpacked(path, data)
+    shown, written = opened(path, data, True), opened(path, data, False)
+    titles: list[str] = [sheet.title for sheet in shown.worksheets]
+    at = titles.index(chosen(path, shown, score, most, named))
+    values, texts = shown.worksheets[at], written.worksheets[at]
+    rows = as_texts(path, values)
+    others = [f"'{title}'" for title in titles if title != titles[at]]
+    how = f"the worksheet '{titles[at]}' of an .xlsx file" + (f"; not read: {', '.join(others)}" if others else "")
+    return Worksheet(rows, how if others else "an .xlsx file", faults(values, texts))
+
+
+def opened(path: pathlib.Path, data: bytes, values: bool) -> Any:
+    try:
+        import openpyxl
+        from openpyxl.reader.excel import ExcelReader
+    except ImportError:
+        raise Mistake(SheetFault.NO_OPENPYXL.said(path=path)) from None
+    try:
+        check_sheets(path, ExcelReader(io.BytesIO(data), keep_links=False))
+        return openpyxl.load_workbook(io.BytesIO(data), data_only=values)
+    except (Mistake, MemoryError):
+        raise
+    except Exception as error:  # openpyxl raises whatever its parts raise
+        raise Mistake(SheetFault.NO_WORKBOOK.said(path=path, error=str(error))) from None
+
+
+def check_sheets(path: pathlib.Path, reader: Any) -> None:
+    """A mistake where two worksheets are the same part, whose cells would be made for each of them."""
+    reader.read_manifest()
+    reader.read_workbook()
+    parts = [of.target for _, of in reader.parser.find_sheets()]
+    if len(set(parts)) < len(parts):
+        raise odd(path)
+
+
+def as_texts(path: pathlib.Path, sheet: Any, last: int | None = None) -> list[tuple[int, list[str]]]:
+    """The rows that have a cell with text, those behind the last one not. Each is as wide as the widest: a mistake
+    where these would be too many cells."""
+    rows: dict[int, dict[int, str]] = {}
+    # openpyxl would make each cell between those that are there
+    for (row, column), cell in sheet._cells.items():
+        if (last is None or row <= last) and (text := cell_text(cell)):
+            rows.setdefault(row, {})[column] = text
+    width = max((max(cells) for cells in rows.values()), default=0)
+    if len(rows) * width > MOST_CELLS:
+        raise Mistake(SheetFault.TOO_MANY_CELLS.said(path=path, most=MOST_CELLS))
+    columns = range(1, width + 1)
+    return [(row, [cells.get(column, "") for column in columns]) for row, cells in sorted(rows.items())]
+
+
+def chosen(path: pathlib.Path, workbook: Any, score: Score, most: int, named: str) -> str:
+    titles: list[str] = [sheet.title for sheet in workbook.worksheets]
+    if named and named not in titles:
+        raise ImportRefused(WorksheetLacks(str(path), named, tuple(titles)))
+    if named or len(titles) == 1:
+        return named or titles[0]
+    scores = {sheet.title: best_score(path, sheet, score, most) for sheet in workbook.worksheets}
+    best: list[str] = [title for title, points in scores.items() if points == max(scores.values())]
+    if len(best) > 1:
+        raise ImportRefused(WorksheetUnclear(str(path), tuple(best), max(scores.values()) > 0))
+    return best[0]
+
+
+def best_score(path: pathlib.Path, sheet: Any, score: Score, most: int) -> int:
+    return max((score(cells) for _, cells in as_texts(path, sheet, most)), default=0)
+
+
+def faults(values: Any, texts: Any) -> list[SheetFinding]:
+    """Formulas without a value, and long numbers that have lost digits."""
+    without, long = [], []
+    for place, cell in sorted(texts._cells.items()):
+        if cell.data_type == "f" and (place not in values._cells or values._cells[place].value is None):
+            without.append(cell.coordinate)
+        elif isinstance(cell.value, (int, float)) and abs(cell.value) >= TOO_LONG:
+            long.append(cell.coordinate)
+    found: list[SheetFinding] = []
+    if without:
+        found.append(FormulasWithoutValue(values.title, len(without), without[0]))
+    if long:
+        found.append(DigitsLost(values.title, len(long), long[0]))
+    return found
+
+
+def cell_text(cell: Any) -> str:
+    """A cell's value as the spreadsheet shows it, but for days, which are written as 2001-03-01."""
+    value = cell.value
+    if value is None:
+        return ""
+    if isinstance(value, (datetime.datetime, datetime.date)):
+        return day_text(value, str(cell.number_format or ""))
+    if isinstance(value, bool):
+        return str(value)
+    if isinstance(value, float) and value.is_integer():
+        value = int(value)
+    if isinstance(value, int):
+        # the format 00000 shows zeros before a number
+        zeros = re.fullmatch(r"0+", str(cell.number_format or ""))
+        return f"{value:0{len(zeros.group())}}" if zeros else str(value)
+    return from_spreadsheets(clean(str(value)))
+
+
+def day_text(day: datetime.date, shown: str) -> str:
+    """The day, or the month or the year alone where the cell's format shows no more."""
+    letters = QUOTED.sub("", shown).lower()
+    if "y" in letters and "d" not in letters:
+        return f"{day:%Y-%m}" if "m" in letters else f"{day:%Y}"
+    return f"{day:%Y-%m-%d}"

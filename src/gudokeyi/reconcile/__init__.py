@@ -1,0 +1,1 @@
+"""What a sheet or a form says beside what the book has: checks, inference and guards."""

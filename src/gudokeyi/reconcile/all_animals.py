@@ -1,0 +1,132 @@
+"""From the rows of a sheet to all animals that are to stand in the book: those of the book that have no row, and
+parents without one."""
+from __future__ import annotations
+
+from gudokeyi.domain.animals import SocietyRecord
+from gudokeyi.domain.commands import RegisterRecord
+from gudokeyi.domain.findings import ImportRefused, Report
+from gudokeyi.domain.kinds import Role, Standing
+from gudokeyi.domain.messages import Mistake
+from gudokeyi.domain.pedigree_order import ancestors
+from gudokeyi.ingest.animals import SheetAnimal
+from gudokeyi.ingest.columns import Columns
+from gudokeyi.ingest.days import ANY_DAY, Span, span_of_period
+from gudokeyi.reconcile.birth_days import find_days
+from gudokeyi.reconcile.exits import exit_in_book
+from gudokeyi.reconcile.findings.animals import RowIsGone
+from gudokeyi.reconcile.guards import Guards
+from gudokeyi.reconcile.ids import NearIds, leave_out_used_tags
+from gudokeyi.reconcile.import_options import ImportOptions
+from gudokeyi.reconcile.kept_values import keep_values
+from gudokeyi.reconcile.messages import ImportFault
+from gudokeyi.reconcile.next_book import NextBook
+from gudokeyi.reconcile.parents import Names, keep_parents_named, try_parents_again
+from gudokeyi.reconcile.sexes import find_sexes, leave_out_unread_sexes
+from gudokeyi.store.book import Book
+
+# Animals of the book that have no row in the sheet: they stay, or are dropped.
+
+
+def animals_of_book(book: Book, animals: dict[str, SheetAnimal]) -> dict[str, SheetAnimal]:
+    """The animals of the book that have no row, each as the book has it."""
+    ids = {known.number: id for id, known in book.known.items()}
+    gone = {}
+    for id, known in book.known.items():
+        if id in animals:
+            continue
+        record = book.records[known.number]
+        animal = SheetAnimal(id, 0, known.name, "" if known.sex.is_inferred else known.number[6])
+        animal.birth = birth_in_book(known, record)
+        animal.sire, animal.dam = ids.get(record.sire, ""), ids.get(record.dam, "")
+        animal.owner, animal.embryo = book.owner_of(record.owner_code), record.embryo
+        animal.castrated = known.castrated
+        animal.left, animal.exit_basis = exit_in_book(known, record, animal.birth.first)
+        gone[id] = animal
+    return gone
+
+
+def birth_in_book(known: SocietyRecord, record: RegisterRecord) -> Span:
+    """The days that the book leaves open for a birth: one, those of a month or a year that a sheet said, or all."""
+    if known.birth.period:
+        return span_of_period(known.birth.period)
+    return ANY_DAY if known.birth.is_inferred else Span(record.born, record.born)
+
+
+def add_gone(
+    animals: dict[str, SheetAnimal], gone: dict[str, SheetAnimal], book: Book, drop: bool, report: Report
+) -> None:
+    """Adds those of the book, or drops them but for the ancestors of an animal that has a row."""
+
+    def gone_parents(id: str) -> list[str]:
+        return [parent for parent in (animals.get(id) or gone[id]).parent_ids() if parent in gone]
+
+    if not gone:
+        return
+    # those that were filed by hand had no row in any sheet yet
+    filed = {id for id in gone if book.known[id].standing is Standing.FILED}
+    kept = filed | ancestors([*animals, *filed], gone_parents) if drop else set(gone)
+    parents = {parent for animal in (*animals.values(), *gone.values()) for _, parent in animal.parents()}
+    for id, animal in gone.items():
+        if id in kept:
+            animals[id] = animal
+        if id in filed:
+            continue
+        had_row = book.known[id].standing.had_row()
+        if id not in kept or had_row or id not in parents:
+            report.add(0, id, RowIsGone(had_row, is_dropped=id not in kept))
+
+
+# The animals that are to stand in the book beside those of the rows: those of the book, and parents without a row.
+
+MOST_ANIMALS = 60_000
+
+
+def add_others(next_book: NextBook, drop_gone: bool) -> None:
+    """Adds the animals of the book that have no row, and the parents that have none."""
+    book, animals, report = next_book.book, next_book.animals, next_book.report
+    keep_values(next_book)
+    has_sires, has_dams = Role.SIRE in next_book.given, Role.DAM in next_book.given
+    next_book.texts = {id: (one.sire * has_sires, one.dam * has_dams) for id, one in animals.items()}
+    gone = animals_of_book(book, animals)
+    next_book.exits_of_book |= gone.keys()
+    all_animals = animals | gone
+    keep_parents_named(next_book, all_animals)
+    if not next_book.is_pedigree:
+        near = NearIds(animals, all_animals, book)
+        near.find_parents(report)
+        near.tell_alike(report)
+    Names(all_animals, report).find_parents(animals, book)
+    try_parents_again(next_book, gone, all_animals)
+    animals |= {id: gone.pop(id) for id in next_book.used_again}
+    add_gone(animals, gone, book, drop_gone, report)
+    leave_out_unread_sexes(next_book)
+    names = Names(animals, report)
+    names.advise_unknown(next_book.is_pedigree)
+    names.add_parents()
+    if len(animals) > MOST_ANIMALS:
+        raise too_many(next_book)
+
+
+def too_many(next_book: NextBook) -> Mistake:
+    which = ImportFault.PEDIGREE_TOO_LARGE if next_book.is_pedigree else ImportFault.SHEET_TOO_LARGE
+    return Mistake(which.said(animals=len(next_book.animals), most=MOST_ANIMALS))
+
+
+# From the rows of a sheet to all animals that are to stand in the book, unless the sheet looks like another one.
+
+
+def complete(next_book: NextBook, columns: Columns, import_options: ImportOptions) -> None:
+    """Adds what the book and the parents' cells have besides, and finds sexes and days; a mistake where the sheet
+    looks like another one, and it isn't wished anyway."""
+    guards = Guards(next_book.book, dict(next_book.animals), columns)
+    found = guards.of_rows()
+    if not import_options.anyway:
+        next_book.used_again = leave_out_used_tags(next_book.animals, next_book.book, next_book.report)
+    add_others(next_book, import_options.drop_gone)
+    found += guards.behind(next_book.animals)
+    if found and not import_options.anyway:
+        next_book.obstacles += found
+        if not import_options.preview:
+            raise ImportRefused(*found)
+    find_sexes(next_book)
+    find_days(next_book)

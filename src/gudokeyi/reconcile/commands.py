@@ -1,0 +1,164 @@
+"""The commands by which a book becomes what a sheet says: those that it lacks are appended, or it is written anew."""
+from __future__ import annotations
+
+import datetime
+
+from gudokeyi.domain.animals import SocietyRecord
+from gudokeyi.domain.collections import made
+from gudokeyi.domain.commands import Command, RegisterRecord, leave, lines_of, text_of
+from gudokeyi.domain.kinds import CommandKind
+from gudokeyi.domain.messages import Mistake, why
+from gudokeyi.domain.provenance import NO_DAY, ExitBasis
+from gudokeyi.domain.refusals import Refusal
+from gudokeyi.engine.program import Herdbook
+from gudokeyi.ingest.animals import SheetAnimal
+from gudokeyi.reconcile.exits import leave_out_exit
+from gudokeyi.reconcile.findings.animals import NewAnimal, ValueChanged
+from gudokeyi.reconcile.findings.rows import CommandLeftOut
+from gudokeyi.reconcile.messages import ImportFault
+from gudokeyi.reconcile.next_book import NextBook
+from gudokeyi.reconcile.owner_days import OwnerDays, owner_day_known
+from gudokeyi.store.journal import Step, alike
+from gudokeyi.store.writing import Filed
+
+YES = {True: "yes", False: ""}
+
+
+class Filing:
+    """The commands of an import."""
+
+    def __init__(self, next_book: NextBook, owners: OwnerDays) -> None:
+        self.next_book, self.book, self.owners = next_book, next_book.book, owners
+
+    def filed(self, program: Herdbook) -> Filed:
+        """The commands, none of which is refused: an exit or a transfer that is refused is left out before, and told;
+        a mistake where a birth is."""
+        while True:
+            if appended := self.appended(program):
+                return appended
+            commands = self.anew()
+            refused = program.file(commands)
+            if not refused:
+                steps = accepted(commands)
+                keeps = alike(self.book.steps, steps)
+                return Filed(steps[keeps:], keeps)
+            self.leave_out(commands, refused)
+
+    def appended(self, program: Herdbook) -> Filed | None:
+        """The commands that the book lacks, where that is enough and none is refused."""
+        more = self.more()
+        if more is None:
+            return None
+        text = self.text_behind(more)
+        return None if self.refused_behind(program, text, len(more)) else Filed(accepted(more), text=text)
+
+    def leave_out(self, commands: list[Command], refused: dict[int, Refusal]) -> None:
+        by_number = {animal.number: animal for animal in self.next_book.animals.values()}
+        sentences = []
+        for place, refusal in refused.items():
+            kind, number, day = commands[place][:3]
+            animal = by_number[number]
+            if kind == "exit":
+                leave_out_exit(self.next_book, animal, refusal, [])
+            elif kind == "transfer":
+                self.owners.leave_out(animal, CommandLeftOut(CommandKind.TRANSFER, day, refusal, "", 0))
+            else:
+                which = ImportFault.REFUSED_ON if day else ImportFault.REFUSED
+                command = CommandKind(kind).value
+                sentences.append(which.said(where=animal.where(), command=command, day=day, **why(refusal)))
+        if sentences:
+            raise Mistake(*sentences, ImportFault.NOTHING_TAKEN.said(count=len(sentences)))
+
+    def text_behind(self, more: list[Command]) -> bytes:
+        """The journal with commands behind it, as a command file."""
+        return self.book.command_file() + lines_of(more) if self.book.journal.length else text_of(more)
+
+    def refused_behind(self, program: Herdbook, text: bytes, count: int) -> bool:
+        """Is any of so many commands behind the journal refused?"""
+        length = self.book.journal.length
+        return any(place >= length for place in program.file_text(text, length + count))
+
+    def more(self) -> list[Command] | None:
+        """The commands that the book lacks, or none where what stands in it has to be corrected."""
+        if not self.book.known:
+            return self.anew()
+        if self.book.known.keys() - self.next_book.animals.keys():
+            return None
+        births, corrections, transfers, exits = [], [], [], []
+        for animal in self.next_book.by_birth:
+            record, owners = self.next_book.record(animal.id), self.owners.of(animal)
+            if record is None:
+                births.append(self.next_book.birth_of(animal, owners.first_herd))
+                transfers += owners.transfers
+                exits += [leave(animal.number, animal.left)] if animal.left else []
+                continue
+            if owners.is_corrected or is_corrected(animal, record):
+                return None
+            wanted = self.next_book.parents_of(animal)
+            if (wanted.sire, wanted.dam) != (record.sire or "0", record.dam or "0"):
+                corrections.append(wanted)
+            transfers += owners.new
+            if animal.left and not record.left:
+                exits.append(leave(animal.number, animal.left))
+        return births + corrections + transfers + exits
+
+    def anew(self) -> list[Command]:
+        """The whole book: each birth with the parents of today, then the transfers, and then the exits."""
+        births: list[Command] = []
+        transfers: list[Command] = []
+        exits: list[Command] = []
+        for animal in self.next_book.by_birth:
+            owners = self.owners.of(animal)
+            births.append(self.next_book.birth_of(animal, owners.first_herd))
+            transfers += owners.transfers
+            exits += [leave(animal.number, animal.left)] if animal.left else []
+        return births + transfers + exits
+
+    # -- what is told
+
+    def tell_changes(self) -> None:
+        report = self.next_book.report
+        for animal in self.next_book.animals.values() if self.book.known else ():
+            record, known = self.next_book.record(animal.id), self.book.known.get(animal.id)
+            if record and known:
+                for found in self.changes(animal, record, known):
+                    report.add(animal.line, animal.id, found)
+            elif animal.line:
+                report.add(animal.line, animal.id, NewAnimal(animal.number))
+
+    def changes(self, animal: SheetAnimal, record: RegisterRecord, known: SocietyRecord) -> list[ValueChanged]:
+        owner, exit = self.book.owner_of(record.owner_code), exit_words(record.left, known.exit)
+        sire, dam = self.next_book.id_of(record.sire), self.next_book.id_of(record.dam)
+        pairs: list[tuple[str, object, object]] = [
+            ("name", known.name, animal.name),
+            ("birth day", record.born, animal.born),
+            ("number", record.number, animal.number),
+            ("sire", sire, animal.sire),
+            ("dam", dam, animal.dam),
+            ("owner", owner, animal.owner),
+            ("exit", exit, exit_words(animal.left, animal.exit_basis)),
+            ("stored embryo", YES[record.embryo], YES[animal.embryo]),
+            ("castrated", YES[known.castrated], YES[animal.castrated]),
+        ]
+        if animal.id in self.owners.other_days:
+            since = record.since if owner_day_known(self.book, known, record.from_owner, record.since) else ""
+            pairs.append(("owner since", since, self.owners.other_days[animal.id]))
+        found = [ValueChanged(name, str(after), str(before)) for name, before, after in pairs if before != after]
+        if known.birth.is_invented and animal.birth_basis.is_invented:
+            # invented days are invented anew each time
+            return [one for one in found if one.name != "birth day"]
+        return found
+
+
+def accepted(commands: list[Command]) -> list[Step]:
+    return [made(Step, (command, 0)) for command in commands]
+
+
+def exit_words(left: datetime.date | None, basis: ExitBasis) -> str:
+    return str(left) if left else NO_DAY if basis.day_is_unknown else ""
+
+
+def is_corrected(animal: SheetAnimal, record: RegisterRecord) -> bool:
+    """Is there a change that no command makes?"""
+    left = record.left is not None and record.left != animal.left
+    return left or (record.born, record.number, record.embryo) != (animal.born, animal.number, animal.embryo)

@@ -1,0 +1,129 @@
+"""Exits that can't be, and changes of many animals at once, such as exits that are taken back."""
+from __future__ import annotations
+
+import collections
+import datetime
+from typing import NamedTuple
+
+from gudokeyi.domain.animals import SocietyRecord
+from gudokeyi.domain.commands import RegisterRecord
+from gudokeyi.domain.findings import Entry
+from gudokeyi.domain.kinds import CommandKind, Field
+from gudokeyi.domain.provenance import GIVEN_EXIT, ExitBasis, ExitSource
+from gudokeyi.domain.refusals import Refusal
+from gudokeyi.ingest.animals import SheetAnimal
+from gudokeyi.reconcile.findings.animals import KeptByHand, KeptFromBook, ValueChanged
+from gudokeyi.reconcile.findings.plausibility import ExitsWithdrawn, MostChanged, RowOf
+from gudokeyi.reconcile.findings.rows import CommandLeftOut
+from gudokeyi.reconcile.next_book import NextBook
+
+# Exits that can't be: one of a dam that has offspring later is left out where more than one offspring, or the book,
+# speaks
+# against it; else the link of the one offspring is. One that is left out is tried again where the book is to keep it.
+
+# so many offspring outweigh an exit
+SEVERAL_OFFSPRING = 2
+
+
+class Exit(NamedTuple):
+    day: datetime.date | None
+    basis: ExitBasis
+
+
+def exit_in_book(known: SocietyRecord, record: RegisterRecord, born: datetime.date) -> Exit:
+    """The exit that an animal has in the book, or that was left out, since a sheet made it impossible, and can be with
+    this birth day."""
+    day = given_day(known.exit)
+    return Exit(day, GIVEN_EXIT) if day and day >= born else Exit(record.left, known.exit)
+
+
+def given_day(basis: ExitBasis) -> datetime.date | None:
+    """The day of an exit that was left out, where it was kept as it is."""
+    if not basis.day_is_unknown:
+        return None
+    try:
+        day = datetime.date.fromisoformat(basis.text)
+    except ValueError:
+        return None
+    return day if day.isoformat() == basis.text else None
+
+
+def leave_out_early_exits(next_book: NextBook) -> None:
+    left = {id: animal for id, animal in next_book.animals.items() if animal.left}
+    progeny = collections.defaultdict[str, list[SheetAnimal]](list)
+    for animal in next_book.animals.values() if left else ():
+        if animal.dam in left and not animal.embryo:
+            progeny[animal.dam].append(animal)
+    for dam in left.values():
+        if dam.left is None or dam.id not in progeny:
+            continue
+        record = next_book.record(dam.id)
+        if record and record.left == dam.left:
+            continue
+        later = [offspring for offspring in progeny[dam.id] if offspring.born > dam.left]
+        if len(later) >= SEVERAL_OFFSPRING or any(next_book.has_in_book(offspring.id, dam.id) for offspring in later):
+            leave_out_exit(next_book, dam, Refusal.LATER_OFFSPRING, later)
+
+
+def leave_out_exit(next_book: NextBook, animal: SheetAnimal, refusal: Refusal, later: list[SheetAnimal]) -> None:
+    """The animal counts as gone, on a day that isn't known."""
+    assert animal.left is not None
+    day, period, is_kept = animal.left.isoformat(), animal.exit_basis.period, animal.id in next_book.exits_of_book
+    last = max(later, key=lambda one: (one.born, one.id), default=None)
+    id, line = (last.id, last.line) if last else ("", 0)
+    text = "" if is_kept else animal.cells.get(Field.EXIT, "")
+    animal.left = None
+    animal.exit_basis = ExitBasis(ExitSource.UNKNOWN_DAY, text=text or (period.text if period else day))
+    if is_kept:
+        entries = next_book.report.entries
+        next_book.report.entries = [one for one in entries if not tells_of_exit(one, animal)]
+    if not (is_kept and is_left_out_already(next_book, animal)):
+        found = CommandLeftOut(CommandKind.EXIT, day, refusal, id, line)
+        next_book.report.add(animal.line, animal.id, found)
+
+
+def tells_of_exit(entry: Entry, animal: SheetAnimal) -> bool:
+    """Does it tell that the exit is as it was?"""
+    found = entry.finding
+    return entry.id == animal.id and isinstance(found, KeptByHand | KeptFromBook) and found.field is Field.EXIT
+
+
+def is_left_out_already(next_book: NextBook, animal: SheetAnimal) -> bool:
+    """Is the exit left out in the book too, for the same birth day?"""
+    known = next_book.book.known.get(animal.id)
+    if known is None:
+        return False
+    return (known.exit, next_book.book.records[known.number].born) == (animal.exit_basis, animal.born)
+
+
+# Changes of many animals at once, which are taken, and told in a sentence: exits that are taken back, and what most
+# animals have otherwise than before.
+
+# so many exits that are taken back are told, and the first of them
+SEVERAL_WITHDRAWN, FIRST = 3, 3
+# changes of so few animals are ordinary corrections, also where these are most of the flock
+FEW_CHANGED = 5
+# what is looked at: the fields whose many changes no guard keeps from being taken
+LOOKED_AT = ("name", "owner", "exit")
+
+
+def tell_withdrawn_exits(next_book: NextBook) -> None:
+    book, animals = next_book.book, next_book.animals.values() if next_book.book.known else ()
+    living = [animal for animal in animals if not animal.left and not animal.exit_basis.is_inferred]
+    withdrawn = [animal for animal in living if (known := book.known.get(animal.id)) and book.has_left(known)]
+    if len(withdrawn) >= SEVERAL_WITHDRAWN:
+        first = tuple(RowOf(animal.id, animal.line) for animal in withdrawn[:FIRST])
+        next_book.report.add(0, "", ExitsWithdrawn(len(withdrawn), first))
+
+
+def tell_most_changed(next_book: NextBook) -> None:
+    """What most rows of animals that the book has have otherwise; an exit that is taken back is told by itself."""
+    report, known = next_book.report, next_book.book.known
+    if not known:
+        return
+    both = sum(animal.line > 0 and animal.id in known for animal in next_book.animals.values())
+    changed = [one.finding for one in report.entries if one.line and isinstance(one.finding, ValueChanged)]
+    counts = collections.Counter(one.name for one in changed if one.name != "exit" or one.after)
+    for name in LOOKED_AT:
+        if counts[name] > FEW_CHANGED and 2 * counts[name] > both:
+            report.add(0, "", MostChanged(name, counts[name], both))

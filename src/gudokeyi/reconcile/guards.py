@@ -1,0 +1,194 @@
+"""What keeps a sheet or a pedigree from being taken unless it is wished `--anyway`: it looks like another one than the
+book's."""
+from __future__ import annotations
+
+import functools
+import re
+from collections.abc import Collection
+
+from gudokeyi.domain.animals import SocietyRecord
+from gudokeyi.domain.kinds import Role, Standing
+from gudokeyi.ingest.animals import SheetAnimal, links_outside
+from gudokeyi.ingest.columns import Columns
+from gudokeyi.ingest.words import nearly
+from gudokeyi.reconcile.findings.obstacles import (
+    Changed, Guard, IdsLack, LooksLike, ManyDropped, ManyGone, ManyOthers, ParentsLack,
+)  # fmt: skip
+from gudokeyi.reconcile.findings.plausibility import RowOf
+from gudokeyi.store.book import Book
+
+# more than a tenth of the animals, and at least so many, are gone; or all of a small book that has at least so many
+TENTH, LEAST_GONE, LEAST_OF_SMALL = 10, 10, 5
+# more than so many animals, and more than 2 of 100, have another birth day, the name of another, or another parent
+MOST_OTHERS, PER_HUNDRED = 5, 2
+# so many parents without a row are few
+FEW_PARENTS = 10
+# what stands between an id and a name in one cell
+PARTS = re.compile(r"[\s,;/()\[\]]+")
+
+
+class OtherAnimals:
+    """Compares the rows of animals that a book has too with what it says of them, before anything of the book is added
+    to them; `given` are the fields that the rows give."""
+
+    def __init__(self, book: Book, rows: dict[str, SheetAnimal], given: Collection[str]) -> None:
+        self.book, self.rows, self.given = book, rows, given
+
+    def of_both(self) -> list[Guard]:
+        found = [self.other_animals(), self.other_sexes(), self.other_parents()]
+        return [guard for guard in found if guard]
+
+    @functools.cached_property
+    def both(self) -> list[tuple[SheetAnimal, SocietyRecord]]:
+        """The rows of animals that the book has, with what it knows of them."""
+        return [(row, known) for id, row in self.rows.items() if (known := self.book.known.get(id))]
+
+    def other_animals(self) -> Guard | None:
+        """Animals that have another birth day than in the book, or the name of another one: an ordinary correction is
+        of a few, and columns that were sorted one without the other change many."""
+        days = [row for row, known in self.both if self.has_other_day(row, known)]
+        ids = {known.name.casefold(): known.id for known in self.book.known.values() if known.name}
+        named = [row for row, known in self.both if ids.get(row.name.casefold(), known.id) != known.id]
+        named = [row for row in named if row.name.casefold() != self.book.known[row.id].name.casefold()]
+        renamed = [row for row in days if row.name.casefold() not in ("", self.book.known[row.id].name.casefold())]
+        if self.are_many(days):
+            what = Changed.NAMES_AND_BIRTH_DAYS if self.are_many(renamed) else Changed.BIRTH_DAYS
+            return self.of_many(what, days)
+        return self.of_many(Changed.NAMES, named) if self.are_many(named) else None
+
+    def has_other_day(self, row: SheetAnimal, known: SocietyRecord) -> bool:
+        """Do both say another day? One that was inferred says nothing."""
+        return row.has_day() and not known.birth.is_inferred and row.birth.first != self.book.records[known.number].born
+
+    def other_sexes(self) -> Guard | None:
+        pairs = [(row, known) for row, known in self.both if row.sex and not known.sex.is_inferred]
+        changed = [row for row, known in pairs if row.sex != known.number[6]]
+        return self.of_many(Changed.SEXES, changed) if self.are_many(changed) else None
+
+    def other_parents(self) -> Guard | None:
+        """Animals that have another animal with a row as a parent than in the book, or none. A parent that is added or
+        that had no row, and one whose cell can't be read, are ordinary."""
+        had_row = {known.number: known.id for known in self.book.known.values() if known.standing.had_row()}
+        changed = []
+        for row, known in self.both:
+            record = self.book.records[known.number]
+            read = [role for role in Role if role in self.given and role not in row.unread]
+            pairs = [(had_row.get(record.parent(role)), row.parent(role)) for role in read]
+            if any(before and before != now and (not now or now in self.rows) for before, now in pairs):
+                changed.append(row)
+        return self.of_many(Changed.PARENTS, changed) if self.are_many(changed) else None
+
+    def are_many(self, changed: list[SheetAnimal]) -> bool:
+        return len(changed) > MOST_OTHERS and len(changed) * 100 > PER_HUNDRED * len(self.both)
+
+    def of_many(self, what: Changed, changed: list[SheetAnimal]) -> ManyOthers:
+        first = tuple(RowOf(row.id, row.line) for row in changed[:3])
+        is_other = what is Changed.NAMES_AND_BIRTH_DAYS
+        like = LooksLike.ANOTHER_FLOCK if is_other else LooksLike.SORTED_APART
+        return ManyOthers(what, len(changed), len(self.both), first, like)
+
+
+class Guards(OtherAnimals):
+    """Compares all of a sheet with a book."""
+
+    def __init__(self, book: Book, rows: dict[str, SheetAnimal], columns: Columns) -> None:
+        super().__init__(book, rows, columns.found)
+        self.columns = columns
+
+    def of_rows(self) -> list[Guard]:
+        """The ids, and what animals are as the rows have them."""
+        found = [self.missing_column(), self.gone()]
+        return [guard for guard in found if guard] + self.of_both()
+
+    def missing_column(self) -> Guard | None:
+        lacks = self.columns.lacks_ids
+        return IdsLack(lacks, self.like()) if lacks else None
+
+    def had_row(self) -> list[str]:
+        """The animals that had a row in the last sheet."""
+        return [id for id, known in self.book.known.items() if known.standing is Standing.ROW]
+
+    def gone(self) -> Guard | None:
+        had_row = self.had_row()
+        gone = [id for id in had_row if id not in self.rows]
+        if not are_too_many(len(gone), len(had_row)):
+            return None
+        return ManyGone(len(gone), len(had_row), self.like())
+
+    def like(self) -> LooksLike:
+        in_book = [id for id in self.rows if id in self.book.known]
+        if self.are_written_otherwise():
+            return LooksLike.IDS_OTHERWISE
+        if len(in_book) == len(self.rows):
+            return LooksLike.OLDER_SHEET if self.is_older() else LooksLike.PART
+        if 2 * len(in_book) > len(self.rows):
+            return LooksLike.PART
+        return LooksLike.ANOTHER_ID if self.are_same_animals() else LooksLike.ANOTHER_FLOCK
+
+    def are_written_otherwise(self) -> bool:
+        """Have most animals that lack a row one whose id differs in case, blanks or zeros alone?"""
+        rows = {nearly(id) for id in self.rows if id not in self.book.known}
+        lacking = [id for id in self.had_row() if id not in self.rows]
+        return 2 * sum(nearly(id) in rows for id in lacking) > len(lacking)
+
+    def is_older(self) -> bool:
+        """Are the animals that lack younger than those of the sheet?"""
+        born = self.book.records
+        lacking = [born[self.book.known[id].number].born for id in self.had_row() if id not in self.rows]
+        here = [born[self.book.known[id].number].born for id in self.rows]
+        return bool(lacking) and max(here) <= max(lacking)
+
+    def are_same_animals(self) -> bool:
+        """Have most rows the name and the birth day of an animal of the book?"""
+        known = self.book.known.values()
+        days = {(one.name.casefold(), self.book.records[one.number].born) for one in known if not one.birth.is_inferred}
+        here = [(row.name.casefold(), row.birth.first) for row in self.rows.values() if row.has_day()]
+        return bool(here) and 2 * sum(one in days for one in here) > len(here)
+
+    def behind(self, animals: dict[str, SheetAnimal]) -> list[Guard]:
+        """What is seen where parents are found by their names, and all animals are there that are to stand in the
+        book."""
+        found = [self.parents(), self.dropped(animals)]
+        return [guard for guard in found if guard]
+
+    def dropped(self, animals: dict[str, SheetAnimal]) -> Guard | None:
+        """More animals are dropped than may be gone, though not all at once."""
+        had_row = [id for id, known in self.book.known.items() if known.standing.had_row()]
+        dropped = [id for id in had_row if id not in animals]
+        if not are_too_many(len(dropped), len(had_row)) or self.gone():
+            return None
+        return ManyDropped(len(dropped), len(had_row), self.like())
+
+    def parents(self) -> Guard | None:
+        """Most parents have neither a row nor a place in the book."""
+        outside = links_outside(self.rows.values(), self.rows)
+        lost = [parent for *_, parent in outside if parent not in self.book.known]
+        if len(set(lost)) < FEW_PARENTS:
+            return None
+        links = [parent for row in self.rows.values() for parent in row.parent_ids()]
+        if 2 * len(lost) <= len(links):
+            return None
+        words = sum(not any(map(str.isdigit, parent)) for parent in lost)
+        ids = sum(any(map(str.isdigit, id)) for id in self.rows)
+        # a column that had all ids would have been found before
+        title = self.column_of({*lost})
+        is_name = bool(title) or (2 * words > len(lost) and 2 * ids > len(self.rows))
+        like = LooksLike.PARENTS_BY_NAME if is_name else LooksLike.PARENTS_BY_ANOTHER_ID
+        if 2 * sum(not self.rows.keys().isdisjoint(PARTS.split(parent)) for parent in lost) > len(lost):
+            like = LooksLike.IDS_AND_MORE
+        return ParentsLack(len(lost), len(links), tuple(dict.fromkeys(lost))[:3], like, title)
+
+    def column_of(self, parents: set[str]) -> str:
+        """The title of a column that isn't read, and in which most of these parents are found."""
+        titles = self.columns.sheet.titles
+        free = [at for at, title in enumerate(titles) if title and self.columns.is_free(at)]
+        found = {at: len(parents & {*self.columns.cells(at)}) for at in free}
+        best = max(free, key=lambda at: found[at], default=None)
+        return titles[best] if best is not None and 2 * found[best] > len(parents) else ""
+
+
+def are_too_many(gone: int, had_row: int) -> bool:
+    """Are more animals gone than a sheet of the same flock leaves out?"""
+    if had_row < LEAST_GONE:
+        return LEAST_OF_SMALL <= had_row == gone
+    return gone >= LEAST_GONE and gone * TENTH > had_row

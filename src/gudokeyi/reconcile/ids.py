@@ -1,0 +1,180 @@
+"""The ids and numbers of animals: ids that are nearly alike, those that are used again for other animals, and new
+numbers."""
+from __future__ import annotations
+
+import collections
+import functools
+import operator
+
+from gudokeyi.domain.animals import SocietyRecord
+from gudokeyi.domain.commands import RegisterRecord
+from gudokeyi.domain.findings import Report
+from gudokeyi.ingest.animals import SheetAnimal, links_outside
+from gudokeyi.ingest.words import nearly, nearly_all
+from gudokeyi.reconcile.findings.parents import FoundByNearId
+from gudokeyi.reconcile.findings.plausibility import IdsAlike
+from gudokeyi.reconcile.findings.rows import BornAfterOffspring, IdUsedAgain
+from gudokeyi.reconcile.next_book import NextBook
+from gudokeyi.reconcile.parents import can_be, ids_given
+from gudokeyi.store.book import Book
+from gudokeyi.store.settings import Setting, letters_for, settings_of
+from gudokeyi.store.state import NOW
+
+# Ids that differ in case, blanks or leading zeros alone: of a parent's cell, and of two rows.
+
+# the ids that may be alike, since they are so without any zero: their index has all that is asked for
+LIKELY = f"SELECT folded_id FROM animal WHERE {NOW} AND replace(replace(folded_id, ' ', ''), '0', '') = ?"
+
+
+class NearIds:
+    """The animals that have a row, had one, or were filed by hand, by what their ids have but for case, blanks and zeros.
+    `animals` are those of the sheet and of the book."""
+
+    def __init__(self, rows: dict[str, SheetAnimal], animals: dict[str, SheetAnimal], book: Book) -> None:
+        self.rows, self.animals = rows, animals
+        self.with_id = rows.keys() | ids_given(book)
+        self.ids = [*self.with_id & animals.keys()]
+        self.nearly = nearly_all(self.ids)
+
+    @functools.cached_property
+    def near(self) -> dict[str, list[str]]:
+        """The ids by what they have but for these."""
+        near: collections.defaultdict[str, list[str]] = collections.defaultdict(list)
+        for id, one in zip(self.ids, self.nearly):
+            near[one].append(id)
+        return near
+
+    def find_parents(self, report: Report) -> None:
+        """A parent that is no id, but differs so from just one, is that animal where it can be it."""
+        for offspring, role, text in links_outside(self.rows.values(), self.with_id):
+            near = self.near.get(nearly(text), [])
+            if len(near) == 1 and near[0] != offspring.id and can_be(self.animals[near[0]], role, offspring):
+                offspring.set_parent(role, near[0])
+                report.add(offspring.line, offspring.id, FoundByNearId(role, text, near[0]))
+
+    def tell_alike(self, report: Report) -> None:
+        """Rows whose ids differ only so. Most sheets have none."""
+        if len({*self.nearly}) == len(self.nearly):
+            return
+        alike = [sorted(ids, key=self.line_and_id) for ids in self.near.values() if len(ids) > 1]
+        for first_id, *others in sorted(alike, key=lambda ids: self.line_and_id(ids[0])):
+            for id in others:
+                animal, first = self.animals[id], self.animals[first_id]
+                if animal.line or first.line:
+                    report.add(animal.line, id, IdsAlike(first.id, first.line))
+
+    def line_and_id(self, id: str) -> tuple[int, str]:
+        return self.animals[id].line, id
+
+
+def id_alike(book: Book, id: str) -> list[IdsAlike]:
+    """The animal of the book whose id differs so from that of one that is filed by hand."""
+    likely = book.rows(f"folded_id IN ({LIKELY})", "".join(id.casefold().split()).replace("0", ""))
+    alike = sorted(row.id for row in likely if row.id != id and nearly(row.id) == nearly(id))
+    return [IdsAlike(one, 0) for one in alike[:1]]
+
+
+# Ids that are used again for other animals, born years apart: the row is left out, and the animal of the book stays.
+
+# an animal that is born so many days later may be another one
+YEARS_LATER = 700
+
+
+def leave_out_used_tags(
+    animals: dict[str, SheetAnimal], book: Book, report: Report, another: type[IdUsedAgain] = IdUsedAgain,
+    after: type[BornAfterOffspring] = BornAfterOffspring,
+) -> set[str]:  # fmt: skip
+    """Leaves out rows of animals that can't be those of the book which have their ids; answers these ids. It is told as
+    `another`, or as `after` of one that would be younger than its offspring."""
+    found = set()
+    apart = [(animal, known) for animal, known in animals_of_book(animals, book) if are_years_apart(animal, known, book)]
+    progeny = earliest_calves(book) if apart else {}
+    for animal, known in apart:
+        id, born, offspring = animal.id, book.records[known.number].born, progeny.get(known.number)
+        if is_another(animal, known):
+            lines = lines_that_name(animals, animal)
+            report.add(animal.line, id, another(born, known.name, animal.birth.first, animal.name, lines))
+        elif offspring and offspring.born <= animal.birth.first:
+            first = book.by_number()[offspring.number].id
+            report.add(animal.line, id, after(born, animal.birth.first, first, offspring.born))
+        else:
+            continue
+        del animals[id]
+        found.add(id)
+    return found
+
+
+def animals_of_book(animals: dict[str, SheetAnimal], book: Book) -> list[tuple[SheetAnimal, SocietyRecord]]:
+    """Those that the book has, each with what it knows of it."""
+    known = book.known
+    return [(animal, known[id]) for id, animal in animals.items() if id in known] if known else []
+
+
+def lines_that_name(animals: dict[str, SheetAnimal], another: SheetAnimal) -> tuple[int, ...]:
+    """The lines of animals that have an id as a parent, and are born after the other animal that has it."""
+    progeny = [one for one in animals.values() if another.id in (one.sire, one.dam)]
+    return tuple(one.line for one in progeny if one.birth.last > another.birth.first)
+
+
+def tell_used_again(animals: dict[str, SheetAnimal], others: list[SheetAnimal], report: Report) -> None:
+    """The animals of a sheet, and those that have the id of another one there."""
+    for other in others:
+        first = animals[other.id]
+        lines = lines_that_name(animals, other)
+        found = IdUsedAgain(first.birth.first, first.name, other.birth.first, other.name, lines, first.line)
+        report.add(other.line, other.id, found)
+
+
+def earliest_calves(book: Book) -> dict[str, RegisterRecord]:
+    """The first offspring of each parent."""
+    found: dict[str, RegisterRecord] = {}
+    for record in book.records.values():
+        for parent in (record.sire, record.dam):
+            if parent and (parent not in found or record.born < found[parent].born):
+                found[parent] = record
+    return found
+
+
+def are_years_apart(animal: SheetAnimal, known: SocietyRecord, book: Book) -> bool:
+    """Was it born years before or after the animal of the book? A day that was inferred tells nothing."""
+    if not animal.has_day() or known.birth.is_inferred:
+        return False
+    return abs((animal.birth.first - book.records[known.number].born).days) >= YEARS_LATER
+
+
+def is_another(animal: SheetAnimal, known: SocietyRecord) -> bool:
+    """Has it another name or another sex than the animal of the book?"""
+    has_other_name = animal.name and known.name and animal.name.casefold() != known.name.casefold()
+    has_other_sex = animal.sex and not known.sex.is_inferred and animal.sex != known.number[6]
+    return bool(has_other_name or has_other_sex)
+
+
+# The numbers of animals: those of the book stay, and new ones go on from them.
+
+
+def numbers_begin(next_book: NextBook, breed: str, country: str) -> str:
+    """With what numbers begin in a book that had no animal, where nobody said it. A state that was undone may have given
+    them other letters than new ones have."""
+    book, first = next_book.book, next(iter(next_book.animals.values()), None)
+    settings = settings_of(book)
+    begin, is_set = first.number[:6] if first else "", settings[Setting.BREED] + settings[Setting.COUNTRY]
+    is_said = bool(breed and country) or begin == is_set
+    return "" if book.records or next_book.is_pedigree or is_said else begin
+
+
+def give_numbers(next_book: NextBook, breed: str, country: str) -> None:
+    """An animal that is or was in the book keeps its twelve digits; new ones go on from the greatest that there ever
+    was, by birth day and id, so that no number is given to another animal. Breed and country stay as they are, or become
+    those that are given; new ones have those that are set else, or those of the book."""
+    book, animals = next_book.book, next_book.animals
+    former = book.former_numbers() | {id: known.number for id, known in book.dropped.items()}
+    numbers = {id: known.number for id, known in book.known.items()}
+    for id, number in (former | numbers).items():
+        animal = animals.get(id)
+        if animal:
+            animal.number = (breed or number[:3]) + (country or number[3:6]) + animal.sex + number[7:]
+    new = [animal for animal in animals.values() if not animal.number]
+    begin = letters_for(book, breed, country)
+    new.sort(key=operator.attrgetter("born", "id"))
+    for digits, animal in enumerate(new, book.greatest_digits() + 1):
+        animal.number = f"{begin}{animal.sex}{digits:012}"

@@ -1,0 +1,227 @@
+"""The options of an import, and what a book remembers of how its sheets are read: options that needn't be given again,
+how owners are written, and words for an unknown parent."""
+from __future__ import annotations
+
+import datetime
+import pathlib
+from collections.abc import Collection, Iterable
+from dataclasses import dataclass, field, replace
+
+from gudokeyi.domain.changes import Option
+from gudokeyi.domain.findings import Call, quoted
+from gudokeyi.domain.kinds import Field, Remembered
+from gudokeyi.domain.messages import Mistake
+from gudokeyi.ingest.titles import parts_of
+from gudokeyi.ingest.unknown_parents import UnknownParents
+from gudokeyi.ingest.words import clean, listed, plain
+from gudokeyi.reconcile.messages import ImportFault
+from gudokeyi.reconcile.plausibility import APART, YOUNGEST, Limits
+from gudokeyi.store.book import Book
+from gudokeyi.store.exports import SEMICOLONS
+from gudokeyi.store.messages import refuse_long
+from gudokeyi.store.settings import Setting, settings_of
+from gudokeyi.store.state import Meaning, renamings
+
+# What is wished of an import: the options of the word `import`.
+
+
+@dataclass
+class ImportOptions:
+    """The options of `import`."""
+
+    book: pathlib.Path
+    columns: list[str] = field(default_factory=list)
+    unknown: list[str] = field(default_factory=list)
+    sexes: list[str] = field(default_factory=list)
+    breed: str = ""
+    country: str = ""
+    # the day on which owners changed, if it isn't inferred
+    day: datetime.date | None = None
+    strict: bool = False
+    drop_gone: bool = False
+    semicolons: bool = False
+    # of a pedigree: the animals that are taken with their ancestors, and whether links may be left out
+    keep: pathlib.Path | None = None
+    leave_out: bool = False
+    worksheet: str = ""
+    month_first: bool = False
+    # take also what looks like another sheet than the book's
+    anyway: bool = False
+    # tell what would change, and write nothing
+    preview: bool = False
+    youngest: int | None = None
+    apart: int | None = None
+    known: list[str] = field(default_factory=list)
+    owners: list[str] = field(default_factory=list)
+    # days with / have the day first, whatever the book remembers
+    day_first: bool = False
+    # the token of the form by which a sheet is taken, empty for none
+    form: str = ""
+    # words of rows that are no animals, and of those that are
+    no_animal: list[str] = field(default_factory=list)
+    animal: list[str] = field(default_factory=list)
+
+    def options(self) -> tuple[Option, ...]:
+        """The options as they were given, but for the book."""
+        repeated = {
+            "--columns": self.columns, "--unknown": self.unknown, "--known": self.known, "--sexes": self.sexes,
+            "--owner": self.owners, "--no-animal": self.no_animal, "--animal": self.animal,
+        }  # fmt: skip
+        texts = {
+            "--breed": self.breed, "--country": self.country, "--day": self.day, "--keep": self.keep,
+            "--worksheet": self.worksheet, "--youngest": self.youngest, "--apart": self.apart,
+        }  # fmt: skip
+        flags = {
+            "--strict": self.strict, "--drop-gone": self.drop_gone, SEMICOLONS: self.semicolons,
+            "--leave-out": self.leave_out, "--month-first": self.month_first, "--day-first": self.day_first,
+            "--anyway": self.anyway, "--preview": self.preview,
+        }  # fmt: skip
+        found = [Option(name, word) for name, words in repeated.items() for word in words]
+        found += [Option(name, str(text)) for name, text in texts.items() if text not in (None, "")]
+        return tuple(found + [Option(name) for name, is_given in flags.items() if is_given])
+
+    def call(self, *file: str) -> Call:
+        return Call(file, self.book, self.options())
+
+
+# What a book remembers of how its sheets are read: options that needn't be given again, and how owners are written.
+
+RememberedWords = dict[Remembered, list[str]]
+# of these options the last word holds
+LAST_HOLDS = (Remembered.MONTH_FIRST, Remembered.YOUNGEST, Remembered.APART)
+# what stands beside a word of rows that are no animals, and the option that has it
+MEANINGS = {Remembered.TOLD: "no animal"}
+OPTIONS = {Remembered.TOLD: "--no-animal"}
+
+
+def with_settings(book: Book, import_options: ImportOptions) -> ImportOptions:
+    """The options, with the words for unknown parents of the society's settings where none are given. The letters of
+    its numbers are no wish: they are for new numbers alone."""
+    settings = settings_of(book)
+    unknown = [settings[Setting.UNKNOWN]] * bool(settings[Setting.UNKNOWN])
+    return replace(import_options, unknown=import_options.unknown or unknown)
+
+
+def remember(book: Book, import_options: ImportOptions) -> RememberedWords:
+    """The words of the options that say how cells are read: those that the book remembers, and then those that are
+    given now, which stay in the book."""
+    now = given_now(import_options)
+    before = {kind: [one.word for one in book.remembered if one.what is kind] for kind in now}
+    both = {kind: [word for word in before[kind] if word not in now[kind]] + now[kind] for kind in now}
+    for kind in LAST_HOLDS:
+        both[kind] = both[kind][-1:]
+    # a word is known or unknown, as it is said now
+    both[Remembered.UNKNOWN] = without(both[Remembered.UNKNOWN], import_options.known)
+    both[Remembered.KNOWN] = without(both[Remembered.KNOWN], import_options.unknown)
+    animals = {plain(word) for word in parts_of(import_options.animal)}
+    both[Remembered.TOLD] = [word for word in both[Remembered.TOLD] if plain(word) not in animals]
+    if import_options.day_first:
+        both[Remembered.MONTH_FIRST] = []
+    others = [one for one in book.remembered if one.what not in now]
+    book.remembered = others + [
+        Meaning(kind, word, MEANINGS.get(kind, "")) for kind, words in both.items() for word in words
+    ]
+    return both
+
+
+def remember_columns(book: Book, titles: list[tuple[str, str]]) -> None:
+    """The titles of the sheet's columns, by field; those of other fields stay, and so does what is as it was."""
+    columns = {one.word: one for one in book.remembered if one.what is Remembered.COLUMN}
+    columns |= {field: Meaning(Remembered.COLUMN, field, title) for field, title in titles}
+    book.remembered = [one for one in book.remembered if one.what is not Remembered.COLUMN] + [*columns.values()]
+
+
+def without(words: list[str], taken_back: list[str]) -> list[str]:
+    """The words of an option, each of which may be several, without those that another option names."""
+    taken = {word.casefold() for one in taken_back for word in listed(one)}
+    left = [",".join(word for word in listed(one) if word.casefold() not in taken) for one in words]
+    return [one for one in left if one]
+
+
+def given_now(import_options: ImportOptions) -> RememberedWords:
+    return {
+        Remembered.COLUMNS: import_options.columns,
+        Remembered.UNKNOWN: import_options.unknown,
+        Remembered.KNOWN: import_options.known,
+        Remembered.SEXES: import_options.sexes,
+        Remembered.MONTH_FIRST: ["yes"] * import_options.month_first,
+        Remembered.YOUNGEST: [] if import_options.youngest is None else [str(import_options.youngest)],
+        Remembered.APART: [] if import_options.apart is None else [str(import_options.apart)],
+        Remembered.TOLD: [quoted(word) for word in parts_of(import_options.no_animal)],
+    }
+
+
+def again(words: RememberedWords, import_options: ImportOptions) -> list[Option]:
+    """The options that are used though they weren't given."""
+    now = given_now(import_options)
+    used = [(kind, word) for kind, those in words.items() for word in those if word not in now[kind]]
+    names = {kind: OPTIONS.get(kind, f"--{kind.value}") for kind in words}
+    return [Option(names[kind], word * (kind is not Remembered.MONTH_FIRST)) for kind, word in used]
+
+
+def limits_of(words: RememberedWords) -> Limits:
+    """What parents' ages and births of one dam are looked at for."""
+    youngest, apart = words[Remembered.YOUNGEST], words[Remembered.APART]
+    return Limits(int(youngest[0]) if youngest else YOUNGEST, int(apart[0]) if apart else APART)
+
+
+def rename_owners(book: Book, import_options: ImportOptions) -> None:
+    """Owners are written otherwise from now on, as `--owner 'Meier=Meyer'` says."""
+    for word in import_options.owners:
+        before, now = owner_pair(word)
+        if before not in book.owners:
+            raise Mistake(ImportFault.OWNER_LACKS.said(word=word, before=before, owners=names(book)))
+        if now in book.owners:
+            free_name(book, word, now)
+        rename(book, before, now)
+        book.renamed.append((before, now))
+
+
+def owner_pair(word: str) -> tuple[str, str]:
+    """How an owner was written, and is now."""
+    before, equals, now = (clean(piece) for piece in word.partition("="))
+    if not equals or not before or not now:
+        raise Mistake(ImportFault.OWNER_OPTION.said(word=word))
+    refuse_long(Field.OWNER, now)
+    return before, now
+
+
+def free_name(book: Book, word: str, name: str) -> None:
+    """An owner of this name, whom no command of the book names, as after an undo, gives it away."""
+    owner_code = book.owners[name]
+    if any(str(owner_code) in (step.command.from_owner, step.command.to_owner) for step in book.steps):
+        raise Mistake(ImportFault.OWNER_IS_THERE.said(word=word, name=name))
+    rename(book, name, f"{name} (herd {owner_code})")
+
+
+def rename(book: Book, before: str, now: str) -> None:
+    book.owners[now] = book.owners.pop(before)
+    book.names_of_owner_codes = {}
+    others = [one for one in book.remembered if one.what is not Remembered.OWNER]
+    names = {owner_code: name for name, owner_code in book.owners.items()}
+    book.remembered = others + [Meaning(Remembered.OWNER, *one) for one in renamings(book.owners_came(), names)]
+
+
+def names(book: Book) -> str:
+    return ", ".join(f"'{owner}'" for owner in sorted(book.owners)[:9]) or "none"
+
+
+# Which texts stand for an unknown parent in a book: the same for its sheets, its pedigrees and commands by hand.
+
+
+def unknown_parents(book: Book, more: Collection[str] = (), known: Collection[str] = ()) -> UnknownParents:
+    """The usual ones, and those that the book's sheets and its settings name. What is said now to be one besides, or
+    not to be one, holds over these."""
+    named, excepted = (remembered(book, kind) for kind in (Remembered.UNKNOWN, Remembered.KNOWN))
+    named |= words_of([settings_of(book)[Setting.UNKNOWN]])
+    unknown = (named - words_of(known)) | words_of(more)
+    return UnknownParents(unknown, (excepted | words_of(known)) - unknown)
+
+
+def remembered(book: Book, kind: Remembered) -> set[str]:
+    return words_of(one.word for one in book.remembered if one.what is kind)
+
+
+def words_of(options: Iterable[str]) -> set[str]:
+    """The words of options, each of which may be several, in small letters."""
+    return {word.casefold() for one in options for word in listed(one)}

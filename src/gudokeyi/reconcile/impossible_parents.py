@@ -1,0 +1,235 @@
+"""Parents that can't be: those that the program refuses, of each cycle one, and paths that are too long."""
+from __future__ import annotations
+
+import datetime
+from collections.abc import Callable
+
+from gudokeyi.domain.animals import SocietyRecord
+from gudokeyi.domain.commands import HEADER, birth, leave, lines_of
+from gudokeyi.domain.findings import Report
+from gudokeyi.domain.kinds import Field, Role
+from gudokeyi.domain.messages import MessageText, Mistake, Some, why
+from gudokeyi.domain.pedigree_order import in_order, longest_paths, offspring_by_parent, round_from
+from gudokeyi.domain.refusals import Refusal
+from gudokeyi.engine.program import Herdbook
+from gudokeyi.ingest.animals import SheetAnimal, parents_of_all
+from gudokeyi.ingest.messages import Where
+from gudokeyi.reconcile.findings.parents import DayFact, OwnAncestor, ParentRefused
+from gudokeyi.reconcile.messages import ImportFault
+from gudokeyi.reconcile.next_book import NextBook
+from gudokeyi.reconcile.parents import take_back
+from gudokeyi.store.book import Book
+
+# Animals that would be their own ancestors: of each cycle one parent is left out.
+
+Link = tuple[str, Role, str]
+# has an offspring a parent in the book?
+InBook = Callable[[str, str], bool]
+
+
+def in_no_book(offspring: str, parent: str) -> bool:
+    return False
+
+
+def cut_cycles(animals: dict[str, SheetAnimal], report: Report, in_book: InBook = in_no_book) -> list[str]:
+    """Leaves out one parent of each animal that would be its own ancestor: of a cycle a link that the book doesn't
+    have, one whose days can't be, or else that of the latest row. Answers the animals without a day, parents before
+    their offspring."""
+    undated = {id: animal for id, animal in animals.items() if not animal.has_day()}
+    if are_older(animals):
+        return by_age(undated)
+    order = in_order(parents_of_all(animals))
+    left = animals.keys() - order
+    if left:
+        cut_all(animals, left, report, in_book)
+        order = in_order(parents_of_all(animals))
+    return [id for id in order if id in undated]
+
+
+def cut_all(animals: dict[str, SheetAnimal], left: set[str], report: Report, in_book: InBook) -> None:
+    """Cuts the cycles of those left, which no order reached."""
+    while left:
+        cycle = find_cycle(animals, left)
+        offspring, role, parent = faulty_link(animals, cycle, in_book)
+        path = (offspring, *ancestors_round(cycle, offspring))
+        animals[offspring].set_parent(role, "")
+        report.add(animals[offspring].line, offspring, OwnAncestor(role, parent, path))
+        left -= set(in_order(parents_of_all({id: animals[id] for id in left})))
+
+
+def are_older(animals: dict[str, SheetAnimal]) -> bool:
+    """Is each parent older than its offspring by the days of both? Then none is its own ancestor."""
+    last = {id: animal.birth.last for id, animal in animals.items()}
+    last[""] = datetime.date.min
+    for offspring in animals.values():
+        first = offspring.birth.first
+        if last[offspring.sire] >= first or last[offspring.dam] >= first:
+            return False
+    return True
+
+
+def by_age(animals: dict[str, SheetAnimal]) -> list[str]:
+    """Animals whose parents are older: the founders in their order, and behind them the others by age."""
+    founders = [id for id, animal in animals.items() if not animal.sire and not animal.dam]
+    born = {id: animal.birth.first for id, animal in animals.items() if animal.sire or animal.dam}
+    return founders + sorted(born, key=born.__getitem__)
+
+
+def find_cycle(animals: dict[str, SheetAnimal], left: set[str]) -> list[Link]:
+    """A cycle of links (offspring, role, parent). Each of those left, which no order reached, has a parent among
+    them."""
+
+    def link(id: str) -> Link:
+        role, parent = next((role, parent) for role, parent in animals[id].parents() if parent in left)
+        return id, role, parent
+
+    first = min(left, key=lambda one: (animals[one].line, one))
+    return [link(id) for id in round_from(first, lambda id: link(id)[2])]
+
+
+def faulty_link(animals: dict[str, SheetAnimal], cycle: list[Link], in_book: InBook) -> Link:
+    def is_younger(link: Link) -> bool:
+        offspring, parent = animals[link[0]], animals[link[2]]
+        return parent.birth.first >= offspring.birth.last
+
+    new = [link for link in cycle if not in_book(link[0], link[2])] or cycle
+    candidates = [link for link in new if is_younger(link)] or new
+    return max(candidates, key=lambda link: animals[link[0]].line)
+
+
+def ancestors_round(cycle: list[Link], offspring: str) -> list[str]:
+    """The parents along a cycle, from an offspring back to it."""
+    begin = next(at for at, link in enumerate(cycle) if link[0] == offspring)
+    return [parent for _, _, parent in cycle[begin:] + cycle[:begin]]
+
+
+# Paths of parents that are longer than a book takes: how long, and which parents to set to unknown.
+
+MOST_STEPS = 60
+
+
+class Paths:
+    """The longest paths of animals without a cycle: up through parents, and down through offspring."""
+
+    def __init__(self, animals: dict[str, SheetAnimal]) -> None:
+        self.animals = animals
+        parents = parents_of_all(animals)
+        order, progeny = in_order(parents), offspring_by_parent(parents)
+        self.up = longest_paths(order, lambda id: parents[id])
+        self.down = longest_paths(reversed(order), lambda id: progeny.get(id, ()))
+
+    def longest(self) -> list[str]:
+        """The animals of a longest path, the youngest first."""
+        path = [max(self.up, key=lambda id: self.up[id])]
+        while parents := self.animals[path[-1]].parent_ids():
+            path.append(max(parents, key=lambda id: self.up[id]))
+        return path
+
+    def to_cut(self) -> list[str]:
+        """The animals without whose parents no path is too long. Along a path `down` grows from parent to parent, so
+        one that is too long comes to a parent in a higher band of `MOST_STEPS + 1` values; and within a band none
+        is."""
+        band = MOST_STEPS + 1
+        return [
+            id
+            for id, animal in self.animals.items()
+            for _, parent in animal.parents()
+            if self.down[parent] // band > self.down[id] // band and self.up[parent] + 1 + self.down[id] > MOST_STEPS
+        ]
+
+
+def too_deep(animals: dict[str, SheetAnimal], refused: list[SheetAnimal], is_pedigree: bool) -> Mistake:
+    """What is told where the program refuses parents for their depth."""
+    paths = Paths(animals)
+    path = paths.longest()
+    steps = len(path) - 1
+    cut = list(dict.fromkeys(paths.to_cut()))
+    youngest, oldest = (named(animals, [id]) for id in (path[0], path[-1]))
+    more = steps - MOST_STEPS
+    top = path[-more:][::-1]
+    longest = ImportFault.LONGEST_PATHS if more > 1 else ImportFault.LONGEST_PATH
+    to_cut = ImportFault.TO_CUT_MANY if len(cut) > 1 else ImportFault.TO_CUT
+    return Mistake(
+        ImportFault.TOO_DEEP.said(where=refused[0].where(), most=MOST_STEPS),
+        longest.said(
+            steps=steps, more=more, most=MOST_STEPS, youngest=youngest, oldest=oldest, top=named(animals, top)
+        ),
+        to_cut.said(cut=named(animals, cut)),
+        *[ImportFault.KEEP_FEWER.said()] * is_pedigree,
+    )
+
+
+def named(animals: dict[str, SheetAnimal], ids: list[str]) -> Some:
+    return Some([with_line(animals[id]) for id in ids])
+
+
+def with_line(animal: SheetAnimal) -> MessageText:
+    named = Where.AT_LINE if animal.line else Where.WITHOUT_LINE
+    return named.said(id=animal.id, line=animal.line)
+
+
+# Parents that the program refuses: each is left out, alone, and told.
+
+# whom a refusal is about
+ROLES = {
+    Refusal.SIRE_NOT_MALE: Role.SIRE,
+    Refusal.SIRE_NOT_OLDER: Role.SIRE,
+    Refusal.DAM_NOT_FEMALE: Role.DAM,
+    Refusal.DAM_NOT_OLDER: Role.DAM,
+    Refusal.DAM_LEFT_BEFORE: Role.DAM,
+}
+
+
+def leave_out_faulty_parents(next_book: NextBook, program: Herdbook) -> None:
+    """Files all animals with their parents, the oldest first. Where anything is refused it files them without, and then
+    asks for the parents of each until none is refused."""
+    by_age = next_book.by_birth
+    exits = [leave(animal.number, animal.left) for animal in by_age if animal.left]
+    births = HEADER + next_book.births_text(by_age) + lines_of(exits)
+    if not program.file_text(births, len(by_age) + len(exits)):
+        return
+    first = [birth(animal.number, animal.born, "", "", 1, animal.embryo) for animal in by_age] + exits
+    while True:
+        progeny = [animal for animal in by_age if animal.sire or animal.dam]
+        refused = program.file(first + [next_book.parents_of(animal) for animal in progeny])
+        # an exit may be refused too: that is told when the book itself is filed
+        faults = [(progeny[place - len(first)], refusal) for place, refusal in refused.items() if place >= len(first)]
+        if not faults:
+            return
+        # paths come last: without a parent that is refused they may be shorter
+        deep = [animal for animal, refusal in faults if refusal is Refusal.PATH_TOO_LONG]
+        if len(deep) == len(faults) and not take_back(next_book):
+            raise too_deep(next_book.animals, deep, next_book.is_pedigree)
+        for animal, refusal in faults:
+            if refusal is not Refusal.PATH_TOO_LONG:
+                leave_out_parent(next_book, animal, refusal)
+
+
+def leave_out_parent(next_book: NextBook, animal: SheetAnimal, refusal: Refusal) -> None:
+    if refusal not in ROLES:
+        raise Mistake(ImportFault.PARENT_REFUSED.said(where=animal.where(), **why(refusal)))
+    role = ROLES[refusal]
+    if (animal.id, role) not in next_book.tried:
+        tell_left_out(next_book, animal, role, refusal)
+    animal.set_parent(role, "")
+
+
+def tell_left_out(next_book: NextBook, animal: SheetAnimal, role: Role, refusal: Refusal) -> None:
+    parent = next_book.animals[animal.parent(role)]
+    found = ParentRefused(
+        role, refusal, parent.id, parent.line, parent.sex, parent.sex_source,
+        DayFact(parent.born, parent.birth_basis.is_inferred),
+        DayFact(parent.left, parent.exit_basis.is_inferred) if parent.left else None,
+        animal.id, DayFact(animal.born, animal.birth_basis.is_inferred),
+    )  # fmt: skip
+    next_book.report.add(animal.line, animal.id, found)
+    # of an animal without a row it is kept too
+    next_book.texts.setdefault(animal.id, (animal.sire, animal.dam))
+
+
+def tried_again(book: Book, known: SocietyRecord, role: Role, parent: str) -> str:
+    """The parent that an animal has in the book; where it has none, the one by hand that is left out, since a sheet made it
+    impossible: a later sheet may say otherwise."""
+    left_out = known.written(role)
+    is_by_hand = not parent and Field(role.value) in known.by_hand and left_out in book.known
+    return left_out if is_by_hand else parent

@@ -1,0 +1,167 @@
+"""What the sheet has no column for, or no text that can be read, stays as it is in the book; so does what was filed by
+hand."""
+from __future__ import annotations
+
+import datetime
+
+from gudokeyi.domain.animals import SocietyRecord
+from gudokeyi.domain.commands import RegisterRecord
+from gudokeyi.domain.findings import Entry
+from gudokeyi.domain.kinds import Field, Role
+from gudokeyi.domain.provenance import Period
+from gudokeyi.ingest.animals import SheetAnimal
+from gudokeyi.ingest.days import DayFault, Span
+from gudokeyi.ingest.findings.cells import DayLeftOut, ExitInferred
+from gudokeyi.reconcile.exits import Exit, exit_in_book, given_day
+from gudokeyi.reconcile.findings.animals import KeptByHand, KeptFromBook
+from gudokeyi.reconcile.impossible_parents import tried_again
+from gudokeyi.reconcile.next_book import NextBook
+from gudokeyi.reconcile.owner_days import DaysOfOthers
+from gudokeyi.store.state import CELL_FIELDS
+
+# what is told of an exit before the birth
+TOO_EARLY = (DayFault.BEFORE_BIRTH, DayFault.WITHIN_BEFORE_BIRTH)
+
+
+def keep_values(next_book: NextBook) -> None:
+    """Gives the animals of the rows what the book has of them and the sheet doesn't say."""
+    book, keeping = next_book.book, Keeping(next_book)
+    for id, animal in next_book.animals.items():
+        known = book.known.get(id)
+        if known is not None:
+            keeping.keep(animal, known, book.records[known.number])
+    keeping.take_back_exits()
+
+
+class Keeping:
+    """What animals keep, each of which is told."""
+
+    def __init__(self, next_book: NextBook) -> None:
+        self.next_book, self.book = next_book, next_book.book
+        self.given, self.report = next_book.given, next_book.report
+        self.days_of_others = DaysOfOthers(self.book, next_book.meanings, self.report)
+        # the lines of animals whose exits keep the book's days
+        self.kept_exits: set[int] = set()
+
+    def keep(self, animal: SheetAnimal, known: SocietyRecord, record: RegisterRecord) -> None:
+        if known.by_hand:
+            self.keep_by_hand(animal, known, record)
+        if "name" not in self.given or Field.NAME in animal.unread:
+            animal.name = known.name
+        for role in Role:
+            if role not in self.given or role in animal.unread:
+                animal.set_parent(role, self.next_book.id_of(record.parent(role)))
+        exit = exit_in_book(known, record, animal.birth.first)
+        if "exit" not in self.given or ("exit" in animal.unread and self.may_keep_exit(animal, exit)):
+            self.keep_exit(animal, exit)
+            if exit.day:
+                self.tell_kept(animal, Field.EXIT, str(exit.day))
+        elif animal.exit_basis.period and has_day_within(animal.exit_basis.period, record, known):
+            animal.left, animal.exit_basis = record.left, known.exit
+            self.kept_exits.add(animal.line)
+            self.tell_kept(animal, Field.EXIT, str(record.left))
+        if "embryo" not in self.given or "embryo" in animal.unread:
+            animal.embryo = record.embryo
+        owner = self.book.owner_of(record.owner_code)
+        if owner and not animal.owner:
+            animal.owner = owner
+            self.tell_kept(animal, Field.OWNER, owner)
+        self.days_of_others.leave_out(animal, record)
+        is_within = not animal.has_day() and animal.birth.first <= record.born <= animal.birth.last
+        if is_within and not known.birth.is_inferred:
+            animal.birth = Span(record.born, record.born)
+            self.tell_kept(animal, Field.BIRTH, str(record.born))
+        if Field.SEX not in self.given or not animal.cells.get(Field.SEX):
+            animal.castrated = known.castrated
+        if not animal.sex and not known.sex.is_inferred:
+            animal.sex = record.number[6]
+            self.tell_kept(animal, Field.SEX, animal.sex)
+
+    def keep_exit(self, animal: SheetAnimal, exit: Exit) -> None:
+        animal.left, animal.exit_basis = exit
+        self.next_book.exits_of_book.add(animal.id)
+
+    def may_keep_exit(self, animal: SheetAnimal, exit: Exit) -> bool:
+        """Has the book a day for the exit, though it may be left out? One before the birth isn't kept where it is told
+        that the day of the cell is one too."""
+        day = exit.day or given_day(exit.basis)
+        if day is None or day >= animal.birth.first:
+            return day is not None
+        found = [one.finding for one in self.report.entries if one.line == animal.line]
+        days = [one for one in found if isinstance(one, DayLeftOut) and one.field is Field.EXIT]
+        return not any(one.fault in TOO_EARLY for one in days)
+
+    def tell_kept(self, animal: SheetAnimal, field: Field, value: str) -> None:
+        if field.value in self.given:
+            found = KeptFromBook(field, value, field.value in animal.unread)
+            self.report.add(animal.line, animal.id, found)
+
+    def take_back_exits(self) -> None:
+        """Where an exit keeps the day of the book, none is inferred from its cell."""
+        if self.kept_exits:
+            entries = self.report.entries
+            self.report.entries = [one for one in entries if not self.is_taken_back(one)]
+
+    def is_taken_back(self, entry: Entry) -> bool:
+        return entry.line in self.kept_exits and isinstance(entry.finding, ExitInferred)
+
+    def keep_by_hand(self, animal: SheetAnimal, known: SocietyRecord, record: RegisterRecord) -> None:
+        """What was filed by hand stays where the cell says what it said in the last sheet."""
+        values, owner = values_of(animal), self.book.owner_of(record.owner_code)
+        given = frozenset(one for one in known.by_hand if one in self.given)
+        as_before = self.as_before(animal, known.by_hand | {Field.SINCE})
+        stays = given & as_before
+        # a sheet that has the owner by hand says nothing otherwise, and his day is still by hand
+        agreeing = {Field.OWNER} if animal.owner == owner else set[Field]()
+        self.next_book.overridden[animal.id] = given - stays - agreeing
+        for role in Role:
+            if Field(role.value) in stays:
+                in_book = self.next_book.id_of(record.parent(role))
+                animal.set_parent(role, tried_again(self.book, known, role, in_book))
+        if Field.OWNER in known.by_hand:
+            self.keep_owner(animal, owner, Field.OWNER in stays, Field.SINCE in as_before)
+        if Field.EXIT in stays:
+            self.keep_exit(animal, exit_in_book(known, record, animal.birth.first))
+        if Field.EMBRYO in stays:
+            animal.embryo = record.embryo
+        if Field.NAME in stays:
+            animal.name = known.name
+        self.tell_by_hand(animal, values)
+
+    def as_before(self, animal: SheetAnimal, fields: frozenset[Field]) -> frozenset[Field]:
+        """The fields whose cells say what they said in the last sheet; those of an animal that none had were empty."""
+        before, alike = self.book.cells.get((animal.id,)), self.next_book.meanings.are_alike
+        cells: dict[Field, object] = dict(zip(CELL_FIELDS, before[1:])) if before else {}
+        return frozenset(one for one in fields if alike(animal.id, one, cells.get(one), animal.cells.get(one, "")))
+
+    def keep_owner(self, animal: SheetAnimal, owner: str, stays: bool, day_is_as_before: bool) -> None:
+        """An owner by hand: a day of the sheet's owner, or of one before, is none of his."""
+        is_of_other = stays and animal.owner not in ("", owner)
+        if is_of_other:
+            self.next_book.kept_owners.add(animal.id)
+        if is_of_other or day_is_as_before:
+            animal.since = None
+        if stays:
+            animal.owner = owner
+
+    def tell_by_hand(self, animal: SheetAnimal, values: dict[Field, str]) -> None:
+        """Tells what stays in the place of the sheet's values."""
+        for one, value in values_of(animal).items():
+            if value != values[one]:
+                self.report.add(animal.line, animal.id, KeptByHand(one, value))
+
+
+def has_day_within(period: Period, record: RegisterRecord, known: SocietyRecord) -> bool:
+    """Has the book the day of an exit of which a cell says the month or the year?"""
+    return not known.exit.is_inferred and str(record.left).startswith(period.text)
+
+
+def values_of(animal: SheetAnimal) -> dict[Field, str]:
+    return {
+        Field.NAME: animal.name,
+        Field.SIRE: animal.sire,
+        Field.DAM: animal.dam,
+        Field.OWNER: animal.owner,
+        Field.EXIT: str(animal.left or ""),
+        Field.EMBRYO: "yes" if animal.embryo else "",
+    }

@@ -1,0 +1,227 @@
+"""The book that is to be: what the sheet says of its animals, what their cells mean, what the book has besides, and
+what is known of each animal afterwards."""
+from __future__ import annotations
+
+import collections
+import functools
+import operator
+from collections.abc import Mapping
+
+from gudokeyi.domain.animals import NO_FIELDS, SocietyRecord
+from gudokeyi.domain.collections import made
+from gudokeyi.domain.commands import Command, RegisterRecord, birth, day_text, parents
+from gudokeyi.domain.findings import Finding, Report
+from gudokeyi.domain.kinds import Field, Role, Standing
+from gudokeyi.ingest.animals import SheetAnimal
+from gudokeyi.ingest.day_cells import DayCell, DayCells
+from gudokeyi.ingest.words import KNOWN_YES, clean, nearly
+from gudokeyi.store.book import Book
+
+# What cells mean, however they are written: a day in another form, a parent by its id or by its name, an unknown one.
+
+PARENTS, DAYS = (Field.SIRE, Field.DAM), (Field.BIRTH, Field.SINCE)
+
+
+class Meanings:
+    """Compares cells of animals with those of the last sheet, as words are understood now."""
+
+    def __init__(self, animals: Mapping[str, SheetAnimal], book: Book, days: DayCells) -> None:
+        self.animals, self.book, self.days = animals, book, days
+
+    def are_alike(self, id: str, field: Field, before: object, now: str) -> bool:
+        """Do the last cell of an animal and the one of now say the same? No cell is an empty one."""
+        text = str(before or "")
+        if field is Field.OWNER:
+            text = self.book.respelt(text)
+        return text == now or self.of(id, field, text) == self.of(id, field, now)
+
+    def of(self, id: str, field: Field, text: str) -> object:
+        if field in PARENTS:
+            return self.parent(id, text)
+        if field in DAYS:
+            return days_of(self.days.day(field, text), text)
+        if field is Field.EXIT:
+            exit = self.days.exit(text)
+            return days_of(exit.day, text) if exit else ""
+        return text.casefold() in KNOWN_YES if field is Field.EMBRYO else clean(text)
+
+    def parent(self, offspring: str, text: str) -> str:
+        """The animal that a text means, by its id, or where it is the only one by its name or an id that is nearly
+        this."""
+        if text in self.days.unknown or text in self.animals or text in self.book.known:
+            return "" if text in self.days.unknown else text
+        for ids in (self.near.get(nearly(text), set()), self.named.get(text.casefold(), set())):
+            if len(ids - {offspring}) == 1:
+                return min(ids - {offspring})
+        return text
+
+    @functools.cached_property
+    def near(self) -> Mapping[str, set[str]]:
+        near = collections.defaultdict[str, set[str]](set)
+        for id in self.animals.keys() | self.book.known.keys():
+            near[nearly(id)].add(id)
+        return near
+
+    @functools.cached_property
+    def named(self) -> Mapping[str, set[str]]:
+        """The animals by their names of now and of before, in small letters."""
+        named = collections.defaultdict[str, set[str]](set)
+        now = [(one.name, id) for id, one in self.animals.items()]
+        before = [(one.name, id) for id, one in self.book.known.items()]
+        for name, id in now + before:
+            named[name.casefold()].add(id)
+        return named
+
+
+def days_of(cell: DayCell, text: str) -> object:
+    """The days that a cell leaves open; its text where it can't be read, and nothing where it says nothing."""
+    if cell.span:
+        return cell.span.first, cell.span.last
+    return text if cell.says_something else ""
+
+
+# The book that is to be: what the sheet says of its animals, and what the book has besides.
+
+
+class NextBook:
+    """The animals that are to stand in the book, by id, beside the book as it is."""
+
+    def __init__(
+        self, book: Book, animals: dict[str, SheetAnimal], given: set[str], report: Report, days: DayCells,
+        is_pedigree: bool = False,
+    ) -> None:  # fmt: skip
+        """`days` is how days are read, and which words are unknown parents."""
+        self.book, self.animals, self.given, self.report = book, animals, given, report
+        self.meanings, self.is_pedigree = Meanings(animals, book, days), is_pedigree
+        self.names = book.by_number()
+        # whether a parent is a sire or a dam, by most of its offspring
+        self.roles: dict[str, Role] = {}
+        # the ids of rows that are left out, since the book has them for other animals, which stay
+        self.used_again: set[str] = set()
+        # why it isn't taken but by --anyway
+        self.obstacles: list[Finding] = []
+        # the sire and the dam as the sheet writes them, by an animal's id; empty where it has no such column
+        self.texts: dict[str, tuple[str, str]] = {}
+        # the parents of animals without a row that the book hasn't, and that are tried again
+        self.tried: set[tuple[str, Role]] = set()
+        # the fields that were filed by hand and that the sheet says otherwise now than before
+        self.overridden: dict[str, frozenset[Field]] = {}
+        # the ids of rows that name another owner than the one by hand, who stays
+        self.kept_owners: set[str] = set()
+        # the ids of animals whose exits are those of the book, or were left out there
+        self.exits_of_book: set[str] = set()
+
+    def record(self, id: str) -> RegisterRecord | None:
+        known = self.book.known.get(id)
+        return self.book.records[known.number] if known else None
+
+    def id_of(self, number: str) -> str:
+        return self.names[number].id if number else ""
+
+    def has_in_book(self, id: str, parent: str) -> bool:
+        """Has an animal this parent in the book?"""
+        record = self.record(id)
+        return record is not None and parent in (self.id_of(record.sire), self.id_of(record.dam))
+
+    # -- what commands name
+
+    def birth_of(self, animal: SheetAnimal, owner_code: int) -> Command:
+        """The birth in a herd, with the parents of today."""
+        animals = self.animals
+        sire = animals[animal.sire].number if animal.sire else ""
+        dam = animals[animal.dam].number if animal.dam else ""
+        return birth(animal.number, animal.born, sire, dam, owner_code, animal.embryo)
+
+    def births_text(self, animals: list[SheetAnimal]) -> bytes:
+        """The births of animals in the first herd, as records of a command file."""
+        numbers = {"": "0", **{id: animal.number for id, animal in self.animals.items()}}
+        births = [
+            f"birth,{one.number},{day_text(one.born)},{numbers[one.sire]},{numbers[one.dam]},,1,{'1' * one.embryo}\n"
+            for one in animals
+        ]
+        return "".join(births).encode()
+
+    def parents_of(self, animal: SheetAnimal) -> Command:
+        return parents(animal.number, self.number_of(animal.sire), self.number_of(animal.dam))
+
+    def number_of(self, id: str) -> str:
+        return self.animals[id].number if id else ""
+
+    @functools.cached_property
+    def by_birth(self) -> list[SheetAnimal]:
+        """All animals, once they have their numbers: from then on neither these nor birth days change."""
+        return sorted(self.animals.values(), key=operator.attrgetter("born", "number"))
+
+
+# What is known of each animal after an import.
+
+# of an animal whose parents are written as they are
+NOTHING_WRITTEN = ("", "")
+
+
+def known_after(next_book: NextBook) -> dict[str, SocietyRecord]:
+    """What is known of the animals of the next book, and of those that are dropped."""
+    return known_animals(next_book) | dropped_animals(next_book)
+
+
+def dropped_animals(next_book: NextBook) -> dict[str, SocietyRecord]:
+    before = next_book.book.dropped | dict(next_book.book.known)
+    dropped = [known for id, known in before.items() if id not in next_book.animals]
+    return {known.id: known._replace(standing=Standing.DROPPED) for known in dropped}
+
+
+def known_animals(next_book: NextBook) -> dict[str, SocietyRecord]:
+    kept, written, known = {}, written_parents(next_book), next_book.book.known
+    for id, animal in next_book.animals.items():
+        before = known.get(id)
+        by_hand = before.by_hand - next_book.overridden.get(id, NO_FIELDS) if before else NO_FIELDS
+        sire, dam = written.get(id, NOTHING_WRITTEN)
+        values = (
+            animal.number,
+            id,
+            animal.name,
+            Standing.ROW if animal.line else standing_of(next_book, animal, before),
+            animal.birth_basis,
+            animal.exit_basis,
+            animal.sex_source,
+            animal.castrated,
+            sire,
+            dam,
+            by_hand,
+            animal.owner_day,
+        )
+        kept[id] = made(SocietyRecord, values)
+    return kept
+
+
+def standing_of(next_book: NextBook, animal: SheetAnimal, before: SocietyRecord | None) -> Standing:
+    """That of an animal without a row."""
+    # a row that is left out, since it is another animal's, makes no other of the one that the book has
+    if before and (animal.id in next_book.used_again or before.standing is Standing.FILED):
+        return before.standing
+    return Standing.GONE if before and before.standing.had_row() else Standing.PARENT
+
+
+def written_parents(next_book: NextBook) -> dict[str, tuple[str, str]]:
+    """For each animal the texts of its sire and its dam where these were left out, or are written by their names; those
+    of the book where the sheet doesn't give the parent."""
+    book, animals = next_book.book, next_book.animals
+    found: dict[tuple[str, Role], str] = {}
+    before = [(known, role) for known in book.known.values() for role in Role if known.written(role)]
+    for known, role in before:
+        animal, record = animals.get(known.id), book.records[known.number]
+        if animal and not (animal.line and role in next_book.given):
+            if animal.parent(role) == next_book.id_of(record.parent(role)):
+                found[known.id, role] = known.written(role)
+    for id, (sire, dam) in next_book.texts.items():
+        animal = animals.get(id)
+        if animal and (animal.sire != sire or animal.dam != dam):
+            both = (Role.SIRE, sire), (Role.DAM, dam)
+            found |= {(id, role): text for role, text in both if is_otherwise(next_book, animal, role, text)}
+    return {id: (found.get((id, Role.SIRE), ""), found.get((id, Role.DAM), "")) for id, _ in found}
+
+
+def is_otherwise(next_book: NextBook, animal: SheetAnimal, role: Role, text: str) -> bool:
+    """Is the parent another one than the text of the sheet? A pedigree's parents may be swapped."""
+    is_swapped = next_book.is_pedigree and text in (animal.sire, animal.dam)
+    return bool(text) and animal.parent(role) != text and not is_swapped

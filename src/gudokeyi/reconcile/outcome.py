@@ -1,0 +1,135 @@
+"""What an import makes of a book, or would make of it, and how the sheet was understood: data, which a page can show as
+well as a terminal."""
+from __future__ import annotations
+
+import collections
+import pathlib
+import shlex
+from dataclasses import dataclass, field
+
+from gudokeyi.domain.changes import Option
+from gudokeyi.domain.findings import Call, Entry, Finding, Report, What
+from gudokeyi.domain.kinds import Field
+from gudokeyi.domain.messages import counted, some_of
+from gudokeyi.reconcile.findings.animals import ValueChanged
+from gudokeyi.store.exports import REPORT
+
+# How a sheet was understood: its rows, and which column has what, as data.
+
+# so many titles that aren't read are shown
+MOST_TITLES = 12
+
+
+@dataclass(frozen=True, slots=True)
+class ColumnRead:
+    field: Field
+    title: str
+
+
+@dataclass(frozen=True, slots=True)
+class Understood:
+    """The file, how many rows it has below the titles in a line, its encoding or worksheet in words, the columns that
+    are read and the titles that aren't, and the options that the book remembers and that hold here."""
+
+    file: str
+    rows: int
+    titles_line: int
+    how: str
+    columns: tuple[ColumnRead, ...]
+    not_read: tuple[str, ...]
+    remembered: tuple[Option, ...]
+    # the columns are those of the last sheet
+    as_before: bool = False
+
+    def lines(self) -> list[str]:
+        read = ", ".join(f"{one.field} from '{one.title}'" for one in self.columns)
+        columns = "columns as at the last time" if self.as_before else f"columns: {read}"
+        titles = some_of([f"'{title}'" for title in self.not_read], MOST_TITLES)
+        lines = [
+            f"{self.file}: {counted(self.rows, 'row')} below the titles in line {self.titles_line}, {self.how}",
+            columns + (f"; not read: {titles}" if titles else ""),
+        ]
+        if self.remembered:
+            options = ", ".join(
+                f"{one.option} {shlex.quote(one.word)}" if one.word else one.option for one in self.remembered
+            )
+            lines.append(f"as at the last time: {options} (the book remembers these)")
+        return lines
+
+
+# What an import makes of a book, or would make of it: data, which a page can show as well as a terminal.
+
+
+@dataclass(frozen=True, slots=True)
+class BookAfter:
+    """The book after an import: how many animals it has, how many of them are new, and of how many sexes or days are
+    invented; whether its journal begins a new edition; with what numbers begin, where that wasn't wished and it is the
+    first taking; and whether those that are gone are dropped. `with_row` have a row, the new ones among them; `added`
+    have none and are parents that the book didn't have; the others were in the book."""
+
+    animals: int
+    new: int
+    invented: int
+    is_anew: bool
+    numbers_begin: str
+    drops_gone: bool
+    with_row: int = 0
+    added: int = 0
+
+    @property
+    def known(self) -> int:
+        """The animals with a row that the book had."""
+        return self.with_row - self.new
+
+    @property
+    def without_row(self) -> int:
+        """The animals of the book that have no row."""
+        return self.animals - self.with_row - self.added
+
+
+@dataclass(frozen=True)
+class Outcome:
+    """What a preview tells, and what an import did. A terminal shows it by `screen`, a page as it likes:
+
+    - `call`: how `import` was called; `call.command(suggestion)` is a whole command to be typed;
+    - `understood`: the rows of a sheet, and which columns have what; none of a pedigree, or where a sheet can't be read;
+    - `about`: how the file was read, in sentences;
+    - `obstacles`: why nothing is taken, each a finding with `words()` and `suggestions()`; where there is one, an
+      import wrote nothing, and a preview tells what would be taken all the same, if the sheet can be read;
+    - `report.entries`: what was found, each with the sheet's line, the animal's id and a finding; `by_kind()` sorts them
+      by what they are about, and `finding.does()` tells how grave each is;
+    - `after`: the book after it, none where the sheet can't be read."""
+
+    folder: pathlib.Path
+    call: Call
+    understood: Understood | None = None
+    about: tuple[str, ...] = ()
+    obstacles: tuple[Finding, ...] = ()
+    report: Report = field(default_factory=Report)
+    after: BookAfter | None = None
+
+    def by_kind(self) -> dict[What, list[Entry]]:
+        """What was found, by kind; what may be wrong comes first."""
+        entries = self.report.in_order()
+        return {what: [entry for entry in entries if entry.what is what] for what in What}
+
+    def counts(self) -> collections.Counter[What]:
+        return self.report.counts()
+
+    def changed(self) -> collections.Counter[str]:
+        """How many values of each field are changed."""
+        findings = (entry.finding for entry in self.report.entries)
+        return collections.Counter(one.name for one in findings if isinstance(one, ValueChanged))
+
+    def summary(self) -> str:
+        assert self.after
+        counts, after = self.counts(), self.after
+        inferred = [f"{after.invented} invented"] * bool(after.invented)
+        inferred += [f"{counts[What.INFERRED]} inferred"] * bool(counts[What.INFERRED] or not after.invented)
+        return (
+            f"{self.folder}: {counted(after.animals, 'animal')}, {after.new} new, {counts[What.CHANGED]} changed, "
+            f"{', '.join(inferred)}, {self.report.left_out()}, {counts[What.ADDED]} added, {counts[What.GONE]} gone"
+        )
+
+    def report_file(self) -> pathlib.Path:
+        return self.folder / REPORT

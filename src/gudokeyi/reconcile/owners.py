@@ -1,0 +1,137 @@
+"""Owners that seem to be written otherwise than before, and owners whom the book doesn't have."""
+from __future__ import annotations
+
+import collections
+import difflib
+import re
+from collections.abc import Iterator
+
+from gudokeyi.domain.spelling import closest
+from gudokeyi.ingest.animals import SheetAnimal
+from gudokeyi.ingest.words import plain
+from gudokeyi.reconcile.findings.animals import (
+    OwnerMeant, OwnerMistyped, OwnerRenamed, OwnerRespelt, OwnersAlike, Spelling,
+)  # fmt: skip
+from gudokeyi.reconcile.next_book import NextBook
+from gudokeyi.store.book import Book
+
+# Owners that seem to be written otherwise: than before, where all animals of the one are of another who is much alike,
+# and in one sheet, also by a wrong letter.
+
+# how much alike two names are, of which one may stand for the other
+ALIKE = 0.75
+# an owner of so few animals may be one with so many times as many whose name has a letter more, less or otherwise
+FEW, TIMES = 2, 5
+# how umlauts are written where they lack
+UMLAUTS = str.maketrans({"ä": "ae", "ö": "oe", "ü": "ue"})
+# in shorter names each letter counts
+SHORT = 4
+
+
+def tell_respelt_owners(next_book: NextBook, owners_before: set[str]) -> None:
+    """`owners_before` are those that the book had before this import. A row in whose place one by hand stays tells
+    nothing."""
+    taken, kept = collections.defaultdict[str, collections.Counter[str]](collections.Counter), next_book.kept_owners
+    for animal in next_book.animals.values() if next_book.book.known else ():
+        record = next_book.record(animal.id)
+        if record and animal.line and animal.id not in kept and (before := next_book.book.owner_of(record.owner_code)):
+            taken[before][animal.owner] += 1
+    for before, now in taken.items():
+        owner, count = now.most_common(1)[0]
+        is_new = len(now) == 1 and owner not in owners_before
+        if is_new and difflib.SequenceMatcher(None, before.casefold(), owner.casefold()).ratio() >= ALIKE:
+            next_book.report.add(0, "", OwnerRespelt(before, owner, count))
+
+
+def tell_renamed_owners(next_book: NextBook) -> None:
+    """The owners that are written otherwise from now on, as was wished, each by its first name and its last one."""
+    book, found = next_book.book, dict[str, str]()
+    for before, _ in book.renamed:
+        now = book.respelt(before)
+        if before != now and now not in found.values():
+            found[before] = now
+    for before, now in found.items():
+        its = {animal.id: next_book.record(animal.id) for animal in next_book.animals.values() if animal.owner == now}
+        those = {id for id, record in its.items() if record and book.owner_of(record.owner_code) == now}
+        next_book.report.renamed |= those
+        next_book.report.add(0, "", OwnerRenamed(before, now, len(those)))
+
+
+def tell_owners_alike(next_book: NextBook) -> None:
+    """Names of the sheet's rows that differ in case, accents, umlauts, blanks or signs alone."""
+    animals = collections.Counter(one.owner for one in next_book.animals.values() if one.line and one.owner)
+    alike = collections.defaultdict[str, list[Spelling]](list)
+    for owner, count in sorted(animals.items()):
+        for name in {plain(owner), plain(owner.casefold().translate(UMLAUTS))}:
+            alike[name].append(Spelling(owner, count))
+    several = dict.fromkeys(tuple(alike[name]) for name in sorted(alike) if name and len(alike[name]) > 1)
+    for spellings in several:
+        if not any(set(spellings) < set(other) for other in several):
+            next_book.report.add(0, "", OwnersAlike(spellings))
+
+
+def tell_mistyped_owners(next_book: NextBook, owners_before: set[str]) -> None:
+    """Names of few rows that are those of many but for one letter, or for two that are swapped. One that the book had
+    before was told when it came."""
+    rows = collections.defaultdict[str, list[SheetAnimal]](list)
+    for animal in next_book.animals.values():
+        if animal.line and animal.owner:
+            rows[animal.owner].append(animal)
+    # of two names that differ by a letter each has one without one of its letters
+    pieces = collections.defaultdict[str, list[str]](list)
+    for owner, its in rows.items():
+        if len(its) >= TIMES and len(owner) >= SHORT:
+            for piece in without_a_letter(owner):
+                pieces[piece].append(owner)
+    for owner, its in rows.items():
+        if len(its) > FEW or len(owner) < SHORT or owner in owners_before:
+            continue
+        likely = dict.fromkeys(one for piece in without_a_letter(owner) for one in pieces.get(piece, ()))
+        near = [one for one in likely if len(rows[one]) >= TIMES * len(its) and differ_by_one(owner, one)]
+        if near:
+            meant = max(near, key=lambda one: len(rows[one]))
+            found = OwnerMistyped(Spelling(owner, len(its)), Spelling(meant, len(rows[meant])))
+            next_book.report.add(its[0].line, its[0].id, found)
+
+
+def without_a_letter(text: str) -> list[str]:
+    """A text in small letters, and what it is without each of them."""
+    folded = text.casefold()
+    return sorted({folded, *(folded[:at] + folded[at + 1 :] for at in range(len(folded)))})
+
+
+def differ_by_one(one: str, other: str) -> bool:
+    """Are two texts alike but for one letter, or for two that are swapped? Digits, and letters that stand alone, as in
+    `Hof 2` and `A. Huber`, tell owners apart."""
+    one, other = sorted((one.casefold(), other.casefold()), key=len)
+    if len(other) - len(one) > 1 or plain(one) == plain(other):
+        return False
+    front = next((at for at in range(len(one)) if one[at] != other[at]), len(one))
+    back = next((at for at in range(len(one) - front) if one[-1 - at] != other[-1 - at]), len(one) - front)
+    here, there = one[front : len(one) - back], other[front : len(other) - back]
+    if not (here + there).isalpha() or not is_in_word(other, front, front + len(there)):
+        return False
+    return len(there) == 1 or (len(here) == 2 and here == there[::-1])
+
+
+def is_in_word(text: str, begin: int, end: int) -> bool:
+    """Has the word at a place other letters beside it?"""
+    return text[max(begin - 1, 0) : begin].isalpha() or text[end : end + 1].isalpha()
+
+
+# An owner whom a book doesn't have, in a command that somebody files by hand: it is filed, and told where another owner
+# may be meant.
+
+
+def new_owner(book: Book, owner: str) -> Iterator[OwnerMeant]:
+    meant = owner_meant(book, owner) if owner and owner not in book.owners else ""
+    if meant:
+        yield OwnerMeant(owner, meant)
+
+
+def owner_meant(book: Book, owner: str) -> str:
+    """The owner of the book whose name is nearest, empty where none is near. Numbers tell owners apart, as in `Hof 2`."""
+    numbers = re.findall(r"\d+", owner)
+    by_letters = {plain(name): name for name in sorted(book.owners) if re.findall(r"\d+", name) == numbers}
+    near = closest(plain(owner), [*by_letters], 1)
+    return by_letters[near[0]] if near else ""

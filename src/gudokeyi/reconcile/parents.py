@@ -1,0 +1,252 @@
+"""Parents that have no row: found by their names, as in the last sheet, or added as founders; and those that animals
+lost, each tried again."""
+from __future__ import annotations
+
+import collections
+import functools
+from collections.abc import Mapping
+
+from gudokeyi.domain.findings import Finding, Report
+from gudokeyi.domain.kinds import Field, Role, Standing
+from gudokeyi.domain.pedigree_order import ancestors
+from gudokeyi.domain.spelling import SameLetters
+from gudokeyi.ingest.animals import Link, SheetAnimal, links_outside
+from gudokeyi.ingest.findings.cells import TextTooLong
+from gudokeyi.ingest.words import nearly
+from gudokeyi.reconcile.findings.parents import AddedAsParent, FoundByName, FoundByNearId, FoundInBook
+from gudokeyi.reconcile.findings.plausibility import MayBeUnknown, MoreMayBeUnknown
+from gudokeyi.reconcile.next_book import NextBook
+from gudokeyi.store.book import Book
+from gudokeyi.store.messages import MOST_IN_ID
+
+# Parents that have no row: found by their names, or added as founders; and which animal a text may mean.
+
+# of so many links a parent without a row that is a sire and a dam is told
+MANY = 3
+# in a sheet a text without a digit is told where so many animals have it as a parent, and so many texts are
+SEVERAL, MOST_WORDS = 2, 9
+# so few parents without a row may be short ids in which two letters are swapped
+FEW = 5
+WITHOUT_ROW = Standing.PARENT
+FIELDS = {Role.SIRE: Field.SIRE, Role.DAM: Field.DAM}
+
+
+class Names:
+    """Finds parents by their names, and tells which animals may be meant by a text that is no id."""
+
+    def __init__(self, animals: dict[str, SheetAnimal], report: Report) -> None:
+        self.animals, self.report = animals, report
+
+    @functools.cached_property
+    def named(self) -> dict[str, list[SheetAnimal]]:
+        """The animals by their names in small letters."""
+        named: collections.defaultdict[str, list[SheetAnimal]] = collections.defaultdict(list)
+        for animal in self.animals.values():
+            if animal.name:
+                named[animal.name.casefold()].append(animal)
+        return named
+
+    def find_parents(self, rows: dict[str, SheetAnimal], book: Book) -> None:
+        """A parent that is no animal's id, but the name of one alone, is taken for that one where it can be it. What is
+        the parent in the book stays it, whatever other animals have its name."""
+        with_id = rows.keys() | ids_given(book)
+        ids = {known.number: id for id, known in book.known.items()}
+        links = links_outside(rows.values(), with_id)
+        links = [(offspring, role, text) for offspring, role, text in links if text.casefold() in self.named]
+        others = {
+            (role, text.casefold()) for offspring, role, text in links if not self.possible(offspring, role, text)
+        }
+        for offspring, role, text in links:
+            known = book.known.get(offspring.id)
+            in_book = ids.get(book.records[known.number].parent(role)) if known else None
+            possible = self.possible(offspring, role, text)
+            meant = [one for one in possible if one.id == in_book]
+            # where it can't be the parent of one offspring there is another animal of this name, which may be that of
+            # all
+            if not meant and (role, text.casefold()) not in others and len(self.others(offspring, text)) == 1:
+                meant = possible
+            if meant:
+                offspring.set_parent(role, meant[0].id)
+                self.report.add(offspring.line, offspring.id, FoundByName(role, text, meant[0].id))
+
+    def possible(self, offspring: SheetAnimal, role: Role, name: str) -> list[SheetAnimal]:
+        return [one for one in self.others(offspring, name) if can_be(one, role, offspring)]
+
+    def others(self, offspring: SheetAnimal, name: str) -> list[SheetAnimal]:
+        """The animals of a name, but for the offspring itself."""
+        return [one for one in self.named.get(name.casefold(), ()) if one is not offspring]
+
+    def add_parents(self) -> None:
+        """A founder for each parent without a row."""
+        links = self.without_row
+        progeny = collections.Counter(parent for _, _, parent in links)
+        are_few = len(progeny.keys() - self.animals.keys()) <= FEW
+        for animal, role, parent in links:
+            if parent not in self.animals and len(parent) > MOST_IN_ID:
+                # a name that no animal has is no id
+                animal.set_parent(role, "")
+                self.report.add(animal.line, animal.id, TextTooLong(FIELDS[role], len(parent), MOST_IN_ID))
+                continue
+            if parent not in self.animals:
+                found = AddedAsParent(role, animal.id, progeny[parent] - 1, *self.meant(animal, role, parent, are_few))
+                self.report.add(animal.line, parent, found)
+                self.animals[parent] = SheetAnimal(parent)
+            one = self.animals[parent]
+            one.named_in = one.named_in or animal.line
+
+    @functools.cached_property
+    def without_row(self) -> list[Link]:
+        """The parents without a row, each with its offspring."""
+        with_row = {id for id, animal in self.animals.items() if animal.line}
+        return links_outside(self.animals.values(), with_row)
+
+    def advise_unknown(self, is_pedigree: bool) -> None:
+        """A parent without a row that several animals have may be a word for an unknown one: one that is both a sire
+        and a dam, or, in a sheet, a text without a digit."""
+        progeny = collections.defaultdict[str, dict[Role, int]](lambda: {Role.SIRE: 0, Role.DAM: 0})
+        children = collections.defaultdict[str, set[str]](set)
+        for offspring, role, parent in self.without_row:
+            progeny[parent][role] += 1
+            children[parent].add(offspring.id)
+        told = []
+        for parent, counts in progeny.items():
+            is_both = counts[Role.SIRE] and counts[Role.DAM]
+            if is_pedigree:
+                may_be = is_both and sum(counts.values()) >= MANY
+            else:
+                may_be = len(children[parent]) >= SEVERAL and (is_both or not any(map(str.isdigit, parent)))
+            if may_be and "," not in parent:
+                told.append((-sum(counts.values()), parent, counts))
+        for _, parent, counts in sorted(told, key=lambda one: one[:2])[:MOST_WORDS]:
+            self.report.add(0, "", MayBeUnknown(parent, counts[Role.SIRE], counts[Role.DAM]))
+        if len(told) > MOST_WORDS:
+            self.report.add(0, "", MoreMayBeUnknown(len(told) - MOST_WORDS))
+
+    @functools.cached_property
+    def same_letters(self) -> SameLetters:
+        """All names and ids; an id counts before a name."""
+        names = [(animal.name, id) for id, animal in self.animals.items() if animal.name]
+        return SameLetters([*names, *((id, id) for id in self.animals)])
+
+    def meant(self, offspring: SheetAnimal, role: Role, text: str, are_few: bool) -> tuple[str, tuple[str, ...]]:
+        """Which id may be meant by a text that is none, or several that have it as their name. Where few parents lack a
+        row, a short text may also be one that can be the parent, two of whose letters are swapped."""
+        ids = [one.id for one in self.others(offspring, text)]
+        if len(ids) > 1:
+            return "", tuple(ids)
+        alike = ids[0] if ids else self.same_letters.meant(text.removesuffix(".0")) or self.same_letters.meant(text)
+        if not alike and are_few:
+            swapped = self.same_letters.swapped(text)
+            alike = next((id for id in swapped if can_be(self.animals[id], role, offspring)), "")
+        return (alike if alike != offspring.id else ""), ()
+
+
+def may_be_unknown(report: Report) -> list[Finding]:
+    """What was told of words that may mean an unknown parent: these may be why a file can't be taken."""
+    findings = [entry.finding for entry in report.entries]
+    return [one for one in findings if isinstance(one, (MayBeUnknown, MoreMayBeUnknown))]
+
+
+def ids_given(book: Book) -> set[str]:
+    """The ids that animals of the book were given, by a row or by hand; that of a parent without one is the text of a
+    cell."""
+    return {id for id, known in book.known.items() if known.standing is not WITHOUT_ROW}
+
+
+def can_be(parent: SheetAnimal, role: Role, offspring: SheetAnimal) -> bool:
+    """Do its sex and its birth leave open that it is an offspring's parent?"""
+    return parent.sex in ("", role.sex) and parent.birth.first < offspring.birth.last
+
+
+# Parents whose cells are as in the last sheet: who was meant by a name then is meant by it now.
+
+
+def keep_parents_named(next_book: NextBook, animals: dict[str, SheetAnimal]) -> None:
+    """A text that is no animal's id, and by which the book has a parent, means this one where it can be it, whatever
+    it is called now. `animals` are those of the sheet and of the book."""
+    rows, book = next_book.animals, next_book.book
+    for offspring, role, text in links_outside(rows.values(), rows) if book.known else ():
+        known = book.known.get(offspring.id)
+        if known is None or known.written(role) != text or is_id(book, text):
+            continue
+        parent = animals.get(next_book.id_of(book.records[known.number].parent(role)))
+        if parent and can_be(parent, role, offspring):
+            offspring.set_parent(role, parent.id)
+            next_book.report.add(offspring.line, offspring.id, found(parent, role, text))
+
+
+def is_id(book: Book, text: str) -> bool:
+    """Is it the id of an animal of the book, which somebody gave to it?"""
+    return text in book.known and book.known[text].standing is not Standing.PARENT
+
+
+def found(parent: SheetAnimal, role: Role, text: str) -> Finding:
+    """By what a text means the parent."""
+    if nearly(parent.id) == nearly(text):
+        return FoundByNearId(role, text, parent.id)
+    is_name = parent.name.casefold() == text.casefold()
+    return FoundByName(role, text, parent.id) if is_name else FoundInBook(role, text, parent.id)
+
+
+# Parents that animals without a row lost, since a sheet made them impossible: each is tried again, and comes back once
+# that is mended. Nothing is told where it can't be yet, as no row says it.
+
+OTHER = {Role.SIRE: Role.DAM, Role.DAM: Role.SIRE}
+
+
+def try_parents_again(
+    next_book: NextBook, without_row: Mapping[str, SheetAnimal], animals: Mapping[str, SheetAnimal]
+) -> None:
+    """Gives each animal without a row the parents that were left out and that it can have now. `animals` are those of
+    the sheet and of the book."""
+    tried = Tried(next_book, animals)
+    for id, offspring in without_row.items():
+        known = next_book.book.known[id]
+        left_out = [role for role in Role if known.written(role) and not offspring.parent(role)]
+        for role in left_out:
+            parent = animals.get(next_book.meanings.parent(id, known.written(role)))
+            if parent and tried.is_possible(parent, role, offspring):
+                offspring.set_parent(role, parent.id)
+                next_book.tried.add((id, role))
+
+
+class Tried:
+    """Which parents animals can have, so that no other link is left out for one that is tried."""
+
+    def __init__(self, next_book: NextBook, animals: Mapping[str, SheetAnimal]) -> None:
+        self.is_pedigree, self.animals = next_book.is_pedigree, animals
+
+    @functools.cached_property
+    def parents(self) -> dict[Role, set[str]]:
+        return {role: {animal.parent(role) for animal in self.animals.values()} for role in Role}
+
+    def is_possible(self, parent: SheetAnimal, role: Role, offspring: SheetAnimal) -> bool:
+        if not can_be(parent, role, offspring) or has_left(parent, role, offspring):
+            return False
+        if not parent.sex and parent.id in self.parents[OTHER[role]]:
+            return False
+        if self.is_pedigree and not self.have_sexes(parent, role, offspring):
+            return False
+        return parent is not offspring and offspring.id not in ancestors([parent.id], self.parents_of)
+
+    def have_sexes(self, parent: SheetAnimal, role: Role, offspring: SheetAnimal) -> bool:
+        """Are no sexes invented for it, which others may not fit?"""
+        mate = self.animals.get(offspring.parent(OTHER[role]))
+        return bool(parent.sex and (mate is None or mate.sex))
+
+    def parents_of(self, id: str) -> list[str]:
+        return self.animals[id].parent_ids() if id in self.animals else []
+
+
+def has_left(parent: SheetAnimal, role: Role, offspring: SheetAnimal) -> bool:
+    """Is it a dam that left before the birth?"""
+    return role is Role.DAM and not offspring.embryo and parent.left is not None and parent.left < offspring.birth.first
+
+
+def take_back(next_book: NextBook) -> bool:
+    """Takes back all parents that are tried again; answers whether there were any."""
+    links, next_book.tried = next_book.tried, set()
+    those = [(animal, role) for id, role in links if (animal := next_book.animals.get(id))]
+    for animal, role in those:
+        animal.set_parent(role, "")
+    return bool(those)

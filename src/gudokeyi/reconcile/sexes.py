@@ -1,0 +1,173 @@
+"""Sexes of animals whose rows don't say them: as parents they are, or as in the book; for a geneticist's pedigree they
+are invented so that nothing is refused for them."""
+from __future__ import annotations
+
+import collections
+
+from gudokeyi.domain.findings import Report
+from gudokeyi.domain.kinds import Role
+from gudokeyi.domain.provenance import SexSource
+from gudokeyi.ingest.animals import DAM_OF, SIRE_OF, SheetAnimal
+from gudokeyi.reconcile.findings.animals import SexInferred, SexNotKnown
+from gudokeyi.reconcile.findings.parents import Couple, NoSexesFit, ParentsSwapped
+from gudokeyi.reconcile.next_book import NextBook
+
+# Sexes of animals whose rows don't say them: as parents they are, or as in the book.
+
+
+def leave_out_unread_sexes(next_book: NextBook) -> None:
+    """The row of an animal whose sex can't be read is left out, where neither the book nor any offspring says it."""
+    animals, roles = next_book.animals, next_book.roles
+    sires, dams = (collections.Counter(map(parent_of, animals.values())) for parent_of in (SIRE_OF, DAM_OF))
+    del sires[""], dams[""]
+    roles |= dict.fromkeys(sires, Role.SIRE) | dict.fromkeys(dams, Role.DAM)
+    for parent in sires.keys() & dams.keys():
+        roles[parent] = role_of_both(next_book, parent, sires[parent], dams[parent])
+    for id, animal in list(animals.items()):
+        if "sex" in animal.unread and not roles.get(id) and not next_book.book.known.get(id):
+            next_book.report.add(animal.line, id, SexNotKnown())
+            del animals[id]
+
+
+def role_of_both(next_book: NextBook, id: str, sires: int, dams: int) -> Role:
+    """Of an animal that is both what it is in the book is preferred, and then what it is more often."""
+    known = next_book.book.known.get(id)
+    if known:
+        return Role.SIRE if known.is_male else Role.DAM
+    return Role.SIRE if sires >= dams else Role.DAM
+
+
+def find_sexes(next_book: NextBook) -> None:
+    """An animal without a sex has that of the parent that it is, or else that of the book; else it is taken for a
+    female, and stays one for that reason. One that was invented stays so where no row has the animal as a parent."""
+    rows = (animal for animal in next_book.animals.values() if animal.line)
+    parents_of_rows = {parent for row in rows for parent in row.parent_ids()}
+    for id, animal in next_book.animals.items():
+        if animal.sex:
+            continue
+        role, known = next_book.roles.get(id), next_book.book.known.get(id)
+        if role:
+            animal.sex, animal.sex_source = role.sex, SexSource(role.value)
+        elif known and known.sex is not SexSource.NOTHING:
+            animal.sex, animal.sex_source = known.number[6], SexSource.BOOK
+        else:
+            animal.sex, animal.sex_source = "F", SexSource.NOTHING
+        if animal.line:
+            found = SexInferred(animal.sex, animal.sex_source, "sex" in animal.unread)
+            next_book.report.add(animal.line, id, found)
+        if known and known.sex is SexSource.INVENTED and known.number[6] == animal.sex and id not in parents_of_rows:
+            animal.sex_source = SexSource.INVENTED
+
+
+# Sexes for a geneticist's pedigree, `id sire dam`: invented so that nothing is refused for them.
+
+# so many couples that no sexes fit are named
+MOST_COUPLES = 9
+
+
+def invent_sexes(animals: dict[str, SheetAnimal], report: Report) -> None:
+    """A sire is a male and a dam a female. Where an animal is both, sexes are sought that make a male and a female of
+    each couple, and the parents of some are swapped, which changes no coefficient. No offspring has one parent twice.
+    Sexes that are there stay."""
+    for animal in animals.values():
+        if not animal.sex:
+            animal.sex_source = SexSource.INVENTED
+    sexes = Sexes(animals)
+    for animal in animals.values():
+        sexes.place_parents(animal, report)
+
+
+class Sexes:
+    """The sexes of all animals, couple by couple: the mates of a male are females, and theirs are males."""
+
+    def __init__(self, animals: dict[str, SheetAnimal]) -> None:
+        self.animals = animals
+        # the first offspring of each parent in each role, and the mates of each with their first offspring
+        self.offspring: dict[Role, dict[str, SheetAnimal]] = {role: {} for role in Role}
+        self.mates: dict[str, dict[str, SheetAnimal]] = {}
+        for animal in animals.values():
+            for role, parent in animal.parents():
+                self.offspring[role].setdefault(parent, animal)
+            if animal.sire and animal.dam:
+                self.mates.setdefault(animal.sire, {}).setdefault(animal.dam, animal)
+                self.mates.setdefault(animal.dam, {}).setdefault(animal.sire, animal)
+        # for each animal the mate by which its sex was found
+        self.found_by: dict[str, str] = {}
+        given = [id for id, animal in animals.items() if animal.sex]
+        for id in given:
+            if any(id in self.offspring[role] and self.fits(role, id) for role in Role):
+                self.colour(id)
+        for id, animal in animals.items():
+            if not animal.sex:
+                self.colour(id)
+        both = self.offspring[Role.SIRE].keys() & self.offspring[Role.DAM].keys()
+        # for each animal one that is both, the nearest by mates, and how far it is
+        self.both: dict[str, tuple[int, str]] = {id: (0, id) for id in animals if id in both}
+        self.spread_both()
+
+    def colour(self, first: str) -> None:
+        """Gives an animal the sex of its role where it has none, and all that are joined to it by couples theirs."""
+        self.animals[first].sex = self.animals[first].sex or ("M" if first in self.offspring[Role.SIRE] else "F")
+        reached = [first]
+        for one in reached:
+            for mate in self.mates.get(one, ()):
+                if not self.animals[mate].sex:
+                    self.animals[mate].sex = "F" if self.animals[one].sex == "M" else "M"
+                    self.found_by[mate] = one
+                    reached.append(mate)
+
+    def fits(self, role: Role, id: str) -> bool:
+        """Is the sex of an animal its role's, or invented?"""
+        animal = self.animals[id]
+        return animal.sex_source is SexSource.INVENTED or animal.sex == role.sex
+
+    def spread_both(self) -> None:
+        reached = list(self.both)
+        for one in reached:
+            steps, both = self.both[one]
+            for mate in self.mates.get(one, ()):
+                if mate not in self.both:
+                    self.both[mate] = steps + 1, both
+                    reached.append(mate)
+
+    def place_parents(self, animal: SheetAnimal, report: Report) -> None:
+        """Puts the male parent in the sire's place and the female one in the dam's. One whose sex isn't invented is left
+        to the program, which refuses it."""
+        if not all(self.fits(role, parent) for role, parent in animal.parents()):
+            return
+        sexes = [self.animals[parent].sex for _, parent in animal.parents()]
+        if len(sexes) == 2 and sexes[0] == sexes[1]:
+            report.add(animal.line, animal.id, self.no_sexes_fit(animal))
+            animal.dam = ""
+        if any(role.sex != self.animals[parent].sex for role, parent in animal.parents()):
+            report.add(animal.line, animal.id, self.swapped(animal))
+            animal.sire, animal.dam = animal.dam, animal.sire
+
+    def swapped(self, animal: SheetAnimal) -> ParentsSwapped:
+        """With the animal that is a sire in one line and a dam in another: a parent of this one, or one that couples
+        join to it."""
+        found = [(*self.both[parent], role, parent) for role, parent in animal.parents()]
+        steps, both, role, parent = min(found, key=lambda one: one[0])
+        progeny = {one: self.offspring[one][both] for one in self.offspring}
+        if not steps:
+            progeny[role] = animal
+        lines = progeny[Role.SIRE].line, progeny[Role.DAM].line
+        return ParentsSwapped(animal.dam, animal.sire, both, parent if steps else "", *lines)
+
+    def no_sexes_fit(self, animal: SheetAnimal) -> NoSexesFit:
+        """With the couples that lead from the sire by mates to the dam, and with this animal's back: an odd number of
+        them."""
+        up, down = self.way(animal.sire), self.way(animal.dam)
+        while len(up) > 1 and len(down) > 1 and up[-2] == down[-2]:
+            del up[-1], down[-1]
+        way = up + down[-2::-1]
+        couples = [Couple(one, mate, self.mates[one][mate].line) for one, mate in zip(way, way[1:])]
+        couples.append(Couple(animal.dam, animal.sire, animal.line))
+        return NoSexesFit(animal.dam, tuple(couples[-MOST_COUPLES:]), max(0, len(couples) - MOST_COUPLES))
+
+    def way(self, id: str) -> list[str]:
+        """From an animal by mates to the first of those that are joined to it."""
+        way = [id]
+        while way[-1] in self.found_by:
+            way.append(self.found_by[way[-1]])
+        return way

@@ -1,0 +1,1 @@
+"""Text, pictures and pages from what services answer."""

@@ -1,0 +1,113 @@
+"""All that the book has of one animal, in words."""
+from __future__ import annotations
+
+from collections.abc import Iterator, Mapping, Sequence
+
+from gudokeyi.domain.animals import SocietyRecord
+from gudokeyi.domain.kinds import Role, Standing
+from gudokeyi.domain.messages import counted
+from gudokeyi.reconcile.owner_days import owner_day_known
+from gudokeyi.services.animals import Relatives, relatives_of
+from gudokeyi.services.history import STANDINGS, history_of
+from gudokeyi.services.lists import exit_of
+from gudokeyi.store.animal_rows import AnimalRow, known_of
+from gudokeyi.store.book import Book
+from gudokeyi.store.coefficients import Coefficient, kept_coefficients
+
+SEXES = {"M": "male", "F": "female"}
+# so many animals of a kind are shown, but where all are asked for
+MOST_SHOWN = 25
+
+
+class AnimalView:
+    """What is shown of an animal, line by line."""
+
+    def __init__(self, book: Book, known: SocietyRecord, shows_all: bool) -> None:
+        self.book, self.known, self.shows_all = book, known, shows_all
+        self.coefficients: Mapping[str, Coefficient] = kept_coefficients(book)
+        self.row = book.rows("number = ?", known.number)[0]
+
+    def lines(self) -> Iterator[str]:
+        relatives = relatives_of(self.book, self.known)
+        yield f"{self.known.id}  {self.known.name}".rstrip()
+        for what, fact in self.facts(relatives):
+            yield f"  {what:<13} {fact}"
+        yield from self.of_offspring(relatives.offspring)
+        yield from self.kind("full sibs", relatives.full_sibs)
+        for role in Role:
+            yield from self.kind(f"half sibs by the {role}", relatives.half_sibs[role])
+        if self.book.connection is not None:
+            yield "history"
+            yield from (f"  {line}" for line in history_of(self.book.connection, self.known.id))
+
+    def facts(self, relatives: Relatives) -> list[tuple[str, str]]:
+        known, row = self.known, self.row
+        coefficient = self.coefficients[known.number]
+        owner = self.book.owner_of(row.owner_code or 0)
+        is_said = owner_day_known(self.book, known, row.from_owner, row.owned_since)
+        since = f", since {row.owned_since}{known.owner_day.mark()}" if is_said else ""
+        found = [
+            ("number", known.number),
+            ("sex", SEXES[known.number[6]] + known.sex.mark() + ", castrated" * known.castrated),
+            ("born", f"{row.born}{basis(known.birth.words())}" + ", from a stored embryo" * bool(row.embryo)),
+            ("exit", exit_of_row(row) or "none"),
+            ("owner", f"{owner}{since}" if owner else "not known"),
+            ("coefficient", f"{coefficient.fraction} = {coefficient.decimal()} ({coefficient.percent}%)"),
+        ]
+        found += [(role.value, self.parent(role, relatives.parents[role])) for role in Role]
+        if known.standing is not Standing.ROW:
+            found.append(("in the book", STANDINGS[known.standing]))
+        return found
+
+    def parent(self, role: Role, row: AnimalRow | None) -> str:
+        written = self.known.written(role)
+        in_sheet = f" (in the sheet: {written})" if written else ""
+        return (self.animal(row) if row else "unknown") + in_sheet
+
+    def animal(self, row: AnimalRow) -> str:
+        """Another animal in a line."""
+        known, coefficient = known_of(row), self.coefficients[row.number]
+        facts = [f"born {row.born}{known.birth.mark()}", SEXES[row.number[6]]]
+        facts += [f"F {coefficient.percent}%"] * coefficient.is_inbred
+        facts += [f"exit {exit_of_row(row)}"] * bool(exit_of_row(row))
+        return f"{f'{row.id}  {row.name}'.rstrip()}  ({', '.join(facts)})"
+
+    def of_offspring(self, offspring: Mapping[str, Sequence[AnimalRow]]) -> Iterator[str]:
+        """The offspring by partner."""
+        count, left = sum(map(len, offspring.values())), None if self.shows_all else MOST_SHOWN
+        partners = f" with {counted(len(offspring), 'partner')}" if count else ""
+        yield f"offspring: {count}{partners}"
+        for partner, rows in offspring.items():
+            if left == 0:
+                break
+            yield f"  by {self.partner(partner)}"
+            shown = rows if left is None else rows[:left]
+            left = None if left is None else left - len(shown)
+            yield from (f"    {self.animal(row)}" for row in shown)
+        yield from self.more(count, "  ")
+
+    def partner(self, number: str) -> str:
+        if not number:
+            return "an unknown partner"
+        known = self.book.by_number()[number]
+        return f"{known.id}  {known.name}".rstrip()
+
+    def kind(self, what: str, rows: Sequence[AnimalRow]) -> Iterator[str]:
+        yield f"{what}: {len(rows)}"
+        yield from (f"  {self.animal(row)}" for row in (rows if self.shows_all else rows[:MOST_SHOWN]))
+        yield from self.more(len(rows), "  ")
+
+    def more(self, count: int, indent: str) -> Iterator[str]:
+        if count > MOST_SHOWN and not self.shows_all:
+            yield f"{indent}and {count - MOST_SHOWN} more: --all shows them"
+
+
+def basis(words: str) -> str:
+    """What is said of a day that the sheet doesn't give."""
+    if not words or words == "invented":
+        return f" ({words})" * bool(words)
+    return f" (inferred, {words})"
+
+
+def exit_of_row(row: AnimalRow) -> str:
+    return exit_of(row.departed, row.exit_source, row.exit_period, row.exit_no_such_day, row.exit_text)

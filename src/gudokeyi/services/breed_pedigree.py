@@ -1,0 +1,97 @@
+"""The pedigree of a book, as the measures of its breed read it, and who of it is the reference population."""
+from __future__ import annotations
+
+import datetime
+from collections.abc import Collection
+from dataclasses import dataclass
+
+from gudokeyi.domain.animals import SocietyRecord
+from gudokeyi.domain.kinds import Standing
+from gudokeyi.domain.messages import Mistake
+from gudokeyi.domain.provenance import BirthSource, ExitSource
+from gudokeyi.genetics.pedigree import COEFFICIENT_BITS, UNKNOWN, Pedigree
+from gudokeyi.ingest.words import as_known
+from gudokeyi.store.animal_rows import AnimalRow, known_of
+from gudokeyi.store.book import Book
+from gudokeyi.store.coefficients import kept_coefficients
+from gudokeyi.store.messages import Naming
+
+
+@dataclass(frozen=True)
+class Breed:
+    """A book's animals by rank, as its rows have them, and their pedigree."""
+
+    book: Book
+    rows: list[AnimalRow]
+    ranks: dict[str, int]
+    pedigree: Pedigree
+
+    def known(self, rank: int) -> SocietyRecord:
+        return known_of(self.rows[rank])
+
+    def born(self, rank: int) -> datetime.date:
+        """Its birth day, which may be inferred."""
+        return day_of(self.rows[rank])
+
+    def is_living(self, rank: int) -> bool:
+        """Is it there, and one that the society has a row for?"""
+        row = self.rows[rank]
+        has_left = row.departed is not None or row.exit_source == ExitSource.UNKNOWN_DAY.value
+        return Standing(row.standing).is_listed() and not has_left
+
+
+def day_of(row: AnimalRow) -> datetime.date:
+    return datetime.date.fromisoformat(row.born or "")
+
+
+def breed_of(book: Book) -> Breed:
+    by_number = {row.number: row for row in book.all_rows}
+    inbred = kept_coefficients(book)
+    ranks = {number: rank for rank, number in enumerate(inbred)}
+    rows = [by_number[number] for number in ranks]
+    given = BirthSource.GIVEN.value
+    return Breed(
+        book,
+        rows,
+        ranks,
+        Pedigree(
+            [row.id for row in rows],
+            [ranks[row.sire] if row.sire else UNKNOWN for row in rows],
+            [ranks[row.dam] if row.dam else UNKNOWN for row in rows],
+            [units_of(one.fraction) for one in inbred.values()],
+            [day_of(row) if row.birth_source == given else None for row in rows],
+            [row.number[6] == "M" for row in rows],
+        ),
+    )
+
+
+def units_of(fraction: str) -> int:
+    """A coefficient in units of 2^-120."""
+    numerator, _, denominator = fraction.partition("/")
+    return (int(numerator) << COEFFICIENT_BITS) // int(denominator or 1)
+
+
+def living(breed: Breed) -> list[int]:
+    """The living animals that the society has a row for."""
+    return [rank for rank in range(len(breed.rows)) if breed.is_living(rank)]
+
+
+def born_between(breed: Breed, first: datetime.date, last: datetime.date) -> list[int]:
+    """The animals born in these days; of an inferred birth day at least the year is known."""
+    with_year = (BirthSource.GIVEN.value, BirthSource.PERIOD.value)
+    return [
+        rank for rank, row in enumerate(breed.rows) if row.birth_source in with_year and first <= day_of(row) <= last
+    ]
+
+
+def owned_by(breed: Breed, owner: str) -> list[int]:
+    """The owner's living animals."""
+    name = as_known(owner, breed.book.owners)
+    owner_code = breed.book.owners.get(name)
+    if owner_code is None:
+        raise Mistake(Naming.NO_OWNER.said(name=name, hint=Naming.AS_IN_SHEET.said()))
+    return [rank for rank in living(breed) if breed.rows[rank].owner_code == owner_code]
+
+
+def among(breed: Breed, animals: Collection[SocietyRecord]) -> list[int]:
+    return sorted({breed.ranks[known.number] for known in animals})

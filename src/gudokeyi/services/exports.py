@@ -1,0 +1,177 @@
+"""The whole pedigree as a file, by the society's ids and in age order, and the inverse of the numerator relationship
+matrix."""
+from __future__ import annotations
+
+import functools
+import json
+import pathlib
+import re
+from collections.abc import Iterable, Iterator, Sequence
+
+from gudokeyi.domain.animals import SocietyRecord
+from gudokeyi.domain.messages import Mistake
+from gudokeyi.domain.pedigree_order import ancestors
+from gudokeyi.domain.provenance import BirthSource, ExitSource, SexSource
+from gudokeyi.engine.program import Herdbook
+from gudokeyi.services.lists import LIST_COLUMNS, Column, ColumnRecipe, Facts, as_it_is, each, made_table, parent
+from gudokeyi.services.tables import Kind, Table
+from gudokeyi.store.animal_rows import birth_basis, exit_basis
+from gudokeyi.store.book import Book
+from gudokeyi.store.legacy.files import STANDINGS
+from gudokeyi.store.output_files import write_outs
+from gudokeyi.store.queries import known_parents
+
+# The whole pedigree as a file, by the society's ids and in age order.
+
+# words by what a row of the table has
+STANDING_WORDS = {standing.value: words for standing, words in STANDINGS.items()}
+SEX_WORDS = {source.value: source.words() for source in SexSource}
+# what a day or a sex comes from that somebody gave
+GIVEN = (BirthSource.GIVEN.value, ExitSource.GIVEN.value, SexSource.GIVEN.value)
+# a word for a sex that an import knows
+CASTRATED = "male castrated"
+
+
+def sexes_said(
+    _: Facts, numbers: Sequence[str], castrated: Sequence[int], sources: Sequence[str], sires: Sequence[str],
+    dams: Sequence[str],
+) -> Iterator[str]:  # fmt: skip
+    """What a sheet says of sexes: nothing of an inferred one that an import infers again, of a parent or a female."""
+    parents = {*sires, *dams}
+    for number, is_castrated, source in zip(numbers, castrated, sources):
+        is_inferred = source not in GIVEN and (number in parents or number[6] == "F")
+        yield CASTRATED if is_castrated else "" if is_inferred else number[6]
+
+
+def inferred_sex(number: str, source: str) -> str:
+    return "" if source in GIVEN else number[6]
+
+
+def said_of_day(day: str | None, source: str, *said: str | None) -> str:
+    """What a sheet says of a day: the day that was given, else a month, a year or a word; nothing where nothing was."""
+    return (day or "") if source in GIVEN else next(filter(None, said), "")
+
+
+def inferred_day(day: str | None, source: str) -> str:
+    return "" if source in GIVEN else day or ""
+
+
+@functools.lru_cache(maxsize=4096)
+def birth_words(source: str, period: str | None, no_such_day: str | None) -> str:
+    return birth_basis(source, period, no_such_day).words()
+
+
+@functools.lru_cache(maxsize=4096)
+def exit_words(source: str, period: str | None, no_such_day: str | None, text: str | None) -> str:
+    return exit_basis(source, period, no_such_day, text).words()
+
+
+COLUMNS = (
+    as_it_is("id", "id", Kind.TEXT),
+    as_it_is("name", "name", Kind.TEXT),
+    ColumnRecipe("sex", Kind.PLAIN, ("number", "castrated", "sex_source", "sire", "dam"), sexes_said),
+    each("birth", Kind.PLAIN, ("born", "birth_source", "birth_period"), said_of_day),
+    parent("sire"),
+    parent("dam"),
+    LIST_COLUMNS[Column.OWNER],
+    each("exit", Kind.TEXT, ("departed", "exit_source", "exit_period", "exit_text"), said_of_day),
+    as_it_is("embryo", "iif(embryo, '1', '')"),
+    as_it_is("herdbook_number", "number"),
+    LIST_COLUMNS[Column.COEFFICIENT],
+    LIST_COLUMNS[Column.DECIMAL],
+    each("row_in_sheet", Kind.PLAIN, ("standing",), STANDING_WORDS.__getitem__),
+    each("inferred_birth", Kind.PLAIN, ("born", "birth_source"), inferred_day),
+    each("birth_from", Kind.PLAIN, ("birth_source", "birth_period", "birth_no_such_day"), birth_words),
+    each("inferred_exit", Kind.PLAIN, ("departed", "exit_source"), inferred_day),
+    each("exit_from", Kind.TEXT, ("exit_source", "exit_period", "exit_no_such_day", "exit_text"), exit_words),
+    each("inferred_sex", Kind.PLAIN, ("number", "sex_source"), inferred_sex),
+    each("sex_from", Kind.PLAIN, ("sex_source",), SEX_WORDS.__getitem__),
+)
+# what stands for an unknown parent: R reads it as none
+UNKNOWN = "NA"
+
+
+def conditions_of(book: Book, kept: Iterable[SocietyRecord] | None) -> tuple[list[str], list[object]]:
+    """What holds for all animals, or for those that are to be kept and their ancestors; with the values for its
+    question marks."""
+    if kept is None:
+        return [], []
+    numbers = {known.number for known in kept}
+    wanted = sorted(ancestors(numbers, known_parents(book).__getitem__) | numbers)
+    return ["number IN (SELECT value FROM json_each(?))"], [json.dumps(wanted)]
+
+
+def export_table(book: Book, kept: Iterable[SocietyRecord] | None) -> Table:
+    """A sheet that can be taken again, with the inferred days and sexes, and what each comes from, behind it."""
+    return made_table(book, COLUMNS, *conditions_of(book, kept))
+
+
+def triples(book: Book, kept: Iterable[SocietyRecord] | None) -> list[tuple[str, str, str]]:
+    """The id of each animal, its sire's and its dam's, empty for an unknown one."""
+    found = made_table(book, [LIST_COLUMNS[Column.ID], parent("sire"), parent("dam")], *conditions_of(book, kept))
+    return [(str(id), str(sire), str(dam)) for id, sire, dam in found.rows]
+
+
+def triples_text(rows: Sequence[tuple[str, str, str]]) -> str:
+    """Lines of `id sire dam` below these titles, as `read.table` of R reads them."""
+    names = {id: quoted(id) for id, _, _ in rows} | {"": UNKNOWN}
+    lines = [f"{names[id]} {names[sire]} {names[dam]}" for id, sire, dam in rows]
+    return "\n".join(["id sire dam", *lines]) + "\n"
+
+
+def quoted(id: str) -> str:
+    """An id that has blanks or signs stands between quotation marks, and its own have a backslash before them."""
+    if id == UNKNOWN:
+        raise Mistake(f"'{id}' stands for an unknown parent in R, and for an animal here: leave out --triples")
+    if re.fullmatch(r"[\w./:+-]+", id):
+        return id
+    if id.endswith("\\"):
+        raise Mistake(f"'{id}' ends with a backslash, which R can't read within quotation marks: leave out --triples")
+    escaped = id.replace('"', '\\"')
+    return f'"{escaped}"'
+
+
+# The inverse of the numerator relationship matrix, summed up, as a MatrixMarket file.
+
+# Elements are summed up as whole numbers of this unit, so that rounding comes last.
+BITS = 96
+
+
+def summed(book: Book, program: Herdbook) -> tuple[list[str], dict[int, int]]:
+    """The numbers of the rows, in age order, and the elements of the lower triangle: by `row << 16 | column`, counted
+    from 0, in units of 2^-96."""
+    order: list[str] = []
+    rank: dict[str, int] = {}
+    elements: dict[int, int] = {}
+    for line in program.ask(["inverse"], book):
+        animal, row, column, value = line.split(",")
+        if animal not in rank:
+            rank[animal] = len(order)
+            order.append(animal)
+        at = rank[row] << 16 | rank[column]
+        elements[at] = elements.get(at, 0) + scaled(value)
+    return order, elements
+
+
+def scaled(value: str) -> int:
+    numerator, _, denominator = value.partition("/")
+    below = int(denominator or 1)
+    return ((int(numerator) << BITS + 1) + below) // (2 * below)
+
+
+def write_inverse(book: Book, program: Herdbook, path: pathlib.Path, force: bool) -> tuple[int, int, pathlib.Path]:
+    """Writes the matrix and, beside it, the ids of its rows, one a line. Answers how many rows and elements there
+    are."""
+    order, elements = summed(book, program)
+    ids_of = book.ids
+    unit = 1 << BITS
+    lines = [
+        "%%MatrixMarket matrix coordinate real symmetric\n",
+        "% the inverse of the numerator relationship matrix, its lower triangle\n",
+        f"{len(order)} {len(order)} {len(elements)}\n",
+    ]
+    lines += [f"{(at >> 16) + 1} {(at & 0xFFFF) + 1} {elements[at] / unit!r}\n" for at in sorted(elements)]
+    ids = path.with_name(path.name + ".ids")
+    rows = "".join(ids_of[number] + "\n" for number in order)
+    write_outs(book, {path: "".join(lines).encode(), ids: rows.encode()}, force)
+    return len(order), len(elements), ids

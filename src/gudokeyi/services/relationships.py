@@ -1,0 +1,159 @@
+"""Relationships and kinships of named animals, and what the program says of the offspring of all pairs: their
+coefficients, and which matings it refuses."""
+from __future__ import annotations
+
+import itertools
+from collections.abc import Iterator, Sequence
+from dataclasses import dataclass
+from typing import TYPE_CHECKING, NamedTuple
+
+from gudokeyi.domain.animals import SocietyRecord
+from gudokeyi.domain.decimals import decimal_of_text
+from gudokeyi.domain.messages import Mistake
+from gudokeyi.engine.program import MOST_NUMBERS, Herdbook
+from gudokeyi.genetics.pedigree import MOST_STEPS
+from gudokeyi.services.tables import Cell, Kind, Table
+from gudokeyi.store.book import Book
+from gudokeyi.store.coefficients import Coefficient, of_offspring
+from gudokeyi.store.messages import Mating
+from gudokeyi.store.queries import selected
+
+if TYPE_CHECKING:
+    from gudokeyi.genetics.plans import Pair
+
+# What the program says of the offspring of all pairs: their coefficients, and which matings it refuses.
+
+# so many pairs are asked for
+MOST_PAIRS = 2_000_000
+
+
+@dataclass(frozen=True)
+class Pairs:
+    """The coefficients by the numbers of the dam and the sire, dam by dam, and the pairs that the program refuses, which
+    have none."""
+
+    coefficients: dict[Pair, Coefficient]
+    refused: list[Pair]
+
+
+def pairs_of(book: Book, program: Herdbook, dams: Sequence[str], sires: Sequence[str]) -> Pairs:
+    """All pairs of some dams and sires, by their numbers."""
+    found = offspring_coefficients(book, program, dams, sires)
+    refused = list(refused_pairs(book, program, too_deep(book, dams, sires)))
+    for pair in refused:
+        del found[pair]
+    return Pairs(found, refused)
+
+
+def offspring_coefficients(
+    book: Book, program: Herdbook, dams: Sequence[str], sires: Sequence[str]
+) -> dict[Pair, Coefficient]:
+    """By the numbers of a dam and a sire, dam by dam."""
+    found = relationships(book, program, dams, sires)
+    return {(dam, sire): of_offspring(found[dam, sire]) for dam in dams for sire in sires}
+
+
+def relationships(book: Book, program: Herdbook, some: Sequence[str], others: Sequence[str]) -> dict[Pair, str]:
+    """Those of each of some animals with each of the others, by their numbers, as the program writes the fractions."""
+    count = len(some) * len(others)
+    if count > MOST_PAIRS:
+        raise Mistake(Mating.TOO_MANY_PAIRS.said(pairs=count, most=MOST_PAIRS))
+    # the program goes through the pedigree once for each of those that it is given first
+    few, many = (some, others) if len(some) < len(others) else (others, some)
+    found: dict[Pair, str] = {}
+    at_once = max(1, MOST_NUMBERS - len(few))
+    for first in range(0, len(many), at_once):
+        for line in program.ask(["relationships", *few, "--with", *many[first : first + at_once]], book):
+            one, other, relationship = line.split(",")
+            found[(one, other) if few is some else (other, one)] = relationship
+    return found
+
+
+def too_deep(book: Book, dams: Sequence[str], sires: Sequence[str]) -> list[Pair]:
+    """The pairs whose offspring may have a path of parents that is too long: the program decides."""
+    deep = {number for number, steps in depths(book).items() if steps >= MOST_STEPS}
+    return [(dam, sire) for dam in dams for sire in sires if dam in deep or sire in deep] if deep else []
+
+
+def depths(book: Book) -> dict[str, int]:
+    """The longest path of known parents of each animal, by its number."""
+    found: dict[str, int] = {}
+    for number, sire, dam in selected(book, ("number", "sire", "dam")):
+        by_sire, by_dam = found[sire] + 1 if sire else 0, found[dam] + 1 if dam else 0
+        found[number] = by_sire if by_sire > by_dam else by_dam
+    return found
+
+
+def refused_pairs(book: Book, program: Herdbook, pairs: Sequence[Pair]) -> Iterator[Pair]:
+    """Those of the pairs that the program refuses to mate."""
+    for dam, of_dam in itertools.groupby(pairs, key=lambda pair: pair[0]):
+        words = ["mating", "--dam", dam, *(sire for _, sire in of_dam)]
+        for line in program.ask(words, book):
+            sire, answer, _ = line.split(",")
+            if answer == "refused":
+                yield dam, sire
+
+
+# Relationships and kinships of named animals, which the program computes.
+
+COLUMNS = (
+    ("id", Kind.TEXT), ("with", Kind.TEXT), ("relationship", Kind.PLAIN), ("relationship_decimal", Kind.DECIMAL),
+    ("kinship", Kind.PLAIN), ("kinship_decimal", Kind.DECIMAL),
+)  # fmt: skip
+
+
+class Related(NamedTuple):
+    """Two animals by their numbers, and the entry of the numerator relationship matrix, as the program writes it."""
+
+    one: str
+    other: str
+    relationship: str
+
+    @property
+    def kinship(self) -> str:
+        return of_offspring(self.relationship).fraction
+
+
+def related(
+    book: Book, program: Herdbook, animals: Sequence[SocietyRecord], others: Sequence[SocietyRecord] | None
+) -> list[Related]:
+    """All pairs of some animals, each with itself too; or else each of them with each of the others."""
+    numbers = [known.number for known in animals]
+    if others is not None:
+        of_others = [known.number for known in others]
+        found = relationships(book, program, numbers, of_others)
+        return [Related(one, other, found[one, other]) for one in numbers for other in of_others]
+    count = len(animals) * (len(animals) + 1) // 2
+    if count > MOST_PAIRS:
+        raise Mistake(f"these are {count:,} pairs, and at most {MOST_PAIRS:,} are written: name fewer animals")
+    return [Related(*line.split(",")) for line in program.ask(["relationships", *numbers], book)]
+
+
+def kinship_table(book: Book, pairs: Sequence[Related]) -> Table:
+    ids = book.ids
+    rows = [
+        (
+            ids[pair.one], ids[pair.other], pair.relationship, decimal_of_text(pair.relationship), pair.kinship,
+            decimal_of_text(pair.kinship),
+        )
+        for pair in pairs
+    ]  # fmt: skip
+    return Table.of_rows(COLUMNS, rows)
+
+
+def kinship_matrix(
+    pairs: Sequence[Related], animals: Sequence[SocietyRecord], others: Sequence[SocietyRecord] | None, kinships: bool
+) -> Table:
+    """A row for each animal and a column for each of the others, or of the same; of kinships or of relationships."""
+    columns = animals if others is None else others
+    values = {(pair.one, pair.other): pair.kinship if kinships else pair.relationship for pair in pairs}
+    if others is None:
+        values |= {(other, one): value for (one, other), value in values.items()}
+    rows: list[Sequence[Cell]] = [
+        (one.id, *(decimal_of_text(values[one.number, other.number]) for other in columns)) for one in animals
+    ]
+    return Table.of_rows([("id", Kind.TEXT), *((known.id, Kind.DECIMAL) for known in columns)], rows)
+
+
+def each_once(animals: Sequence[SocietyRecord]) -> list[SocietyRecord]:
+    return list({known.number: known for known in animals}.values())

@@ -1,0 +1,200 @@
+"""Saves the book that an import makes, as a change: all that takes long is prepared before, while others work."""
+from __future__ import annotations
+
+import contextlib
+import pathlib
+from collections.abc import Callable
+from dataclasses import dataclass, replace
+
+from gudokeyi.domain.animals import SocietyRecord
+from gudokeyi.domain.changes import Change, ChangeDetails, Source
+from gudokeyi.domain.commands import RegisterRecord, lines_of, record_after, replay, text_of
+from gudokeyi.domain.findings import What
+from gudokeyi.domain.kinds import ChangeKind, Field
+from gudokeyi.engine.program import Herdbook
+from gudokeyi.engine.workers import Background
+from gudokeyi.process import keep
+from gudokeyi.reconcile.import_options import ImportOptions
+from gudokeyi.reconcile.next_book import NextBook, known_after
+from gudokeyi.reconcile.outcome import Outcome
+from gudokeyi.reconcile.stored_findings import told_of
+from gudokeyi.store.book import Book
+from gudokeyi.store.journal import accepted_commands
+from gudokeyi.store.opening import export, no_book, still_to_change, to_change, to_prepare
+from gudokeyi.store.state import CELL_FIELDS, Values
+from gudokeyi.store.transactions import Overtaken
+from gudokeyi.store.writing import Filed, Rows, State, animal_rows, write
+
+# the cells of an animal that had none
+NOTHING = (None,) * len(CELL_FIELDS)
+
+
+@dataclass(frozen=True)
+class Prepared:
+    """A change that is to be made of the book after the change `before`, or of one that isn't there."""
+
+    before: Change | None
+    filed: Filed
+    state: Callable[[], State]
+    made: ChangeDetails
+
+
+# what an import would make of a book, and the change that is to be made, none for a preview
+Prepare = Callable[[Book], tuple[Outcome, Prepared | None]]
+
+
+def save_import(folder: pathlib.Path, program: Herdbook, prepare: Prepare) -> tuple[Outcome, list[str]]:
+    """Takes what is prepared; answers what is to be told besides. Where somebody else changes the book meanwhile it is
+    prepared once more, and then others wait for that. Where the book goes away meanwhile no other is begun."""
+    before: Change | None = None
+    with contextlib.suppress(Overtaken):
+        with to_prepare(folder, program) as book:
+            before = book.change
+            outcome, prepared = prepare(book)
+        with still_to_change(folder, book.change) as now:
+            return saved(now, program, outcome, prepared, book.notes)
+    with to_change(folder, program) as book:
+        if before is not None and book.connection is None:
+            raise no_book(folder)
+        outcome, prepared = prepare(book)
+        return saved(book, program, outcome, prepared, book.notes)
+
+
+def saved(
+    book: Book, program: Herdbook, outcome: Outcome, prepared: Prepared | None, notes: list[str]
+) -> tuple[Outcome, list[str]]:
+    assert prepared is not None
+    change = save(book, program, prepared)
+    outcome = replace(outcome, call=replace(outcome.call, change=change.number))
+    keep(prepared, outcome)
+    return outcome, notes + export(book.folder)
+
+
+def save(book: Book, program: Herdbook, prepared: Prepared) -> Change:
+    """The change, after which the book can't be used any more."""
+    return write(book, program, prepared.filed, prepared.state, prepared.made)
+
+
+def prepared_of(
+    next_book: NextBook, filed: Filed, program: Herdbook, import_options: ImportOptions, source: Source, new: int
+) -> Prepared:
+    """What is to be written. Nothing is yet."""
+    book, report = next_book.book, next_book.report
+    coefficients = begin_coefficients(book, program, filed)
+    owner_codes = (
+        set() if book.connection is None else {
+            owner_code for (owner_code,) in book.connection.execute("SELECT herd FROM owner")
+        }
+    )
+    counts = report.counts()
+    made = ChangeDetails(
+        ChangeKind.PEDIGREE if next_book.is_pedigree else ChangeKind.TAKE,
+        source,
+        import_options.options(),
+        (
+            ("animals", len(next_book.animals)),
+            ("new", new),
+            *((what.value, counts[what]) for what in What if what is not What.NEW),
+        ),
+        tuple(told_of(entry) for entry in report.in_order()),
+        form=import_options.form,
+    )
+    new_owners = {owner: owner_code for owner, owner_code in book.owners.items() if owner_code not in owner_codes}
+    if book.connection is None:
+        # where the program fails no book is begun
+        coefficients.value()
+
+    def find_state() -> State:
+        return State(
+            changed_animals(book, known_after(next_book), records_after(book, filed)),
+            Rows(book.cells, cell_rows(next_book)),
+            book.remembered,
+            new_owners,
+            coefficients=coefficients.value(),
+        )
+
+    return Prepared(book.change, filed, before_others_wait(book, find_state), made)
+
+
+def before_others_wait(book: Book, find: Callable[[], State]) -> Callable[[], State]:
+    """The state after a change is found out before the change begins, for which others wait. For a book that isn't there
+    yet nobody waits: it is found out beside the writing of its journal."""
+    if book.connection is None:
+        return Background(find).value
+    state = find()
+    return lambda: state
+
+
+def begin_coefficients(book: Book, program: Herdbook, filed: Filed) -> Background[list[str]]:
+    """The program begins to compute those after the commands."""
+    text = text_after(book, filed)
+    return Background(lambda: program.lines(["inbreeding"], text))
+
+
+def text_after(book: Book, filed: Filed) -> bytes:
+    """The command file after the commands."""
+    if filed.text:
+        return filed.text
+    commands = [step.command for step in filed.steps]
+    if not book.journal.length:
+        return text_of(commands)
+    text = book.command_file()
+    if filed.keeps is not None:
+        # behind the header
+        text = b"".join(text.splitlines(keepends=True)[: filed.keeps + 1])
+    return text + lines_of(commands)
+
+
+def changed_animals(book: Book, known: dict[str, SocietyRecord], records: dict[str, RegisterRecord]) -> Rows:
+    """The rows of the animals that aren't as they were: before, where they were in the book once, and after."""
+    known_before = {**book.known, **book.dropped}
+    if not known_before:
+        return Rows({}, animal_rows(known, records))
+    changed = {
+        id: one
+        for id, one in known.items()
+        if known_before.get(id) != one or book.records.get(one.number) != records.get(one.number)
+    }
+    before: dict[Values, Values] = {(row.id,): row for row in book.every_row if row.id in changed}
+    return Rows(before, animal_rows(changed, records))
+
+
+def records_after(book: Book, filed: Filed) -> dict[str, RegisterRecord]:
+    """What the register has after the commands."""
+    if filed.keeps is not None:
+        return replay(accepted_commands([*book.steps[: filed.keeps], *filed.steps]))
+    records = dict(book.records)
+    for step in filed.steps:
+        records[step.command.animal] = record_after(records.get(step.command.animal), step.command)
+    return records
+
+
+def cell_rows(next_book: NextBook) -> dict[Values, Values]:
+    """The last cells of each animal; those of a column that the sheet doesn't have stay, with owners as they are written
+    from now on, and those of sheets where a pedigree says the same."""
+    book = next_book.book
+    kept = {key: respelt(book, row) for key, row in book.cells.items()} if book.renamed else dict(book.cells)
+    for id, animal in next_book.animals.items():
+        if animal.line:
+            before = kept.get((id,))
+            said: Callable[[str, object], object] = animal.cells.get
+            now = (id, *map(said, CELL_FIELDS, before[1:] if before else NOTHING))
+            kept[id,] = as_in_sheet(next_book, before, now) if before and next_book.is_pedigree else now
+    return kept
+
+
+def as_in_sheet(next_book: NextBook, before: Values, now: Values) -> Values:
+    """The cells of a pedigree, in which those of a sheet stay that say the same."""
+    if before == now:
+        return now
+    id, alike = str(now[0]), next_book.meanings.are_alike
+    cells = zip(CELL_FIELDS, before[1:], now[1:])
+    stays = [there == here or alike(id, field, there, str(here or "")) for field, there, here in cells]
+    return (id, *(there if stay else here for stay, there, here in zip(stays, before[1:], now[1:])))
+
+
+def respelt(book: Book, row: Values) -> Values:
+    """The last cells of an animal with the owner as it is written from now on."""
+    place = 1 + CELL_FIELDS.index(Field.OWNER)
+    owner = row[place]
+    return row if owner is None else (*row[:place], book.respelt(str(owner)), *row[place + 1 :])

@@ -1,0 +1,235 @@
+"""From a sheet to a book in its folder; and the end of each import: the book is filed, prepared to be saved where
+nothing is refused, and told."""
+from __future__ import annotations
+
+import contextlib
+import itertools
+import pathlib
+from dataclasses import dataclass
+
+from gudokeyi.domain.changes import Option, Source
+from gudokeyi.domain.findings import Call, ImportRefused, Report, What
+from gudokeyi.domain.kinds import Field, Remembered
+from gudokeyi.domain.messages import MOST_NAMED
+from gudokeyi.engine.program import Herdbook
+from gudokeyi.ingest.animals import SheetAnimal
+from gudokeyi.ingest.columns import Columns, find_columns
+from gudokeyi.ingest.files import GivenFile, bounded_reading
+from gudokeyi.ingest.sheet_animals import Rows
+from gudokeyi.ingest.sheets import Sheet, read_sheet
+from gudokeyi.ingest.titles import known_titles, read_given, read_sexes
+from gudokeyi.ingest.unknown_parents import UnknownParents
+from gudokeyi.process import keep
+from gudokeyi.reconcile.all_animals import complete
+from gudokeyi.reconcile.commands import Filing
+from gudokeyi.reconcile.exits import leave_out_early_exits, tell_most_changed, tell_withdrawn_exits
+from gudokeyi.reconcile.findings.obstacles import NoRowTaken, StrictlyNothing
+from gudokeyi.reconcile.ids import give_numbers, numbers_begin
+from gudokeyi.reconcile.import_options import (
+    ImportOptions, RememberedWords, again, limits_of, remember, remember_columns, rename_owners, with_settings,
+)  # fmt: skip
+from gudokeyi.reconcile.impossible_parents import leave_out_faulty_parents
+from gudokeyi.reconcile.next_book import NextBook
+from gudokeyi.reconcile.outcome import BookAfter, ColumnRead, Outcome, Understood
+from gudokeyi.reconcile.owner_days import OwnerDays
+from gudokeyi.reconcile.owners import tell_mistyped_owners, tell_owners_alike, tell_renamed_owners, tell_respelt_owners
+from gudokeyi.reconcile.parents import may_be_unknown
+from gudokeyi.reconcile.pedigree_links import refuse_lost_links
+from gudokeyi.reconcile.plausibility import Limits, PlausibilityChecks, tell_swapped_columns
+from gudokeyi.render.import_reports import lines_of, sentences_of, told_with
+from gudokeyi.services.saving import Prepared, prepared_of, save_import
+from gudokeyi.store.book import Book
+from gudokeyi.store.files import source_of
+from gudokeyi.store.opening import to_look_at
+from gudokeyi.store.output_files import check_place
+from gudokeyi.store.writing import Filed
+
+# The end of an import: the book is filed, prepared to be saved where nothing is refused, and told.
+
+
+@dataclass(frozen=True)
+class About:
+    """How `import` was called, how the file was read, in sentences, and of a sheet as data; what parents' ages are
+    looked at for, and how many sexes and days of a pedigree are invented."""
+
+    call: Call
+    read: list[str]
+    understood: Understood | None = None
+    limits: Limits = Limits()
+    invented: int = 0
+
+
+def finish(
+    next_book: NextBook, program: Herdbook, import_options: ImportOptions, source: Source, about: About
+) -> tuple[Outcome, Prepared | None]:
+    """Files the book, and prepares what is written where nothing keeps it from being taken, and no preview is
+    wished."""
+    keep(next_book)
+    filed, outcome = file(next_book, program, import_options, about)
+    if import_options.preview:
+        return outcome, None
+    assert outcome.after
+    return outcome, prepared_of(next_book, filed, program, import_options, source, outcome.after.new)
+
+
+def file(next_book: NextBook, program: Herdbook, import_options: ImportOptions, about: About) -> tuple[Filed, Outcome]:
+    """The commands by which the book becomes what is wished, and what that makes of it. Nothing is written."""
+    book, report = next_book.book, next_book.report
+    give_numbers(next_book, import_options.breed, import_options.country)
+    leave_out_early_exits(next_book)
+    filing = Filing(next_book, OwnerDays(book, report, import_options.day))
+    owners_before = set(book.owners)
+    # a new book of which nothing is refused has no faulty parents
+    filed = None if book.journal.length else filing.appended(program)
+    if filed is None:
+        leave_out_faulty_parents(next_book, program)
+    if next_book.is_pedigree and not import_options.leave_out:
+        refuse_lost_links(report)
+    if about.understood:
+        tell_swapped_columns(next_book, about.understood)
+    if not next_book.is_pedigree:
+        looks = PlausibilityChecks(next_book.animals, about.limits, report)
+        looks.tell_births(book)
+        looks.tell("exit" in next_book.given)
+    filed = filed or filing.filed(program)
+    tell_respelt_owners(next_book, owners_before)
+    tell_owners_alike(next_book)
+    tell_mistyped_owners(next_book, owners_before)
+    tell_withdrawn_exits(next_book)
+    if import_options.strict and any(entry.what is What.LEFT_OUT for entry in report.entries):
+        refuse_left_out(next_book, import_options)
+    tell_renamed_owners(next_book)
+    filing.tell_changes()
+    tell_most_changed(next_book)
+    after = book_after(next_book, filed, import_options, about)
+    return filed, Outcome(
+        book.folder, about.call.after(), about.understood, tuple(about.read), tuple(next_book.obstacles), report, after
+    )
+
+
+def book_after(next_book: NextBook, filed: Filed, import_options: ImportOptions, about: About) -> BookAfter:
+    book, animals = next_book.book, next_book.animals.values()
+    with_row = [animal for animal in animals if animal.line]
+    new = sum(animal.id not in book.known for animal in with_row)
+    added = sum(not animal.line and animal.id not in book.known for animal in animals)
+    return BookAfter(
+        len(animals), new, about.invented, bool(book.records) and filed.keeps is not None,
+        numbers_begin(next_book, import_options.breed, import_options.country), import_options.drop_gone, len(
+            with_row
+        ), added,
+    )  # fmt: skip
+
+
+def refuse_left_out(next_book: NextBook, import_options: ImportOptions) -> None:
+    report = next_book.report
+    obstacle = StrictlyNothing(report.left_out())
+    if import_options.preview:
+        next_book.obstacles.append(obstacle)
+        return
+    left_out = [entry for entry in report.in_order() if entry.what is What.LEFT_OUT]
+    told = [sentence.text for sentence in itertools.islice(sentences_of(left_out), MOST_NAMED)]
+    raise ImportRefused(obstacle, *may_be_unknown(report), told=told)
+
+
+def tell(outcome: Outcome) -> None:
+    """Prints what an import made, or would make."""
+    print("\n".join(lines_of(outcome)))
+
+
+# From a sheet to a book in its folder.
+
+
+def import_sheet(file: GivenFile, import_options: ImportOptions) -> list[str]:
+    """Takes a sheet, or tells what would be taken; answers what is to be told besides."""
+    program, call = Herdbook(), import_options.call(str(file.path))
+    with told_with(call):
+        if import_options.preview:
+            with to_look_at(import_options.book, program) as book:
+                outcome, notes = import_sheet_into(book, file, import_options, program)[0], book.notes
+        else:
+            outcome, notes = save_import(
+                import_options.book, program, lambda book: import_sheet_into(book, file, import_options, program)
+            )
+        tell(outcome)
+    return notes
+
+
+def import_sheet_into(
+    book: Book, file: GivenFile, import_options: ImportOptions, program: Herdbook
+) -> tuple[Outcome, Prepared | None]:
+    """What a sheet makes of a book, and the change that is to be made, none for a preview."""
+    path, source = file.path, source_of(file.path, file.data)
+    check_place(book, path)
+    book.read_all()
+    import_options = with_settings(book, import_options)
+    words = remember(book, import_options)
+    rename_owners(book, import_options)
+    # the whole of a preview is bounded already
+    with contextlib.nullcontext() if import_options.preview else bounded_reading():
+        read = read_animals(file, import_options, book, words)
+    keep(book, read)
+    next_book = NextBook(book, read.animals, set(read.columns.found), read.report, read.rows.cells.days)
+    complete(next_book, read.columns, import_options)
+    understood = understood_of(path, read, again(words, import_options), titles_before(book))
+    remember_columns(book, read.columns.titles_found())
+    about = About(import_options.call(str(path)), understood.lines(), understood, limits_of(words))
+    return finish(next_book, program, import_options, source, about)
+
+
+def understood_of(path: pathlib.Path, read: ReadSheet, remembered: list[Option], before: dict[str, str]) -> Understood:
+    sheet, columns = read.sheet, read.columns
+    titles = tuple(ColumnRead(Field(name), title) for name, title in columns.titles_found())
+    return Understood(
+        str(path),
+        len(sheet.rows),
+        sheet.line,
+        sheet.how,
+        titles,
+        columns.titles_not_read(),
+        tuple(remembered),
+        dict(columns.titles_found()) == before,
+    )
+
+
+@dataclass
+class ReadSheet:
+    """What was read of a sheet."""
+
+    sheet: Sheet
+    columns: Columns
+    rows: Rows
+    animals: dict[str, SheetAnimal]
+    report: Report
+
+
+def read_animals(file: GivenFile, import_options: ImportOptions, book: Book, words: RememberedWords) -> ReadSheet:
+    """The animals of a sheet; else a mistake with all that keeps it from being read."""
+    now = read_given(import_options.columns)
+    before = titles_before(book) | read_given(words[Remembered.COLUMNS])
+    titles = {*before.values(), *now.values()}
+    sheet = read_sheet(
+        file, lambda row: known_titles(row) + sum(title in titles for title in row), import_options.worksheet
+    )
+    unknown, report = UnknownParents(words[Remembered.UNKNOWN], words[Remembered.KNOWN]), Report()
+    columns = find_columns(sheet, now, {name: title for name, title in before.items() if name not in now}, unknown,
+                           [known.id for known in book.known.values() if known.standing.had_row()])  # fmt: skip
+    month_first = bool(words[Remembered.MONTH_FIRST])
+    born = {id: book.records[known.number].born for id, known in book.known.items() if not known.birth.is_inferred}
+    rows = Rows(
+        sheet, columns.found, unknown, read_sexes(words[Remembered.SEXES]), report, month_first, born,
+        words[Remembered.TOLD],
+    )  # fmt: skip
+    animals = rows.animals() if Field.ID in columns.found else {}
+    faults = [*sheet.faults, *columns.faults, *rows.faults]
+    if faults:
+        raise ImportRefused(*faults)
+    for finding in [*columns.notes, *rows.notes]:
+        report.add(0, "", finding)
+    if not animals:
+        raise ImportRefused(NoRowTaken(str(file.path)), entries=report.entries[:MOST_NAMED])
+    return ReadSheet(sheet, columns, rows, animals, report)
+
+
+def titles_before(book: Book) -> dict[str, str]:
+    """The titles of all columns of the last sheet, by field."""
+    return {one.word: one.meaning for one in book.remembered if one.what is Remembered.COLUMN}

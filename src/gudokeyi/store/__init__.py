@@ -1,0 +1,1 @@
+"""The database of a book, `book.sqlite`, and the files beside it."""

@@ -1,0 +1,233 @@
+"""A society's book, as it is in its folder after its last change."""
+from __future__ import annotations
+
+import contextlib
+import functools
+import pathlib
+import sqlite3
+import sys
+from collections.abc import Iterable, Iterator, Mapping
+
+from gudokeyi.domain.animals import SocietyRecord
+from gudokeyi.domain.changes import Change
+from gudokeyi.domain.collections import Lazy, whole
+from gudokeyi.domain.commands import RegisterRecord
+from gudokeyi.domain.kinds import Remembered, Standing
+from gudokeyi.engine.workers import SECONDS_IN_TURN, Pieces
+from gudokeyi.store.animal_rows import AnimalRow, known_of, record_of
+from gudokeyi.store.database import path_of
+from gudokeyi.store.history import last_change
+from gudokeyi.store.journal import (
+    NO_JOURNAL, Journal, Step, command_file, command_file_in_background, refusals_of, steps_of,
+)  # fmt: skip
+from gudokeyi.store.state import (
+    ALL_ROWS, CELLS, NOW, Meaning, Values, as_written, owners_came, read_remembered, rows_now, select_rows,
+)  # fmt: skip
+
+NO_OWNER = 99_999_999
+# animals of the book, in place of those that were dropped from it
+IN_BOOK = "standing <> 'dropped'"
+
+
+class Book:
+    """A book as a connection sees it, within a transaction; an empty one where there is no connection. Animals are read
+    as they are asked for."""
+
+    def __init__(self, folder: pathlib.Path, connection: sqlite3.Connection | None) -> None:
+        self.folder, self.connection = folder, connection
+        self.change: Change | None = last_change(connection) if connection else None
+        self.names_of_owner_codes: dict[int, str] = {}
+        # how owners were written until now, and are from now on
+        self.renamed: list[tuple[str, str]] = []
+        # what is told behind an answer
+        self.notes: list[str] = []
+        # the journal, where it is read beside other work
+        self.beside: Pieces | None = None
+        # by an animal's id
+        self.known: Mapping[str, SocietyRecord] = Lazy(self.read_known, self.read_all_known)
+        # by its number
+        self.names: Mapping[str, SocietyRecord] = Lazy(self.read_numbered, self.read_all_numbered)
+        self.records: Mapping[str, RegisterRecord] = Lazy(self.read_record, self.read_all_records)
+        # the ids by numbers
+        self.ids: Mapping[str, str] = Lazy(self.read_id, self.read_all_ids)
+
+    def read_all(self) -> None:
+        """Reads all animals at once, for whoever needs most of them."""
+        self.known, self.names, self.records = whole(self.known), whole(self.names), whole(self.records)
+
+    @property
+    def path(self) -> pathlib.Path:
+        return path_of(self.folder)
+
+    @property
+    def journal(self) -> Journal:
+        return Journal(self.change.edition, self.change.length) if self.change else NO_JOURNAL
+
+    @contextlib.contextmanager
+    def journal_read_beside(self) -> Iterator[None]:
+        """The journal is read beside what is done within, for whoever needs it there later. Nothing that isn't committed
+        may be in it."""
+        if self.connection is None:
+            yield
+            return
+        self.beside, in_turn = command_file_in_background(self.connection, self.journal), sys.getswitchinterval()
+        sys.setswitchinterval(min(in_turn, SECONDS_IN_TURN))
+        try:
+            yield
+        finally:
+            sys.setswitchinterval(in_turn)
+            # a process that ended before the other connection is closed would leave files beside the book
+            self.beside.wait()
+
+    @functools.cached_property
+    def journal_text(self) -> bytes:
+        if self.connection is None:
+            raise ValueError("an empty book has no journal")
+        if self.beside is not None:
+            with contextlib.suppress(sqlite3.Error):
+                return self.beside.value()
+        return command_file(self.connection, self.journal)
+
+    def command_file(self) -> bytes:
+        """The journal, as the program reads it."""
+        return self.journal_text
+
+    def each_step(self) -> Iterator[Step]:
+        """The journal's commands with their replies, one after the other."""
+        if self.connection is not None and self.journal.length:
+            yield from steps_of(self.command_file(), refusals_of(self.connection, self.journal))
+
+    @functools.cached_property
+    def steps(self) -> list[Step]:
+        return list(self.each_step())
+
+    # -- animals
+
+    def rows(self, where: str, *values: object) -> list[AnimalRow]:
+        """The animals for which a condition holds."""
+        return select_rows(self.connection, f"{IN_BOOK} AND {where}", *values) if self.connection else []
+
+    def read_known(self, id: str) -> SocietyRecord | None:
+        return next((known_of(row) for row in self.rows("id = ?", id)), None)
+
+    def read_numbered(self, number: str) -> SocietyRecord | None:
+        return next((known_of(row) for row in self.rows("number = ?", number)), None)
+
+    def read_record(self, number: str) -> RegisterRecord | None:
+        return next((record_of(row) for row in self.rows("number = ?", number)), None)
+
+    def read_id(self, number: str) -> str | None:
+        return next((row.id for row in self.rows("number = ?", number)), None)
+
+    def read_all_ids(self) -> dict[str, str]:
+        return dict(self.numbers_and_ids("true"))
+
+    def numbers_and_ids(self, where: str) -> Iterable[tuple[str, str]]:
+        """Those of the animals for which a condition holds, in no order."""
+        wanted = f"SELECT number, id FROM {ALL_ROWS} WHERE {NOW} AND {IN_BOOK} AND {where}"
+        return self.connection.execute(wanted) if self.connection else ()
+
+    @functools.cached_property
+    def every_row(self) -> list[AnimalRow]:
+        """The rows of all animals, with those that were dropped."""
+        return select_rows(self.connection, "true ORDER BY substr(number, 8)") if self.connection else []
+
+    @functools.cached_property
+    def all_rows(self) -> list[AnimalRow]:
+        return [row for row in self.every_row if row.standing != Standing.DROPPED.value]
+
+    def read_all_known(self) -> dict[str, SocietyRecord]:
+        return {row.id: known_of(row) for row in self.all_rows}
+
+    def read_all_numbered(self) -> dict[str, SocietyRecord]:
+        return {known.number: known for known in self.known.values()}
+
+    def read_all_records(self) -> dict[str, RegisterRecord]:
+        return {row.number: record_of(row) for row in self.all_rows}
+
+    @functools.cached_property
+    def dropped(self) -> dict[str, SocietyRecord]:
+        """The animals that aren't in the book any more, by their ids."""
+        return {row.id: known_of(row) for row in self.every_row if row.standing == Standing.DROPPED.value}
+
+    def former_numbers(self) -> dict[str, str]:
+        """The last number of each animal that was in the book once, as before an undo, and isn't named there now."""
+        if self.connection is None:
+            return {}
+        former = """
+            SELECT id, number FROM animal AS one WHERE until IS NOT NULL
+            AND NOT EXISTS (SELECT 1 FROM animal WHERE id = one.id AND until IS NULL) ORDER BY since
+        """
+        return dict(self.connection.execute(former))
+
+    def first_number(self) -> str:
+        """That with the least digits, or in an empty book the first that it had; empty where there was none."""
+        if self.connection is None:
+            return ""
+        # SQLite answers the number of the row that has the least
+        least = f"SELECT number, min(substr(number, 8)) FROM {ALL_ROWS} WHERE {NOW} AND {IN_BOOK}"
+        first = self.connection.execute(least).fetchone()[0]
+        return str(first) if first else next(iter(self.former_numbers().values()), "")
+
+    def number_before(self, id: str) -> str:
+        """The number of an animal that was dropped, or else its last one; empty where there was none."""
+        if self.connection is None:
+            return ""
+        before = f"""
+            SELECT number FROM animal WHERE id = ? AND (until IS NOT NULL OR standing = '{Standing.DROPPED.value}')
+            ORDER BY until IS NULL DESC, since DESC LIMIT 1
+        """
+        found = self.connection.execute(before, (id,)).fetchone()
+        return str(found[0]) if found else ""
+
+    def greatest_digits(self) -> int:
+        """The greatest twelve digits that an animal has or had as its number."""
+        if self.connection is None:
+            return 0
+        greatest = "SELECT max(substr(number, 8)) FROM animal WHERE substr(number, 8) NOT GLOB '*[A-Z]*'"
+        return int(self.connection.execute(greatest).fetchone()[0] or 0)
+
+    def by_number(self) -> Mapping[str, SocietyRecord]:
+        return self.names
+
+    def has_left(self, known: SocietyRecord) -> bool:
+        return self.records[known.number].left is not None or known.exit.day_is_unknown
+
+    def without_row(self) -> list[str]:
+        """The ids of the added parents, and of those that are gone."""
+        return sorted(id for _, id in self.numbers_and_ids("standing IN ('gone', 'parent')"))
+
+    # -- owners, and what is remembered
+
+    @functools.cached_property
+    def owners(self) -> dict[str, int]:
+        """The owners' herds, by their names as they are written now."""
+        return as_written(self.owners_came(), self.remembered)
+
+    def owners_came(self) -> dict[str, int]:
+        """The owners' herds, by the names by which they came."""
+        return owners_came(self.connection) if self.connection else {}
+
+    def respelt(self, owner: str) -> str:
+        """An owner of a cell of the last sheet, as it is written from now on."""
+        for before, now in self.renamed:
+            owner = now if " ".join(owner.split()) == before else owner
+        return owner
+
+    def owner_of(self, owner_code: int) -> str:
+        """The owner's name; a herd that has none stands for itself."""
+        if owner_code == NO_OWNER:
+            return ""
+        if len(self.names_of_owner_codes) != len(self.owners):
+            self.names_of_owner_codes = {number: owner for owner, number in self.owners.items()}
+        return self.names_of_owner_codes.get(owner_code, str(owner_code))
+
+    @functools.cached_property
+    def cells(self) -> dict[Values, Values]:
+        """The last cells of each animal that had a row, by its id."""
+        return rows_now(self.connection, CELLS) if self.connection else {}
+
+    @functools.cached_property
+    def remembered(self) -> list[Meaning]:
+        """What the book remembers of how its sheets are read. An import that sets it anew keeps it with its change."""
+        return read_remembered(self.connection) if self.connection else []

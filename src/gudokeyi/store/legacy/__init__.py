@@ -1,0 +1,1 @@
+"""Folders of version 0.11, whose files were the book."""

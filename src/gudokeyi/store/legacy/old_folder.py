@@ -1,0 +1,234 @@
+"""The folder of a book of version 0.11, whose files were the book: it is taken over, and the files stay in `old`."""
+from __future__ import annotations
+
+import collections
+import contextlib
+import csv
+import fcntl
+import os
+import pathlib
+from collections.abc import Iterator
+from dataclasses import dataclass, replace
+
+from gudokeyi.domain.animals import SocietyRecord
+from gudokeyi.domain.changes import ChangeDetails, Source
+from gudokeyi.domain.commands import Command, RegisterRecord, read_commands, replay
+from gudokeyi.domain.kinds import ChangeKind, Field, Remembered, Standing
+from gudokeyi.domain.messages import Mistake
+from gudokeyi.domain.provenance import OwnerDay
+from gudokeyi.engine.program import Herdbook
+from gudokeyi.store.book import NO_OWNER, Book
+from gudokeyi.store.database import path_of
+from gudokeyi.store.files import digest_of, place_of, put
+from gudokeyi.store.journal import Step
+from gudokeyi.store.legacy.files import (
+    ALL_NAMES, COMMANDS, IDS, ID_TITLES, OLD, OLD_NAMES, OPTIONS, OWNERS, PARENTS, REPORT, STANDING_OF, is_old,
+    read_birth, read_exit, read_sex,
+)  # fmt: skip
+from gudokeyi.store.state import CELL_FIELDS, Meaning, Values
+from gudokeyi.store.transactions import changing, creating
+from gudokeyi.store.verification import verify
+from gudokeyi.store.writing import Filed, Rows, State, animal_rows, end, write_unended
+
+# of those that are written from a database
+EXPORTED = [*ID_TITLES, "change"]
+
+
+@dataclass(frozen=True)
+class OldBook:
+    """What the files say."""
+
+    commands: list[Command]
+    known: dict[str, SocietyRecord]
+    owners: dict[str, int]
+    remembered: list[Meaning]
+
+
+def take_over(folder: pathlib.Path, program: Herdbook) -> None:
+    """Makes of a folder of version 0.11 one of this version, where it is one and there is no book yet. The files are
+    copied to `old` before, so that they are there whenever this ends."""
+    if not is_old(folder):
+        return
+    with alone(folder):
+        with changing(folder) as connection:
+            if connection is None and is_old(folder):
+                old = read(folder, program)
+                keep_files(folder)
+                write_old(Book(folder, None), program, old, (folder / COMMANDS).read_bytes())
+        clear(folder)
+
+
+@contextlib.contextmanager
+def alone(folder: pathlib.Path) -> Iterator[None]:
+    """While this lasts nobody else takes the folder over."""
+    descriptor = os.open(folder, os.O_RDONLY | os.O_DIRECTORY)
+    try:
+        fcntl.flock(descriptor, fcntl.LOCK_EX)
+        yield
+    finally:
+        os.close(descriptor)
+
+
+def are_exports(folder: pathlib.Path) -> bool:
+    """Were the files that are there only written from a database, as those beside one that is lost?"""
+    try:
+        with open(folder / IDS, newline="", encoding="utf-8-sig") as file:
+            return next(csv.reader(file), []) == EXPORTED
+    except (OSError, ValueError, csv.Error):
+        return False
+
+
+def keep_files(folder: pathlib.Path) -> None:
+    """Copies the files to the folder `old`."""
+    old = folder / OLD
+    try:
+        old.mkdir(exist_ok=True)
+        for name in ALL_NAMES:
+            if not (folder / name).exists():
+                continue
+            text = (folder / name).read_bytes()
+            if (old / name).exists() and (old / name).read_bytes() != text:
+                raise Mistake(f"{old / name} isn't what {folder / name} is: move the folder {old} away, and call again")
+            put(old / name, text)
+    except OSError as error:
+        raise Mistake(
+            f"the folder {folder} is of version 0.11, and can't be taken over ({error.strerror or error}): nothing is "
+            "changed. Allow it to be written, or call this once as somebody who may"
+        ) from None
+
+
+def clear(folder: pathlib.Path) -> None:
+    """Removes files of version 0.11 that stand in `old` as they are; later ones of the same names are exports."""
+    for name in OLD_NAMES:
+        with contextlib.suppress(OSError):
+            if (folder / OLD / name).read_bytes() == (folder / name).read_bytes():
+                (folder / name).unlink()
+
+
+def write_old(book: Book, program: Herdbook, old: OldBook, text: bytes) -> None:
+    """The book of the files, once it is seen that it is whole."""
+    made = ChangeDetails(ChangeKind.FOLDER, Source(COMMANDS, place_of(book.folder / OLD / COMMANDS), digest_of(text)))
+    in_book = {id: known for id, known in old.known.items() if known.standing is not Standing.DROPPED}
+    made = replace(made, counts=(("animals", len(in_book)), ("commands", len(old.commands))))
+    records = replay(old.commands)
+    cells = Rows({}, last_cells(in_book, records, {owner_code: owner for owner, owner_code in old.owners.items()}))
+    state = State(Rows({}, animal_rows(old.known, records)), cells, old.remembered, old.owners)
+    filed = Filed([Step(command) for command in old.commands])
+    with creating(book.folder) as connection:
+        number, moment = write_unended(book, connection, program, filed, lambda: state, made)
+        verify(Book(book.folder, connection), program, book.folder / IDS)
+        end(book, connection, number, moment)
+
+
+def last_cells(
+    in_book: dict[str, SocietyRecord], records: dict[str, RegisterRecord], owners: dict[int, str]
+) -> dict[Values, Values]:
+    """What the last sheet said of the animals that had a row, as far as the book shows it: such a folder has no cells, and
+    what is filed by hand is compared with them."""
+    ids = {known.number: id for id, known in in_book.items()} | {"": ""}
+    cells: dict[Values, Values] = {}
+    for id, known in in_book.items():
+        _, born, sire, dam, embryo, owner_code, _, left, _ = records[known.number]
+        exit = known.exit.text or (known.exit.period.text if known.exit.period else str(left or ""))
+        said = {
+            Field.NAME: known.name, Field.SEX: known.number[6] * (not known.sex.is_inferred),
+            Field.BIRTH: str(born) * (not known.birth.is_inferred), Field.SIRE: known.written_sire or ids[sire],
+            Field.DAM: known.written_dam or ids[dam], Field.OWNER: "" if owner_code == NO_OWNER else owners.get(
+                owner_code, str(owner_code)
+            ),
+            Field.EXIT: exit, Field.EMBRYO: "1" * embryo,
+        }  # fmt: skip
+        if known.standing.had_row():
+            cells[id,] = (id, *map(said.get, CELL_FIELDS))
+    return cells
+
+
+def read(folder: pathlib.Path, program: Herdbook) -> OldBook:
+    path = folder / COMMANDS
+    if are_exports(folder):
+        raise Mistake(
+            f"{path_of(folder)}, the book, is missing or empty: {folder / IDS} was only written from it. Restore a backup, "
+            "by the word restore, or take the sheet into another folder"
+        )
+    if not path.exists():
+        raise Mistake(f"the folder {folder} has files of version 0.11, and no {COMMANDS}: restore it")
+    listed = [known_of(folder, row) for row in read_table(folder, IDS, ID_TITLES)]
+    commands = read_commands(path)
+    refused = program.file(commands)
+    if refused:
+        place, refusal = next(iter(refused.items()))
+        raise Mistake(
+            f"{path}: command {place + 1} is refused: {refusal.words()} (refusal {refusal}). "
+            "Somebody has changed this file: restore it, or take the sheet into another folder"
+        )
+    known = read_known(folder, listed, set(replay(commands)))
+    owners = read_table(folder, OWNERS, ["herd", "owner"])
+    if not all(owner_code.isdecimal() for owner_code, _ in owners):
+        raise changed(folder / OWNERS)
+    each_once(folder / OWNERS, [str(int(owner_code)) for owner_code, _ in owners])
+    each_once(folder / OWNERS, [owner for _, owner in owners])
+    options = read_table(folder, OPTIONS, ["option", "word"], needed=False)
+    if not all(option in (one.value for one in Remembered) for option, _ in options):
+        raise changed(folder / OPTIONS)
+    remembered = [Meaning(Remembered(option), word) for option, word in options]
+    return OldBook(commands, known, {owner: int(owner_code) for owner_code, owner in owners}, remembered)
+
+
+def read_known(folder: pathlib.Path, listed: list[SocietyRecord], numbers: set[str]) -> dict[str, SocietyRecord]:
+    """The animals that are in the book, and those that were dropped."""
+    lost = next((one for one in listed if one.standing is not Standing.DROPPED and one.number not in numbers), None)
+    if lost:
+        raise Mistake(
+            f"{folder / IDS} has {lost.id} ({lost.number}), whose birth isn't in {folder / COMMANDS}: restore both files, or "
+            "take the sheet into another folder"
+        )
+    in_book = [known._replace(standing=in_book_as(known.standing)) for known in listed if known.number in numbers]
+    each_once(folder / IDS, [known.number for known in in_book])
+    each_once(folder / IDS, [known.id for known in in_book])
+    found = {known.id: known for known in listed if known.standing is Standing.DROPPED}
+    found |= {known.id: known for known in in_book}
+    named = {known.number for known in in_book}
+    found |= {number: SocietyRecord(number, number) for number in numbers - named}
+    for id, role, text in read_table(folder, PARENTS, ["id", "role", "written"], needed=False):
+        if id in found:
+            known = found[id]
+            found[id] = known._replace(written_sire=text) if role == "sire" else known._replace(written_dam=text)
+    return found
+
+
+def each_once(path: pathlib.Path, words: list[str]) -> None:
+    """A mistake where a column has a word twice, which would be lost in one of its lines."""
+    twice = next((word for word, count in collections.Counter(words).items() if count > 1), None)
+    if twice is not None:
+        raise Mistake(f"{path} has '{twice}' in two lines: restore it, or take the sheet into another folder")
+
+
+def in_book_as(standing: Standing) -> Standing:
+    return Standing.GONE if standing is Standing.DROPPED else standing
+
+
+def known_of(folder: pathlib.Path, row: list[str]) -> SocietyRecord:
+    number, id, name, standing, *words = row
+    birth, exit, sex = read_birth(words[0]), read_exit(words[1]), read_sex(words[2])
+    if standing not in STANDING_OF or birth is None or exit is None or sex is None:
+        raise changed(folder / IDS)
+    # such a folder has the days of imports as those on which owners changed
+    return SocietyRecord(number, id, name, STANDING_OF[standing], birth, exit, sex, owner_day=OwnerDay.INFERRED)
+
+
+def read_table(folder: pathlib.Path, name: str, titles: list[str], needed: bool = True) -> list[list[str]]:
+    path = folder / name
+    if not needed and not path.exists():
+        return []
+    try:
+        with open(path, newline="", encoding="utf-8-sig") as file:
+            found, *rows = csv.reader(file)
+    except (OSError, ValueError):
+        found = []
+    if found != titles or any(len(row) != len(titles) for row in rows):
+        raise changed(path)
+    return rows
+
+
+def changed(path: pathlib.Path) -> Mistake:
+    return Mistake(f"{path} is missing or was changed: restore it, or take the sheet into another folder")

@@ -1,0 +1,128 @@
+"""Opens the book of a folder, to ask it or to change it. What a call needs besides is imported where it is needed: each
+call would wait for it."""
+from __future__ import annotations
+
+import contextlib
+import pathlib
+from collections.abc import Iterator
+
+from gudokeyi.domain.changes import Change
+from gudokeyi.domain.messages import CALLED, Mistake
+from gudokeyi.engine.program import Herdbook
+from gudokeyi.store.book import Book
+from gudokeyi.store.legacy.files import is_old
+from gudokeyi.store.messages import BookFault
+from gudokeyi.store.transactions import Overtaken, changing, reading, up_to_date
+
+# how the names of sheets end
+SHEETS = (".csv", ".xlsx")
+# so long exports wait for somebody who writes them, after a change of one's own
+SECONDS_FOR_EXPORTS = 600
+
+
+def take_over(folder: pathlib.Path, program: Herdbook) -> None:
+    """Makes of a folder of version 0.11 one of this version, where it is one and there is no book yet."""
+    if is_old(folder):
+        from gudokeyi.store.legacy import old_folder
+
+        old_folder.take_over(folder, program)
+
+
+@contextlib.contextmanager
+def opened(folder: pathlib.Path, program: Herdbook) -> Iterator[Book]:
+    """The book as it is now, whoever changes it meanwhile; it has to be there."""
+    take_over(folder, program)
+    up_to_date(folder)
+    with only_read(folder) as book:
+        yield book
+    # whoever asks waits for less before the answer
+    from gudokeyi.store.exports import are_fresh, refresh
+
+    if book.change is not None and not are_fresh(folder, book.change):
+        # somebody who changes the book writes them too, and in a folder without rights they stay as they are
+        refresh(folder, 0)
+
+
+@contextlib.contextmanager
+def only_read(folder: pathlib.Path) -> Iterator[Book]:
+    """The same where nothing may be written: a book of an earlier version stays one."""
+    with reading(folder) as connection:
+        if connection is None:
+            raise no_book(folder)
+        yield Book(folder, connection)
+
+
+def no_book(folder: pathlib.Path) -> Mistake:
+    """With the command that takes the only sheet that is here, if there is one."""
+    from gudokeyi.domain.findings import Call, Suggestion
+
+    there = "" if folder.is_absolute() else ", or go to the folder in which you took one"
+    sheets = [path for path in pathlib.Path().iterdir() if path.suffix.lower() in SHEETS and path.is_file()]
+    if len(sheets) != 1:
+        hint = f": `{CALLED} import --help` says how"
+        return Mistake(BookFault.NO_BOOK.said(folder=folder, there=there, hint=hint))
+    command = Call((str(sheets[0]),), folder).command(Suggestion(""))
+    told = BookFault.NO_BOOK.said(folder=folder, there=there, hint="")
+    return Mistake(told, BookFault.ONLY_SHEET.said(sheet=sheets[0], command=command))
+
+
+@contextlib.contextmanager
+def to_look_at(folder: pathlib.Path, program: Herdbook) -> Iterator[Book]:
+    """The book for a preview of a change, an empty one where there is none. Nobody waits for it."""
+    take_over(folder, program)
+    with reading(folder) as connection:
+        yield Book(folder, connection)
+
+
+@contextlib.contextmanager
+def to_change(folder: pathlib.Path, program: Herdbook) -> Iterator[Book]:
+    """The book to be changed, an empty one where there is none. Others who change it are waited for, and then it is
+    seen that it is whole."""
+    from gudokeyi.store.verification import verify
+
+    take_over(folder, program)
+    with changing(folder) as connection:
+        book = Book(folder, connection)
+        verify(book, program, quickly=True)
+        yield book
+
+
+@contextlib.contextmanager
+def to_prepare(folder: pathlib.Path, program: Herdbook) -> Iterator[Book]:
+    """The book as it is now, an empty one where there is none, for a change of it that is prepared while others change
+    it. It is seen that it is whole."""
+    from gudokeyi.store.verification import verify
+
+    take_over(folder, program)
+    up_to_date(folder)
+    with reading(folder) as connection:
+        book = Book(folder, connection)
+        verify(book, program, quickly=True)
+        yield book
+
+
+@contextlib.contextmanager
+def still_to_change(folder: pathlib.Path, before: Change | None) -> Iterator[Book]:
+    """The book to be changed as it was prepared, after the change `before`; raises `Overtaken`."""
+    with changing(folder) as connection:
+        book = Book(folder, connection)
+        if book.change != before:
+            raise Overtaken
+        yield book
+
+
+@contextlib.contextmanager
+def there_to_change(folder: pathlib.Path, program: Herdbook) -> Iterator[Book]:
+    """The same, of a book that has to be there."""
+    with to_change(folder, program) as book:
+        if book.connection is None:
+            raise no_book(folder)
+        yield book
+
+
+def export(folder: pathlib.Path) -> list[str]:
+    """Writes the exports after a change; answers why it couldn't, in a sentence."""
+    from gudokeyi.store.exports import refresh
+
+    told = refresh(folder, SECONDS_FOR_EXPORTS)
+    return [f"the change is made, but {told}: a later call writes them"] if told else []

@@ -1,0 +1,82 @@
+"""What a society says of itself, which its certificates show, and the letters with which new numbers begin. It is kept
+with the book and isn't a part of its history."""
+from __future__ import annotations
+
+import contextlib
+import enum
+import pathlib
+import sqlite3
+from collections.abc import Mapping
+
+from gudokeyi.domain.animals import BREED, COUNTRY
+from gudokeyi.domain.messages import Mistake
+from gudokeyi.store.book import Book
+from gudokeyi.store.messages import NotSuch
+from gudokeyi.store.opening import no_book
+from gudokeyi.store.transactions import changing, checkpoint, stop_no_more
+
+# What a society says of itself, which its certificates show. It is kept with the book and isn't a part of its history.
+
+LANGUAGES = ("en", "de", "fr")
+
+
+class Setting(enum.StrEnum):
+    # the society's
+    NAME = "name"
+    ADDRESS = "address"
+    # with which new numbers begin
+    BREED = "breed"
+    COUNTRY = "country"
+    # words for an unknown parent, in the next sheets and in what is filed by hand
+    UNKNOWN = "unknown"
+    # of the desk in a browser
+    LANGUAGE = "language"
+
+
+def settings_of(book: Book) -> dict[Setting, str]:
+    """Each setting, empty where none was given."""
+    found = dict(book.connection.execute("SELECT setting, value FROM setting")) if book.connection else {}
+    return {setting: found.get(setting.value, "") for setting in Setting}
+
+
+def change_settings(folder: pathlib.Path, given: Mapping[Setting, str]) -> None:
+    """Keeps these with the book, each in place of the one before; an empty one is none. Others stay."""
+    kept = {setting: checked(setting, text) for setting, text in given.items()}
+    with changing(folder) as connection:
+        if connection is None:
+            raise no_book(folder)
+        connection.executemany(
+            "INSERT INTO setting VALUES (?, ?) ON CONFLICT DO UPDATE SET value = excluded.value",
+            [(setting.value, text) for setting, text in kept.items()],
+        )
+        stop_no_more()
+        connection.execute("COMMIT")
+        with contextlib.suppress(sqlite3.Error):
+            checkpoint(connection)
+
+
+def lines_of(text: str) -> str:
+    """The lines of a text without blanks that do nothing."""
+    lines = (" ".join(line.split()) for line in text.splitlines())
+    return "\n".join(line for line in lines if line)
+
+
+def checked(setting: Setting, text: str) -> str:
+    """The value as it is kept; a mistake where it can't be such a one."""
+    text = lines_of(text)
+    if setting in (Setting.BREED, Setting.COUNTRY) and text:
+        if not (len(text) == 3 and text.isascii() and text.isalpha()):
+            raise Mistake(NotSuch.LETTERS_OF.said(text=text, setting=setting))
+        return text.upper()
+    if setting is Setting.LANGUAGE and text not in ("", *LANGUAGES):
+        raise Mistake(NotSuch.LANGUAGE.said(text=text, languages=", ".join(LANGUAGES)))
+    return text
+
+
+# The letters with which new numbers begin: three for the breed, three for the country.
+
+
+def letters_for(book: Book, breed: str = "", country: str = "") -> str:
+    """Those that are said, or else set, or else those of the book's first number."""
+    settings, first = settings_of(book), book.first_number() or BREED + COUNTRY
+    return (breed or settings[Setting.BREED] or first[:3]) + (country or settings[Setting.COUNTRY] or first[3:6])

@@ -1,0 +1,174 @@
+"""The state of a book after a change: its animals, the last cells of each, what it remembers of its sheets, and how
+owners are written."""
+from __future__ import annotations
+
+import itertools
+import operator
+import sqlite3
+from collections.abc import Callable, Collection, Iterable, Mapping
+from typing import NamedTuple
+
+from gudokeyi.domain.kinds import Field, Remembered
+from gudokeyi.store.animal_rows import COLUMNS, AnimalRow
+from gudokeyi.store.bulk_insert import indexes_behind, insert_many
+
+# The state of a book after a change: its animals, the last cells of each, and what it remembers of its sheets.
+
+NOW = "until IS NULL"
+# all animals in the order in which their rows lie there: by an index each would be looked for, which takes far longer
+ALL_ROWS = "animal NOT INDEXED"
+# the state after a change
+THEN = "since <= :change AND (until IS NULL OR until > :change)"
+CELL_FIELDS = tuple(field for field in Field if field is not Field.ID)
+CELL_COLUMNS = "id, " + ", ".join(f"cell_{field.value}" for field in CELL_FIELDS)
+
+# a row of a table without the changes between which it holds; its first values are its key
+Values = tuple[object, ...]
+
+
+class Table(NamedTuple):
+    """A table of the state: its columns but for the two of changes, and how many of the first ones are its key."""
+
+    name: str
+    columns: str
+    keys: int
+
+
+ANIMALS = Table("animal", COLUMNS, 1)
+CELLS = Table("cell", CELL_COLUMNS, 1)
+REMEMBERED = Table("remembered", "what, word, place, meaning", 2)
+TABLES = (ANIMALS, CELLS, REMEMBERED)
+
+
+class Meaning(NamedTuple):
+    """What a book remembers: of a kind a word, and what it stands for."""
+
+    what: Remembered
+    word: str
+    meaning: str = ""
+
+
+def rows_now(connection: sqlite3.Connection, table: Table) -> dict[Values, Values]:
+    """The rows of the last state, by their keys."""
+    return keyed(table, connection.execute(f"SELECT {table.columns} FROM {table.name} WHERE {NOW}"))
+
+
+def rows_then(connection: sqlite3.Connection, table: Table, change: int) -> dict[Values, Values]:
+    """The rows of the state after a change."""
+    found = connection.execute(f"SELECT {table.columns} FROM {table.name} WHERE {THEN}", {"change": change})
+    return keyed(table, found)
+
+
+def keyed(table: Table, rows: Iterable[Values]) -> dict[Values, Values]:
+    return {row[: table.keys]: row for row in rows}
+
+
+def write_rows(
+    connection: sqlite3.Connection,
+    table: Table,
+    change: int,
+    before: dict[Values, Values],
+    after: dict[Values, Values],
+) -> None:
+    """Makes of rows that held before a change those that hold after it. What stays as it is isn't touched."""
+    ended = ((change, *key) for key, row in before.items() if after.get(key) != row)
+    begun = [row for key, row in after.items() if before.get(key) != row] if before else [*after.values()]
+    # in the order of its keys a table is written quickest
+    begun.sort(key=operator.itemgetter(*range(table.keys)))
+    names = [name.strip() for name in table.columns.split(",")]
+    where = " AND ".join(f"{name} = ?" for name in names[: table.keys])
+    connection.executemany(f"UPDATE {table.name} SET until = ? WHERE {where} AND {NOW}", ended)
+    with indexes_behind(connection, table.name, len(begun)):
+        insert_many(connection, f"{table.name} (since, {table.columns})", begun, [change])
+
+
+def bring_back(connection: sqlite3.Connection, change: int, earlier: int) -> None:
+    """Makes the state after an earlier change, or the empty one before the first, that of a change."""
+    for table in TABLES:
+        write_rows(connection, table, change, rows_now(connection, table), rows_then(connection, table, earlier))
+
+
+def read_remembered(connection: sqlite3.Connection, change: int | None = None) -> list[Meaning]:
+    """What is remembered now, or was after a change."""
+    when = NOW if change is None else THEN
+    asked = f"SELECT what, word, meaning FROM remembered WHERE {when} ORDER BY what, place"
+    found = connection.execute(asked, {"change": change})
+    return [Meaning(Remembered(what), word, meaning) for what, word, meaning in found]
+
+
+def remembered_rows(meanings: Iterable[Meaning]) -> dict[Values, Values]:
+    """The rows of what is remembered, each kind in its order; of a word that is given twice the last meaning holds."""
+    places = {kind: itertools.count() for kind in Remembered}
+    rows = ((one.what.value, one.word, next(places[one.what]), one.meaning) for one in meanings)
+    return keyed(REMEMBERED, rows)
+
+
+def select_rows(connection: sqlite3.Connection, where: str, *values: object) -> list[AnimalRow]:
+    """The animals of the last state for which a condition holds."""
+    found = connection.execute(f"SELECT {COLUMNS} FROM animal WHERE {NOW} AND {where}", values)
+    return [*map(AnimalRow._make, found)]
+
+
+# How owners are written. The table has the name by which each came; what is remembered says how it is written now, one
+# owner after the other, and of each name once.
+
+
+def owners_came(connection: sqlite3.Connection) -> dict[str, int]:
+    """The owners' herds, by the names by which they came."""
+    return dict(connection.execute("SELECT name, herd FROM owner ORDER BY herd"))
+
+
+def as_written(came: Mapping[str, int], remembered: Iterable[Meaning]) -> dict[str, int]:
+    """The owners' herds, by their names as they are written by what is remembered."""
+    owners = {**came}
+    for one in remembered:
+        if one.what is not Remembered.OWNER or one.word not in owners:
+            continue
+        owner_code = owners.pop(one.word)
+        if one.meaning in owners:
+            # what another one is called was lost in an earlier version
+            other = owners.pop(one.meaning)
+            owners[free_name(one.meaning, other, {*owners, one.meaning})] = other
+        owners[one.meaning] = owner_code
+    return owners
+
+
+def names_now(connection: sqlite3.Connection) -> dict[int, str]:
+    """The owners' names as they are written now, by their herds."""
+    owners = as_written(owners_came(connection), read_remembered(connection))
+    return {owner_code: name for name, owner_code in owners.items()}
+
+
+def names_after(connection: sqlite3.Connection, change: int) -> dict[int, str]:
+    """The owners' names as they were written after a change, by their herds."""
+    owners = as_written(owners_came(connection), read_remembered(connection, change))
+    return {owner_code: name for name, owner_code in owners.items()}
+
+
+def free_name(name: str, owner_code: int, taken: Collection[str]) -> str:
+    """The name, or where it is taken one that tells the herd."""
+    while name in taken:
+        name = f"{name} (herd {owner_code})"
+    return name
+
+
+def renamings(came: Mapping[str, int], now: Mapping[int, str]) -> list[tuple[str, str]]:
+    """What is to be remembered: for owners by the names by which they came, with their herds, and those by which they
+    are written now, the name before and after of each renaming. None is named as another one is at that moment: where
+    owners have one another's names, one of them has another one for so long, by which none came."""
+    owner_codes, names = {owner_code: name for name, owner_code in came.items()}, dict(came)
+    wanted = {
+        owner_code: now[owner_code] for owner_code, name in owner_codes.items() if now.get(owner_code, name) != name
+    }
+    found: list[tuple[str, str]] = []
+    while wanted:
+        owner_code = next((one for one, name in wanted.items() if name not in names), None)
+        if owner_code is None:
+            owner_code = next(iter(wanted))
+            name = free_name(owner_codes[owner_code], owner_code, {*came, *names})
+        else:
+            name = wanted.pop(owner_code)
+        found.append((owner_codes[owner_code], name))
+        del names[owner_codes[owner_code]]
+        names[name], owner_codes[owner_code] = owner_code, name
+    return found

@@ -1,0 +1,158 @@
+"""Writes a change of a book: its commands with their replies, and the state after them."""
+from __future__ import annotations
+
+import sqlite3
+from collections.abc import Callable
+from dataclasses import dataclass, field
+
+from gudokeyi.domain.animals import SocietyRecord
+from gudokeyi.domain.changes import Change, ChangeDetails
+from gudokeyi.domain.commands import RegisterRecord
+from gudokeyi.domain.kinds import Remembered
+from gudokeyi.engine.program import Herdbook
+from gudokeyi.store.animal_rows import row_of
+from gudokeyi.store.book import Book
+from gudokeyi.store.coefficients import add_coefficient, change_coefficients, few_descendants, write_coefficients
+from gudokeyi.store.history import last_change, next_number, now, write_change
+from gudokeyi.store.journal import Journal, Step, append, begin_edition
+from gudokeyi.store.state import (
+    ANIMALS, CELLS, REMEMBERED, Meaning, Values, free_name, read_remembered, remembered_rows, rows_now, write_rows,
+)  # fmt: skip
+from gudokeyi.store.transactions import commit, creating, stop_no_more
+
+
+@dataclass(frozen=True)
+class Filed:
+    """The commands of a change. They go on from the journal, or from as many of its commands as a new edition keeps.
+    `text` is the command file after them, where it was made before."""
+
+    steps: list[Step]
+    keeps: int | None = None
+    text: bytes = b""
+
+
+@dataclass(frozen=True)
+class Rows:
+    """Rows of the state before and after a change. Those that aren't named stay."""
+
+    before: dict[Values, Values]
+    after: dict[Values, Values]
+
+
+@dataclass(frozen=True)
+class State:
+    """What a change makes of the state; what it doesn't give stays as it is."""
+
+    animals: Rows
+    cells: Rows | None = None
+    remembered: list[Meaning] | None = None
+    new_owners: dict[str, int] = field(default_factory=dict)
+    # no animal is born and no parent changed
+    keeps_coefficients: bool = False
+    # the number of the only animal that is born, or whose parents change, where nothing else does: the coefficients of
+    # animals that don't descend from it stay
+    born: str = ""
+    corrected: str = ""
+    # all coefficients after it as the program writes them, where somebody asked before
+    coefficients: list[str] | None = None
+
+
+def animal_rows(known: dict[str, SocietyRecord], records: dict[str, RegisterRecord]) -> dict[Values, Values]:
+    """The rows of animals, by their ids; one that was dropped has no record."""
+    return {(id,): row_of(one, records.get(one.number)) for id, one in known.items()}
+
+
+def write(book: Book, program: Herdbook, filed: Filed, find_state: Callable[[], State], made: ChangeDetails) -> Change:
+    """Makes a change, after which the book can't be used any more. A book that isn't there yet is made. The state is
+    asked for when the journal is written."""
+    if book.connection is not None:
+        return write_within(book, book.connection, program, filed, find_state, made)
+    with creating(book.folder) as connection:
+        return write_within(book, connection, program, filed, find_state, made)
+
+
+def write_within(
+    book: Book, connection: sqlite3.Connection, program: Herdbook, filed: Filed, find_state: Callable[[], State],
+    made: ChangeDetails,
+) -> Change:  # fmt: skip
+    return end(book, connection, *write_unended(book, connection, program, filed, find_state, made))
+
+
+def write_unended(
+    book: Book, connection: sqlite3.Connection, program: Herdbook, filed: Filed, find_state: Callable[[], State],
+    made: ChangeDetails,
+) -> tuple[int, int]:  # fmt: skip
+    """Writes all of a change, whose end makes it one; answers its number and its moment."""
+    number, moment = next_number(connection), now()
+    journal = written_journal(connection, book.journal, filed)
+    write_change(connection, number, moment, journal, made)
+    state = find_state()
+    computes = state.coefficients is None and not (state.keeps_coefficients or state.born or state.corrected)
+    coefficients = program.beside(["inbreeding"], Book(book.folder, connection)) if computes else None
+    remembered = write_owners(connection, state)
+    write_rows(connection, ANIMALS, number, state.animals.before, state.animals.after)
+    if state.cells is not None:
+        write_rows(connection, CELLS, number, state.cells.before, state.cells.after)
+    if remembered is not None:
+        before = rows_now(connection, REMEMBERED)
+        write_rows(connection, REMEMBERED, number, before, remembered_rows(remembered))
+    if coefficients:
+        write_coefficients(connection, coefficients.value().splitlines())
+    elif state.coefficients is not None:
+        write_coefficients(connection, state.coefficients)
+    elif not state.keeps_coefficients and not keeps_most(book, connection, program, state):
+        write_coefficients(connection, program.ask(["inbreeding"], Book(book.folder, connection)))
+    return number, moment
+
+
+def write_owners(connection: sqlite3.Connection, state: State) -> list[Meaning] | None:
+    """Writes the new owners; answers what is to be remembered. The name that an owner had before it was written
+    otherwise stays in the table: another owner who has it now gets a name there that nobody has, and it is remembered
+    how that is written."""
+    remembered = state.remembered
+    others = read_remembered(connection) if remembered is None else remembered
+    there = {name for (name,) in connection.execute("SELECT name FROM owner")}
+    # those that somebody has for a while as they are read one after the other too
+    there |= {name for one in others if one.what is Remembered.OWNER for name in (one.word, one.meaning)}
+    for name, owner_code in state.new_owners.items():
+        stored = free_name(name, owner_code, there)
+        if stored != name:
+            remembered = others = [*others, Meaning(Remembered.OWNER, stored, name)]
+        there.add(stored)
+        connection.execute("INSERT INTO owner (name, herd) VALUES (?, ?)", (stored, owner_code))
+    return remembered
+
+
+def keeps_most(book: Book, connection: sqlite3.Connection, program: Herdbook, state: State) -> bool:
+    """Keeps the coefficients that one animal changes, if the program can be asked for these alone."""
+    if not state.born and not state.corrected:
+        return False
+    changed = [state.born] if state.born else few_descendants(connection, state.corrected)
+    lines = program.coefficients(changed, Book(book.folder, connection))
+    if state.born and lines:
+        add_coefficient(connection, lines[0])
+    else:
+        change_coefficients(connection, lines)
+    return bool(lines)
+
+
+def written_journal(connection: sqlite3.Connection, journal: Journal, filed: Filed) -> Journal:
+    """The journal with the commands of a change."""
+    if filed.keeps is not None or not journal.edition:
+        journal = begin_edition(connection, Journal(journal.edition, filed.keeps or 0))
+    return append(connection, journal, filed.steps)
+
+
+def compute_and_end(book: Book, connection: sqlite3.Connection, program: Herdbook, number: int, moment: int) -> Change:
+    """Computes what is kept of the new state, and ends the change."""
+    write_coefficients(connection, program.ask(["inbreeding"], Book(book.folder, connection)))
+    return end(book, connection, number, moment)
+
+
+def end(book: Book, connection: sqlite3.Connection, number: int, moment: int) -> Change:
+    """Ends the change."""
+    change = last_change(connection)
+    assert change is not None and change.number == number
+    stop_no_more()
+    commit(connection, book.folder, number, moment)
+    return change

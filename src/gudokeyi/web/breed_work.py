@@ -1,0 +1,87 @@
+"""The breed's measures and the plan of matings, which are made in a process beside the server."""
+from __future__ import annotations
+
+import datetime
+import pathlib
+from collections.abc import Sequence
+from dataclasses import dataclass
+from fractions import Fraction
+
+from gudokeyi.domain.changes import Mark
+from gudokeyi.domain.messages import Mistake
+from gudokeyi.genetics.breed_state import state_of
+from gudokeyi.genetics.kinship import Kinship
+from gudokeyi.render.breed_pages import BreedWords, breed_part
+from gudokeyi.services import breed_pedigree
+from gudokeyi.services.breed_pedigree import Breed, breed_of
+from gudokeyi.services.cache import mark_of
+from gudokeyi.store.book import Book
+from gudokeyi.store.opening import only_read
+from gudokeyi.store.settings import LANGUAGES
+from gudokeyi.web.messages import WebFault
+from gudokeyi.web.served_book import ServedBook
+from gudokeyi.web.workers import Job, Stage, Tell
+
+BREED = "breed"
+
+
+@dataclass(frozen=True)
+class Whom:
+    """The reference population: the living animals, those of an owner, or those that were born in some years."""
+
+    owner: str = ""
+    born: tuple[datetime.date, datetime.date] | None = None
+
+
+@dataclass(frozen=True)
+class Measured:
+    """The measures as a part of a page in each language, and each animal's mean kinship with the population; all of
+    the book with a mark."""
+
+    mark: Mark
+    parts: dict[str, str]
+    mean_kinships: dict[str, Fraction]
+
+
+def measures_of(desk: ServedBook, book: Book, whom: Whom) -> Job:
+    """The work on the measures of the book as it is now, which is begun where it wasn't."""
+    return desk.jobs.of((BREED, mark_of(book), whom), measured, (desk.folder, whom))
+
+
+def measured(folder: pathlib.Path, whom: Whom, tell: Tell) -> Measured:
+    with only_read(folder) as book:
+        breed = breed_of(book)
+        population = population_of(breed, whom)
+        if not population:
+            raise Mistake(WebFault.NONE_OF_THESE.said())
+        state = state_of(breed.pedigree, population, tell)
+        parts = {name: breed_part(state, breed, name, said_of(whom, BreedWords(name))) for name in LANGUAGES}
+        of_each = Kinship.of(breed.pedigree).mean_of_each(population)
+        return Measured(mark_of(book), parts, {row.number: of_each[at] for at, row in enumerate(breed.rows)})
+
+
+def population_of(breed: Breed, whom: Whom) -> Sequence[int]:
+    if whom.owner:
+        return breed_pedigree.owned_by(breed, whom.owner)
+    if whom.born:
+        return breed_pedigree.born_between(breed, *whom.born)
+    return breed_pedigree.living(breed)
+
+
+def said_of(whom: Whom, words: BreedWords) -> str:
+    """Who the population is, as the word `breed` says it."""
+    if whom.owner:
+        return words.word("owner").format(whom.owner)
+    if whom.born:
+        first, last = map(words.language.day, whom.born)
+        return words.word("born").format(f"{first} – {last}")
+    return words.word("living")
+
+
+def kinship_of(desk: ServedBook, book: Book, number: str) -> Fraction | None:
+    """An animal's mean kinship with the living ones; none where that isn't computed yet."""
+    job = desk.jobs.found((BREED, mark_of(book), Whom()))
+    if job is None or job.stage is not Stage.DONE:
+        return None
+    assert isinstance(job.value, Measured)
+    return job.value.mean_kinships.get(number)

@@ -1,0 +1,177 @@
+"""The plan of matings for all living dams, which is made in a process beside the server, and advice on the matings of a
+dam, which the program's session gives."""
+from __future__ import annotations
+
+import contextlib
+import functools
+import pathlib
+from dataclasses import dataclass
+from fractions import Fraction
+
+from gudokeyi.domain.animals import SocietyRecord
+from gudokeyi.domain.changes import Mark
+from gudokeyi.domain.kinds import Role
+from gudokeyi.domain.messages import MessageText, Mistake
+from gudokeyi.engine.program import Herdbook
+from gudokeyi.genetics.plans import Unmated
+from gudokeyi.services.book_session import BookMoved
+from gudokeyi.services.cache import mark_of
+from gudokeyi.services.matings import Advice, advice_of, all_candidates, by_mating
+from gudokeyi.services.plans import Asked, Planned, Prepared, best_plan, plan_table, prepared, usual_bounds
+from gudokeyi.store.book import Book
+from gudokeyi.store.messages import BookFault, Mating
+from gudokeyi.store.opening import only_read
+from gudokeyi.web.messages import WebFault
+from gudokeyi.web.served_book import ServedBook
+from gudokeyi.web.workers import ADVICE, Doing, Job, Stage, Tell
+
+# The plan of matings for all living dams, which is made in a process beside the server; what the program's session says
+# of its matings is compared with it before it is shown.
+
+PLAN, BESIDE = "plan", "plan beside"
+# so often it is made of a book that somebody changes
+TRIES_FOR_PLAN = 5
+
+
+@dataclass(frozen=True, slots=True)
+class Mate:
+    number: str
+    id: str
+    name: str
+
+
+@dataclass(frozen=True, slots=True)
+class Pair:
+    dam: Mate
+    sire: Mate
+    fraction: str
+    coefficient: Fraction
+
+
+@dataclass(frozen=True)
+class Bounds:
+    """How many dams a sire has at most, and how old parents are at least, and what of it was assumed."""
+
+    most_for_a_sire: int | None
+    minimum_age: int | None
+    assumed: tuple[MessageText, ...]
+
+
+@dataclass(frozen=True)
+class PlanMade:
+    """The matings, which dams have none and why, and the means, of the book with a mark; `text` is the file that the
+    word `plan` writes, with commas and with semicolons."""
+
+    mark: Mark
+    bounds: Bounds
+    pairs: list[Pair]
+    unmated: dict[Unmated, list[Mate]]
+    mean: Fraction | None
+    allowed: int
+    mean_of_allowed: Fraction | None
+    text: dict[bool, str]
+
+
+def usual_of(desk: ServedBook, book: Book) -> Bounds:
+    """The bounds that are assumed where nothing is said."""
+
+    def usual() -> Bounds:
+        age, most = usual_bounds(book)
+        return Bounds(most, age.days, ())
+
+    return desk.kept.of(book, ("usual bounds",), usual)
+
+
+def bounds_of(among: Prepared) -> Bounds:
+    return Bounds(among.rules.most_for_a_sire, among.minimum_age, among.assumed)
+
+
+def plan_for(desk: ServedBook, book: Book, asked: Asked) -> Job:
+    """The work on the plan for the book as it is now, which is begun where it wasn't."""
+    key = (PLAN, mark_of(book), asked)
+    return desk.jobs.here(key, functools.partial(plan_of_now, desk, asked))
+
+
+def plan_of_now(desk: ServedBook, asked: Asked) -> PlanMade:
+    """That of the book as it is, also where somebody changes it meanwhile."""
+    for _ in range(TRIES_FOR_PLAN):
+        with contextlib.suppress(BookMoved), desk.opened() as book:
+            if book is None:
+                raise Mistake(BookFault.NO_BOOK.said(folder=desk.folder, there="", hint=""))
+            job = desk.jobs.of((BESIDE, mark_of(book), asked), planned, (desk.folder, asked))
+            job.is_over.wait()
+            desk.jobs.forget(job.key)
+            if job.stage is not Stage.DONE:
+                raise Mistake(*job.failed.sentences)
+            assert isinstance(job.value, PlanMade)
+            compare(desk, job.value)
+            return job.value
+    raise Mistake(BookFault.ALWAYS_CHANGED.said(path=desk.folder))
+
+
+def told_of(desk: ServedBook, book: Book, asked: Asked) -> str:
+    """How far the process is, empty where it is over."""
+    job = desk.jobs.found((BESIDE, mark_of(book), asked))
+    return job.told if job else ""
+
+
+def compare(desk: ServedBook, plan: PlanMade) -> None:
+    """Asks the session for each mating of a plan; a mistake where it says something else."""
+    with desk.opened() as book:
+        if book is None or mark_of(book) != plan.mark:
+            raise BookMoved
+        for pair in plan.pairs:
+            said = desk.program.ask(["mating", "--dam", pair.dam.number, pair.sire.number], book)
+            if [line.split(",")[:2] for line in said] != [[pair.sire.number, pair.fraction]]:
+                raise Mistake(WebFault.PLAN_DIFFERS.said(dam=pair.dam.id, sire=pair.sire.id))
+
+
+def planned(folder: pathlib.Path, asked: Asked, tell: Tell) -> PlanMade:
+    program = Herdbook()
+    with only_read(folder) as book:
+        tell(Doing.COEFFICIENTS)
+        among = prepared(book, asked)
+        return made(book, best_plan(book, program, among.dams, among.sires, among.rules), among)
+
+
+def made(book: Book, found: Planned, among: Prepared) -> PlanMade:
+    mates = {one.number: Mate(one.number, one.id, one.name) for one in (*among.dams.animals, *among.sires.animals)}
+    plan = found.plan
+    unmated: dict[Unmated, list[Mate]] = {}
+    for dam, why in plan.unmated.items():
+        unmated.setdefault(why, []).append(mates[dam])
+    pairs = [Pair(mates[one.dam], mates[one.sire], str(one.coefficient), one.coefficient) for one in plan.matings]
+    text = {semicolons: plan_table(book, found, False).text(semicolons) for semicolons in (False, True)}
+    means = plan.mean, plan.allowed, plan.mean_of_allowed
+    return PlanMade(mark_of(book), bounds_of(among), pairs, unmated, *means, text)
+
+
+# Advice on the matings of a dam, which the program's session gives; it is kept with the state of the book.
+
+# so often it is asked of a book that somebody changes
+TRIES_FOR_ADVICE = 20
+
+
+def advice_for(desk: ServedBook, book: Book, dam: SocietyRecord, also_left: bool) -> Job:
+    """The work on it for the book as it is now, which is begun where it wasn't."""
+    key = (ADVICE, mark_of(book), dam.number, also_left)
+    return desk.jobs.here(key, lambda: advice_of_now(desk, dam, also_left))
+
+
+def advice_of_now(desk: ServedBook, dam: SocietyRecord, also_left: bool) -> Advice:
+    """That of the book as it is, also where somebody changes it meanwhile."""
+    for _ in range(TRIES_FOR_ADVICE):
+        with contextlib.suppress(BookMoved):
+            return advice_now(desk, dam, also_left)
+    raise Mistake(BookFault.ALWAYS_CHANGED.said(path=desk.folder))
+
+
+def advice_now(desk: ServedBook, dam: SocietyRecord, also_left: bool) -> Advice:
+    """What the session says of a mating with each of the sires, which are those of the word `mating`."""
+    with desk.opened() as book:
+        if book is None:
+            raise Mistake(BookFault.NO_BOOK.said(folder=desk.folder, there="", hint=""))
+        sires = all_candidates(book, Role.SIRE, also_left)
+        if not also_left:
+            sires.needed(Mating.ASK_FOR_LEFT.said())
+        return advice_of(dam, sires.needed(Mating.NAME_OTHERS.said()), by_mating(book, desk.program, dam, sires))

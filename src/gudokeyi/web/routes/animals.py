@@ -1,0 +1,68 @@
+"""The page of animals: searched, filtered and sorted; and what the search of other pages asks while somebody types."""
+from __future__ import annotations
+
+from urllib.parse import urlencode
+
+from flask import Blueprint, jsonify, render_template, request, url_for
+from werkzeug.wrappers import Response
+
+from gudokeyi.domain.messages import Mistake
+from gudokeyi.store.book import Book
+from gudokeyi.store.coefficients import coefficients_among
+from gudokeyi.web.changing import refuse_to_print
+from gudokeyi.web.language import page_language
+from gudokeyi.web.served_book import Answer, served_book, with_book
+from gudokeyi.web.views.animals import (
+    Asked, Found, Order, asked_by, fields_of, file_of, first_rows, found_by, line_of, turned,
+)  # fmt: skip
+from gudokeyi.web.views.messages import MessageView, on_page
+
+page = Blueprint("animals", __name__)
+# so many animals are offered while somebody types
+OFFERED = 12
+
+
+@page.get("/animals", endpoint="page")
+@with_book
+def animals(book: Book) -> Answer:
+    faults: list[MessageView] = []
+    asked, found = Asked(), Found([], 0, 1, 1)
+    try:
+        asked = asked_by(request.args)
+        found = found_by(book, asked)
+    except Mistake as mistake:
+        faults = on_page(mistake.sentences)
+    coefficients = coefficients_among(book, [row.number for row in found.rows])
+    sorts = {order.value: address("animals.page", fields_of(turned(asked, order))) for order in Order}
+    pages = [address("animals.page", fields_of(asked) | {"page": str(found.page + step)}) for step in (-1, 1)]
+    return render_template(
+        "animals.html", given=request.args, asked=asked, found=found, sorts=sorts, faults=faults, pages=pages,
+        rows=[line_of(book, row, coefficients, page_language()) for row in found.rows], owners=sorted(book.owners),
+        file=address("animals.file", fields_of(asked)),
+    )  # fmt: skip
+
+
+def address(endpoint: str, fields: dict[str, str]) -> str:
+    return f"{url_for(endpoint)}?{urlencode(fields)}"
+
+
+@page.get("/animals.csv")
+@with_book
+def file(book: Book) -> Answer:
+    """All animals that were asked for, as CSV. German and French spreadsheets want semicolons."""
+    # it has no place to tell that
+    refuse_to_print(served_book(), book)
+    semicolons = page_language().language.name != "en"
+    text = file_of(book, asked_by(request.args)).text(semicolons)
+    response = Response(text.encode("utf-8-sig" if semicolons else "utf-8"), mimetype="text/csv")
+    response.headers["Content-Disposition"] = "attachment; filename=animals.csv"
+    return response
+
+
+@page.get("/search")
+@with_book
+def search(book: Book) -> Answer:
+    """The first animals that have the words, of a sex where that is asked for."""
+    asked = asked_by({**request.args, "order": "id"})
+    rows = first_rows(book, asked)[:OFFERED] if asked.words else []
+    return jsonify([{"id": row.id, "name": row.name, "born": page_language().day(row.born)} for row in rows])

@@ -1,0 +1,116 @@
+"""The page of the history: each change, what it did, and how an earlier state is brought back; a copy of the book."""
+from __future__ import annotations
+
+import datetime
+
+from flask import Blueprint, abort, flash, redirect, render_template, request, url_for
+from werkzeug.wrappers import Response
+
+from gudokeyi.domain.changes import Change
+from gudokeyi.services.cache import mark_of
+from gudokeyi.services.history import undo
+from gudokeyi.store.backup import copied
+from gudokeyi.store.book import Book
+from gudokeyi.store.exports import last_backup, remember, report_text
+from gudokeyi.store.history import change_numbered, last_changes, last_that_changed, taken_back_by
+from gudokeyi.web.access import is_of_another_site, the_logins
+from gudokeyi.web.files import download
+from gudokeyi.web.forms import change_once, mark_text, sent_form, sent_mark
+from gudokeyi.web.language import page_language
+from gudokeyi.web.paging import part_read
+from gudokeyi.web.served_book import Answer, served_book, with_book
+from gudokeyi.web.views.changes import differences_of, given_of, line_of, lines_of, told_of_change
+
+page = Blueprint("history", __name__)
+# so many animals that a change changed are shown, and so many changes that would be taken back
+MOST_SHOWN, MOST_TOLD = 200, 20
+
+
+@page.get("/history", endpoint="page")
+@with_book
+def history(book: Book) -> Answer:
+    assert book.connection is not None and book.change is not None
+    connection, count = book.connection, book.change.number
+    part = part_read(
+        count, lambda first, most: lines_of(connection, last_changes(connection, most, first), page_language())
+    )
+    last = last_that_changed(connection)
+    return render_template("history.html", part=part, last=last, backed_up=last_backup(book))
+
+
+@page.get("/history/<change:number>")
+@with_book
+def change(book: Book, number: int) -> Answer:
+    assert book.connection is not None and book.change is not None
+    found = change_numbered(book.connection, number)
+    if found is None:
+        abort(404)
+    words = page_language()
+    count, shown = differences_of(book, number, words, MOST_SHOWN)
+    return render_template(
+        "change.html", change=line_of(book.connection, found, words), source=found.source,
+        given=given_of(found, words), length=found.length, edition=found.edition, count=count, differences=shown,
+        groups=told_of_change(book, number, words), last=last_that_changed(book.connection),
+        by=taken_back_by(book.connection, number),
+    )  # fmt: skip
+
+
+@page.get("/history/<change:number>/report.csv")
+@with_book
+def report(book: Book, number: int) -> Answer:
+    """All that a change told, as the book's own report has it."""
+    assert book.connection is not None
+    found = change_numbered(book.connection, number)
+    if found is None:
+        abort(404)
+    response = Response(report_text(book, found), mimetype="text/csv")
+    response.headers["Content-Disposition"] = f"attachment; filename=report-{number}.csv"
+    return response
+
+
+@page.get("/history/<change:number>/undo")
+@with_book
+def ask_undo(book: Book, number: int) -> Answer:
+    """Asks whether the state after a change is brought back; 0 is the empty book."""
+    assert book.connection is not None and book.change is not None
+    last = book.change.number
+    if number >= last_that_changed(book.connection):
+        abort(404)
+    newest = last_changes(book.connection, min(last - number, MOST_TOLD))
+    return render_template(
+        "undo.html", number=number, taken_back=lines_of(book.connection, newest, page_language()),
+        more=last - number - len(newest), looked=mark_text(mark_of(book)),
+    )  # fmt: skip
+
+
+@page.post("/history/<change:number>/undo")
+def bring_back(number: int) -> Answer:
+    """Brings it back, if the book is the one of which it was asked."""
+    desk, looked, form = served_book(), sent_mark(), sent_form()
+
+    def make(book: Book) -> Change | None:
+        assert book.change is not None
+        is_as_asked = mark_of(book) == looked and number < book.change.number
+        return undo(book, desk.program, number, form) if is_as_asked else None
+
+    made = change_once(desk, form, make)
+    if made is None:
+        flash(page_language()("book changed"), "look")
+        return redirect(url_for("history.page"))
+    flash(page_language()("brought back", number), "done")
+    return redirect(url_for("history.change", number=made.number))
+
+
+@page.get("/book.sqlite")
+@with_book
+def backup(book: Book) -> Answer:
+    """The whole book with its history, as the word `backup` writes it. It counts as one where no other site asked for
+    it, and the browser got all of it."""
+    assert book.connection is not None
+    if is_of_another_site(the_logins().origin()):
+        abort(403, "other site")
+    name, mimetype = f"book-{datetime.date.today()}.sqlite", "application/vnd.sqlite3"
+    if request.method == "HEAD":
+        return Response(mimetype=mimetype)
+    with copied(book.connection) as file:
+        return download(file, lambda: remember(book), mimetype, name)

@@ -1,0 +1,102 @@
+"""The pages on which one logs in and out, and gives oneself another password. What somebody was writing when a login ran
+out is kept."""
+from __future__ import annotations
+
+from flask import Blueprint, current_app, flash, redirect, render_template, request, url_for
+from werkzeug.exceptions import HTTPException
+from werkzeug.wrappers import Response
+
+from gudokeyi.domain.messages import Mistake
+from gudokeyi.web.access import LEAST, MOST_FORM_BYTES, may, the_person
+from gudokeyi.web.addresses import is_safe_redirect
+from gudokeyi.web.language import page_language
+from gudokeyi.web.logins import the_account_logins
+from gudokeyi.web.served_book import Answer
+from gudokeyi.web.views.messages import MessageView, on_page
+
+page = Blueprint("login", __name__)
+# what of a form is kept: so many fields, each of so many letters, and no secrets
+MOST_FIELDS, MOST_LETTERS = 60, 2_000
+SECRETS = ("csrf_token", "password", "new", "again")
+KEPT, KEPT_TO = "kept-", "kept to"
+FORM = "application/x-www-form-urlencoded"
+Fields = list[tuple[str, str]]
+
+
+def asked_to_log_in() -> Answer:
+    """What somebody is shown who isn't logged in: the way to the page that was asked for, or with what was written into
+    a form."""
+    if request.method == "POST":
+        fields: Fields = []
+        if request.mimetype == FORM and (request.content_length or 0) <= MOST_FORM_BYTES:
+            fields = [(name, text[:MOST_LETTERS]) for name, text in request.form.items(multi=True)][:MOST_FIELDS]
+        kept = [(name, text) for name, text in fields if name not in SECRETS]
+        return form([page_language()("login over")], kept, request.path, 401)
+    return redirect(url_for("login.page", to=request.full_path.rstrip("?")))
+
+
+def form(told: list[str], kept: Fields, kept_to: str, status: int, to: str = "") -> Answer:
+    name = request.form.get("name", "") if request.endpoint == "login.enter" else ""
+    return render_template("login.html", told=told, kept=kept, kept_to=kept_to, to=to, name=name), status
+
+
+@page.get("/login", endpoint="page")
+def login() -> Answer:
+    return form([], [], "", 200, request.args.get("to", ""))
+
+
+@page.post("/login")
+def enter() -> Answer:
+    logins, given, words = the_account_logins(), request.form, page_language()
+    kept = [(name.removeprefix(KEPT), text) for name, text in given.items(multi=True) if name.startswith(KEPT)]
+    kept_to, to = given.get(KEPT_TO, ""), given.get("to", "")
+    found = logins.try_to_log_in(given.get("name", ""), given.get("password", ""))
+    if isinstance(found, int):
+        told = words.counted("login wait", found) if found else words("login wrong")
+        return form([told], kept, kept_to, 429 if found else 401, to)
+    logins.begin(found)
+    endpoint = form_at(kept_to)
+    if endpoint and may(endpoint):
+        return render_template("again.html", kept=kept[:MOST_FIELDS], kept_to=kept_to)
+    if endpoint:
+        flash(words("refused role"), "look")
+    return redirect(to if is_safe_redirect(to) else url_for("start.page"))
+
+
+def form_at(path: str) -> str:
+    """The page of a form of this desk that has an address, empty where there is none."""
+    try:
+        endpoint, _ = current_app.url_map.bind("localhost").match(path, "POST")
+    except HTTPException:
+        return ""
+    return endpoint if endpoint in LEAST else ""
+
+
+@page.post("/logout")
+def leave() -> Response:
+    the_account_logins().end()
+    flash(page_language()("logged out"), "done")
+    return redirect(url_for("login.page"))
+
+
+@page.get("/password")
+def password() -> Answer:
+    return render_template("password.html", faults=[])
+
+
+@page.post("/password")
+def change_password() -> Answer:
+    """Gives whoever asks another password; where else they are logged in they aren't any more."""
+    logins, person, words, given = the_account_logins(), the_person(), page_language(), request.form
+    assert person
+    found = logins.try_to_log_in(person.name, given.get("password", ""))
+    if isinstance(found, int):
+        told = words.counted("login wait", found) if found else words("password wrong")
+        return render_template("password.html", faults=[MessageView(told)]), 400
+    try:
+        logins.accounts.change_password(person.name, given.get("new", ""), given.get("again", ""))
+    except Mistake as mistake:
+        return render_template("password.html", faults=on_page(mistake.sentences)), 400
+    logins.begin(found)
+    flash(words("password changed"), "done")
+    return redirect(url_for("start.page"))

@@ -1,0 +1,99 @@
+"""The pages on which a keeper restores a backup: a file is dropped, then it is seen what it has, and then it is put in the
+place of the book, or left."""
+from __future__ import annotations
+
+from flask import Blueprint, abort, flash, redirect, render_template, request, url_for
+from werkzeug.wrappers import Response
+
+from gudokeyi.domain.changes import NO_MARK
+from gudokeyi.store.backup import mark_now
+from gudokeyi.web.access import the_name
+from gudokeyi.web.backup_work import Backup, looked_into, restored
+from gudokeyi.web.files import Upload
+from gudokeyi.web.forms import mark_text, sent_mark
+from gudokeyi.web.language import page_language
+from gudokeyi.web.routes.sheet import is_taken
+from gudokeyi.web.served_book import Answer, served_book
+from gudokeyi.web.sheet_work import LOOKING, Imported
+from gudokeyi.web.views.messages import MessageView, on_page
+from gudokeyi.web.workers import TAKING, Job, Stage
+
+page = Blueprint("restoring", __name__)
+
+
+@page.get("/restore", endpoint="page")
+def restoring() -> Answer:
+    return render_template("restore.html", faults=[])
+
+
+@page.post("/restore")
+def drop() -> Answer:
+    file = request.files.get("backup")
+    if file is None or not file.filename:
+        return render_template("restore.html", faults=[MessageView(page_language()("no file"))]), 400
+    return to_look(served_book().uploads.add(file, the_name()))
+
+
+def to_look(upload: Upload) -> Response:
+    return redirect(url_for("restoring.look", token=upload.token))
+
+
+def upload_of(token: str) -> Upload:
+    upload = served_book().uploads.of(token, the_name())
+    if upload is None:
+        abort(404, "upload")
+    return upload
+
+
+@page.get("/restore/<token>")
+def look(token: str) -> Answer:
+    upload, desk = upload_of(token), served_book()
+    job = desk.jobs.of((LOOKING, token), looked_into, (upload.path,))
+    if job.stage is Stage.DONE:
+        assert isinstance(job.value, Backup)
+        now = mark_now(desk.folder) or NO_MARK
+        return render_template(
+            "backup.html", upload=upload, backup=job.value, is_there=now != NO_MARK, looked=mark_text(now)
+        )
+    return not_done(job)
+
+
+def not_done(job: Job) -> Answer:
+    """A page that asks again by itself, or why it came to nothing."""
+    if job.stage is Stage.UNDER_WAY:
+        return render_template("waiting.html", what="restoring", told=job.told, seconds=job.seconds)
+    desk = served_book()
+    desk.jobs.forget(job.key)
+    return render_template("restore.html", faults=on_page(job.failed.sentences)), 400
+
+
+@page.post("/restore/<token>")
+def bring_back(token: str) -> Answer:
+    """Restores it, if the book has the change that was looked at; who files meanwhile waits. The session sees by
+    itself that the book is another one."""
+    upload, desk = upload_of(token), served_book()
+    values = (desk.folder, upload.path, sent_mark())
+    desk.jobs.in_turn((TAKING, token), restored, values, lambda value: is_taken(desk, value))
+    return redirect(url_for("restoring.under_way", token=token))
+
+
+@page.get("/restore/<token>/under-way")
+def under_way(token: str) -> Answer:
+    """Waits for the end of a restoring."""
+    upload, desk = upload_of(token), served_book()
+    job = desk.jobs.found((TAKING, token))
+    if job is None:
+        return to_look(upload)
+    if job.stage is not Stage.DONE:
+        return not_done(job)
+    desk.jobs.forget(job.key)
+    assert isinstance(job.value, Imported)
+    if job.value.book_changed:
+        flash(page_language()("book changed"), "look")
+        return to_look(upload)
+    desk.uploads.drop(token)
+    words = page_language()
+    flash(words("backup restored", upload.path.name), "done")
+    if job.value.meanwhile:
+        flash(words.counted("changed meanwhile", job.value.meanwhile), "look")
+    return redirect(url_for("history.change", number=job.value.change))

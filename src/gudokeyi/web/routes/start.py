@@ -1,0 +1,48 @@
+"""The start page: the book at a glance, or how one begins."""
+from __future__ import annotations
+
+import functools
+
+from flask import Blueprint, redirect, render_template, request, session, url_for
+from werkzeug.wrappers import Response
+
+from gudokeyi.store.backup import has_old_files
+from gudokeyi.store.history import last_changes
+from gudokeyi.store.settings import LANGUAGES
+from gudokeyi.web.addresses import is_safe_redirect
+from gudokeyi.web.files import EXAMPLE
+from gudokeyi.web.language import CHOSEN, page_language
+from gudokeyi.web.served_book import Answer, served_book
+from gudokeyi.web.views.changes import lines_of
+from gudokeyi.web.workers import TAKING
+
+page = Blueprint("start", __name__)
+# so many of the last changes are shown
+LAST_CHANGES = 5
+
+
+@page.get("/", endpoint="page")
+def start() -> Answer:
+    desk = served_book()
+    with desk.opened() as book:
+        if book is None or book.connection is None or book.change is None:
+            taking, is_old = desk.jobs.under_way(TAKING), has_old_files(desk.folder)
+            return render_template("begin.html", has_example=EXAMPLE.exists(), taking=taking, is_old=is_old)
+        overview = desk.kept.of(book, ("glance",), functools.partial(desk.overviews.of, book))
+        last = lines_of(book.connection, last_changes(book.connection, LAST_CHANGES), page_language())
+        return render_template("start.html", overview=overview, changes=last)
+
+
+@page.get("/favicon.ico")
+def icon() -> Response:
+    """What browsers ask for by themselves, for pages that name no picture."""
+    return redirect(url_for("static", filename="icon.svg"))
+
+
+@page.get("/language/<language>")
+def language(language: str) -> Response:
+    """Goes back to where the language was chosen."""
+    if language in LANGUAGES:
+        session[CHOSEN] = language
+    to = request.args.get("to", "")
+    return redirect(to if is_safe_redirect(to) else url_for("start.page"))

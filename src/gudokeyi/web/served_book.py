@@ -1,0 +1,81 @@
+"""The desk that a server shows in a browser: its book, the program that answers, and what is under way at it."""
+from __future__ import annotations
+
+import contextlib
+import functools
+import pathlib
+import threading
+from collections.abc import Callable, Iterator
+from dataclasses import dataclass, field
+from typing import Concatenate, ParamSpec, cast
+
+from flask import current_app, redirect, url_for
+from werkzeug.wrappers import Response
+
+from gudokeyi.services.book_session import BookSession
+from gudokeyi.services.cache import BookCache, Stamp
+from gudokeyi.services.overview import Overviews
+from gudokeyi.store.book import Book
+from gudokeyi.store.database import DATABASE
+from gudokeyi.store.transactions import reading
+from gudokeyi.web.files import Uploads
+from gudokeyi.web.workers import Exports, Jobs
+
+EXTENSION = "desk"
+# what a page answers
+Answer = str | Response | tuple[str, int]
+Given = ParamSpec("Given")
+
+
+def is_set() -> threading.Event:
+    event = threading.Event()
+    event.set()
+    return event
+
+
+@dataclass
+class ServedBook:
+    """A book's folder with all that the pages need. One that is only to be read changes nothing."""
+
+    folder: pathlib.Path
+    program: BookSession
+    read_only: bool
+    uploads: Uploads
+    jobs: Jobs
+    exports: Exports
+    # what was computed of the book as it is after a change
+    kept: BookCache = field(default_factory=BookCache)
+    overviews: Overviews = field(default_factory=Overviews)
+    # the book and its file as they were when it was last seen to be whole
+    trusted: Stamp = ()
+    # nobody sees now whether it is whole
+    is_seen: threading.Event = field(default_factory=is_set)
+    # nobody changes the book any more
+    is_closing: bool = False
+
+    def has_book(self) -> bool:
+        return (self.folder / DATABASE).exists()
+
+    @contextlib.contextmanager
+    def opened(self) -> Iterator[Book | None]:
+        """The book as it is now, whoever changes it meanwhile; none where there is none."""
+        with reading(self.folder) as connection:
+            yield Book(self.folder, connection) if connection else None
+
+
+def served_book() -> ServedBook:
+    """The desk of the server that answers."""
+    return cast(ServedBook, current_app.extensions[EXTENSION])
+
+
+def with_book(page: Callable[Concatenate[Book, Given], Answer]) -> Callable[Given, Answer]:
+    """A page of a book that is there; where there is none the start page says what to do."""
+
+    @functools.wraps(page)
+    def shown(*values: Given.args, **named: Given.kwargs) -> Answer:
+        with served_book().opened() as book:
+            if book is None or book.change is None:
+                return redirect(url_for("start.page"))
+            return page(book, *values, **named)
+
+    return shown

@@ -1,0 +1,168 @@
+"""Serves the book on this machine to one person until it is ended, or to several people, each with an account."""
+from __future__ import annotations
+
+import contextlib
+import fcntl
+import gc
+import logging
+import os
+import pathlib
+import secrets
+import shutil
+import signal
+import socket
+import sys
+import tempfile
+import threading
+import webbrowser
+from collections.abc import Callable, Iterator
+from dataclasses import replace
+
+from flask import Flask
+from waitress import create_server
+
+from gudokeyi.domain.messages import CALLED, Mistake
+from gudokeyi.engine.workers import SECONDS_IN_TURN
+from gudokeyi.services.book_session import BookSession
+from gudokeyi.store.accounts import Accounts
+from gudokeyi.store.opening import take_over
+from gudokeyi.store.transactions import up_to_date
+from gudokeyi.web.access import CHANNEL, LinkLogins
+from gudokeyi.web.addresses import ListenAddress, server_address
+from gudokeyi.web.app import web_app
+from gudokeyi.web.changing import begin_to_see, end_changes
+from gudokeyi.web.files import Uploads
+from gudokeyi.web.logins import AccessLog, AccountLogins, Throttle
+from gudokeyi.web.messages import WebFault
+from gudokeyi.web.served_book import ServedBook
+from gudokeyi.web.workers import PAUSE, Exports, Jobs
+
+# Serves the desk on this machine, until it is ended.
+
+ADDRESS = "127.0.0.1"
+THREADS = 8
+# what a page makes goes with it: it is looked for as Python does by itself, not as rarely as in a call that ends soon
+LOOKED_FOR = (700, 10, 10)
+# so long answers that are under way at the end are waited for
+SECONDS_FOR_ANSWERS = 10
+
+
+def open_in_browser(
+    folder: pathlib.Path, program: BookSession, port: int, read_only: bool, opens_browser: bool
+) -> None:
+    """The desk of one person, in a browser that comes by a secret link."""
+    otherwise = "name another one, or leave out --port"
+    with bound(ADDRESS, port, otherwise) as listening, served_book_of(folder, program, read_only) as desk:
+        logins = LinkLogins(secrets.token_urlsafe(24), listening.getsockname()[1], read_only)
+        link = f"http://{ADDRESS}:{logins.port}/enter/{logins.secret}"
+
+        def begin() -> None:
+            print(f"{link}\nThe desk is open. Open this link in a browser; Ctrl-C ends it.", flush=True)
+            if opens_browser and not webbrowser.open(link):
+                print("No browser could be opened here: open the link in one yourself.", flush=True)
+
+        answer(desk, web_app(desk, logins), listening, THREADS, begin)
+
+
+@contextlib.contextmanager
+def served_book_of(
+    folder: pathlib.Path, program: BookSession, read_only: bool, pause: float = PAUSE
+) -> Iterator[ServedBook]:
+    """The desk of a folder, whose book is brought up to date."""
+    with room() as path:
+        desk = ServedBook(folder, program, read_only, Uploads(path), Jobs(), Exports(folder, pause))
+        if not read_only:
+            take_over(folder, program)
+            up_to_date(folder)
+        yield desk
+
+
+def answer(desk: ServedBook, app: Flask, listening: socket.socket, threads: int, begin: Callable[[], None]) -> None:
+    """Answers until Ctrl-C or SIGTERM. What changes the book is done to its end then, and told."""
+    # what waitress tells of a fault would have a trace
+    logging.getLogger("waitress").addHandler(logging.NullHandler())
+    logging.getLogger("waitress").propagate = False
+    server = create_server(
+        app, sockets=[listening], threads=threads, ident=None, expose_tracebacks=False,
+    )  # fmt: skip
+    server.channel_class = CHANNEL
+    sys.setswitchinterval(SECONDS_IN_TURN)
+    gc.set_threshold(*LOOKED_FOR)
+    begin_to_see(desk)
+    signal.signal(signal.SIGTERM, signal.default_int_handler)
+    with contextlib.suppress(KeyboardInterrupt):
+        begin()
+        server.run()
+    for one in signal.SIGINT, signal.SIGTERM:
+        signal.signal(one, signal.SIG_IGN)
+    end_changes(desk)
+    desk.jobs.end()
+    server.task_dispatcher.shutdown(cancel_pending=False, timeout=SECONDS_FOR_ANSWERS)
+    # nothing of this process goes on while the interpreter ends
+    desk.is_seen.wait(SECONDS_FOR_ANSWERS)
+    desk.exports.end()
+    desk.program.close()
+    print("The desk is closed.", flush=True)
+
+
+def bound(address: str, port: int, otherwise: str) -> socket.socket:
+    """A socket at a port of this machine, 0 for one that is free."""
+    family = socket.AF_INET6 if ":" in address else socket.AF_INET
+    try:
+        return socket.create_server((address, port), family=family)
+    except (OSError, OverflowError) as error:
+        told = getattr(error, "strerror", None) or error
+        raise Mistake(WebFault.NO_PORT.said(port=str(port), told=told, otherwise=otherwise)) from None
+
+
+PREFIX, LOCK = "society-desk-", "open"
+
+
+@contextlib.contextmanager
+def room() -> Iterator[pathlib.Path]:
+    """A folder for what was dropped, which nobody else reads, as long as the desk is open. Those that desks left which
+    were killed go."""
+    drop_left(pathlib.Path(tempfile.gettempdir()))
+    path = pathlib.Path(tempfile.mkdtemp(prefix=PREFIX))
+    try:
+        # a desk that is opened at the same moment sees no lock that isn't held
+        begun = path / f".{LOCK}"
+        with open(begun, "w", encoding="ascii") as lock:
+            fcntl.flock(lock, fcntl.LOCK_EX)
+            begun.rename(path / LOCK)
+            yield path
+    finally:
+        shutil.rmtree(path, ignore_errors=True)
+
+
+def drop_left(place: pathlib.Path) -> None:
+    """Removes one's own folders of desks that aren't open any more."""
+    for path in place.glob(f"{PREFIX}*"):
+        with contextlib.suppress(OSError):
+            if path.is_symlink() or path.stat().st_uid != os.getuid():
+                continue
+            with open(path / LOCK, "rb") as lock:
+                fcntl.flock(lock, fcntl.LOCK_EX | fcntl.LOCK_NB)
+                shutil.rmtree(path)
+
+
+# Serves the desk of a book to several people, each with an account.
+
+# clerks who wait for each other leave threads for readers
+THREADS_FOR_SEVERAL = 40
+# so long nobody filed before the files beside the database are written, in seconds
+PAUSE_FOR_SEVERAL = 20
+
+
+def serve(folder: pathlib.Path, program: BookSession, place: ListenAddress, names: list[str], proxy: str) -> None:
+    """Answers at a place, by names; where there is a proxy it alone is answered."""
+    server_address(place, names, proxy)
+    accounts = Accounts(folder)
+    if not accounts.all():
+        raise Mistake(f"nobody has an account yet: make one for a keeper, as {CALLED} account NAME --role keeper")
+    with bound(place.address, place.port, "name another one by --listen") as listening:
+        with served_book_of(folder, program, read_only=False, pause=PAUSE_FOR_SEVERAL) as desk:
+            way = server_address(replace(place, port=listening.getsockname()[1]), names, proxy)
+            logins = AccountLogins(accounts, way, Throttle(), AccessLog(sys.stderr))
+            told = f"The desk answers at {way.scheme}://{way.hosts[0]}/; Ctrl-C or SIGTERM ends it."
+            answer(desk, web_app(desk, logins), listening, THREADS_FOR_SEVERAL, lambda: print(told, flush=True))

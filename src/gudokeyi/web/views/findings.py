@@ -1,0 +1,233 @@
+"""What an import tells as pages show it: by kind, what may be wrong first, with what is suggested as choices of a
+form."""
+from __future__ import annotations
+
+import collections
+from collections.abc import Iterable, Iterator, Mapping, Sequence
+from dataclasses import dataclass
+from typing import NamedTuple
+
+from gudokeyi.domain.changes import Option
+from gudokeyi.domain.findings import DROP_GONE, OPPOSITE, REPEATED, Entry, Finding, Severity, Suggestion, What
+from gudokeyi.ingest.titles import parts_of, read_given, read_sexes
+from gudokeyi.reconcile.findings.plausibility import BirthsTooNear, YoungParent
+from gudokeyi.web.files import Upload
+from gudokeyi.web.forms import BETWEEN
+from gudokeyi.web.language import PageLanguage
+from gudokeyi.web.views.messages import MessageView, sentence_of
+
+# What findings suggest for the reading of a sheet, as choices of its page.
+
+COLUMNS, SEXES, OWNER = "--columns", "--sexes", "--owner"
+# options with a number of days below which something is told
+BOUNDS = ("--youngest", "--apart")
+# by these a row is left out, or taken
+ROWS = ("--no-animal", "--animal")
+# options without a word, which a page has as boxes
+SET = "1"
+MOST_LETTERS = 500
+# for each bound the numbers of days of all that is told for it
+Days = Mapping[str, Sequence[int]]
+
+
+@dataclass(frozen=True, slots=True)
+class Proposed:
+    """What a button says that does what is suggested, and the options that it sends."""
+
+    label: str
+    options: tuple[Option, ...]
+
+
+def suggestions_of(findings: Iterable[Finding]) -> tuple[Suggestion, ...]:
+    """Each once, but for those that are for the command line alone."""
+    return tuple(dict.fromkeys(one for finding in findings for one in finding.suggestions() if is_choice(one)))
+
+
+def days_of(findings: Iterable[Finding]) -> dict[str, list[int]]:
+    """For each bound the days that findings suggest for it."""
+    options = [option for finding in findings for one in finding.suggestions() for option in one.options]
+    return {bound: [int(one.word) for one in options if one.option == bound] for bound in BOUNDS}
+
+
+def proposed(suggestions: Sequence[Suggestion], words: PageLanguage) -> list[Proposed]:
+    """For each decision one; what drops animals is another one than what it is suggested with."""
+    found = []
+    for one in suggestions:
+        options = [option for option in one.options if option != DROP_GONE or len(one.options) == 1]
+        found.append(Proposed("; ".join(label for option in options for label in labels_of(option, words)), (*options,)))
+    return list(dict.fromkeys(found))
+
+
+def proposed_for(entry: Entry, days: Days, words: PageLanguage) -> list[Proposed]:
+    """What an entry suggests: what becomes of its row, of how many entries like it, or else of the whole sheet."""
+    found = []
+    for one in proposed(suggestions_of([entry.finding]), words):
+        option = one.options[0]
+        if option.option in BOUNDS:
+            limit, all_days = int(option.word), days[option.option]
+            gone = sum(day >= limit for day in all_days)
+            which = "bound is" if len(all_days) > 1 else "bound is (one)"
+            label = words(which, words.count(limit), words.count(gone), words.count(len(all_days)))
+            found.append(Proposed(label, one.options))
+        elif option.option in ROWS:
+            what = "leave out line" if option.option == "--no-animal" else "take line"
+            found.append(Proposed(words(what, entry.line), one.options))
+        else:
+            found.append(one)
+    return found
+
+
+def is_choice(suggestion: Suggestion) -> bool:
+    """Nothing has to be undone for it, as nothing is taken yet."""
+    return bool(suggestion.options) and not suggestion.without
+
+
+def labels_of(option: Option, words: PageLanguage) -> list[str]:
+    field = field_of(option)
+    if option.option == COLUMNS:
+        titles = read_given([option.word]).items()
+        return [f"{words(f'field {name}')}{words.colon} {title or words('no column')}" for name, title in titles]
+    if option.option == SEXES:
+        said = [part.partition("=")[0].strip() for part in parts_of([option.word])]
+        sexes = zip(said, read_sexes([option.word]).values())
+        return [words("means", text, words("male" if sex == "M" else "female")) for text, sex in sexes]
+    if option.option == OWNER:
+        before, _, now = option.word.partition("=")
+        return [words("owner is", before, now)]
+    if option.option == "--unknown":
+        return [words("means", option.word, words("unknown parent"))]
+    label = words(f"option {field}".replace("_", " "))
+    return [f"{label}{words.colon} {option.word}" if option.word else label]
+
+
+def field_of(option: Option) -> str:
+    """The field of the page's form for an option."""
+    return option.option.removeprefix("--").replace("-", "_")
+
+
+def choose(upload: Upload, options: Iterable[Option]) -> None:
+    """Chooses what is suggested for a file, beside what was chosen for it. Who looks at it meanwhile sees the one or
+    the other."""
+    columns, chosen = {**upload.columns}, {**upload.options}
+    for option in options:
+        word = option.word[:MOST_LETTERS]
+        if option.option == COLUMNS:
+            columns |= read_given([word])
+            continue
+        field = field_of(option)
+        before = chosen.get(field, "")
+        between = BETWEEN if option.option == OWNER else ","
+        is_added = option.option in REPEATED and before
+        if not is_added:
+            chosen[field] = word or SET
+        elif word not in before.split(between):
+            chosen[field] = f"{before}{between}{word}"
+        if option.option in OPPOSITE:
+            take_back(chosen, field_of(Option(OPPOSITE[option.option])), word)
+    upload.columns, upload.options = columns, chosen
+
+
+def take_back(chosen: dict[str, str], field: str, word: str) -> None:
+    """A word that was chosen for the opposite."""
+    left = [one for one in chosen.pop(field, "").split(",") if one and one != word]
+    if left:
+        chosen[field] = ",".join(left)
+
+
+# What an import tells as pages show it: by kind, what may be wrong first.
+
+ORDER = (What.WARNING, What.NEW, What.CHANGED, What.LEFT_OUT, What.INFERRED, What.GONE, What.ADDED)
+# so many of a kind are shown, the rest where all are asked for
+MOST_SHOWN = 200
+# more than so many of these are told in one sentence
+FEW = 3
+FOLDED: dict[type, str] = {BirthsTooNear: "births near", YoungParent: "parents young"}
+
+
+@dataclass(frozen=True, slots=True)
+class Line:
+    """Of an animal one sentence, and what may be chosen for it; `line` is the sheet's, 0 where it has no row. Of many
+    that are alike one sentence for all stands above those of each."""
+
+    line: int
+    id: str
+    sentence: MessageView
+    choices: list[Proposed]
+    each: tuple[Line, ...] = ()
+
+
+class Group(NamedTuple):
+    """The entries of a kind, the first of them as lines; `total` is how many lines there are."""
+
+    what: What
+    title: str
+    total: int
+    lines: list[Line]
+
+
+def groups_of(
+    entries: Sequence[Entry], words: PageLanguage, totals: Mapping[What, int] | None = None, days: Days | None = None
+) -> list[Group]:
+    """The entries by kind; `totals` are how many there are of each, where these are the first alone. With `days` each has
+    what may be chosen for it."""
+    found = []
+    counts = totals or totals_of(entries)
+    for what in ORDER:
+        own = [entry for entry in entries if what in places_of(entry)]
+        lines = list(folded(own[:MOST_SHOWN], words, days))
+        if own:
+            more = max(counts[what], len(own)) - len(own[:MOST_SHOWN])
+            found.append(Group(what, words(f"what {what.value}"), len(lines) + more, lines))
+    return found
+
+
+def folded(entries: Sequence[Entry], words: PageLanguage, days: Days | None) -> Iterator[Line]:
+    """The entries as lines; many that are told for one limit are one."""
+    alike = collections.defaultdict[type, list[Entry]](list)
+    for entry in entries:
+        alike[type(entry.finding)].append(entry)
+    for entry in entries:
+        kind = type(entry.finding)
+        if kind not in FOLDED or len(alike[kind]) <= FEW:
+            yield line_of(entry, words, days)
+        elif entry is alike[kind][0]:
+            yield line_of_all(alike[kind], words, days)
+
+
+def line_of_all(entries: Sequence[Entry], words: PageLanguage, days: Days | None) -> Line:
+    by_days = {bounded(entry).days: entry for entry in entries}
+    least, most = min(by_days), max(by_days)
+    finding = bounded(entries[0])
+    values = map(words.count, (len(entries), finding.limit, least, most))
+    sentence = MessageView(words(FOLDED[type(finding)], *values))
+    choices = line_of(by_days[least], words, days).choices
+    return Line(0, "", sentence, choices, tuple(line_of(entry, words, days) for entry in entries))
+
+
+def bounded(entry: Entry) -> BirthsTooNear | YoungParent:
+    assert isinstance(entry.finding, BirthsTooNear | YoungParent)
+    return entry.finding
+
+
+def line_of(entry: Entry, words: PageLanguage, days: Days | None) -> Line:
+    choices = [] if days is None else proposed_for(entry, days, words)
+    return Line(entry.line, entry.id, sentence_of(entry.finding, words), choices)
+
+
+def places_of(entry: Entry) -> tuple[What, ...]:
+    """The kinds under which it stands: what may be wrong stands there, also where it is of another kind."""
+    may_be_wrong = entry.finding.does() is not Severity.NONE and entry.what is not What.LEFT_OUT
+    return tuple(dict.fromkeys([What.WARNING, entry.what] if may_be_wrong else [entry.what]))
+
+
+def totals_of(entries: Iterable[Entry]) -> collections.Counter[What]:
+    return collections.Counter(what for entry in entries for what in places_of(entry))
+
+
+def first_of_each(entries: Iterable[Entry]) -> Iterator[Entry]:
+    """The first entries of each kind, as many as are shown."""
+    counts = collections.Counter[What]()
+    for entry in entries:
+        counts.update(places_of(entry))
+        if any(counts[what] <= MOST_SHOWN for what in places_of(entry)):
+            yield entry

@@ -1,0 +1,82 @@
+"""A book whose kept coefficients aren't the program's: each page says so, and nothing is printed of it."""
+from __future__ import annotations
+
+import contextlib
+import sqlite3
+
+import pytest
+
+from desk.site import Site, shown
+from front_desk.desk import Desk
+from gudokeyi.locale import SENTENCES
+from gudokeyi.services.cache import stamp_of
+from gudokeyi.store.messages import NotWhole
+from gudokeyi.store.settings import LANGUAGES
+from gudokeyi.web.changing import go_on, see_whole
+
+DAM, SIRE, CALF = "GK-17/472c", "GK-10/294b", "HOLGBRM000000000402"
+TOLD, ON_PAGE = "the program has 1 kept coefficient otherwise", "The program has 1 of the kept coefficients otherwise"
+PRINTED = (f"/animal/{CALF}/certificate", "/certificates?owner=", f"/animal/{CALF}/pedigree", "/animals.csv")
+PAGES = ("/", "/animals", f"/animal/{CALF}", "/matings", "/history", "/settings", "/file/exit")
+
+
+def edit(site: Site) -> None:
+    """Somebody writes another coefficient into the database."""
+    with contextlib.closing(sqlite3.connect(site.desk.folder / "book.sqlite")) as connection:
+        connection.execute("UPDATE coefficient SET fraction = '1/1024', percent = '0.10' WHERE place = 400")
+        connection.commit()
+
+
+@pytest.mark.parametrize("is_seen", [False, True], ids=["before", "meanwhile"])
+def test_pages(site: Site, society_desk: Desk, is_seen: bool) -> None:
+    """It is seen where it was so before the desk was opened, and where somebody does it behind the desk's back."""
+    if is_seen:
+        assert all(site.get(path).status_code == 200 for path in PRINTED)
+        assert "otherwise" not in site.page("/animals") and site.post("/file/exit", id=DAM, day="2024-05-01")
+    edit(site)
+    for path in PAGES:
+        assert ON_PAGE in shown_all(site, path) and "what is shown may be wrong" in shown_all(site, path), path
+    for path in PRINTED:
+        answer = site.get(path)
+        page = shown(answer.get_data(as_text=True))
+        assert answer.status_code == 400 and ON_PAGE in page and "nothing is printed" in page, path
+    for at, language in enumerate(LANGUAGES):
+        site.get(f"/language/{language}")
+        assert SENTENCES[NotWhole.SHOWN][at] in shown_all(site, "/").replace("\u00a0", " ")
+    # whoever isn't in is told nothing of the book
+    assert ON_PAGE not in site.app.test_client().get("/", headers={"Host": "127.0.0.1:4711"}).get_data(as_text=True)
+
+
+def test_filing(site: Site) -> None:
+    """Nothing is filed into it, so that nobody takes it for one that was seen to be whole."""
+    assert site.post("/file/exit", id=DAM, day="2024-05-01").status_code == 302
+    edit(site)
+    answer = site.post("/file/exit", id=SIRE, day="2024-06-01")
+    assert answer.status_code == 400 and ON_PAGE in shown(answer.get_data(as_text=True))
+    see_whole(site.desk)
+    assert ON_PAGE in shown_all(site, "/animals")
+    assert all(site.get(path).status_code == 400 for path in PRINTED)
+
+
+def test_behind_a_sheet(site: Site) -> None:
+    """What a sheet made is trusted as its file was then, and a file that was changed since is seen anew."""
+    with site.desk.opened() as book:
+        assert book
+        stamp = stamp_of(book)
+    edit(site)
+    go_on(site.desk, stamp)
+    assert site.desk.is_seen.wait(60) and ON_PAGE in shown_all(site, "/animals")
+    assert site.get(PRINTED[0]).status_code == 400
+
+
+def shown_all(site: Site, path: str) -> str:
+    return shown(site.page(path))
+
+
+def test_words(site: Site, society_desk: Desk) -> None:
+    """A list says so beside it, and a certificate isn't written."""
+    assert "otherwise" not in society_desk.good("list").err
+    edit(site)
+    done = society_desk.good("list", "--living")
+    assert done.out.startswith("id,") and TOLD in done.err and "what is shown may be wrong" in done.err
+    society_desk.wrong("the book isn't whole: nothing is printed", "certificate", DAM)

@@ -1,0 +1,52 @@
+"""Texts that are filed have bounds: the same for words, for sheets and for pedigrees."""
+from __future__ import annotations
+
+import pytest
+
+from front_desk.desk import Desk
+from gudokeyi.store.messages import MOST_IN_ID, MOST_IN_NAME, MOST_IN_OWNER, NotSuch
+
+SHEET = "id,name,sex,born,sire,dam,owner\na,Bella,F,2001-01-01,,,Mill\n"
+BIRTH = ["--sex", "f", "--day", "2003-01-01"]
+
+
+@pytest.mark.parametrize(
+    "sentence, most, words",
+    [
+        (NotSuch.LONG_ID, MOST_IN_ID, ["birth", "{}", *BIRTH]),
+        (NotSuch.LONG_NAME, MOST_IN_NAME, ["birth", "b", *BIRTH, "--name", "{}"]),
+        (NotSuch.LONG_OWNER, MOST_IN_OWNER, ["birth", "b", *BIRTH, "--owner", "{}"]),
+        (NotSuch.LONG_OWNER, MOST_IN_OWNER, ["transfer", "a", "--day", "2003-01-01", "--to", "{}"]),
+    ],
+    ids=["id", "name", "owner", "new owner"],
+)
+def test_words(desk: Desk, sentence: NotSuch, most: int, words: list[str]) -> None:
+    desk.take(SHEET)
+    desk.wrong(sentence.said(letters=most + 1, most=most), *(word.format("ä" * (most + 1)) for word in words))
+    desk.good(*(word.format("ä" * most) for word in words))
+    desk.good("verify")
+
+
+def test_sheet(desk: Desk) -> None:
+    """A cell that is too long is left out, and of a long id the row; what the book has stays."""
+    desk.take(SHEET)
+    long = {"name": "n" * 121, "owner": "o" * 201, "sire": "s" * 121, "dam": "d" * 61}
+    row = f"a,{long['name']},F,2001-01-01,{long['sire']},{long['dam']},{long['owner']}\n"
+    done = desk.take(f"{SHEET.splitlines()[0]}\n{row}{'i' * 61},x,F,2001-01-01,,,\n")
+    kept = "{} letters, and {} are kept at most: shorten it"
+    for field, most in {"name": 120, "owner": 200, "sire": 120, "dam": 60}.items():
+        done.tells(f"line 2: a: its {field} is left out: it has {kept.format(len(long[field]), most)}")
+    done.tells(f"line 3: the row is left out: its id has {kept.format(61, 60)}")
+    assert [(row["id"], row["name"], row["owner"]) for row in desk.listed("list", "--columns", "id,name,owner")] == [
+        ("a", "Bella", "Mill")
+    ]
+    desk.good("verify")
+
+
+def test_renamed_and_pedigree(desk: Desk) -> None:
+    desk.take(SHEET)
+    told = NotSuch.LONG_OWNER.said(letters=201, most=200)
+    desk.wrong(told, "import", desk.write("again.csv", SHEET), "--owner", f"Mill={'o' * 201}")
+    told_of_line = "line 2: an id has 61 letters, and 60 are kept at most: shorten it"
+    file = desk.write("tree.txt", f"a 0 0\nb {'s' * 61} a\n")
+    desk.wrong(told_of_line, "import", "--pedigree", file, "--book", "other")

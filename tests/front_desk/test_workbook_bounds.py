@@ -1,0 +1,169 @@
+"""Workbooks of few bytes that would become very much, and looks that would take very long: refused before that."""
+from __future__ import annotations
+
+import io
+import pathlib
+import re
+import signal
+import subprocess
+import sys
+import tracemalloc
+import zipfile
+
+import openpyxl
+import pytest
+
+from front_desk.desk import TOP
+from gudokeyi.domain.messages import Mistake
+from gudokeyi.ingest import files, workbooks
+from gudokeyi.ingest.files import MOST_CELLS, GivenFile, bound_look, check_bounds
+from gudokeyi.ingest.messages import SheetFault
+from gudokeyi.ingest.sheets import SheetRow
+from gudokeyi.ingest.workbooks import Worksheet, cells_of, read_workbook
+from gudokeyi.reconcile.import_options import ImportOptions
+from gudokeyi.services import sheet_imports
+
+PATH = pathlib.Path("flock.xlsx")
+TITLES, ANIMAL = ["Ohrmarke", "Geschlecht", "Geburtsdatum"], ["a", "m", "2001-01-01"]
+SHEET, BOOK = "xl/worksheets/sheet1.xml", "xl/workbook.xml"
+END = "</sheetData>"
+FAR = '<row r="1048576"><c r="{}1048576" t="inlineStr"><is><t>x</t></is></c></row>' + END
+TOO_MANY = SheetFault.TOO_MANY_CELLS.said(path=PATH, most=MOST_CELLS)
+ODD = SheetFault.NO_WORKBOOK.said(path=PATH, error="it is written as no spreadsheet writes it")
+
+
+def with_part(before: str, after: str, part: str = SHEET) -> bytes:
+    """A small workbook, in whose worksheet or other part something else is written."""
+    made, edited = io.BytesIO(), io.BytesIO()
+    found = openpyxl.Workbook()
+    for row in (TITLES, ANIMAL):
+        found.active.append(row)
+    found.save(made)
+    with zipfile.ZipFile(made) as archive, zipfile.ZipFile(edited, "w", zipfile.ZIP_DEFLATED) as copy:
+        for name in archive.namelist():
+            text = archive.read(name).decode()
+            copy.writestr(name, text.replace(before, after, 1) if name == part else text)
+    return edited.getvalue()
+
+
+def read(data: bytes) -> Worksheet:
+    """The worksheet, of which no more is made than it has, of cells or of anything."""
+    tracemalloc.start()
+    try:
+        return read_workbook(PATH, data, len, 5, "")
+    finally:
+        assert tracemalloc.get_traced_memory()[1] < 20_000_000
+        tracemalloc.stop()
+
+
+@pytest.mark.parametrize("column, width", [("A", 3), ("XFD", 16384)])
+def test_far_cells(column: str, width: int) -> None:
+    """A cell in the last row, or in the last cell of all, is one more, and not all that lie between."""
+    rows = read(with_part(END, FAR.format(column))).rows
+    assert [line for line, _ in rows] == [1, 2, 1_048_576] and {len(cells) for _, cells in rows} == {width}
+    assert rows[1][1][:3] == ANIMAL and rows[2][1][0 if column == "A" else -1] == "x"
+
+
+def test_far_apart(monkeypatch: pytest.MonkeyPatch) -> None:
+    """Each row is as wide as the widest: where these would be too many cells they aren't made."""
+    monkeypatch.setattr(workbooks, "MOST_CELLS", 3 * 16384 - 1)
+    with pytest.raises(Mistake) as told:
+        read(with_part(END, FAR.format("XFD")))
+    assert told.value.sentences == (SheetFault.TOO_MANY_CELLS.said(path=PATH, most=3 * 16384 - 1),)
+
+
+@pytest.mark.parametrize(
+    "before, after, told",
+    [
+        (END, f'{END}<mergeCells count="1"><mergeCell ref="A1:XFD1048576"/></mergeCells>', TOO_MANY),
+        (END, f'{END}<hyperlinks><hyperlink ref="$XFD$1048576:A1" display="x"/></hyperlinks>', TOO_MANY),
+        (END, f'{END}<hyperlinks><hyperlink ref="A:XFD" display="x"/></hyperlinks>', ODD),
+        ('<row r="1"', f'<row x="{">" * 40_000_000}" r="1"', ODD),
+        ("<sheetData>", f"<!--{'<y>' * 1_000_000}--><sheetData>", ODD),
+        ("<worksheet", '<!DOCTYPE x [<!ENTITY a "b">]><worksheet', ODD),
+    ],
+    ids=["merged", "linked", "linked without an end", "attribute", "comment", "entities"],
+)
+def test_hostile_parts(before: str, after: str, told: str) -> None:
+    """What would make very many cells, or is read again and again, isn't opened."""
+    with pytest.raises(Mistake) as found:
+        read_workbook(PATH, with_part(before, after), len, 5, "")
+    assert found.value.sentences == (told,)
+
+
+@pytest.mark.parametrize(
+    "part, end, element, most",
+    [
+        (SHEET, END, "<row/>", 2000), (SHEET, END, "<c/>", 20_000),
+        (SHEET, END, "<si/>", 20_000), ("xl/styles.xml", "</cellXfs>", "<xf/>", 2000),
+        (BOOK, "<calcPr", '<definedName name="a">1</definedName>', 2000), (BOOK, "</sheets>", "<sheet/>", 200),
+    ],
+)  # fmt: skip
+def test_elements(monkeypatch: pytest.MonkeyPatch, part: str, end: str, element: str, most: int) -> None:
+    """Also what has no cells is counted, of which much is made all the same."""
+    monkeypatch.setattr(workbooks, "MOST_CELLS", 20_000)
+    workbooks.check_unpacked(PATH, with_part(end, element * (most - 50) + end, part))
+    with pytest.raises(Mistake, match="20,000"):
+        workbooks.check_unpacked(PATH, with_part(end, element * (most + 1) + end, part))
+
+
+@pytest.mark.parametrize("other", [False, True], ids=["same relation", "same target"])
+def test_one_part_for_all(other: bool) -> None:
+    """The cells of a part are counted once, and would be made for each worksheet that names it: one alone may."""
+    sheet = '<sheet xmlns:r="{}" name="S{}" sheetId="{}" state="visible" r:id="{}"/>'
+    space = "http://schemas.openxmlformats.org/officeDocument/2006/relationships"
+    more = "".join(sheet.format(space, at, at, "rOther" if other else "rId1") for at in range(2, 4 - other))
+    data = with_part("</sheets>", f"{more}</sheets>", BOOK)
+    if other:
+        made = io.BytesIO()
+        with zipfile.ZipFile(io.BytesIO(data)) as archive, zipfile.ZipFile(made, "w") as copy:
+            for name in archive.namelist():
+                text = archive.read(name).decode()
+                if name == "xl/_rels/workbook.xml.rels":
+                    same = re.search('<Relationship [^>]*Id="rId1"[^>]*/>', text)
+                    assert same
+                    text = text.replace(same[0], same[0] + same[0].replace("rId1", "rOther").replace("/xl/", ""))
+                copy.writestr(name, text)
+        data = made.getvalue()
+    with pytest.raises(Mistake) as found:
+        read_workbook(PATH, data, len, 5, "")
+    assert found.value.sentences == (ODD,)
+
+
+def test_import_is_bounded(tmp_path: pathlib.Path, monkeypatch: pytest.MonkeyPatch) -> None:
+    """An import reads its sheet within the bounds of a look, and writes the book without them."""
+    seen: list[bool] = []
+
+    def read_slowly(*_: object) -> None:
+        seen.append(signal.getitimer(signal.ITIMER_VIRTUAL)[0] > 0)
+        raise Mistake("read")
+
+    monkeypatch.setattr(sheet_imports, "read_sheet", read_slowly)
+    with pytest.raises(Mistake, match="read"):
+        sheet_imports.import_sheet(GivenFile(tmp_path / "a.csv", b"id\n"), ImportOptions(tmp_path / "book"))
+    assert seen == [True] and signal.getitimer(signal.ITIMER_VIRTUAL)[0] == signal.getitimer(signal.ITIMER_PROF)[0] == 0
+    assert signal.getsignal(signal.SIGVTALRM) is signal.SIG_DFL
+
+
+def test_counted() -> None:
+    """All cells of all worksheets are counted, and those of a text too."""
+    assert cells_of("A1:C5") == cells_of("$C$5:$A$1") == cells_of("a1:c5") == 15 and cells_of("B2") == 1
+    assert cells_of("A:C") is None
+    with pytest.raises(Mistake, match="cells"):
+        check_bounds(PATH, [SheetRow(1, ["a"] + [""] * MOST_CELLS)], 0)
+    check_bounds(PATH, [SheetRow(1, ["a"] + [""] * (MOST_CELLS - 1))], 0)
+
+
+def looking(work: str) -> subprocess.CompletedProcess[str]:
+    """A process that looks for a tenth of a second at most."""
+    code = f"from gudokeyi.ingest.files import bound_look\nbound_look(0.1)\n{work}"
+    return subprocess.run([sys.executable, "-c", code], cwd=TOP / "src", capture_output=True, text=True, timeout=60)
+
+
+def test_time() -> None:
+    """A look that takes longer is ended, with a sentence; and so is one that wants very much memory."""
+    done = looking("while True: pass")
+    assert done.stderr.splitlines()[-1].endswith(SheetFault.TOO_SLOW.said(seconds=0))
+    assert looking("b' ' * (3 << 30)").stderr.splitlines()[-1] == "MemoryError"
+    assert files.MOST_ROWS * 20 == MOST_CELLS and bound_look.__defaults__ == (180.0,)
+    assert signal.getsignal(signal.SIGVTALRM) is signal.SIG_DFL

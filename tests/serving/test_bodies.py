@@ -1,0 +1,130 @@
+"""Bodies that are too large, and forms with too many fields: refused before anything of them is parsed."""
+from __future__ import annotations
+
+import io
+import re
+import socket
+import urllib.parse
+
+import pytest
+from werkzeug import formparser
+from werkzeug.test import TestResponse
+
+from desk.server import SECONDS
+from desk.site import HOST, shown
+from front_desk.desk import Desk
+from gudokeyi.domain.people import AccountRole
+from gudokeyi.locale import SENTENCES, TEXTS
+from gudokeyi.services.search import MOST_WORDS
+from gudokeyi.store.accounts import Accounts
+from gudokeyi.store.messages import NotSuch
+from gudokeyi.store.settings import LANGUAGES
+from gudokeyi.web.access import (
+    FILES, MOST_FIELDS, MOST_FORM_BYTES, MOST_LETTERS, MOST_QUERY_BYTES, MOST_QUERY_FIELDS, MOST_TOLD,
+)  # fmt: skip
+from serving.server import Server
+from serving.test_running import EXAMPLES
+from serving.visitor import WORD, Served, Visitor
+
+TOO_LONG = TEXTS["refused size"][0]
+FORM = "application/x-www-form-urlencoded"
+
+
+def sent(visitor: Visitor, path: str, body: bytes, kind: str = FORM) -> TestResponse:
+    return visitor.client.post(path, data=body, content_type=kind, headers={"Host": HOST})
+
+
+def form_of(visitor: Visitor, count: int, letters: int = 1) -> bytes:
+    """A form with so many fields, the token among them, each with so many letters."""
+    fields = {"csrf_token": visitor.token()} | {f"field {at}": "x" * letters for at in range(count - 1)}
+    return urllib.parse.urlencode(fields).encode()
+
+
+@pytest.mark.parametrize("path", ["/login", "/file/exit", "/sheet/token/take", "/nothing"])
+def test_many_fields(served: Served, monkeypatch: pytest.MonkeyPatch, path: str) -> None:
+    """A body of very many fields isn't parsed, whoever sends it."""
+
+    def parse(*_: object, **__: object) -> None:
+        raise AssertionError("it is parsed")
+
+    visitor = Visitor(served, "" if path == "/login" else "Kim")
+    monkeypatch.setattr(formparser.FormDataParser, "parse", parse)
+    fields = b"".join(b"%06d=&" % at for at in range(MOST_FORM_BYTES // 8 + 1))
+    answer = sent(visitor, path, fields)
+    assert answer.status_code == 413 and TOO_LONG in shown(answer.get_data(as_text=True))
+    assert "refused size" in served.log.getvalue().splitlines()[-1]
+
+
+def test_fields(served: Served) -> None:
+    """A form has a number of fields, and each a number of letters."""
+    visitor = Visitor(served)
+    told = {
+        count: sent(visitor, "/login", form_of(visitor, count)).status_code for count in (MOST_FIELDS, MOST_FIELDS + 1)
+    }
+    assert told == {MOST_FIELDS: 401, MOST_FIELDS + 1: 413}
+    told = {
+        letters: sent(visitor, "/login", form_of(visitor, 2, letters)).status_code
+        for letters in (MOST_LETTERS, MOST_LETTERS + 1)
+    }
+    assert told == {MOST_LETTERS: 401, MOST_LETTERS + 1: 413}
+
+
+def dropped(visitor: Visitor, path: str, size: int) -> TestResponse:
+    data = {"csrf_token": visitor.token(), "sheet": (io.BytesIO(b"x" * size), "flock.csv")}
+    return visitor.client.post(path, data=data, headers={"Host": HOST})
+
+
+def test_files_behind_the_login(served: Served, clerk: Visitor, monkeypatch: pytest.MonkeyPatch) -> None:
+    """A file is received where somebody may drop one, and nowhere else: a stranger's isn't parsed."""
+    assert dropped(clerk, "/sheet", 2_000_000).status_code == 302
+    assert dropped(clerk, "/file/exit", 2_000_000).status_code == 413
+    assert dropped(Visitor(served), "/login", 2_000_000).status_code == 413
+    monkeypatch.setattr(formparser.FormDataParser, "parse", None)
+    assert dropped(Visitor(served), "/sheet", 2_000_000).status_code == 401
+
+
+def test_queries(served: Served, clerk: Visitor) -> None:
+    """What stands behind an address has a bound too, whoever asks; and a search has one of words, told as such."""
+    for query in "x" * (MOST_QUERY_BYTES - 2), "&".join(["a="] * MOST_QUERY_FIELDS):
+        assert clerk.get(f"/animals?a={query}").status_code == 200
+        for visitor, path in (clerk, "/animals"), (clerk, "/search"), (Visitor(served), "/login"):
+            answer = visitor.get(f"{path}?a={query}&b=")
+            assert answer.status_code == 414 and TEXTS["refused 414"][0] in shown(answer.get_data(as_text=True)), path
+    for at, language in enumerate(LANGUAGES):
+        clerk.get(f"/language/{language}")
+        few, many = (clerk.get(f"/animals?words={'+'.join(['a'] * count)}") for count in (MOST_WORDS, MOST_WORDS + 1))
+        told = SENTENCES[NotSuch.WORDS][at] or NotSuch.WORDS.value
+        sentence = told.format(most=MOST_WORDS, count=MOST_WORDS + 1)
+        assert sentence in shown(many.get_data(as_text=True)) and sentence not in shown(few.get_data(as_text=True))
+
+
+def first_line(server: Server, path: str, *headers: str, body: bytes = b"") -> str:
+    """What is answered to the beginning of a request."""
+    head = "\r\n".join([f"POST {path} HTTP/1.1", f"Host: {server.host}", f"Content-Type: {FORM}", *headers, "", ""])
+    with socket.create_connection(("127.0.0.1", server.port), timeout=SECONDS) as connection:
+        connection.sendall(head.encode() + body)
+        return connection.makefile("rb").readline().decode()
+
+
+def test_not_received(society_desk: Desk, cheap: None) -> None:
+    """A body that is far too large isn't received at all: it is refused by its length, or where it goes on."""
+    Accounts(society_desk.room / "book").add("Kim", AccountRole.KEEPER, WORD, WORD)
+    server = Server(society_desk.room, society_desk.program)
+    assert " 413 " in first_line(server, "/login", "Content-Length: 48000000")
+    assert " 413 " in first_line(server, "/sheet", "Content-Length: 60000000")
+    chunk = b"%x\r\n%s\r\n" % (MOST_TOLD + 1, b"x" * (MOST_TOLD + 1))
+    assert " 413 " in first_line(server, "/login?to=/", "Transfer-Encoding: chunked", body=chunk)
+    assert " 401 " in first_line(server, "/sheet", "Content-Length: 3", body=b"a=b")
+    server.end()
+
+
+def test_proxy_has_the_same() -> None:
+    """The example for nginx hands on what the pages take, by their addresses."""
+    text = (EXAMPLES / "nginx.conf").read_text(encoding="utf-8")
+    sizes = {
+        address: int(size) << {"k": 10, "m": 20}[unit]
+        for address, size, unit in re.findall(r"location = (\S+) \{\s*client_max_body_size (\d+)([km]);", text)
+    }
+    assert sizes.keys() == {"/sheet", "/restore"}
+    assert all(most < size < 1.1 * most for size, most in zip(sizes.values(), FILES.values()))
+    assert f"client_max_body_size {MOST_FORM_BYTES >> 10}k;\n    location / {{" in text
