@@ -145,8 +145,21 @@ def test_workbook_of_numbers(desk: Desk) -> None:
 
 def test_broken_workbook(desk: Desk) -> None:
     """A file that openpyxl can't read, for whatever reason."""
-    desk.write("openpyxl.py", "def load_workbook(*_, **__): raise KeyError('no workbook')")
-    desk.wrong("broken.xlsx can't be read as an .xlsx file", "import", desk.write("broken.xlsx", b"PK\3\4"))
+    (desk.room / "openpyxl/reader").mkdir(parents=True)
+    desk.write("openpyxl/__init__.py", "def load_workbook(*_, **__): raise KeyError('no workbook')")
+    sheet = desk.write("broken.xlsx", b"PK\3\4")
+    # one that lacks a part of its own, that fails at once, and that fails later
+    desk.wrong("broken.xlsx can't be read as an .xlsx file", "import", sheet)
+    desk.write("openpyxl/reader/excel.py", "def ExcelReader(*_, **__): raise KeyError('no reader')")
+    desk.wrong("broken.xlsx can't be read as an .xlsx file ('no reader')", "import", sheet)
+    desk.write("openpyxl/reader/excel.py", """\
+        class ExcelReader:
+            def __init__(self, *_, **__): self.parser = self
+            def read_manifest(self): pass
+            def read_workbook(self): pass
+            def find_sheets(self): return []
+        """)
+    desk.wrong("broken.xlsx can't be read as an .xlsx file ('no workbook')", "import", sheet)
 
 
 def test_numbers_of_others(desk: Desk) -> None:

@@ -37,7 +37,7 @@ class TestSessionRefusals(Refusals):
             right = Growths()
             refused = self.until_none("growth", WORDS, SMALL, refuse, right, is_answered)
             self.count(refused, "no growth was refused")
-            # a thread's start takes two growths, and there are four; others may come between
+            # a thread's start takes two growths, and there are five; others may come between
             self.count(right.unstarted <= 16, f"{right.unstarted} growths are told as want of a thread")
 
     def test_refused_reads(self) -> None:
@@ -62,7 +62,9 @@ class TestSessionRefusals(Refusals):
 
     def test_refused_threads(self) -> None:
         for desks, inspectors in (2, 2), (4, 4), (3, 1), (16, 16):
-            words, threads = ["session", "--desks", str(desks), "--inspectors", str(inspectors)], desks + inspectors
+            words = ["session", "--desks", str(desks), "--inspectors", str(inspectors)]
+            # one more tells the faults of requests for nobody
+            threads = desks + inspectors + 1
             refused = self.until_none("thread", words, SMALL, {"REFUSE": "thread"}, is_no_thread, is_answered)
             self.count(refused == threads, f"{refused} threads were started: {words}")
 

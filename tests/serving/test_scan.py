@@ -110,7 +110,9 @@ def test_words_of_files(served: Served, clerk: Visitor, tmp_path: pathlib.Path, 
     there, (path, name) = tmp_path / "there", address.split()
     there.touch()
     told = set()
-    for word in str(there), f"{tmp_path}/where", f"/{'9' * 5000}":
+    # an address has at most 4 KB behind its question mark
+    longest = 5000 if "file" in path else 4000
+    for word in str(there), f"{tmp_path}/where", f"/{'9' * longest}":
         given = {"id": "GK-17/472c", "sex": "F", "day": "2024-05-01"} | {name: word}
         answer = clerk.post(path, **given) if "file" in path else clerk.client.get(path, query_string=given, headers={"Host": HOST})
         assert answer.status_code in (200, 400)

@@ -156,10 +156,11 @@ def read_workbook(path: pathlib.Path, data: bytes, score: Score, most: int, name
 def opened(path: pathlib.Path, data: bytes, values: bool) -> Any:
     try:
         import openpyxl
-        from openpyxl.reader.excel import ExcelReader
     except ImportError:
         raise Mistake(SheetFault.NO_OPENPYXL.said(path=path)) from None
     try:
+        from openpyxl.reader.excel import ExcelReader
+
         check_sheets(path, ExcelReader(io.BytesIO(data), keep_links=False))
         return openpyxl.load_workbook(io.BytesIO(data), data_only=values)
     except (Mistake, MemoryError):
