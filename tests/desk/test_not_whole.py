@@ -2,6 +2,8 @@
 from __future__ import annotations
 
 import contextlib
+import pathlib
+import shutil
 import sqlite3
 
 import pytest
@@ -20,9 +22,9 @@ PRINTED = (f"/animal/{CALF}/certificate", "/certificates?owner=", f"/animal/{CAL
 PAGES = ("/", "/animals", f"/animal/{CALF}", "/matings", "/history", "/settings", "/file/exit")
 
 
-def edit(site: Site) -> None:
+def edit(folder: pathlib.Path) -> None:
     """Somebody writes another coefficient into the database."""
-    with contextlib.closing(sqlite3.connect(site.desk.folder / "book.sqlite")) as connection:
+    with contextlib.closing(sqlite3.connect(folder / "book.sqlite")) as connection:
         connection.execute("UPDATE coefficient SET fraction = '1/1024', percent = '0.10' WHERE place = 400")
         connection.commit()
 
@@ -33,7 +35,7 @@ def test_pages(site: Site, society_desk: Desk, is_seen: bool) -> None:
     if is_seen:
         assert all(site.get(path).status_code == 200 for path in PRINTED)
         assert "otherwise" not in site.page("/animals") and site.post("/file/exit", id=DAM, day="2024-05-01")
-    edit(site)
+    edit(site.desk.folder)
     for path in PAGES:
         assert ON_PAGE in shown_all(site, path) and "what is shown may be wrong" in shown_all(site, path), path
     for path in PRINTED:
@@ -50,7 +52,7 @@ def test_pages(site: Site, society_desk: Desk, is_seen: bool) -> None:
 def test_filing(site: Site) -> None:
     """Nothing is filed into it, so that nobody takes it for one that was seen to be whole."""
     assert site.post("/file/exit", id=DAM, day="2024-05-01").status_code == 302
-    edit(site)
+    edit(site.desk.folder)
     answer = site.post("/file/exit", id=SIRE, day="2024-06-01")
     assert answer.status_code == 400 and ON_PAGE in shown(answer.get_data(as_text=True))
     see_whole(site.desk)
@@ -63,7 +65,7 @@ def test_behind_a_sheet(site: Site) -> None:
     with site.desk.opened() as book:
         assert book
         stamp = stamp_of(book)
-    edit(site)
+    edit(site.desk.folder)
     go_on(site.desk, stamp)
     assert site.desk.is_seen.wait(60) and ON_PAGE in shown_all(site, "/animals")
     assert site.get(PRINTED[0]).status_code == 400
@@ -73,10 +75,30 @@ def shown_all(site: Site, path: str) -> str:
     return shown(site.page(path))
 
 
-def test_words(site: Site, society_desk: Desk) -> None:
-    """A list says so beside it, and a certificate isn't written."""
-    assert "otherwise" not in society_desk.good("list").err
-    edit(site)
-    done = society_desk.good("list", "--living")
-    assert done.out.startswith("id,") and TOLD in done.err and "what is shown may be wrong" in done.err
-    society_desk.wrong("the book isn't whole: nothing is printed", "certificate", DAM)
+# the words that show something of the book
+WORDS = (
+    "list --living", "show GK-17/472c", "find GK-17/472c", "kinship GK-17/472c GK-10/294b", "export", "export --triples",
+    "mating --dam GK-17/472c GK-10/294b", "pedigree GK-17/472c --out tree.svg", "trend --out trend.svg", "history",
+    "history 1", "breed --csv tables", "plan", "inverse --matrix-market inverse.mtx",
+)  # fmt: skip
+
+
+@pytest.mark.parametrize("words", WORDS)
+def test_words(society_desk: Desk, words: str) -> None:
+    """Each answers, and says so beside the answer; the status is that of the answer."""
+    before = society_desk.good(*words.split())
+    assert TOLD not in before.err
+    edit(society_desk.room / "book")
+    for path in "tree.svg", "trend.svg", "inverse.mtx", "inverse.mtx.ids":
+        (society_desk.room / path).unlink(missing_ok=True)
+    shutil.rmtree(society_desk.room / "tables", ignore_errors=True)
+    done = society_desk.good(*words.split())
+    assert TOLD in done.err and "what is shown may be wrong" in done.err
+    assert len(done.out.splitlines()) == len(before.out.splitlines()) and done.out
+
+
+def test_words_that_print(society_desk: Desk) -> None:
+    """No certificate is written, and none over one that is there."""
+    edit(society_desk.room / "book")
+    for words in (DAM,), (DAM, SIRE), ("--living",), (DAM, "--out", "certificate.html"):
+        society_desk.wrong("the book isn't whole: nothing is printed", "certificate", *words)

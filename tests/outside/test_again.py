@@ -20,6 +20,11 @@ FAULTS = {
 }
 
 
+# The room of the copy that is shown second is asked for twice, so that a refusal of the first is made up. It is one growth,
+# but not the same in each run, for the workers' before it aren't as many: so it may be met more than once, or be missed.
+MOST_MADE_UP = 4
+
+
 class TestAgain(Refusals):
     def test_asked_again(self) -> None:
         """Each growth and start is refused in turn: the call tells it, leaves no trace, and answers when made again."""
@@ -35,21 +40,28 @@ class TestAgain(Refusals):
             # the workers' growths aren't as many in each run, so one that comes after them may be passed over
             asked.until_none("growth", [], "", {"REFUSE": "growth"}, told)
         asked.count(grown and told.met == {*FAULTS}, f"what was refused of {grown} growths: {told.met}")
+        asked.count(told.made_up <= MOST_MADE_UP, f"{told.made_up} refused growths were told by no line")
         threads = asked.until_none("thread", [], "", {"REFUSE": "thread"}, told)
         # two workers, of which the calling thread is one
         asked.count(threads == 5, f"{threads} threads were started for five levels")
 
 
 class AskedAgain:
-    """What may be printed where one call is refused: all lines, and a line that tells it before the call's answer."""
+    """What may be printed where one call is refused: all lines, and a line that tells it before the call's answer. While the
+    first step is filed it may be made up."""
 
     def __init__(self, answers: list[str]) -> None:
         self.answers = answers
         # what was refused so far, and after how many births of the file
         self.met: set[str] = set()
         self.births: list[int] = []
+        # what was refused last, and after how many steps; how many refusals were made up
+        self.last, self.made_up = ("", 0), 0
 
     def __call__(self, wanted: Done, done: Done) -> bool:
+        if done == wanted:
+            self.made_up += 1
+            return self.last in (("opening", 0), ("filing", 0))
         lines = done.out.decode().splitlines()
         places = enumerate(zip(lines, self.answers))
         at = next((at for at, (line, answer) in places if line != answer), len(self.answers))
@@ -61,6 +73,7 @@ class AskedAgain:
         if what == "reading" and not self.is_record(int(match[1]), int(match[2])):
             return False
         filed = sum(line.startswith("office: step ") for line in lines[:at])
+        self.last = what, filed
         # after a refused command an inspector sees what was filed before
         seen = [f"office: {filed} animals and {filed} steps seen"] if what == "filing" else []
         return lines[at + 1 :] == seen + self.answers[at:]

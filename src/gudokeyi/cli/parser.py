@@ -4,6 +4,7 @@ from __future__ import annotations
 import argparse
 import pathlib
 import re
+import sys
 from collections.abc import Callable
 from typing import TYPE_CHECKING, NoReturn
 
@@ -110,10 +111,10 @@ class CommandWords:
 
     def add_for_book(
         self, name: str, does: Callable[[argparse.Namespace, Book, Herdbook], None], help: str, more: str = "",
-        group: Group | None = None,
+        group: Group | None = None, shows: bool = True,
     ) -> Parser:  # fmt: skip
-        """A word for a book that is there, with the packages that it needs; the book's notes are told behind what it
-        does."""
+        """A word for a book that is there, with the packages that it needs. Behind what it does is told that the book
+        isn't whole, where it shows something of it, and the book's notes."""
 
         def does_with_book(asked: argparse.Namespace) -> None:
             if group:
@@ -123,10 +124,19 @@ class CommandWords:
             program = Herdbook()
             with opened(asked.book, program) as book:
                 does(asked, book, program)
-            for note in book.notes:
+                faults = not_whole(book, program) if shows else ()
+            for note in (*faults, *book.notes):
                 tell(note)
 
         return self.add(name, does_with_book, help, more)
+
+
+def not_whole(book: Book, program: Herdbook) -> tuple[str, ...]:
+    """What is told where its kept coefficients aren't the program's. Whoever asked has the answer already."""
+    from gudokeyi.store.verification import told_of_coefficients
+
+    sys.stdout.flush()
+    return told_of_coefficients(book, program)
 
 
 def joined(words: list[str]) -> list[str]:

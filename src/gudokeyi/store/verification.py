@@ -73,6 +73,12 @@ def wrong_coefficients(book: Book, program: Herdbook) -> tuple[MessageText, ...]
     return tuple(NotWhole.FAULT.said(path=book.path, fault=fault) for fault in faults)
 
 
+def told_of_coefficients(book: Book, program: Herdbook) -> tuple[MessageText, ...]:
+    """The same beside what is shown of the book, with what to do."""
+    faults = wrong_coefficients(book, program)
+    return (*faults, NotWhole.SHOWN.said(called=CALLED)) if faults else ()
+
+
 def refuse_to_certify(book: Book, program: Herdbook) -> None:
     """A mistake where they aren't."""
     faults = wrong_coefficients(book, program)

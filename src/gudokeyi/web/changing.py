@@ -18,7 +18,7 @@ from gudokeyi.store.book import Book
 from gudokeyi.store.messages import NotWhole
 from gudokeyi.store.opening import no_book
 from gudokeyi.store.transactions import changing, reading
-from gudokeyi.store.verification import verify, wrong_coefficients
+from gudokeyi.store.verification import told_of_coefficients, verify
 from gudokeyi.web.messages import WebFault
 from gudokeyi.web.served_book import ServedBook
 from gudokeyi.web.workers import Job, Stage, Tell
@@ -49,12 +49,11 @@ def not_whole(desk: ServedBook, book: Book, may_wait: bool = False) -> tuple[str
     ):
         return ()
     try:
-        faults = desk.kept.of(book, ("coefficients", stamp), lambda: wrong_coefficients(book, desk.program))
+        return desk.kept.of(book, ("coefficients", stamp), lambda: told_of_coefficients(book, desk.program))
     except BookMoved:
         return ()
     except Mistake as mistake:
         return mistake.sentences
-    return (*faults, NotWhole.SHOWN.said(called=CALLED)) if faults else ()
 
 
 def refuse_to_print(desk: ServedBook, book: Book) -> None:

@@ -17,6 +17,7 @@ import threading
 import webbrowser
 from collections.abc import Callable, Iterator
 from dataclasses import replace
+from typing import Any
 
 from flask import Flask
 from waitress import create_server
@@ -82,7 +83,8 @@ def answer(desk: ServedBook, app: Flask, listening: socket.socket, threads: int,
     # what waitress tells of a fault would have a trace
     logging.getLogger("waitress").addHandler(logging.NullHandler())
     logging.getLogger("waitress").propagate = False
-    server = create_server(
+    # its types, where there are any, know servers of another kind too
+    server: Any = create_server(
         app, sockets=[listening], threads=threads, ident=None, expose_tracebacks=False,
     )  # fmt: skip
     server.channel_class = CHANNEL

@@ -50,9 +50,11 @@ def add_words(words: CommandWords) -> None:
     for setting in Setting:
         settings.add_argument(f"--{setting}", metavar="TEXT", help=f"{SETTINGS[setting]}, '' for none [as it is]")
     words.add_for_book(
-        "verify", do_verify, "see whether the book is whole, and its replies and coefficients are the program's"
+        "verify", do_verify, "see whether the book is whole, and its replies and coefficients are the program's", shows=False
     )
-    copy = words.add_for_book("backup", do_backup, "write the whole book with its history to a file, while others work")
+    copy = words.add_for_book(
+        "backup", do_backup, "write the whole book with its history to a file, while others work", shows=False
+    )
     copy.add_argument("file", type=file, metavar="FILE", help="the file")
     add_force(copy)
     again = words.add("restore", do_restore, "make the book of a backup that of the folder")

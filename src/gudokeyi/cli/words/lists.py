@@ -7,12 +7,10 @@ from gudokeyi.cli.answers import give_table
 from gudokeyi.cli.arguments import add_choice, add_output, birth_days, sex
 from gudokeyi.cli.output import tell
 from gudokeyi.cli.parser import CommandWords
-from gudokeyi.domain.messages import CALLED, number_and_some
+from gudokeyi.domain.messages import number_and_some
 from gudokeyi.engine.program import Herdbook
 from gudokeyi.services.lists import USUAL, Column
 from gudokeyi.store.book import Book
-from gudokeyi.store.messages import NotWhole
-from gudokeyi.store.verification import wrong_coefficients
 
 
 def add_words(words: CommandWords) -> None:
@@ -44,9 +42,6 @@ def do_list(asked: argparse.Namespace, book: Book, program: Herdbook) -> None:
 
     choice = Choice(asked.living, asked.sex or "", asked.owner, asked.born)
     give_table(asked, book, animals_listed(book, choice, asked.columns or USUAL))
-    faults = wrong_coefficients(book, program)
-    for told in (*faults, *([NotWhole.SHOWN.said(called=CALLED)] if faults else [])):
-        tell(told)
     without_row = [] if asked.living else book.without_row()
     if without_row:
         tell(f"animals without a row in the sheet: {number_and_some(without_row)}: added as parents, or gone")

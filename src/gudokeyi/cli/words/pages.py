@@ -29,6 +29,7 @@ def add_words(words: CommandWords) -> None:
         "write certificates, a page for each animal in one file for the printer",
         "They show what `settings` says of the society.",
         Group.PAGES,
+        shows=False,
     )
     certificate.add_argument("ids", nargs="*", metavar="ID", help="the animals, by id, name or number")
     certificate.add_argument(
