@@ -2,6 +2,7 @@
 from __future__ import annotations
 
 import io
+import itertools
 import re
 import socket
 import urllib.parse
@@ -22,9 +23,9 @@ from gudokeyi.store.settings import LANGUAGES
 from gudokeyi.web.access import (
     FILES, MOST_FIELDS, MOST_FORM_BYTES, MOST_LETTERS, MOST_QUERY_BYTES, MOST_QUERY_FIELDS, MOST_TOLD,
 )  # fmt: skip
-from serving.server import Server
+from serving.server import Browser, Server
 from serving.test_running import EXAMPLES
-from serving.visitor import WORD, Served, Visitor
+from serving.visitor import PEOPLE, WORD, Served, Visitor, with_accounts
 
 TOO_LONG = TEXTS["refused size"][0]
 FORM = "application/x-www-form-urlencoded"
@@ -98,9 +99,9 @@ def test_queries(served: Served, clerk: Visitor) -> None:
         assert sentence in shown(many.get_data(as_text=True)) and sentence not in shown(few.get_data(as_text=True))
 
 
-def first_line(server: Server, path: str, *headers: str, body: bytes = b"") -> str:
+def first_line(server: Server, path: str, *headers: str, body: bytes = b"", kind: str = FORM) -> str:
     """What is answered to the beginning of a request."""
-    head = "\r\n".join([f"POST {path} HTTP/1.1", f"Host: {server.host}", f"Content-Type: {FORM}", *headers, "", ""])
+    head = "\r\n".join([f"POST {path} HTTP/1.1", f"Host: {server.host}", f"Content-Type: {kind}", *headers, "", ""])
     with socket.create_connection(("127.0.0.1", server.port), timeout=SECONDS) as connection:
         connection.sendall(head.encode() + body)
         return connection.makefile("rb").readline().decode()
@@ -115,6 +116,29 @@ def test_not_received(society_desk: Desk, cheap: None) -> None:
     chunk = b"%x\r\n%s\r\n" % (MOST_TOLD + 1, b"x" * (MOST_TOLD + 1))
     assert " 413 " in first_line(server, "/login?to=/", "Transfer-Encoding: chunked", body=chunk)
     assert " 401 " in first_line(server, "/sheet", "Content-Length: 3", body=b"a=b")
+    server.end()
+
+
+def test_files_not_received(society_desk: Desk, cheap: None) -> None:
+    """A file is received of somebody alone who may drop it there; else it is refused at once, and nothing of it is read."""
+    with_accounts(society_desk.room / "book")
+    server = Server(society_desk.room, society_desk.program)
+    cookies = {name: Browser(server, name).cookie for name in ("Ines", "Carl", "Kim")}
+    cookies |= {"": "", "guessed": cookies["Kim"][:-1] + "_", "none": "herdbook=x"}
+    received = {("/sheet", "Carl"), ("/sheet", "Kim"), ("/restore", "Kim")}
+    chunk = b"%x\r\n%s\r\n" % (MOST_FORM_BYTES + 1, b"x" * (MOST_FORM_BYTES + 1))
+    part = b'--b\r\nContent-Disposition: form-data; name="sheet"; filename="a.csv"\r\n\r\n'
+    file = part + b"x" * 2_000_000 + b"\r\n--b--\r\n"
+    for path, (name, cookie) in itertools.product(("/sheet", "/restore"), cookies.items()):
+        if (path, name) in received:
+            # all of it is received, and then its form's token lacks
+            headers = f"Content-Length: {len(file)}", f"Cookie: {cookie}"
+            assert " 400 " in first_line(server, path, *headers, body=file, kind="multipart/form-data; boundary=b")
+            continue
+        assert " 413 " in first_line(server, path, "Content-Length: 40000000", f"Cookie: {cookie}"), (path, name)
+        if name not in PEOPLE:
+            told = first_line(server, path, "Transfer-Encoding: chunked", f"Cookie: {cookie}", body=chunk)
+            assert " 413 " in told, (path, name)
     server.end()
 
 

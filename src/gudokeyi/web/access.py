@@ -3,6 +3,7 @@ link that the terminal shows."""
 from __future__ import annotations
 
 import base64
+import contextlib
 import copy
 import hashlib
 import hmac
@@ -18,6 +19,7 @@ from waitress.channel import HTTPChannel
 from waitress.parser import HTTPRequestParser
 from werkzeug.wrappers import Response as AnyResponse
 
+from gudokeyi.domain.messages import Mistake
 from gudokeyi.domain.people import AccountRole, Person
 from gudokeyi.ingest.files import MOST_BACKUP_BYTES, MOST_BYTES
 from gudokeyi.store.history import WORKER
@@ -97,11 +99,15 @@ MOST_FORM_BYTES, MOST_FIELDS, MOST_LETTERS, MOST_IN_NAME = 64 << 10, 200, 10_000
 MOST_PARTS, MOST_BESIDE, MOST_IN_MEMORY = 20, 100_000, 512 << 10
 # the pages that take files, each with the bytes that a file of its kind has at most
 FILES = {"sheet.drop": MOST_BYTES, "restoring.drop": MOST_BACKUP_BYTES}
-ADDRESSES = {"/sheet": MOST_BYTES, "/restore": MOST_BACKUP_BYTES}
 # the bytes and the fields of an address behind its question mark
 MOST_QUERY_BYTES, MOST_QUERY_FIELDS = 4 << 10, 50
-# what is a little too large for a page is told by the page, in somebody's language; the rest isn't received
+# what is a little too large for a page is told to somebody who is known, in their language; the rest isn't received
 MOST_TOLD = 1 << 20
+
+
+def most_of_file(endpoint: str) -> int:
+    """The bytes that a file may have which whoever asks drops at a page; 0 where they may drop none."""
+    return FILES.get(endpoint, 0) if may(endpoint) else 0
 
 
 class BoundedRequest(Request):
@@ -110,7 +116,7 @@ class BoundedRequest(Request):
     @property
     def most_of_file(self) -> int:
         """The bytes that a file may have which is dropped here; 0 where none may be."""
-        return FILES.get(self.endpoint or "", 0) if the_person() else 0
+        return most_of_file(self.endpoint or "")
 
     @property
     def max_content_length(self) -> int:  # type: ignore[override]
@@ -142,22 +148,35 @@ def look_at_body() -> None:
         abort(413)
 
 
-def bound_of(address: str) -> int:
-    """The bytes that are received of a body at most."""
-    return MOST_TOLD + ADDRESSES.get(address, 0)
+def bound_of(app: Flask, headers: dict[str, str], address: str) -> int:
+    """The bytes that are received of a body at most. A file's are received of somebody alone who may drop it there."""
+    sender = {"HTTP_COOKIE": headers.get("COOKIE", ""), "REQUEST_METHOD": "POST", "PATH_INFO": address}
+    with app.request_context(SOMEWHERE | sender):
+        # accounts that can't be read are told by the page
+        with contextlib.suppress(Mistake):
+            g.person = the_logins().person()
+        if the_person() is None:
+            return MOST_FORM_BYTES
+        return MOST_TOLD + most_of_file(request.endpoint or "")
 
 
-def parse_header(self: Any, header: bytes) -> None:
-    """That of a request, whose body is received as far as the bound of its address lets it."""
-    HTTPRequestParser.parse_header(self, header)
-    # others have these bounds too
-    self.adj = copy.copy(self.adj)
-    self.adj.max_request_body_size = bound_of(self.path)
+# what WSGI wants to be told beside of a request
+SOMEWHERE = {"SERVER_NAME": "localhost", "SERVER_PORT": "80", "wsgi.url_scheme": "http"}
 
 
-# waitress has no types from which a class may be made
-PARSER: Any = type("BoundedParser", (HTTPRequestParser,), {"parse_header": parse_header})
-CHANNEL: Any = type("BoundedChannel", (HTTPChannel,), {"parser_class": PARSER})
+def bounded_channel(app: Flask) -> Any:
+    """The class of an app's connections. Of a body no more is received than whoever sends it may send."""
+
+    def parse_header(self: Any, header: bytes) -> None:
+        HTTPRequestParser.parse_header(self, header)
+        if self.content_length or self.chunked:
+            # others have these bounds too; waitress refuses what is as long as its bound
+            self.adj = copy.copy(self.adj)
+            self.adj.max_request_body_size = bound_of(app, self.headers, self.path) + 1
+
+    # waitress has no types from which a class may be made
+    parser: Any = type("BoundedParser", (HTTPRequestParser,), {"parse_header": parse_header})
+    return type("BoundedChannel", (HTTPChannel,), {"parser_class": parser})
 
 
 # What each request is looked at for before it is answered: whether this server is meant, who asks, and whether that is

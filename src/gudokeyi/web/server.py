@@ -28,7 +28,7 @@ from gudokeyi.services.book_session import BookSession
 from gudokeyi.store.accounts import Accounts
 from gudokeyi.store.opening import take_over
 from gudokeyi.store.transactions import up_to_date
-from gudokeyi.web.access import CHANNEL, LinkLogins
+from gudokeyi.web.access import LinkLogins, bounded_channel
 from gudokeyi.web.addresses import ListenAddress, server_address
 from gudokeyi.web.app import web_app
 from gudokeyi.web.changing import begin_to_see, end_changes
@@ -87,7 +87,7 @@ def answer(desk: ServedBook, app: Flask, listening: socket.socket, threads: int,
     server: Any = create_server(
         app, sockets=[listening], threads=threads, ident=None, expose_tracebacks=False,
     )  # fmt: skip
-    server.channel_class = CHANNEL
+    server.channel_class = bounded_channel(app)
     sys.setswitchinterval(SECONDS_IN_TURN)
     gc.set_threshold(*LOOKED_FOR)
     begin_to_see(desk)
