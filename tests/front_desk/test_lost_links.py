@@ -1,11 +1,17 @@
 """Links of a pedigree that can't stand in a book: nothing is taken, since coefficients would change."""
 from __future__ import annotations
 
+import pathlib
 import shlex
 
 import pytest
 
 from front_desk.desk import Desk
+from gudokeyi.domain.findings import Report
+from gudokeyi.ingest.files import GivenFile
+from gudokeyi.ingest.pedigrees import read_triples
+from gudokeyi.ingest.unknown_parents import UnknownParents
+from gudokeyi.reconcile.doubtful_founders import founders_in_doubt
 
 REFUSED = [
     ("a 0 0\nb 0 0\nc a b\nd b c\ne b 0\nf 0 b\n", "1 animal is both sire and dam: b (a sire in line 4, a dam in line 3)"),
@@ -93,6 +99,84 @@ def test_words_that_may_be_unknown_parents(desk: Desk) -> None:
         assert done.commands()[:1] == [f"{command} {other.split('words.txt ')[1]}"]
     assert " 0 added, " in desk.typed(done.commands()[0]).last
     assert desk.parents()["c"] == ("a", "") and desk.parents()["e"] == ("", "b")
+
+
+# ids of several forms, and words that look like none of them
+FORMS = ("a{}", "30{}", "DE 0{}", "27600{}")
+WORDS_WITH_DIGITS = ("9", "UNK1", "1999", "N.N.1", "12345", "9.0", "99", "unknown-2")
+
+
+def of_word(word: str, form: str, count: int) -> str:
+    """A pedigree of two founders and their offspring, of which so many have a word for a dam."""
+    animals = [f'"{form.format(at)}"' for at in range(10, 10 + count + 2)]
+    return "".join(f"{one} 0 0\n" for one in animals[:2]) + "".join(f"{one} {animals[0]} {word}\n" for one in animals[2:])
+
+
+def doubted(text: str) -> list[str]:
+    """What is asked about the founders of a pedigree."""
+    unknown = UnknownParents()
+    file = GivenFile(pathlib.Path("p.txt"), text.encode())
+    animals = read_triples(file, {}, unknown, {}, Report()).animals
+    return [one.words() for one in founders_in_doubt(animals, animals.keys(), unknown)]
+
+
+@pytest.mark.parametrize("form", FORMS)
+@pytest.mark.parametrize("word", WORDS_WITH_DIGITS)
+def test_words_with_digits(form: str, word: str) -> None:
+    """Those that no animal's id looks like, and parents of many, are asked about."""
+    told = f"1 word has no line and is a parent of several animals: {word} (of {form.format(12)} in line 3 and 5 more). To"
+    assert doubted(of_word(word, form, 6))[0].startswith(told)
+
+
+def test_answers_about_a_word_with_digits(desk: Desk) -> None:
+    """It is asked about before the import and in the preview; each answer is a command."""
+    pedigree = desk.write("words.txt", of_word("1999", "a{}", 6))
+    told = "1 word has no line and is a parent of several animals: 1999 (of a12 in line 3 and 5 more)"
+    unknown, known = desk.wrong(told, "import", "--pedigree", pedigree).commands()
+    preview = desk.good("import", "--pedigree", pedigree, "--preview")
+    assert told in preview.told
+    assert [one.replace(" --preview", "") for one in preview.commands()] == [unknown, known]
+    assert " 0 added, " in desk.typed(f"{unknown} --book unknown").last and "--unknown 1999" in unknown
+    assert " 1 added, " in desk.typed(f"{known} --book known").last and "--known 1999" in known
+
+
+def test_founders_that_are_not_asked_about() -> None:
+    """Those that look like the other animals, have few offspring, or begin as ids with a line do."""
+    gap = "".join(f"{at} 1 2\n" for at in range(3, 10))
+    few = "".join(f"a{at} 0 0\nb{at} a{at} 0\n" for at in range(12)) + "".join(f"c{at} a1 1999\n" for at in range(4))
+    herds = "".join(f"NN{at} 0 0\n" for at in range(10, 16)) + "c NN9 0\nd NN9 0\n"
+    bulls = "".join(f"a{at} 0 0\n" for at in range(9)) + "".join(f"b{at} HOLUSA7723{at // 3} a{at}\n" for at in range(9))
+    assert doubted(gap) == doubted(few) == doubted(herds) == []
+    assert [one.partition(":")[0] for one in doubted(bulls)] == ["3 of 12 parents have no line, though others have"]
+
+
+def test_a_word_of_a_tenth() -> None:
+    """Whatever a parent without a line looks like, it is asked about where more than a tenth of all have it."""
+    rows = "".join(f"a{at} 0 0\n" for at in range(90)) + "".join(f"b{at} a{at} 0\n" for at in range(89))
+    tenth = "".join(f"c{at} X7 b{at}\n" for at in range(10))
+    told = "1 word has no line and is a parent of several animals: X7 (of c0 in line 180 and 9 more)"
+    assert doubted(rows + tenth)[0].startswith(told) and doubted(f"{rows}d a1 0\ne a2 0\n{tenth}") == []
+
+
+@pytest.mark.parametrize(
+    ("form", "parent"),
+    [("DE {}", "12"), ("DE 276 00{}", "0012"), ("2760{}", "012"), ("{}/2001", "12"), ("{}-A", "12"), ("AT.{}", ".12")],
+)
+def test_ids_without_their_beginning_or_end(form: str, parent: str) -> None:
+    """Also one among parents that have lines, where many ids begin or end so; where few do it may be another animal."""
+    ids = [f'"{form.format(at)}"' for at in range(10, 60)]
+    rows = "".join(f"{id} 0 0\n" for id in ids) + "".join(f'"{form.format(at)}" {id} 0\n' for at, id in enumerate(ids[5:], 70))
+    told = f"1 parent has no line, and is an id without what many ids begin or end with: {parent} (of y in line 96; is "
+    assert doubted(f"{rows}y {parent} 0\n")[0].startswith(f"{told}{form.format(12)} meant?). To take founders")
+    few = "".join(f"X{at + 100}Z 0 0\n" for at in range(1000))
+    assert doubted(f"{few}{rows}y {parent} 0\n") == []
+
+
+def test_answer_about_ids_without_their_beginning(desk: Desk) -> None:
+    rows = "".join(f"DE{at} 0 0\n" for at in range(10, 30)) + "".join(f"DE{at + 30} DE{at} 0\n" for at in range(10, 30))
+    told = "1 parent has no line, and is an id without what many ids begin or end with: 12 (of y in line 41; is DE12 meant?)"
+    done = desk.wrong(told, "import", "--pedigree", desk.write("cut.txt", f"{rows}y 12 0\n"))
+    assert " 1 added, " in desk.typed(done.commands()[0]).last
 
 
 def test_many_parents_without_a_line(desk: Desk) -> None:

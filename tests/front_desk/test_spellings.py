@@ -5,14 +5,16 @@ import random
 
 import pytest
 
-from gudokeyi.ingest.spellings import Spellings, spellings
+from gudokeyi.ingest.spellings import LOOK_LIKE, Spellings, latin, spellings
 from gudokeyi.ingest.unknown_parents import UnknownParents
 
 ALIKE = [
     ("1.0", "1"), ("1,0", "1"), ("1e+05", "100000"), ("1.2e5", "120000"), ("+7", "7"), ("007", "7"), ("-2.0", "-2"),
     ("12.10", "12.1"), ("1,234", "1234"), ("1.000", "1000"), ("GB12", "GB-12"), ("gb_12", "GB/12"), ("DE 0012 034", "de-12-34"),
     ("DE 12 34", "DE1234"), ("DE120034", "DE 12 0034"), ("A 1", "a1"), ("O12", "012"), ("I5", "l5"), ("12-1", "121"),
-    ("\u041012", "A12"), ("\u03912", "a2"), ("\uff11\uff12", "12"), ("Zo\u00eb 1", "Zoe 1"), ("Zoe\u0308 1", "Zo\u00eb1"),
+    ("\u041012", "A12"), ("\u03912", "a2"), ("\uff11\uff12", "12"), ("\uff27\uff22 12", "gb-12"), ("\u03f91", "c1"),
+    ("\u0405\u051a\u051c7", "SQW7"), ("\u0555\u053c\u054d1", "OLU1"), ("\u0584\u0570\u057d2", "fhu2"), ("\u0437\u0431", "36"),
+    ("\u041f1", "\u043f1"), ("\u0141\u00d89", "lo9"), ("\u0407\u04015", "ie5"), ("Zo\u00eb 1", "Zoe 1"), ("Zoe\u0308 1", "Zo\u00eb1"),
 ]  # fmt: skip
 OTHERS = [
     ("1.0", "10"), ("1e+05", "105"), ("-2", "2"), ("12", "120"), ("12", "102"), ("A1", "A2"), ("A1", "1A"), ("L5", "15"),
@@ -24,6 +26,14 @@ OTHERS = [
 def test_ids_that_are_meant_alike(one: str, other: str) -> None:
     for id, text in (one, other), (other, one):
         assert Spellings({id, "x9", ""}).meant(text) == id
+
+
+def test_look_alike_letters() -> None:
+    """Each stands in one row of the table, and is read alike whether it is a capital or not."""
+    letters = [one for others in LOOK_LIKE.values() for one in others]
+    assert len({*letters}) == len(letters) > 100 and not any(one.isascii() for one in letters)
+    for letter, others in LOOK_LIKE.items():
+        assert all(latin(form).casefold() == letter.casefold() for one in others for form in (one, one.upper(), one.lower()))
 
 
 @pytest.mark.parametrize(("one", "other"), OTHERS)

@@ -12,16 +12,17 @@ import zipfile
 
 import openpyxl
 import pytest
+from openpyxl.comments import Comment
 
 from front_desk.desk import TOP
 from gudokeyi.domain.messages import Mistake
 from gudokeyi.ingest import files, workbooks
-from gudokeyi.ingest.files import MOST_CELLS, GivenFile, bound_look, check_bounds
+from gudokeyi.ingest.files import MOST_CELLS, MOST_ROWS, GivenFile, bound_look, check_bounds
 from gudokeyi.ingest.messages import SheetFault
 from gudokeyi.ingest.sheets import SheetRow
 from gudokeyi.ingest.workbooks import Worksheet, cells_of, read_workbook
 from gudokeyi.reconcile.import_options import ImportOptions
-from gudokeyi.services import sheet_imports
+from gudokeyi.services import pedigree_imports, sheet_imports
 
 PATH = pathlib.Path("flock.xlsx")
 TITLES, ANIMAL = ["Ohrmarke", "Geschlecht", "Geburtsdatum"], ["a", "m", "2001-01-01"]
@@ -94,7 +95,8 @@ def test_hostile_parts(before: str, after: str, told: str) -> None:
 @pytest.mark.parametrize(
     "part, end, element, most",
     [
-        (SHEET, END, "<row/>", 2000), (SHEET, END, "<c/>", 20_000),
+        (SHEET, END, "<row/>", 1000), (SHEET, END, "<c/>", 20_000), ("_rels/.rels", "</Relationships>", "<Relationship/>", 2000),
+        (SHEET, END, "<tablePart/>", 200),
         (SHEET, END, "<si/>", 20_000), ("xl/styles.xml", "</cellXfs>", "<xf/>", 2000),
         (BOOK, "<calcPr", '<definedName name="a">1</definedName>', 2000), (BOOK, "</sheets>", "<sheet/>", 200),
     ],
@@ -102,6 +104,7 @@ def test_hostile_parts(before: str, after: str, told: str) -> None:
 def test_elements(monkeypatch: pytest.MonkeyPatch, part: str, end: str, element: str, most: int) -> None:
     """Also what has no cells is counted, of which much is made all the same."""
     monkeypatch.setattr(workbooks, "MOST_CELLS", 20_000)
+    monkeypatch.setitem(workbooks.WEIGHTS, "row", 20)
     workbooks.check_unpacked(PATH, with_part(end, element * (most - 50) + end, part))
     with pytest.raises(Mistake, match="20,000"):
         workbooks.check_unpacked(PATH, with_part(end, element * (most + 1) + end, part))
@@ -130,8 +133,41 @@ def test_one_part_for_all(other: bool) -> None:
     assert found.value.sentences == (ODD,)
 
 
-def test_import_is_bounded(tmp_path: pathlib.Path, monkeypatch: pytest.MonkeyPatch) -> None:
-    """An import reads its sheet within the bounds of a look, and writes the book without them."""
+def test_rows_are_counted() -> None:
+    """As many as a sheet may have are read, and more without a cell are refused."""
+    workbooks.check_unpacked(PATH, with_part(END, "<row/>" * (MOST_ROWS + 10) + END))
+    with pytest.raises(Mistake) as found:
+        workbooks.check_unpacked(PATH, with_part(END, "<row/>" * (MOST_ROWS + 20_000) + END))
+    assert found.value.sentences == (TOO_MANY,)
+
+
+@pytest.mark.parametrize("sheets", [1, 2])
+def test_one_part_beside_all(sheets: int) -> None:
+    """Comments stand beside one worksheet alone: those of a part that two name would be made for each of them."""
+    made, edited, count = io.BytesIO(), io.BytesIO(), 3
+    found = openpyxl.Workbook()
+    for row in (TITLES, ANIMAL):
+        found.active.append(row)
+    for _ in range(count - 1):
+        found.create_sheet()
+    for sheet in found.worksheets[:sheets]:
+        sheet["A1"].comment = Comment("x", "y")
+    found.save(made)
+    with zipfile.ZipFile(made) as archive, zipfile.ZipFile(edited, "w") as copy:
+        for name in archive.namelist():
+            text = archive.read(name).decode()
+            copy.writestr(name, text.replace("comment2.xml", "comment1.xml") if name.endswith(".rels") else text)
+    if sheets == 1:
+        assert read(edited.getvalue()).rows[1][1] == ANIMAL
+        return
+    with pytest.raises(Mistake) as told:
+        read(edited.getvalue())
+    assert told.value.sentences == (ODD,)
+
+
+@pytest.mark.parametrize("is_pedigree", [False, True])
+def test_import_is_bounded(tmp_path: pathlib.Path, monkeypatch: pytest.MonkeyPatch, is_pedigree: bool) -> None:
+    """An import reads its sheet or pedigree within the bounds of a look, and writes the book without them."""
     seen: list[bool] = []
 
     def read_slowly(*_: object) -> None:
@@ -139,8 +175,10 @@ def test_import_is_bounded(tmp_path: pathlib.Path, monkeypatch: pytest.MonkeyPat
         raise Mistake("read")
 
     monkeypatch.setattr(sheet_imports, "read_sheet", read_slowly)
+    monkeypatch.setattr(pedigree_imports, "read_triples", read_slowly)
+    take = pedigree_imports.import_pedigree if is_pedigree else sheet_imports.import_sheet
     with pytest.raises(Mistake, match="read"):
-        sheet_imports.import_sheet(GivenFile(tmp_path / "a.csv", b"id\n"), ImportOptions(tmp_path / "book"))
+        take(GivenFile(tmp_path / "a.csv", b"id\n"), ImportOptions(tmp_path / "book"))
     assert seen == [True] and signal.getitimer(signal.ITIMER_VIRTUAL)[0] == signal.getitimer(signal.ITIMER_PROF)[0] == 0
     assert signal.getsignal(signal.SIGVTALRM) is signal.SIG_DFL
 

@@ -144,7 +144,7 @@ def joined(words: list[str]) -> list[str]:
     `--unknown=-9,00`: else `-9,00` would be taken for an option."""
     found: list[str] = ["import" if word == "take" else word for word in words[:1]]
     for word in words[1:]:
-        if found and found[-1] == "--unknown" and re.match("-(?!-.)", word):
+        if found and found[-1] in ("--unknown", "--known") and re.match("-(?!-.)", word):
             found[-1] += f"={word}"
         else:
             found.append(word)

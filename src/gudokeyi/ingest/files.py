@@ -101,6 +101,11 @@ def bounded_reading(seconds: float = MOST_SECONDS) -> Iterator[None]:
         resource.setrlimit(resource.RLIMIT_AS, memory)
 
 
+def bounded_import(is_preview: bool) -> contextlib.AbstractContextManager[None]:
+    """The bounds within which an import reads its file. The whole of a preview has them already."""
+    return contextlib.nullcontext() if is_preview else bounded_reading()
+
+
 # A file that somebody gave, as it was read: once, since it may be a pipe, or another file a moment later.
 
 

@@ -3,7 +3,9 @@ they are made, since a file of few bytes may ask for very many."""
 from __future__ import annotations
 
 import datetime
+import importlib
 import io
+import itertools
 import lzma
 import pathlib
 import re
@@ -17,7 +19,7 @@ from typing import Any, NamedTuple
 from gudokeyi.domain.cells import from_spreadsheets
 from gudokeyi.domain.findings import ImportRefused
 from gudokeyi.domain.messages import Mistake
-from gudokeyi.ingest.files import MOST_CELLS
+from gudokeyi.ingest.files import MOST_CELLS, MOST_ROWS
 from gudokeyi.ingest.findings.columns import SheetFinding
 from gudokeyi.ingest.findings.files import DigitsLost, FormulasWithoutValue, WorksheetLacks, WorksheetUnclear
 from gudokeyi.ingest.messages import SheetFault
@@ -35,8 +37,13 @@ UNREAD = (
     xml.parsers.expat.ExpatError, zipfile.BadZipFile, zlib.error, lzma.LZMAError, EOFError, OSError,
     NotImplementedError, RuntimeError,
 )  # fmt: skip
+# so many rows has a sheet with what stands above its titles
+MOST_LINES = MOST_ROWS + 1000
 # elements of which much is made, each with as how many cells it counts: those of a kind are bounded together
-WEIGHTS = {"c": 1, "si": 1, "row": 10, "xf": 10, "definedName": 10, "sheet": 100}
+WEIGHTS = {
+    "c": 1, "si": 1, "row": MOST_CELLS // MOST_LINES, "xf": 10, "definedName": 10, "Relationship": 10, "tablePart": 100,
+    "sheet": 100,
+}  # fmt: skip
 # elements that make all cells of a range
 OF_RANGE = ("mergeCell", "hyperlink", "comment")
 RANGE = re.compile(r"\$?([A-Z]{1,3})\$?([0-9]{1,7}):\$?([A-Z]{1,3})\$?([0-9]{1,7})")
@@ -169,13 +176,30 @@ def opened(path: pathlib.Path, data: bytes, values: bool) -> Any:
         raise Mistake(SheetFault.NO_WORKBOOK.said(path=path, error=str(error))) from None
 
 
+# the kinds of parts that a worksheet has beside it, of which something is made in it
+BESIDE = ("/comments", "/drawing", "/table", "/pivotTable")
+
+
 def check_sheets(path: pathlib.Path, reader: Any) -> None:
-    """A mistake where two worksheets are the same part, whose cells would be made for each of them."""
+    """A mistake where two worksheets are the same part, or have the same one beside them: what it has would be made for
+    each of them."""
     reader.read_manifest()
     reader.read_workbook()
-    parts = [of.target for _, of in reader.parser.find_sheets()]
+    sheets = [of.target for _, of in reader.parser.find_sheets()]
+    parts = [*sheets, *itertools.chain.from_iterable(beside(reader, sheet) for sheet in sheets)]
     if len(set(parts)) < len(parts):
         raise odd(path)
+
+
+def beside(reader: Any, sheet: str) -> list[str]:
+    """The parts that a worksheet names, of which something is made in it."""
+    # some of its versions have types for these, and others not
+    relationships: Any = importlib.import_module("openpyxl.packaging.relationship")
+    names = relationships.get_rels_path(sheet)
+    if names not in reader.valid_files:
+        return []
+    named = relationships.get_dependents(reader.archive, names).Relationship
+    return [one.target for one in named if one.Type.endswith(BESIDE)]
 
 
 def as_texts(path: pathlib.Path, sheet: Any, last: int | None = None) -> list[tuple[int, list[str]]]:

@@ -3,7 +3,6 @@ since that changes coefficients."""
 from __future__ import annotations
 
 import pathlib
-import re
 from collections.abc import Collection, Mapping, Sequence
 
 from gudokeyi.domain.findings import Entry, ImportRefused, Part, Report, What
@@ -14,10 +13,9 @@ from gudokeyi.ingest.animals import SheetAnimal, links_outside
 from gudokeyi.ingest.findings.cells import IdAgain
 from gudokeyi.ingest.pedigree_files import Columns, Line, read_ids
 from gudokeyi.ingest.spellings import CUT, Spellings, is_as_number, number_of
-from gudokeyi.ingest.unknown_parents import UnknownParents
 from gudokeyi.reconcile.findings.obstacles import (
-    IdsUsedAgain, LinksLost, ManyWithoutLine, NumbersShortened, NumbersTwice, Obstacle, ParentsAlike, ParentsInColumn,
-    ParentsInPart, ParentsNamed, SiresAndDams, WordsAsParents,
+    IdsUsedAgain, LinksLost, NumbersShortened, NumbersTwice, Obstacle, ParentsAlike, ParentsInColumn, ParentsNamed,
+    SiresAndDams,
 )  # fmt: skip
 from gudokeyi.reconcile.findings.parents import SameParentTwice
 from gudokeyi.reconcile.findings.rows import IdOfAnother, LineAfterOffspring
@@ -40,62 +38,6 @@ def keep_with_ancestors(animals: dict[str, SheetAnimal], path: pathlib.Path) -> 
         del animals[id]
     named = f"{len(wanted):,} animal{'s' * (len(wanted) != 1)}"
     return f"kept: {named} of {path} with their ancestors, {len(animals):,} of {before:,} lines"
-
-
-# Parents of a pedigree without a line that may be no founders: words that may mean unknown parents, and many of them.
-
-# one in so many parents may have no line, and a word has so many offspring
-TENTH, SEVERAL = 10, 2
-# so many parents tell that ids are written in part
-FEW = 3
-# without a digit but zeros, with a sign before it, or with one digit alone
-WORD = re.compile(r"[^1-9]*|[-+].*|9{2,}|(\d)\1{4,}", re.DOTALL)
-
-
-def founders_in_doubt(
-    animals: Mapping[str, SheetAnimal], ids: Collection[str], unknown: UnknownParents
-) -> list[Obstacle]:
-    """What is asked before parents that aren't among some ids are taken as founders. Words that are said to be known are
-    animals."""
-    progeny: dict[str, dict[str, SheetAnimal]] = {}
-    for offspring, _, parent in links_outside(animals.values(), ids):
-        progeny.setdefault(parent, {})[offspring.id] = offspring
-    known = {parent for parent in progeny if parent.casefold() in unknown.known}
-    words = [one for one in progeny if len(progeny[one]) >= SEVERAL and WORD.fullmatch(one) and one not in known]
-    others = known.union(words)
-    lacking = [parent for parent in progeny if parent not in others]
-    all_parents = {parent for animal in animals.values() for parent in animal.parent_ids()} - others
-    found: list[Obstacle] = []
-    if words:
-        found.append(WordsAsParents(tuple(words), some_of([place(one, progeny[one]) for one in words])))
-    if TENTH * len(lacking) > len(all_parents) > len(lacking):
-        first = some_of([place(one, progeny[one]) for one in lacking])
-        found.append(ManyWithoutLine(len(lacking), len(all_parents), first))
-    if len(lacking) == len(all_parents):
-        found += ids_in_part(lacking, animals, progeny)
-    return found
-
-
-def ids_in_part(
-    lacking: Sequence[str], animals: Mapping[str, SheetAnimal], progeny: Mapping[str, Mapping[str, SheetAnimal]]
-) -> list[Obstacle]:
-    """Where no parent has a line: most of them have the digits of an id, as where a country is left out."""
-    ids = {digits_of(id): id for id in animals}
-    meant = {parent: ids[digits] for parent in lacking if (digits := digits_of(parent)) and digits in ids}
-    if len(meant) < FEW or 2 * len(meant) <= len(lacking):
-        return []
-    first = [f"{place(parent, progeny[parent])[:-1]}; is {id} meant?)" for parent, id in meant.items()]
-    return [ParentsInPart(len(lacking), len(meant), some_of(first))]
-
-
-def digits_of(id: str) -> str:
-    return "".join(filter(str.isdigit, id)).lstrip("0")
-
-
-def place(parent: str, progeny: Mapping[str, SheetAnimal]) -> str:
-    """A parent with its first offspring, and how many it has besides."""
-    first, *more = progeny.values()
-    return f"{parent} (of {first.id} in line {first.line}{f' and {len(more)} more' if more else ''})"
 
 
 # Parents of a pedigree that have no line as they are written, and have one otherwise: to take founders in their place

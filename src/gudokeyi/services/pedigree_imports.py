@@ -6,12 +6,13 @@ from gudokeyi.domain.kinds import Field
 from gudokeyi.domain.messages import Mistake, counted
 from gudokeyi.engine.program import Herdbook
 from gudokeyi.ingest.day_cells import DayCells
-from gudokeyi.ingest.files import GivenFile
+from gudokeyi.ingest.files import GivenFile, bounded_import
 from gudokeyi.ingest.pedigree_files import READ, STANDARD_INPUT
 from gudokeyi.ingest.pedigrees import Triples, read_triples
 from gudokeyi.ingest.titles import read_given
 from gudokeyi.reconcile.all_animals import add_others
 from gudokeyi.reconcile.birth_days import find_days, invent_days
+from gudokeyi.reconcile.doubtful_founders import founders_in_doubt
 from gudokeyi.reconcile.findings.obstacles import Obstacle
 from gudokeyi.reconcile.guards import OtherAnimals
 from gudokeyi.reconcile.import_options import ImportOptions, unknown_parents, with_settings
@@ -19,8 +20,7 @@ from gudokeyi.reconcile.impossible_parents import cut_cycles
 from gudokeyi.reconcile.next_book import NextBook
 from gudokeyi.reconcile.outcome import Outcome
 from gudokeyi.reconcile.pedigree_links import (
-    founders_in_doubt, keep_with_ancestors, leave_out_same_parent, refuse_alike, refuse_both, refuse_lost_links,
-    refuse_used_ids,
+    keep_with_ancestors, leave_out_same_parent, refuse_alike, refuse_both, refuse_lost_links, refuse_used_ids,
 )  # fmt: skip
 from gudokeyi.reconcile.sexes import find_sexes, invent_sexes
 from gudokeyi.render.import_reports import told_with
@@ -59,19 +59,20 @@ def import_pedigree_into(
     unknown = unknown_parents(book, import_options.unknown, import_options.known)
     days = DayCells(unknown, month_first=False)
     import_options = with_settings(book, import_options)
-    triples = read_triples(file, given_columns(import_options.columns), unknown, book.known, report)
-    animals, about = triples.animals, [*triples.told]
-    ids = animals.keys() | book.known.keys()
-    if import_options.keep:
-        about.append(keep_with_ancestors(animals, import_options.keep))
-        report.entries = [entry for entry in report.entries if entry.id in animals]
-    if not import_options.leave_out:
-        refuse_alike(animals, ids, book)
-    given = {field.value for field in triples.columns if field is not Field.ID}
-    next_book = NextBook(book, animals, given, report, days, is_pedigree=True)
-    if not import_options.anyway:
-        doubtful = [] if import_options.leave_out else founders_in_doubt(animals, ids, unknown)
-        refuse_others(next_book, import_options, doubtful)
+    with bounded_import(import_options.preview):
+        triples = read_triples(file, given_columns(import_options.columns), unknown, book.known, report)
+        animals, about = triples.animals, [*triples.told]
+        ids = animals.keys() | book.known.keys()
+        if import_options.keep:
+            about.append(keep_with_ancestors(animals, import_options.keep))
+            report.entries = [entry for entry in report.entries if entry.id in animals]
+        if not import_options.leave_out:
+            refuse_alike(animals, ids, book)
+        given = {field.value for field in triples.columns if field is not Field.ID}
+        next_book = NextBook(book, animals, given, report, days, is_pedigree=True)
+        if not import_options.anyway:
+            doubtful = [] if import_options.leave_out else founders_in_doubt(animals, ids, unknown)
+            refuse_others(next_book, import_options, doubtful)
     add_others(next_book, import_options.drop_gone)
     if not import_options.leave_out:
         refuse_both(animals, report)

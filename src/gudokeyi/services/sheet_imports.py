@@ -2,7 +2,6 @@
 nothing is refused, and told."""
 from __future__ import annotations
 
-import contextlib
 import itertools
 import pathlib
 from dataclasses import dataclass
@@ -14,7 +13,7 @@ from gudokeyi.domain.messages import MOST_NAMED
 from gudokeyi.engine.program import Herdbook
 from gudokeyi.ingest.animals import SheetAnimal
 from gudokeyi.ingest.columns import Columns, find_columns
-from gudokeyi.ingest.files import GivenFile, bounded_reading
+from gudokeyi.ingest.files import GivenFile, bounded_import
 from gudokeyi.ingest.sheet_animals import Rows
 from gudokeyi.ingest.sheets import Sheet, read_sheet
 from gudokeyi.ingest.titles import known_titles, read_given, read_sexes
@@ -164,8 +163,7 @@ def import_sheet_into(
     import_options = with_settings(book, import_options)
     words = remember(book, import_options)
     rename_owners(book, import_options)
-    # the whole of a preview is bounded already
-    with contextlib.nullcontext() if import_options.preview else bounded_reading():
+    with bounded_import(import_options.preview):
         read = read_animals(file, import_options, book, words)
     keep(book, read)
     next_book = NextBook(book, read.animals, set(read.columns.found), read.report, read.rows.cells.days)

@@ -404,3 +404,21 @@ class ParentsInPart(Obstacle):
 
     def suggestions(self) -> tuple[Suggestion, ...]:
         return (Suggestion("if they are founders", (ANYWAY,)),)
+
+
+@dataclass(frozen=True, slots=True)
+class ParentsCut(Obstacle):
+    """Parents without a line that are an id once they begin or end as many ids do; the first of them are told."""
+
+    parents: int
+    told: str
+
+    def words(self) -> str:
+        are = "has no line, and is an id" if self.parents == 1 else "have no line, and are ids"
+        return (
+            f"{counted(self.parents, 'parent')} {are} without what many ids begin or end with: {self.told}. To take "
+            "founders in their place changes coefficients: write whole ids"
+        )
+
+    def suggestions(self) -> tuple[Suggestion, ...]:
+        return (Suggestion("if they are founders", (ANYWAY,)),)
