@@ -6,6 +6,7 @@ import concurrent.futures
 import graphlib
 import re
 
+from building import proved
 from building.built import checksums, text_of
 from building.crates import Crates
 from building.machine import Machine, room, sweep
@@ -31,6 +32,7 @@ class Proving:
         self.is_well = True
         # the checksums of the sources that were proved
         self.summed: dict[str, list[str]] = {}
+        self.kit = proved.kit()
 
     def build(self) -> bool:
         """Proves all and puts the program in its place, and returns whether all passed."""
@@ -91,6 +93,9 @@ class Proving:
             proves_not = f"rt check in crates/{name} says why"
             self.say(f"{name} is not proved: {lacks_memory if why.is_killed else proves_not}")
             return False
+        functions = proved.counted(told)
+        if functions is not None:
+            proved.keep(name, functions, self.kit, self.summed[name])
         self.say(f"{name} {'is proved' if any(map(PROVED.match, told)) else 'was proved before'}")
         return True
 

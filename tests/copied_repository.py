@@ -8,6 +8,7 @@ from __future__ import annotations
 import contextlib
 import os
 import pathlib
+import pty
 import shutil
 import signal
 import subprocess
@@ -23,6 +24,8 @@ SECONDS = 180
 # What stands in for rt. The file NAME.seconds says how long a crate takes, and with NAME.fails it isn't proved.
 STAND_IN = """#!/usr/bin/env python3
 import os, pathlib, sys, time
+if sys.argv[1] == "version":
+    sys.exit(print("a kit"))
 notes, name = pathlib.Path(os.environ["NOTES"]), pathlib.Path.cwd().name
 def note(what):
     with open(notes / "log", "a", encoding="utf-8") as log:
@@ -44,7 +47,7 @@ if sys.argv[1] == "run":
 else:
     pathlib.Path("out/rlib", f"{name}.rlib").mkdir(parents=True, exist_ok=True)
 note("end")
-print("logic=proved")
+print("logic=proved functions=7 sum=1")
 """
 
 
@@ -79,9 +82,10 @@ class Repository:
         path = f"{room / 'bin'}:{os.environ['PATH']}"
         self.env = {**os.environ, "PATH": path, "NOTES": str(self.notes), "TMPDIR": str(self.rooms)}
 
-    def begin(self, *words: str) -> subprocess.Popen[str]:
+    def begin(self, *words: str, at: pathlib.Path | None = None) -> subprocess.Popen[str]:
         return subprocess.Popen(
             words,
+            cwd=at,
             env=self.env,
             stdout=subprocess.PIPE,
             stderr=subprocess.PIPE,
@@ -91,23 +95,44 @@ class Repository:
         )
 
     def begin_program(self) -> subprocess.Popen[str]:
-        return self.begin(str(self.top / "herdbook"), "is", "built")
+        """The program, once it is built anew."""
+        built = 'python3 "$0/build.py" herdbook || exit 1; exec "$0/herdbook" is built'
+        return self.begin("sh", "-c", built, str(self.top))
 
     def call(self) -> tuple[int, str, str]:
         """The status of a call, and what it wrote."""
         return ended(self.begin_program())
 
+    def call_without_building(self) -> tuple[int, str, str]:
+        """That of a call of the program alone."""
+        return ended(self.begin(str(self.top / "herdbook"), "is", "built"))
+
     def call_without_python(self) -> tuple[int, str, str]:
         """The same, where a call of Python ends with a fault."""
         env, self.env = self.env, {**self.env, "PATH": f"{self.no_python}:{self.env['PATH']}"}
         try:
-            return self.call()
+            return self.call_without_building()
         finally:
             self.env = env
 
-    def write(self, name: str, text: str) -> None:
+    def call_at_terminal(self, answer: str, script: str, *words: str) -> tuple[int, str]:
+        """The status of a script at a terminal of its own, at which its question is answered, and all that it tells."""
+        call, terminal = pty.fork()
+        if not call:
+            os.execve(self.top / script, [str(self.top / script), *words], self.env)
+        told = b""
+        with contextlib.suppress(OSError):
+            while more := os.read(terminal, 4096):
+                told += more
+                if more.endswith(b"] "):
+                    os.write(terminal, answer.encode())
+        os.close(terminal)
+        return os.waitstatus_to_exitcode(os.waitpid(call, 0)[1]), told.decode()
+
+    def write(self, name: str, text: str) -> pathlib.Path:
         (self.top / name).parent.mkdir(parents=True, exist_ok=True)
         (self.top / name).write_text(text, encoding="utf-8")
+        return self.top / name
 
     def add_line(self, line: str) -> None:
         with open(self.top / "crates.txt", "a", encoding="utf-8") as lines:

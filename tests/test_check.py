@@ -40,7 +40,8 @@ class Folder:
         for folder in (self.top / "building", self.top / "tests", self.bin):
             folder.mkdir(parents=True)
         shutil.copy(TOP / "check", self.top / "check")
-        shutil.copy(TOP / "tests/counting.py", self.top / "tests/counting.py")
+        for name in ("tests/counting.py", "building/asking.py"):
+            shutil.copy(TOP / name, self.top / name)
         self.write("tests/conftest.py", CONFTEST)
         self.write("tests/test_one.py", "def test_one() -> None:\n    assert True\n")
         self.write("building/lacking.py", "")

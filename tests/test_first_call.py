@@ -1,9 +1,10 @@
-"""The build of the first call: build.py, which proves the program's crates side by side, with a stand-in for rt."""
+"""The build of the program: build.py, which proves its crates side by side, with a stand-in for rt; and who begins it."""
 from __future__ import annotations
 
 import itertools
 import os
 import pathlib
+import re
 import signal
 import sys
 import time
@@ -123,11 +124,11 @@ class TestFirstCall:
         """A source that is changed once it is proved, before the build ends, is noticed by the next call."""
         here = Repository(next(self.rooms))
         (here.notes / f"{PROGRAM}.seconds").write_text("2", encoding="utf-8")
-        call = here.begin_program()
+        call = here.begin(sys.executable, str(here.top / "build.py"), PROGRAM)
         wait_until(lambda: "herd_kinship" in here.kept())
         here.write("crates/herd_kinship/src/lib.rt", "// another crate\n")
         done = ended(call)
-        self.count(done[:2] == (0, "is built\n"), f"a change meanwhile: {done}")
+        self.count(done[0] == 0, f"a change meanwhile: {done}")
         here.noted()
         self.builds(here, "a source was changed meanwhile")
 
@@ -183,6 +184,37 @@ class TestFirstCall:
         done = [ended(call) for call in calls]
         self.count([(status, out) for status, out, _ in done] == [(0, "is built\n")] * 2, done)
         self.count(in_order(here.noted()), "two calls prove each crate once")
+
+    def test_asks(self) -> None:
+        """At a terminal the program's call tells how long a proof takes, and asks; elsewhere it says what to do."""
+        here = Repository(next(self.rooms))
+        status, out, err = here.call_without_building()
+        self.count((status, out, err.count("\n")) == (1, "", 1), f"without a terminal: {status} {out!r} {err!r}")
+        self.count("only a person at a terminal begins that: ./build.py herdbook proves" in err, err)
+        for answer in "\n", "n\n", "what?\n":
+            status, told = here.call_at_terminal(answer, "herdbook", "is", "built")
+            asked = "takes 20 to 35 minutes on four cores" in told and "Begin? [y/N, in 30 seconds no]" in told
+            self.count(status == 1 and asked and "nothing is built" in told, f"{answer!r}: {status} {told!r}")
+        self.count(not here.noted(), "nothing is begun without a yes")
+        status, told = here.call_at_terminal("y\n", "herdbook", "is", "built")
+        self.count(status == 0 and told.endswith("is built\r\n"), f"y: {status} {told!r}")
+        self.count({name for _, name in here.noted()} == CRATES, "a yes builds all")
+        status, told = here.call_at_terminal("\n", "build.py", PROGRAM)
+        self.count(status == 0 and "Begin? [Y/n, in 30 seconds yes]" in told, f"build.py: {status} {told!r}")
+
+    def test_what_was_proved(self) -> None:
+        """How many functions of each crate were proved, by which kit; nothing is known of other sources than those."""
+        here = Repository(next(self.rooms))
+        here.call()
+        kept = here.top / "crates/herd_pool/out/proved"
+        self.count(re.fullmatch(r"functions=7 sources=\w{128} kit=a kit\n", kept.read_text()), kept.read_text())
+        told = here.write("gate", "logic=proved functions=9 sum=1\nrt: herd_pool proved\nrt: herd_animal proved\n")
+        done = ended(here.begin(sys.executable, str(here.top / "build.py"), "--told", str(told), PROGRAM))
+        self.count(done == (0, "", "") and kept.read_text().startswith("functions=9 "), f"{done}: {kept.read_text()}")
+        known = [sys.executable, "-c", "from building import proved; print(proved.kept('herd_pool'))"]
+        self.count("Proof(functions=9, kit='a kit')" in ended(here.begin(*known, at=here.top))[1], "what is known")
+        here.write("crates/herd_pool/src/lib.rt", "// another crate\n")
+        self.count(ended(here.begin(*known, at=here.top))[1] == "None\n", "what is known of other sources")
 
     def test_shares(self) -> None:
         """What a machine's processors and free memory give: runs at once, and the processes of each."""

@@ -8,8 +8,9 @@ import sys
 from collections.abc import Callable
 from typing import TYPE_CHECKING, NoReturn
 
+import gudokeyi
 from gudokeyi.cli.output import tell
-from gudokeyi.domain.messages import CALLED, Mistake
+from gudokeyi.domain.messages import Mistake
 from gudokeyi.domain.spelling import closest
 from gudokeyi.engine.program import Herdbook
 from gudokeyi.store.opening import opened
@@ -60,14 +61,14 @@ ABOUT = """Keeps a society's herd book in a folder: takes its spreadsheet, and w
 and pictures. Every refusal and every coefficient comes from the program herdbook; the front desk around it isn't
 proved."""
 EXAMPLES = """examples:
-  ./gudokeyi import sheet.csv                   from a spreadsheet to a book in the folder `book`
-  ./gudokeyi list --out list.csv                all animals with their coefficients
-  ./gudokeyi find berta                         animals by a part of id, name, number or owner
-  ./gudokeyi show HA-17/3                       its record, relatives and history
-  ./gudokeyi certificate HA-17/3                a page for the printer
-  ./gudokeyi mating --dam HA-17/3               each living male, the least related first
-  ./gudokeyi import --pedigree triples.txt      from `id sire dam`, for geneticists
-  ./gudokeyi inverse --matrix-market inverse.mtx
+  {called} import sheet.csv                   from a spreadsheet to a book in the folder `book`
+  {called} list --out list.csv                all animals with their coefficients
+  {called} find berta                         animals by a part of id, name, number or owner
+  {called} show HA-17/3                       its record, relatives and history
+  {called} certificate HA-17/3                a page for the printer
+  {called} mating --dam HA-17/3               each living male, the least related first
+  {called} import --pedigree triples.txt      from `id sire dam`, for geneticists
+  {called} inverse --matrix-market inverse.mtx
 
 The status is 0 where it is done, and 1 after a mistake; nothing is written then. It is 3 where `mating` is asked for
 sires by name and each of them is refused."""
@@ -91,12 +92,20 @@ class Parser(argparse.ArgumentParser):
         raise Mistake(f"{told}{'' if told[-1] == '?' else ':'} `{self.prog} --help` shows what can be written")
 
 
+class Version(argparse.Action):
+    """Writes the version, which isn't known before it is asked for."""
+
+    def __call__(self, parser: argparse.ArgumentParser, *_: object) -> NoReturn:
+        parser.exit(message=f"gudokeyi {gudokeyi.__version__}\n")
+
+
 class CommandWords:
     """The words of the command line. Each family adds its own."""
 
-    def __init__(self) -> None:
-        as_written = argparse.RawDescriptionHelpFormatter
-        self.parser = Parser(prog=CALLED, description=ABOUT, epilog=EXAMPLES, formatter_class=as_written)
+    def __init__(self, called: str) -> None:
+        as_written, shown = argparse.RawDescriptionHelpFormatter, EXAMPLES.format(called=called)
+        self.parser = Parser(prog=called, description=ABOUT, epilog=shown, formatter_class=as_written)
+        self.parser.add_argument("--version", action=Version, nargs=0, help="write the version, and nothing else")
         self.words = self.parser.add_subparsers(dest="word", metavar="WORD", required=True)
 
     def add(self, name: str, does: Does, help: str, more: str = "") -> Parser:

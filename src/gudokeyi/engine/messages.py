@@ -15,7 +15,14 @@ class ProgramFault(Message):
     NOT_BUILT = (
         "the program herdbook isn't built, for the reason told above: mend that, or if you have it built, {hint}"
     )
-    NO_VERSION = "{path} --version ended with status {status}: is it the program herdbook?"
+    NOT_BUILT_HERE = (
+        "the program herdbook isn't built of what is here: call {script} --version at a terminal, which proves and builds "
+        "it, or if you have it built, {hint}"
+    )
+    NOT_FOUND = (
+        "the program herdbook {version} is neither beside this package nor on the path: install the package gudokeyi, "
+        "which has it, or {hint}"
+    )
     CANT_RUN = "{path} can't be run ({error}): {hint}"
     TOO_LONG = (
         "the program `herdbook {word}` was ended, since it wasn't done after {minutes} minutes: is {path} the right one, "

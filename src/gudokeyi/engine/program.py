@@ -11,23 +11,18 @@ import resource
 import shlex
 import signal
 import subprocess
-import sys
 from collections.abc import Iterable, Sequence
 from typing import TYPE_CHECKING
 
 from gudokeyi.domain.commands import Command, lines_of, text_of
 from gudokeyi.domain.messages import Count, Mistake
 from gudokeyi.domain.refusals import Refusal
+from gudokeyi.engine.location import SAY, located
 from gudokeyi.engine.messages import ProgramFault
 from gudokeyi.engine.workers import Background
 
 if TYPE_CHECKING:
     from gudokeyi.store.book import Book
-
-TOP = pathlib.Path(__file__).resolve().parents[3]
-# how it is said where the built program is
-SAY = "say where it is, as export HERDBOOK=/home/me/herdbook"
-
 
 # so much memory and time a run may use
 MOST_BYTES, MOST_SECONDS = 4 << 30, 1200
@@ -74,31 +69,11 @@ def limit(process: subprocess.Popen[bytes], most_bytes: int, most_seconds: int |
 
 
 class Herdbook:
-    """The program: that of the variable HERDBOOK, else the script `herdbook` beside this folder."""
+    """The program. It is looked for once something is asked of it: a question that needs none asks for none."""
 
-    def __init__(self) -> None:
-        named = os.environ.get("HERDBOOK")
-        self.path = pathlib.Path(named).absolute() if named else TOP / "herdbook"
-        if not self.path.exists():
-            raise Mistake(ProgramFault.NOT_THERE.said(path=self.path, hint=SAY))
-        if self.path.is_dir():
-            raise Mistake(ProgramFault.IS_FOLDER.said(path=self.path, hint=SAY))
-        if not named and (TOP / "crates").exists() and not (TOP / "crates/herdbook/out/herdbook").exists():
-            print(
-                "gudokeyi: the program herdbook is built first, which takes 15 to 30 minutes",
-                file=sys.stderr,
-                flush=True,
-            )
-            self.version(tell=True)
-
-    def version(self, tell: bool = False) -> str:
-        done = self.start(["--version"], subprocess.DEVNULL, None if tell else subprocess.PIPE)
-        text = done.communicate()[0]
-        if done.returncode and tell:
-            raise Mistake(ProgramFault.NOT_BUILT.said(hint=SAY))
-        if done.returncode:
-            raise Mistake(ProgramFault.NO_VERSION.said(path=self.path, status=done.returncode))
-        return text.decode(errors="replace").strip()
+    @functools.cached_property
+    def path(self) -> pathlib.Path:
+        return located()
 
     def start(
         self, words: list[str], given: int, errors: int | None, most_bytes: int = MOST_BYTES,
@@ -106,8 +81,7 @@ class Herdbook:
     ) -> subprocess.Popen[bytes]:  # fmt: skip
         try:
             process = subprocess.Popen([str(self.path), *words], stdin=given, stdout=answers, stderr=errors)
-            if words != ["--version"]:
-                limit(process, most_bytes, most_seconds)
+            limit(process, most_bytes, most_seconds)
             return process
         except OSError as error:
             allow = f"allow it, as chmod u+x {shlex.quote(str(self.path))}"

@@ -182,10 +182,15 @@ SENTENCES: dict[Message, tuple[str, str, str]] = {
         "Das Programm herdbook ist nicht gebaut: starten Sie neu.",
         "Le programme herdbook n'est pas construit : rouvrez.",
     ),
-    ProgramFault.NO_VERSION: (
-        "the program herdbook doesn't tell its version (status {status})",
-        "Das Programm herdbook nennt seine Version nicht (Status {status}).",
-        "Le programme herdbook ne dit pas sa version (état {status}).",
+    ProgramFault.NOT_BUILT_HERE: (
+        "the program herdbook isn't built: whoever looks after this machine calls {script} --version at a terminal",
+        "Das Programm herdbook ist nicht gebaut: wer diesen Rechner betreut, ruft in einem Terminal {script} --version auf.",
+        "Le programme herdbook n'est pas construit : qui s'occupe de cette machine lance {script} --version dans un terminal.",
+    ),
+    ProgramFault.NOT_FOUND: (
+        "the program herdbook {version} isn't on this machine: install the package gudokeyi, which has it",
+        "Das Programm herdbook {version} ist nicht auf diesem Rechner: installieren Sie das Paket gudokeyi, das es hat.",
+        "Le programme herdbook {version} n'est pas sur cette machine : installez le paquet gudokeyi, qui l'a.",
     ),
     ProgramFault.CANT_RUN: (
         "the program herdbook can't be run ({error})",

@@ -22,9 +22,11 @@ from werkzeug.wsgi import wrap_file
 from gudokeyi.domain.messages import Mistake
 from gudokeyi.web.messages import WebFault
 
-# The example's sheet, which a new user may play with. A clone has it, an installed package doesn't.
+# The example's sheet, which a new user may play with: that of a clone, or of an installed package.
 
-EXAMPLE = pathlib.Path(__file__).resolve().parents[3] / "examples/society.csv"
+PACKAGE = pathlib.Path(__file__).resolve().parents[1]
+PLACES = [folder / "examples/society.csv" for folder in (PACKAGE.parents[1], PACKAGE)]
+EXAMPLE = next((path for path in PLACES if path.exists()), PLACES[0])
 
 
 # Files that somebody dropped and didn't take yet: they lie outside the book, for an hour.

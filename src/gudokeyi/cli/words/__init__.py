@@ -8,6 +8,7 @@ import importlib
 from collections.abc import Sequence
 
 from gudokeyi.cli.parser import CommandWords
+from gudokeyi.domain.messages import CALLED
 
 # the words that each module adds
 FAMILIES = {
@@ -25,10 +26,11 @@ FAMILIES = {
 }
 
 
-def words_for(call: Sequence[str]) -> CommandWords:
-    """The words of the family that has the called one; all of them where no family has it, as for help."""
-    called = [family for family, names in FAMILIES.items() if call and call[0] in names]
-    words = CommandWords()
-    for family in called or FAMILIES:
+def words_for(call: Sequence[str], called: str = CALLED) -> CommandWords:
+    """The words of the family that has the called one; all of them where no family has it, as for help. `called` is how
+    their help names the front desk."""
+    families = [family for family, names in FAMILIES.items() if call and call[0] in names]
+    words = CommandWords(called)
+    for family in families or FAMILIES:
         importlib.import_module(f"{__name__}.{family}").add_words(words)
     return words

@@ -1,0 +1,1 @@
+"""The packages that others install, and where the program is looked for."""
