@@ -54,7 +54,7 @@ def wheel_files(release: Release, shared: Files) -> dict[str, File | Link]:
     name = f"gudokeyi-{release.version}"
     told = f"Wheel-Version: 1.0\nGenerator: gudokeyi\nRoot-Is-Purelib: false\nTag: {wheel_name(release).split('-', 2)[2]}\n"
     scripts = project()["project"]["scripts"] | {"herdbook": "gudokeyi.engine.location:run"}
-    files = {
+    files: dict[str, File | Link] = {
         **modules(),
         "gudokeyi/herdbook": from_file(release.program, RUN),
         f"gudokeyi/{EXAMPLE}": from_file(TOP / EXAMPLE),

@@ -141,11 +141,15 @@ class CommandWords:
 
 
 def not_whole(book: Book, program: Herdbook) -> tuple[str, ...]:
-    """What is told where its kept coefficients aren't the program's. Whoever asked has the answer already."""
+    """What is told where its kept coefficients aren't the program's, or where that isn't known. Whoever asked has the
+    answer already."""
     from gudokeyi.store.verification import told_of_coefficients
 
     sys.stdout.flush()
-    return told_of_coefficients(book, program)
+    why = program.why_not_there()
+    return tuple(f"{one}: whether the book's coefficients are the program's isn't known" for one in why) or (
+        told_of_coefficients(book, program)
+    )
 
 
 def joined(words: list[str]) -> list[str]:

@@ -22,10 +22,10 @@ CLONE = PACKAGE.parents[1]
 SAY = "say where it is, as export HERDBOOK=/home/me/herdbook"
 
 
-def located() -> pathlib.Path:
-    """The program, or a mistake that says what to do."""
+def located(asks: bool = True) -> pathlib.Path:
+    """The program, or a mistake that says what to do. Nothing is built where nobody may be asked."""
     named = os.environ.get("HERDBOOK")
-    return where_said(pathlib.Path(named).absolute()) if named else beside() or on_path() or built_in_clone()
+    return where_said(pathlib.Path(named).absolute()) if named else beside() or on_path() or built_in_clone(asks)
 
 
 def where_said(path: pathlib.Path) -> pathlib.Path:
@@ -37,9 +37,13 @@ def where_said(path: pathlib.Path) -> pathlib.Path:
 
 
 def beside() -> pathlib.Path | None:
-    """The program that came with the package."""
-    path = PACKAGE / NAME
-    return path if path.is_file() else None
+    """The program that came with the package: in its folder, or beside a word that is in no clone."""
+    found = [path for path in (PACKAGE / NAME, CLONE / NAME) if path.is_file() and not (is_clone() and path.parent == CLONE)]
+    return found[0] if found else None
+
+
+def is_clone() -> bool:
+    return (CLONE / "crates").is_dir()
 
 
 def on_path() -> pathlib.Path | None:
@@ -58,12 +62,12 @@ def told_of(command: list[str]) -> str:
         return ""
 
 
-def built_in_clone() -> pathlib.Path:
+def built_in_clone(asks: bool) -> pathlib.Path:
     """The program that the clone's script has built of what is there now. The script asks a person at a terminal first."""
     script = CLONE / NAME
-    if not (CLONE / "crates").is_dir() or not script.is_file():
+    if not is_clone() or not script.is_file():
         raise Mistake(ProgramFault.NOT_FOUND.said(version=gudokeyi.__version__, hint=SAY))
-    asks = os.path.realpath(sys.argv[0]) == str(CLONE / "gudokeyi") and sys.stderr.isatty()
+    asks = asks and os.path.realpath(sys.argv[0]) == str(CLONE / "gudokeyi") and sys.stderr.isatty()
     done = subprocess.run(
         [str(script), "--version"], stdin=subprocess.DEVNULL, stdout=subprocess.DEVNULL,
         stderr=None if asks else subprocess.DEVNULL,

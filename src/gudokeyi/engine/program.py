@@ -75,6 +75,19 @@ class Herdbook:
     def path(self) -> pathlib.Path:
         return located()
 
+    def why_not_there(self) -> tuple[str, ...]:
+        """Why it isn't found, without anybody being asked for a proof; nothing where it is."""
+        try:
+            if "path" not in self.__dict__:
+                self.path = located(asks=False)
+        except Mistake as mistake:
+            return mistake.sentences
+        return ()
+
+    def look_for(self) -> None:
+        """Finds it at once, or a mistake says what to do: a desk that is open asks nobody at the terminal."""
+        assert self.path
+
     def start(
         self, words: list[str], given: int, errors: int | None, most_bytes: int = MOST_BYTES,
         most_seconds: int | None = MOST_SECONDS, answers: int = subprocess.PIPE,

@@ -156,6 +156,24 @@ SENTENCES: dict[Message, tuple[str, str, str]] = {
     ),
     Mating.ASK_FOR_LEFT: ("", "fragen Sie auch nach abgegangenen.", "demandez aussi ceux qui sont sortis."),
     Mating.NAME_OTHERS: ("", "nennen Sie andere.", "nommez-en d'autres."),
+    WebFault.FOLDER_GONE: (
+        "",
+        "Der Ordner {folder} ist nicht da: schließen Sie das Laufwerk an, auf dem er ist, oder nennen Sie einen anderen.",
+        "Le dossier {folder} n'est pas là : branchez le disque où il est, ou nommez-en un autre.",
+    ),
+    WebFault.FOLDER_MISSING: (
+        "",
+        "Der Ordner fehlt: schreiben Sie, wo das Herdbuch sein soll.",
+        "Le dossier manque : écrivez où doit être le livre.",
+    ),
+    WebFault.FOLDER_IS_FILE: (
+        "", "{folder} ist kein Ordner: nennen Sie einen anderen.", "{folder} n'est pas un dossier : nommez-en un autre.",
+    ),
+    WebFault.FOLDER_NOT_MADE: (
+        "",
+        "Der Ordner {folder} kann nicht benutzt werden ({error}): nennen Sie einen anderen.",
+        "Le dossier {folder} ne peut pas servir ({error}) : nommez-en un autre.",
+    ),
     WebFault.NO_DAY: (
         "",
         "Der Tag fehlt, oder er ist nicht wie 2001-03-01 geschrieben.",

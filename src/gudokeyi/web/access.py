@@ -58,6 +58,7 @@ LEAST = {
     "restoring.page": KEEPER, "restoring.drop": KEEPER, "restoring.look": KEEPER, "restoring.bring_back": KEEPER,
     "restoring.under_way": KEEPER,
     "login.leave": INSPECTOR, "login.password": INSPECTOR, "login.change_password": INSPECTOR,
+    "folder.page": KEEPER, "folder.choose": KEEPER, "folder.close": KEEPER,
     "accounts.page": KEEPER, "accounts.add": KEEPER, "accounts.change": KEEPER, "accounts.remove": KEEPER,
 }  # fmt: skip
 

@@ -138,10 +138,3 @@ def go_on(desk: ServedBook, whole: Stamp) -> None:
     desk.trusted = whole
     desk.exports.wish()
     begin_to_see(desk)
-
-
-def end_changes(desk: ServedBook) -> None:
-    """Waits for a change that is under way; no other begins."""
-    desk.is_closing = True
-    with desk.jobs.turn:
-        pass

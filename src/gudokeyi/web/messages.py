@@ -25,3 +25,8 @@ class WebFault(Message):
     NO_FILE = "a file can't be read or written: {error}"
     NO_PROCESS = "no process can be started ({error}): try again later"
     NO_PORT = "port {port} can't be used ({told}): {otherwise}"
+    # the folder of a desk that the menu opens
+    FOLDER_GONE = "the folder {folder} isn't there: connect the drive that has it, or name another one"
+    FOLDER_MISSING = "the folder is missing: write where the book shall be"
+    FOLDER_IS_FILE = "{folder} is no folder: name another one"
+    FOLDER_NOT_MADE = "the folder {folder} can't be used ({error}): name another one"

@@ -22,6 +22,8 @@ from gudokeyi.web.files import Uploads
 from gudokeyi.web.workers import Exports, Jobs
 
 EXTENSION = "desk"
+# so long it is waited at the end for what looks whether the book is whole
+SECONDS_TO_SEE = 10
 # what a page answers
 Answer = str | Response | tuple[str, int]
 Given = ParamSpec("Given")
@@ -61,6 +63,19 @@ class ServedBook:
         """The book as it is now, whoever changes it meanwhile; none where there is none."""
         with reading(self.folder) as connection:
             yield Book(self.folder, connection) if connection else None
+
+    def end_changes(self) -> None:
+        """Waits for a change that is under way; no other begins."""
+        self.is_closing = True
+        with self.jobs.turn:
+            pass
+        self.jobs.end()
+
+    def close(self) -> None:
+        """Ends all else. Nothing of it goes on while the interpreter ends."""
+        self.is_seen.wait(SECONDS_TO_SEE)
+        self.exports.end()
+        self.program.close()
 
 
 def served_book() -> ServedBook:

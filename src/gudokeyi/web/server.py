@@ -17,9 +17,8 @@ import threading
 import webbrowser
 from collections.abc import Callable, Iterator
 from dataclasses import replace
-from typing import Any
+from typing import Any, Protocol
 
-from flask import Flask
 from waitress import create_server
 
 from gudokeyi.domain.messages import CALLED, Mistake
@@ -31,7 +30,7 @@ from gudokeyi.store.transactions import up_to_date
 from gudokeyi.web.access import LinkLogins, bounded_channel
 from gudokeyi.web.addresses import ListenAddress, server_address
 from gudokeyi.web.app import web_app
-from gudokeyi.web.changing import begin_to_see, end_changes
+from gudokeyi.web.changing import begin_to_see
 from gudokeyi.web.files import Uploads
 from gudokeyi.web.logins import AccessLog, AccountLogins, Throttle
 from gudokeyi.web.messages import WebFault
@@ -62,7 +61,8 @@ def open_in_browser(
             if opens_browser and not webbrowser.open(link):
                 print("No browser could be opened here: open the link in one yourself.", flush=True)
 
-        answer(desk, web_app(desk, logins), listening, THREADS, begin)
+        begin_to_see(desk)
+        answer(web_app(desk, logins), listening, THREADS, begin, desk)
 
 
 @contextlib.contextmanager
@@ -78,7 +78,19 @@ def served_book_of(
         yield desk
 
 
-def answer(desk: ServedBook, app: Flask, listening: socket.socket, threads: int, begin: Callable[[], None]) -> None:
+class Ends(Protocol):
+    """What is ended once nobody is answered any more."""
+
+    def end_changes(self) -> None:
+        """Lets what changes the book be done to its end, and nothing more begin."""
+
+    def close(self) -> None:
+        """Ends all else."""
+
+
+def answer(
+    app: Callable[..., object], listening: socket.socket, threads: int, begin: Callable[[], None], desk: Ends
+) -> None:
     """Answers until Ctrl-C or SIGTERM. What changes the book is done to its end then, and told."""
     # what waitress tells of a fault would have a trace
     logging.getLogger("waitress").addHandler(logging.NullHandler())
@@ -90,20 +102,15 @@ def answer(desk: ServedBook, app: Flask, listening: socket.socket, threads: int,
     server.channel_class = bounded_channel(app)
     sys.setswitchinterval(SECONDS_IN_TURN)
     gc.set_threshold(*LOOKED_FOR)
-    begin_to_see(desk)
     signal.signal(signal.SIGTERM, signal.default_int_handler)
     with contextlib.suppress(KeyboardInterrupt):
         begin()
         server.run()
     for one in signal.SIGINT, signal.SIGTERM:
         signal.signal(one, signal.SIG_IGN)
-    end_changes(desk)
-    desk.jobs.end()
+    desk.end_changes()
     server.task_dispatcher.shutdown(cancel_pending=False, timeout=SECONDS_FOR_ANSWERS)
-    # nothing of this process goes on while the interpreter ends
-    desk.is_seen.wait(SECONDS_FOR_ANSWERS)
-    desk.exports.end()
-    desk.program.close()
+    desk.close()
     print("The desk is closed.", flush=True)
 
 
@@ -167,4 +174,5 @@ def serve(folder: pathlib.Path, program: BookSession, place: ListenAddress, name
             way = server_address(replace(place, port=listening.getsockname()[1]), names, proxy)
             logins = AccountLogins(accounts, way, Throttle(), AccessLog(sys.stderr))
             told = f"The desk answers at {way.scheme}://{way.hosts[0]}/; Ctrl-C or SIGTERM ends it."
-            answer(desk, web_app(desk, logins), listening, THREADS_FOR_SEVERAL, lambda: print(told, flush=True))
+            begin_to_see(desk)
+            answer(web_app(desk, logins), listening, THREADS_FOR_SEVERAL, lambda: print(told, flush=True), desk)

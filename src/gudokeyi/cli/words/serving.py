@@ -62,7 +62,9 @@ def do_serve(asked: argparse.Namespace) -> None:
             f"{place.address} is an address of the network, on which passwords would be read by others: say "
             "--behind-proxy where a proxy has a certificate, or --insecure if it has to be so"
         )
-    serve(asked.book, BookSession(Places(16, 16)), place, asked.name, proxy)
+    program = BookSession(Places(16, 16))
+    program.look_for()
+    serve(asked.book, program, place, asked.name, proxy)
 
 
 def do_account(asked: argparse.Namespace) -> None:

@@ -1,6 +1,7 @@
 """Findings and messages in the language of a page, with their values."""
 from __future__ import annotations
 
+import contextlib
 import dataclasses
 import datetime
 import enum
@@ -12,7 +13,7 @@ from typing import Any, NamedTuple
 
 from gudokeyi.domain.findings import Entry, Finding, kind_of
 from gudokeyi.domain.kinds import CommandKind, Field
-from gudokeyi.domain.messages import AnyOf, Count, MessageText, Some
+from gudokeyi.domain.messages import AnyOf, Count, MessageText, Mistake, Some
 from gudokeyi.domain.provenance import NO_DAY, ExitSource, OwnerDay, Period
 from gudokeyi.domain.refusals import Refusal
 from gudokeyi.ingest.days import DayFault
@@ -347,7 +348,8 @@ def without_paths(sentences: Iterable[MessageView]) -> list[MessageView]:
     desk = served_book()
     folders = [*desk.uploads.folders()]
     folders += [desk.uploads.room, desk.folder, desk.folder.absolute(), desk.folder.absolute().parent]
-    folders.append(desk.program.path.parent)
+    with contextlib.suppress(Mistake):
+        folders.append(desk.program.path.parent)
     found = list(sentences)
     for folder in folders:
         if str(folder) not in (".", "/"):
