@@ -157,9 +157,9 @@ SAY = "say where it is, as export HERDBOOK=/home/me/herdbook"
     ("/usr/bin", f"/usr/bin is a folder, not the program of the herd book: {SAY}"),
 ])  # fmt: skip
 def test_no_program(book_desk: Desk, path: str, told: str) -> None:
-    done = book_desk.run("list", program=path)
+    done = book_desk.run("verify", program=path)
     assert done.status == 1
-    assert done.err.endswith(f"gudokeyi: {told}\n")
+    assert done.err == f"gudokeyi: {told}\n"
 
 
 def test_program_that_cannot_be_run(book_desk: Desk) -> None:

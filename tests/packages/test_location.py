@@ -83,6 +83,12 @@ def test_nowhere(places: Places) -> None:
         location.located()
 
 
+def test_a_word_beside_the_program(places: Places) -> None:
+    """Outside a clone the program may stand beside the word."""
+    beside = places.add("clone/herdbook")
+    assert location.located() == beside
+
+
 @pytest.mark.parametrize("called", ["clone/gudokeyi", "another/program"])
 def test_nothing_is_built_without_a_terminal(
     places: Places, monkeypatch: pytest.MonkeyPatch, called: str
@@ -126,9 +132,11 @@ def test_looked_for_once_it_is_needed(monkeypatch: pytest.MonkeyPatch) -> None:
 
 @pytest.mark.parametrize("words", ASKED)
 def test_questions_that_need_no_program(society_desk: Desk, words: list[str]) -> None:
-    """They ask for none."""
+    """They are answered, and what wasn't compared with the program's answers is told in one sentence."""
     done = society_desk.run(*words, program="/nowhere/herdbook")
-    assert (done.status, done.err) == (0, "") and done.out
+    assert done.status == 0 and done.out
+    told = "/nowhere/herdbook, the program of the herd book, isn't there: say where it is, as export HERDBOOK="
+    assert not done.err or (done.err.startswith(f"gudokeyi: {told}") and done.err.count("\n") == 1)
 
 
 def test_questions_that_need_one(society_desk: Desk) -> None:
