@@ -28,7 +28,7 @@ def started_as_unit(desk: Desk, port: int, name: str = NAME) -> Running:
     begun = re.search(r"^ExecStart=(.*)$", UNIT, re.MULTILINE)
     assert begun
     own = {
-        "/srv/gudokeyi": str(TOP),
+        "/usr/bin/gudokeyi": str(TOP / "gudokeyi"),
         "/srv/herdbook": str(desk.room / "book"),
         "127.0.0.1:8080": f"127.0.0.1:{port}",
         NAME: name,
@@ -56,7 +56,7 @@ def test_unit(society_desk: Desk, cheap: None) -> None:
 def test_unit_as_systemd_reads_it(tmp_path: pathlib.Path) -> None:
     """systemd finds nothing to say about the unit, and little that it leaves open."""
     unit = tmp_path / "herdbook.service"
-    unit.write_text(UNIT.replace("/srv/gudokeyi", str(TOP)).replace("User=herdbook", "User=www-data"), encoding="utf-8")
+    unit.write_text(UNIT.replace("/usr/bin/gudokeyi", str(TOP / "gudokeyi")).replace("User=herdbook", "User=www-data"), encoding="utf-8")
     done = subprocess.run(["systemd-analyze", "verify", str(unit)], capture_output=True, text=True, timeout=SECONDS)
     assert not [line for line in done.stderr.splitlines() if "herdbook.service" in line], done.stderr
     words = ["systemd-analyze", "security", "--offline=yes", "--threshold=35", str(unit)]
