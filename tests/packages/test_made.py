@@ -176,7 +176,7 @@ def test_archive(release: Release, tmp_path: pathlib.Path) -> None:
     assert "commit: c0ffee\nkit: a\nrt version: a kit logic 1\nproved functions: 600\n" in told
 
 
-@pytest.mark.parametrize("program", PROGRAMS, ids=lambda one: one.name)
+@pytest.mark.parametrize("program", PROGRAMS, ids=["gudokeyi", "herdbook"])
 def test_man_pages(program: Program, tmp_path: pathlib.Path) -> None:
     """They are made of the help: each word and option is there, and `man` has nothing to say about them."""
     path = tmp_path / f"{program.name}.1"

@@ -183,9 +183,9 @@ SENTENCES: dict[Message, tuple[str, str, str]] = {
         "Le programme herdbook n'est pas construit : rouvrez.",
     ),
     ProgramFault.NOT_BUILT_HERE: (
-        "the program herdbook isn't built: whoever looks after this machine calls {script} --version at a terminal",
-        "Das Programm herdbook ist nicht gebaut: wer diesen Rechner betreut, ruft in einem Terminal {script} --version auf.",
-        "Le programme herdbook n'est pas construit : qui s'occupe de cette machine lance {script} --version dans un terminal.",
+        "the program herdbook isn't built: whoever looks after this machine calls {script} in a terminal",
+        "Das Programm herdbook ist nicht gebaut: wer diesen Rechner betreut, ruft in einem Terminal {script} auf.",
+        "Le programme herdbook n'est pas construit : qui s'occupe de cette machine lance {script} dans un terminal.",
     ),
     ProgramFault.NOT_FOUND: (
         "the program herdbook {version} isn't on this machine: install the package gudokeyi, which has it",

@@ -8,6 +8,7 @@ import copy
 import hashlib
 import hmac
 import re
+from collections.abc import Callable
 from dataclasses import dataclass
 from typing import Any, Protocol
 
@@ -165,15 +166,16 @@ def bound_of(app: Flask, headers: dict[str, str], address: str) -> int:
 SOMEWHERE = {"SERVER_NAME": "localhost", "SERVER_PORT": "80", "wsgi.url_scheme": "http"}
 
 
-def bounded_channel(app: Flask) -> Any:
-    """The class of an app's connections. Of a body no more is received than whoever sends it may send."""
+def bounded_channel(app: Callable[[], Flask]) -> Any:
+    """The class of the connections of the app of the moment. Of a body no more is received than whoever sends it may
+    send."""
 
     def parse_header(self: Any, header: bytes) -> None:
         HTTPRequestParser.parse_header(self, header)
         if self.content_length or self.chunked:
             # others have these bounds too; waitress refuses what is as long as its bound
             self.adj = copy.copy(self.adj)
-            self.adj.max_request_body_size = bound_of(app, self.headers, self.path) + 1
+            self.adj.max_request_body_size = bound_of(app(), self.headers, self.path) + 1
 
     # waitress has no types from which a class may be made
     parser: Any = type("BoundedParser", (HTTPRequestParser,), {"parse_header": parse_header})

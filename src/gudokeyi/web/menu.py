@@ -12,7 +12,7 @@ import sys
 import threading
 import time
 import webbrowser
-from collections.abc import Callable, Iterator
+from collections.abc import Iterator
 from dataclasses import dataclass
 from typing import IO
 
@@ -53,7 +53,7 @@ def open_from_menu(port: int, opens_browser: bool) -> None:
                 told.flush()
                 show(link, opens_browser)
 
-            answer(desk, listening, THREADS, begin, desk)
+            answer(lambda: desk.shown.app, listening, THREADS, begin, desk)
 
 
 def show(link: str, opens_browser: bool) -> None:
@@ -124,9 +124,6 @@ class MenuDesk:
         self.faults: tuple[str, ...] = ()
         self.lock = threading.Lock()
         self.shown = self.opened(None)
-
-    def __call__(self, environ: dict[str, object], start: Callable[..., object]) -> object:
-        return self.shown.app(environ, start)
 
     def show_remembered(self) -> None:
         folder = remembered()

@@ -19,6 +19,7 @@ from collections.abc import Callable, Iterator
 from dataclasses import replace
 from typing import Any, Protocol
 
+from flask import Flask
 from waitress import create_server
 
 from gudokeyi.domain.messages import CALLED, Mistake
@@ -61,8 +62,9 @@ def open_in_browser(
             if opens_browser and not webbrowser.open(link):
                 print("No browser could be opened here: open the link in one yourself.", flush=True)
 
+        app = web_app(desk, logins)
         begin_to_see(desk)
-        answer(web_app(desk, logins), listening, THREADS, begin, desk)
+        answer(lambda: app, listening, THREADS, begin, desk)
 
 
 @contextlib.contextmanager
@@ -89,15 +91,16 @@ class Ends(Protocol):
 
 
 def answer(
-    app: Callable[..., object], listening: socket.socket, threads: int, begin: Callable[[], None], desk: Ends
+    app: Callable[[], Flask], listening: socket.socket, threads: int, begin: Callable[[], None], desk: Ends
 ) -> None:
-    """Answers until Ctrl-C or SIGTERM. What changes the book is done to its end then, and told."""
+    """Answers by the app of the moment until Ctrl-C or SIGTERM. What changes the book is done to its end then, and
+    told."""
     # what waitress tells of a fault would have a trace
     logging.getLogger("waitress").addHandler(logging.NullHandler())
     logging.getLogger("waitress").propagate = False
     # its types, where there are any, know servers of another kind too
     server: Any = create_server(
-        app, sockets=[listening], threads=threads, ident=None, expose_tracebacks=False,
+        lambda environ, start: app()(environ, start), sockets=[listening], threads=threads, ident=None, expose_tracebacks=False,
     )  # fmt: skip
     server.channel_class = bounded_channel(app)
     sys.setswitchinterval(SECONDS_IN_TURN)
@@ -174,5 +177,6 @@ def serve(folder: pathlib.Path, program: BookSession, place: ListenAddress, name
             way = server_address(replace(place, port=listening.getsockname()[1]), names, proxy)
             logins = AccountLogins(accounts, way, Throttle(), AccessLog(sys.stderr))
             told = f"The desk answers at {way.scheme}://{way.hosts[0]}/; Ctrl-C or SIGTERM ends it."
+            app = web_app(desk, logins)
             begin_to_see(desk)
-            answer(web_app(desk, logins), listening, THREADS_FOR_SEVERAL, lambda: print(told, flush=True), desk)
+            answer(lambda: app, listening, THREADS_FOR_SEVERAL, lambda: print(told, flush=True), desk)
