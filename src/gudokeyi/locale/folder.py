@@ -15,7 +15,7 @@ TEXTS = {
     "other folder": ("Another folder", "Anderer Ordner", "Un autre dossier"),
     "folder": ("Folder", "Ordner", "Dossier"),
     "folder hint": (
-        "It is made where it isn't there. In a folder with other files the book has one named `book`.",
+        "It is made where it isn't there. In a folder with other files the book has one named “book”.",
         "Er wird angelegt, wo er fehlt. In einem Ordner mit anderen Dateien hat das Herdbuch einen eigenen namens „book“.",
         "Il est créé s'il n'existe pas. Dans un dossier avec d'autres fichiers, le livre en a un nommé « book ».",
     ),
