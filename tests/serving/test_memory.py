@@ -5,6 +5,7 @@ import contextlib
 import gc
 import pathlib
 import sqlite3
+import tracemalloc
 
 import pytest
 
@@ -13,10 +14,39 @@ from gudokeyi.domain.people import AccountRole
 from gudokeyi.store.accounts import Accounts
 from gudokeyi.web import server as serving
 from serving.server import Browser, Server
-from serving.visitor import WORD
+from serving.visitor import WORD, Served, Visitor
 
-REQUESTS, PARTS = 6_600, 12
 PAGES = ("/", "/animals", "/animal/HOLGBRM000000000402", "/animals?words=a&order=name", "/history", "/search?words=GK")
+# so often each is asked for between two looks, and so much may be kept of all that was answered, such as lines of the log
+TIMES, MOST_KEPT = 4, 50_000
+# so many requests the server answers in so many parts, in a test that is run by hand
+REQUESTS, PARTS = 6_600, 12
+
+
+def lengthen(folder: pathlib.Path, letters: int) -> None:
+    """Gives all animals names as long as an earlier version took them."""
+    with contextlib.closing(sqlite3.connect(folder / "book.sqlite")) as connection:
+        connection.execute("UPDATE animal SET name = ? || number", ("x" * letters,))
+        connection.commit()
+
+
+@pytest.mark.parametrize("letters", [0, 20_000], ids=["usual", "hostile"])
+def test_nothing_is_kept(served: Served, letters: int) -> None:
+    """After as many requests again no more memory is used, also where each page shows very long names."""
+    if letters:
+        lengthen(served.desk.folder, letters)
+    visitor, kept = Visitor(served, "Kim"), []
+    tracemalloc.start()
+    try:
+        for _ in range(3):
+            for path in PAGES * TIMES:
+                assert visitor.get(path).status_code == 200
+            gc.collect()
+            kept.append(tracemalloc.get_traced_memory()[0])
+    finally:
+        tracemalloc.stop()
+    # what is kept of the book, and what was imported, is there after the first requests
+    assert kept[2] - kept[1] < MOST_KEPT, kept
 
 
 def megabytes(server: Server) -> int:
@@ -37,12 +67,10 @@ def used(server: Server) -> list[int]:
 @pytest.mark.slow
 @pytest.mark.parametrize("letters", [0, 20_000], ids=["usual", "hostile"])
 def test_levels_off(society_desk: Desk, cheap: None, letters: int) -> None:
-    """Memory levels off, also where each page shows names as long as an earlier version took them."""
+    """The memory of a server levels off too, with what its system keeps of what it gave back."""
     Accounts(society_desk.room / "book").add("Kim", AccountRole.KEEPER, WORD, WORD)
     if letters:
-        with contextlib.closing(sqlite3.connect(society_desk.room / "book/book.sqlite")) as connection:
-            connection.execute("UPDATE animal SET name = ? || number", ("x" * letters,))
-            connection.commit()
+        lengthen(society_desk.room / "book", letters)
     server = Server(society_desk.room, society_desk.program)
     found = used(server)
     server.end()
