@@ -12,6 +12,7 @@ import pty
 import shutil
 import signal
 import subprocess
+from collections.abc import Sequence
 
 from building.crates import TOP, closure, lines_of, named
 
@@ -116,18 +117,8 @@ class Repository:
             self.env = env
 
     def call_at_terminal(self, answer: str, script: str, *words: str) -> tuple[int, str]:
-        """The status of a script at a terminal of its own, at which its question is answered, and all that it tells."""
-        call, terminal = pty.fork()
-        if not call:
-            os.execve(self.top / script, [str(self.top / script), *words], self.env)
-        told = b""
-        with contextlib.suppress(OSError):
-            while more := os.read(terminal, 4096):
-                told += more
-                if more.endswith(b"] "):
-                    os.write(terminal, answer.encode())
-        os.close(terminal)
-        return os.waitstatus_to_exitcode(os.waitpid(call, 0)[1]), told.decode()
+        """The status of a script at a terminal at which its question is answered, and all that it tells."""
+        return answered(self.top / script, words, self.env, answer)
 
     def write(self, name: str, text: str) -> pathlib.Path:
         (self.top / name).parent.mkdir(parents=True, exist_ok=True)
@@ -174,3 +165,18 @@ def ended(call: subprocess.Popen[str]) -> tuple[int, str, str]:
             os.killpg(call.pid, signal.SIGKILL)
         raise
     return call.returncode, out, err
+
+
+def answered(script: pathlib.Path, words: Sequence[str], env: dict[str, str], answer: str) -> tuple[int, str]:
+    """The status of a script at a terminal of its own, at which its question is answered, and all that it tells."""
+    call, terminal = pty.fork()
+    if not call:
+        os.execve(script, [str(script), *words], env)
+    told = b""
+    with contextlib.suppress(OSError):
+        while more := os.read(terminal, 4096):
+            told += more
+            if more.endswith(b"] "):
+                os.write(terminal, answer.encode())
+    os.close(terminal)
+    return os.waitstatus_to_exitcode(os.waitpid(call, 0)[1]), told.decode()

@@ -8,6 +8,7 @@ import subprocess
 import pytest
 
 from building.crates import TOP
+from copied_repository import answered
 
 # the commands that `check` is given, beside those that a test makes
 COMMANDS = "cat cp cut dirname grep head id mktemp readlink rm sed sh tail tee tr wc".split()
@@ -61,10 +62,11 @@ class Folder:
         (self.bin / name).write_text(text, encoding="utf-8")
         (self.bin / name).chmod(0o755)
 
+        self.env = {"PATH": str(self.bin), "NOTES": str(self.notes), "HOME": str(self.top)}
+
     def call(self) -> tuple[int, list[str], str]:
         """The status of a call, the lines that it wrote, and what it told on standard error."""
-        env = {"PATH": str(self.bin), "NOTES": str(self.notes), "HOME": str(self.top)}
-        ended = subprocess.run([self.top / "check"], env=env, capture_output=True, text=True, timeout=120)
+        ended = subprocess.run([self.top / "check"], env=self.env, capture_output=True, text=True, timeout=120)
         return ended.returncode, ended.stdout.splitlines(), ended.stderr
 
 
@@ -90,3 +92,11 @@ def test_all_that_is_well_counts(tmp_path: pathlib.Path) -> None:
     ended, lines, told = Folder(tmp_path).call()
     # seven of the gate, one test, and the types
     assert (ended, lines[-1], told) == (0, "9 passed, 0 failed", "")
+
+
+def test_asks_at_a_terminal(tmp_path: pathlib.Path) -> None:
+    """It tells how long it takes, and after a no nothing is proved."""
+    folder = Folder(tmp_path)
+    status, told = answered(folder.top / "check", [], folder.env, "n\n")
+    assert status == 1 and "in an hour or more on four cores. Begin? [Y/n, in 30 seconds yes]" in told
+    assert not folder.notes.exists()
