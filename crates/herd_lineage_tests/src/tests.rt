@@ -17,7 +17,7 @@ const PARENTS: [(Option<u32>, Option<u32>); 5] = [
 // The depths of the animals.
 const DEPTHS: [u8; 5] = [0, 1, 2, 2, 3];
 
-// Adds the animals, each as soon as memory is given. Whenever it is refused, as many are there as before.
+// A lineage of the animals, or none where a growth of memory is refused.
 fn fill(heap: &LocalHeap) -> Option<LineageBuilder<&LocalHeap>> {
     let mut builder = Lineage::builder(heap).ok()?;
     for (sire, dam) in PARENTS {
@@ -64,5 +64,14 @@ fn tells_the_first_fault_and_goes_on(rt: HostRuntime) -> Result<(), Fail> {
     for rank in 0..5 {
         assert_eq!(rt; lineage.level(DEPTHS[rank]).contains(&(rank as u32)), true);
     }
+    Ok(())
+}
+
+// In a heap where a lineage of no animals finds room, one of many finds none.
+#[test]
+fn makes_room_for_as_many_as_it_is_told(rt: HostRuntime) -> Result<(), Fail> {
+    let heap = LocalHeap::new(rt.alloc(), 8_192)?;
+    assert!(rt; Lineage::with_capacity(&heap, 0).is_ok());
+    assert!(rt; Lineage::with_capacity(&heap, 1_000).is_err());
     Ok(())
 }
