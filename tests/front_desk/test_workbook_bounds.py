@@ -7,6 +7,7 @@ import re
 import signal
 import subprocess
 import sys
+import time
 import tracemalloc
 import zipfile
 
@@ -17,9 +18,11 @@ from openpyxl.comments import Comment
 from front_desk.desk import TOP
 from gudokeyi.domain.messages import Mistake
 from gudokeyi.ingest import files, workbooks
+from gudokeyi.ingest.columns import find_columns
 from gudokeyi.ingest.files import MOST_CELLS, MOST_ROWS, GivenFile, bound_look, check_bounds
 from gudokeyi.ingest.messages import SheetFault
-from gudokeyi.ingest.sheets import SheetRow
+from gudokeyi.ingest.sheets import Sheet, SheetRow
+from gudokeyi.ingest.unknown_parents import UnknownParents
 from gudokeyi.ingest.workbooks import Worksheet, cells_of, read_workbook
 from gudokeyi.reconcile.import_options import ImportOptions
 from gudokeyi.services import pedigree_imports, sheet_imports
@@ -63,6 +66,15 @@ def test_far_cells(column: str, width: int) -> None:
     rows = read(with_part(END, FAR.format(column))).rows
     assert [line for line, _ in rows] == [1, 2, 1_048_576] and {len(cells) for _, cells in rows} == {width}
     assert rows[1][1][:3] == ANIMAL and rows[2][1][0 if column == "A" else -1] == "x"
+
+
+def test_very_many_columns() -> None:
+    """What has what is found at once, also where a far cell makes a sheet as wide as one may be."""
+    row = [*TITLES, *[""] * 16_000]
+    sheet = Sheet(1, row, [SheetRow(at, [f"a{at}"] * len(row)) for at in range(2, 12)], "", [])
+    began = time.process_time()
+    columns = find_columns(sheet, {}, {}, UnknownParents())
+    assert time.process_time() - began < 2 and columns.found["sex"] == 1
 
 
 def test_far_apart(monkeypatch: pytest.MonkeyPatch) -> None:

@@ -1,6 +1,8 @@
 """Which column of a sheet has what: by the titles that are named, by those of the last time, and by the usual ones."""
 from __future__ import annotations
 
+import collections
+import functools
 from collections.abc import Collection, Mapping
 from dataclasses import dataclass, field
 from typing import Container
@@ -18,6 +20,8 @@ from gudokeyi.ingest.titles import KNOWN_DOUBTFUL, KNOWN_PAIRS, KNOWN_TITLES, NE
 from gudokeyi.ingest.words import KNOWN_EXITS, KNOWN_STAYS, has_word, plain
 
 PARENTS = Field.SIRE, Field.DAM
+# so many columns of one title are looked at
+MOST_ALIKE = 20
 
 
 @dataclass
@@ -39,8 +43,15 @@ class Columns:
 
     def titled(self, usual: Collection[str]) -> list[int]:
         """The columns that have one of these titles and no other field, the likeliest title first."""
-        titles = [plain(title) for title in self.sheet.titles]
-        return [at for title in usual for at, one in enumerate(titles) if one == title and self.is_free(at)]
+        return [at for title in usual for at in self.by_title.get(title, [])[:MOST_ALIKE] if self.is_free(at)]
+
+    @functools.cached_property
+    def by_title(self) -> dict[str, list[int]]:
+        """The columns of each title: a sheet may have very many."""
+        found = collections.defaultdict[str, list[int]](list)
+        for at, title in enumerate(self.sheet.titles):
+            found[plain(title)].append(at)
+        return found
 
     def is_free(self, at: int) -> bool:
         return at not in self.found.values()
@@ -127,9 +138,8 @@ def find_pair(columns: Columns, wanted: list[Field]) -> None:
 
 def tell_doubles(columns: Columns) -> None:
     titles = columns.sheet.titles
-    for title in dict.fromkeys(plain(title) for title in titles if plain(title)):
-        places = [at for at, one in enumerate(titles) if plain(one) == title]
-        if len(places) > 1:
+    for title, places in columns.by_title.items():
+        if title and len(places) > 1:
             same = all(columns.cells(at) == columns.cells(places[0]) for at in places)
             columns.notes.append(TitleTwice(titles[places[0]], tuple(at + 1 for at in places), same))
 

@@ -6,7 +6,7 @@ import csv
 from collections.abc import Iterable
 
 from gudokeyi.domain.kinds import Field
-from gudokeyi.domain.messages import Mistake
+from gudokeyi.domain.messages import Mistake, some_of
 from gudokeyi.ingest.messages import SheetFault
 from gudokeyi.ingest.words import KNOWN_SEXES, composed, listed, plain, sex_word
 
@@ -105,8 +105,12 @@ def known_titles(titles: list[str]) -> int:
     return sum(plain(title) in known for title in titles)
 
 
+# so many titles are told of a sheet
+MOST_TITLES = 60
+
+
 def title_list(titles: Iterable[str]) -> str:
-    return ", ".join(f"'{title}'" for title in titles if title)
+    return some_of([f"'{title}'" for title in titles if title], MOST_TITLES)
 
 
 # Reads the options of `import` that say how cells are read.
