@@ -1,11 +1,14 @@
-"""What is set of the process in which a call is made: it ends with the call, and SQLite keeps no statistics in it."""
+"""What is set of the process in which a call is made: a terminal and the pages set it. Who uses the library has the
+process as it was."""
 from __future__ import annotations
 
 import contextlib
 import ctypes
 import importlib.util
 import os
+import signal
 import sys
+import threading
 from typing import NoReturn
 
 # A process that makes one call and ends: what the call made goes with the process, all at once. To give it back piece
@@ -35,6 +38,42 @@ def end(status: int) -> NoReturn:
         sys.stderr.flush()
         os._exit(status)
     sys.exit(status)
+
+
+# Ctrl-C: once a change is made, somebody who stops the call would be told something else.
+
+ignores_stops = False
+
+
+def is_for_one_change() -> None:
+    """From here on this process isn't stopped any more once its change is made."""
+    global ignores_stops
+    ignores_stops = True
+
+
+def stop_no_more() -> None:
+    """A change is made now."""
+    if ignores_stops and threading.current_thread() is threading.main_thread():
+        signal.signal(signal.SIGINT, signal.SIG_IGN)
+
+
+# How this process reads and computes.
+
+# so long, in seconds, one thread keeps the others waiting that read, write or answer
+SECONDS_IN_TURN = 0.0005
+
+
+def with_short_turns() -> None:
+    """What writes a book or reads its journal waits for Python between two statements, while something else is done
+    beside. With Python's own turns of five milliseconds an import of 60,000 rows takes a second longer."""
+    sys.setswitchinterval(SECONDS_IN_TURN)
+
+
+def with_cells_of_any_length() -> None:
+    """The bounds of a sheet say which cells are too long, in a sentence of their own."""
+    import csv
+
+    csv.field_size_limit(sys.maxsize)
 
 
 # SQLite without statistics of its memory: else all threads wait for one lock at each piece of memory, and two that read

@@ -12,13 +12,14 @@ import pytest
 from gudokeyi.domain.animals import SocietyRecord
 from gudokeyi.domain.kinds import Role
 from gudokeyi.domain.messages import Count
+from gudokeyi.domain.requests import Mating
 from gudokeyi.services.matings import Candidate, Candidates
 from gudokeyi.services.plans import (
-    YEAR, Asked, UsualAge, ages_at_first_offspring, born_at_latest, grown_up, old_enough, prepared, told_of_age,
-    usual_age, usual_bounds, usual_most,
+    YEAR, Asked, UsualAge, born_at_latest, grown_up, old_enough, prepared, told_of_age, usual_age, usual_bounds,
+    usual_most,
 )  # fmt: skip
 from gudokeyi.store.book import Book
-from gudokeyi.store.messages import Mating
+from gudokeyi.store.mates import ages_at_first_offspring
 
 # a number, how many days ago it was born, its parents, and where the day comes from
 Born = tuple[str, int, str, str, str]

@@ -9,8 +9,9 @@ import pytest
 
 from desk.site import Site
 from front_desk.desk import Desk
-from gudokeyi.engine.program import Herdbook
-from gudokeyi.services.book_session import BOTH_KNOWN, BookSession, Expected, lines_alone
+from gudokeyi.services.book_program import BookProgram
+from gudokeyi.services.book_session import BookSession, Expected, lines_alone
+from gudokeyi.store.ancestor_births import BOTH_KNOWN
 from gudokeyi.store.book import Book
 
 DAM, SIRE = "GK-17/472c", "GK-10/294b"
@@ -25,7 +26,7 @@ def kept(book: Book) -> dict[str, str]:
 
 def test_as_of_the_whole_book(site: Site) -> None:
     """Those of one animal and of several, with both parents known and without."""
-    program, chosen = Herdbook(), random.Random(5)
+    program, chosen = BookProgram(), random.Random(5)
     with site.desk.opened() as book:
         assert book and book.connection
         lines = kept(book)
@@ -52,10 +53,10 @@ def test_as_it_is_now(site: Site) -> None:
         assert book
         numbers = [book.known[id].number for id in (DAM, "NEW-1")]
         for some in [numbers[0]], [numbers[1]], numbers:
-            assert lines_alone(Herdbook(), book, some) == [kept(book)[number] for number in some]
+            assert lines_alone(BookProgram(), book, some) == [kept(book)[number] for number in some]
 
 
-class Refusing(Herdbook):
+class Refusing(BookProgram):
     """A program that refuses the first birth."""
 
     def lines(self, words: list[str], book: bytes) -> list[str]:
@@ -67,7 +68,7 @@ def test_refused(site: Site) -> None:
     with site.desk.opened() as book:
         assert book
         known = book.known[DAM].number
-        assert lines_alone(Herdbook(), book, [known]) and not lines_alone(Refusing(), book, [known])
+        assert lines_alone(BookProgram(), book, [known]) and not lines_alone(Refusing(), book, [known])
 
 
 def test_last_expected(site: Site, monkeypatch: pytest.MonkeyPatch) -> None:
@@ -78,7 +79,7 @@ def test_last_expected(site: Site, monkeypatch: pytest.MonkeyPatch) -> None:
         assert book
         dams = [book.known[id].number for id in (DAM, "GK-16/433c")]
         for dam in dams:
-            expected.ask(Herdbook(), book, book.known[SIRE].number, dam, datetime.date(2024, 3, 1))
+            expected.ask(BookProgram(), book, book.known[SIRE].number, dam, datetime.date(2024, 3, 1))
         assert [dam for _, dam in expected.kept] == dams[1:]
 
 
@@ -105,7 +106,7 @@ def test_expected(site: Site, society_desk: Desk, monkeypatch: pytest.MonkeyPatc
     monkeypatch.setattr("gudokeyi.services.book_session.LARGE", 0)
     asked = list[str]()
 
-    def alone(program: Herdbook, book: Book, numbers: Sequence[str]) -> list[str]:
+    def alone(program: BookProgram, book: Book, numbers: Sequence[str]) -> list[str]:
         asked.append("alone")
         return lines_alone(program, book, numbers)
 

@@ -8,7 +8,7 @@ from selenium import webdriver
 
 from desk.screen import PHONE, Screen, chromium
 from front_desk.desk import Desk
-from gudokeyi.store.settings import LANGUAGES
+from gudokeyi.domain.settings import LANGUAGES
 
 __all__ = ["chromium"]
 NAME = "Wilhelmine Charlotte Friederike von der hohen Wiese am Wald und an der Heide"

@@ -13,13 +13,13 @@ from desk.site import Site, shown
 from desk.test_desk_filing import BIRTH, DAM
 from desk.test_desk_sheets import EXAMPLE
 from front_desk.desk import Desk
+from gudokeyi.domain.requests import WebFault
 from gudokeyi.engine.session import Answer, Session
 from gudokeyi.locale import SENTENCES, TEXTS
 from gudokeyi.services.book_session import BookMoved, BookSession
 from gudokeyi.services.cache import mark_of
 from gudokeyi.store.book import Book
 from gudokeyi.web.mating_work import Bounds, PlanMade, compare
-from gudokeyi.web.messages import WebFault
 
 NEW_ROW = b"Lower Mill,NEW-9,f,2019-01-01,,,\n"
 

@@ -19,10 +19,11 @@ from desk.test_desk_filing import BIRTH, DAM
 from desk.test_desk_sheets import EXAMPLE
 from front_desk.desk import Desk
 from gudokeyi.domain.messages import Mistake
+from gudokeyi.domain.settings import LANGUAGES
 from gudokeyi.locale import SENTENCES, TEXTS
+from gudokeyi.services.opening import alone_to_change
+from gudokeyi.store.book import Book
 from gudokeyi.store.messages import BackupFault
-from gudokeyi.store.settings import LANGUAGES
-from gudokeyi.store.transactions import changing
 from gudokeyi.web.sheet_work import Imported
 
 NEW_ROW = b"Lower Mill,NEW-9,f,2019-01-01,,,\n"
@@ -67,13 +68,13 @@ def test_in_turn(site: Site, monkeypatch: pytest.MonkeyPatch) -> None:
     turns = list[bool]()
 
     @contextlib.contextmanager
-    def noted(folder: pathlib.Path) -> Iterator[sqlite3.Connection | None]:
+    def noted(folder: pathlib.Path) -> Iterator[Book]:
         turns.append(site.desk.jobs.turn.locked())
-        with changing(folder) as connection:
-            yield connection
+        with alone_to_change(folder) as book:
+            yield book
         turns.append(site.desk.jobs.turn.locked())
 
-    monkeypatch.setattr("gudokeyi.web.changing.changing", noted)
+    monkeypatch.setattr("gudokeyi.web.changing.alone_to_change", noted)
     site.post("/file/birth", **BIRTH)
     assert site.post("/file/exit", id=DAM, day="1999-05-01").headers["Location"] == "/answer/3"
     assert turns == [True] * 4 and not site.desk.jobs.turn.locked()

@@ -17,11 +17,11 @@ from desk.site import Site, shown, site_of
 from desk.test_desk_filing import BIRTH, DAM, SIRE
 from front_desk.desk import TOP, Desk
 from gudokeyi.domain.messages import Mistake
-from gudokeyi.engine.program import Herdbook
+from gudokeyi.domain.requests import WebFault
 from gudokeyi.engine.session import Places, Session, SessionEnded
 from gudokeyi.locale import SENTENCES, TEXTS
+from gudokeyi.services.book_program import BookProgram
 from gudokeyi.store.messages import BookFault
-from gudokeyi.web.messages import WebFault
 
 
 def test_session_killed(site: Site) -> None:
@@ -42,7 +42,7 @@ def test_ended_within_an_answer(monkeypatch: pytest.MonkeyPatch, tmp_path: pathl
     script.write_text("#!/bin/sh\nread -r request\necho t1,HOLGBRM000000000402,1/4,25.00\n", encoding="utf-8")
     script.chmod(0o755)
     monkeypatch.setenv("HERDBOOK", str(script))
-    session = Session(Herdbook(), Places())
+    session = Session(BookProgram(), Places())
     with pytest.raises(SessionEnded):
         session.ask(["inbreeding"])
     session.end()
@@ -65,7 +65,7 @@ def test_not_stored(site: Site, monkeypatch: pytest.MonkeyPatch) -> None:
     """A reply that can't be stored isn't shown, and the next one is of a session that doesn't have it."""
     site.post("/file/birth", **BIRTH)
     with monkeypatch.context() as patched:
-        patched.setattr("gudokeyi.store.writing.commit", lambda *_: 1 / 0)
+        patched.setattr("gudokeyi.services.writing.commit", lambda *_: 1 / 0)
         assert site.post("/file/exit", id="NEW-1", day="2024-06-01").status_code == 500
     page = shown(site.page(site.post("/file/exit", id="NEW-1", day="2024-06-02").headers["Location"]))
     assert TEXTS["accepted"][0] in page and "Change 3" in page
@@ -94,8 +94,8 @@ def test_killed_before_storing(society_desk: Desk, tmp_path: pathlib.Path) -> No
         sys.path[:0] = sys.argv[1:3]
         import pathlib
         from desk.site import site_of
-        import gudokeyi.store.writing
-        gudokeyi.store.writing.commit = lambda *_: os.kill(os.getpid(), signal.SIGKILL)
+        import gudokeyi.services.writing
+        gudokeyi.services.writing.commit = lambda *_: os.kill(os.getpid(), signal.SIGKILL)
         with site_of(pathlib.Path(sys.argv[3]), sys.argv[4], pathlib.Path(sys.argv[5])) as site:
             site.post("/file/exit", id=sys.argv[6], day="2024-05-01")
     """
@@ -118,7 +118,7 @@ def test_disk_full(site: Site, monkeypatch: pytest.MonkeyPatch) -> None:
         raise Mistake(BookFault.NO_ROOM.said(path=site.desk.folder))
 
     with monkeypatch.context() as patched:
-        patched.setattr("gudokeyi.store.writing.commit", full)
+        patched.setattr("gudokeyi.services.writing.commit", full)
         site.get("/language/de")
         page = shown(site.post("/file/exit", id=DAM, day="2024-05-01").get_data(as_text=True))
         assert SENTENCES[BookFault.NO_ROOM][1] in page

@@ -13,7 +13,7 @@ from desk.looks import PAIR, TITLES, Says, calves, look_at
 from desk.site import Site, shown
 from desk.test_desk_sheets import EXAMPLE
 from front_desk.desk import Desk
-from gudokeyi.store.settings import LANGUAGES
+from gudokeyi.domain.settings import LANGUAGES
 
 
 @pytest.mark.parametrize("language", LANGUAGES)

@@ -8,8 +8,8 @@ import pytest
 
 from desk.looks import PAIR, TITLES, Says, buttons_of, calves, look_at, part, press
 from desk.site import Site, shown
+from gudokeyi.domain.settings import LANGUAGES
 from gudokeyi.locale import TEXTS
-from gudokeyi.store.settings import LANGUAGES
 
 
 @pytest.mark.parametrize("total", ["Summe;;;;;;", "Summe;;;63;;;", "63;Summe;;;;;", "63;;;;;;Gesamt"])

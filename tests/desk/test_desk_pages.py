@@ -15,11 +15,11 @@ from front_desk.desk import Desk
 from front_desk.old_folder import write_old
 from gudokeyi.domain.changes import Change, Option
 from gudokeyi.domain.kinds import ChangeKind
+from gudokeyi.domain.settings import LANGUAGES
 from gudokeyi.locale import SENTENCES, TEXTS
 from gudokeyi.locale.breed import MEANINGS
 from gudokeyi.reconcile.import_options import ImportOptions
 from gudokeyi.store.history import EPOCH, FILED_BY_HAND
-from gudokeyi.store.settings import LANGUAGES
 from gudokeyi.web.language import PageLanguage
 from gudokeyi.web.views.changes import given_of
 

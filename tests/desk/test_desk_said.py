@@ -9,18 +9,20 @@ import sqlite3
 
 import pytest
 
+from gudokeyi.domain.animals import NO_OWNER
 from gudokeyi.domain.changes import Change, Option
 from gudokeyi.domain.kinds import ChangeKind
 from gudokeyi.domain.refusals import Refusal
 from gudokeyi.locale import TEXTS
 from gudokeyi.reconcile.findings.animals import CommandRefused
 from gudokeyi.store.animal_rows import COLUMNS, AnimalRow
-from gudokeyi.store.book import NO_OWNER, Book
+from gudokeyi.store.book import Book
+from gudokeyi.store.changed_animals import id_of_command
 from gudokeyi.store.schema import FIRST, SECOND
 from gudokeyi.web.forms import cleaned, owners_of, wrong_fields
 from gudokeyi.web.language import PageLanguage
 from gudokeyi.web.views.animals import facts_said
-from gudokeyi.web.views.changes import Given, counts_of, given_of, id_in_journal, what_of, why
+from gudokeyi.web.views.changes import Given, counts_of, given_of, what_of, why
 
 DAY = datetime.datetime(2024, 3, 1, tzinfo=datetime.timezone.utc)
 EMBRYO = AnimalRow(
@@ -119,8 +121,8 @@ def test_animal_of_a_command() -> None:
         for since, until, id in (1, 4, "earlier"), (4, None, "E-7"):
             values = (since, until, *EMBRYO._replace(id=id))
             connection.execute(f"INSERT INTO animal (since, until, {COLUMNS}) VALUES ({', '.join('?' * len(values))})", values)
-        assert id_in_journal(connection, change_of(ChangeKind.PARENTS)) == "E-7"
-        assert id_in_journal(connection, change_of(ChangeKind.PARENTS, length=2)) == ""
+        assert id_of_command(connection, change_of(ChangeKind.PARENTS)) == "E-7"
+        assert id_of_command(connection, change_of(ChangeKind.PARENTS, length=2)) == ""
 
 
 @pytest.mark.parametrize(("name", "text", "read"), [

@@ -11,7 +11,7 @@ import pytest
 from desk.site import HOST, Site, form_in, looked_in, shown
 from front_desk.desk import TOP, Desk
 from gudokeyi.locale import TEXTS
-from gudokeyi.store.exports import refresh
+from gudokeyi.services.folder_files import refresh
 from gudokeyi.web.sheet_work import Chosen, import_options_of
 from gudokeyi.web.workers import TAKING, Job
 

@@ -15,8 +15,10 @@ import pytest
 
 from desk.site import Site, shown
 from front_desk.desk import Desk
+from gudokeyi.services.found_animals import Asked, found_by
+from gudokeyi.store.sorted_animals import Order
 from gudokeyi.web.routes.matings import level_of
-from gudokeyi.web.views.animals import Asked, Order, asked_by, fields_of, found_by, turned
+from gudokeyi.web.views.animals import asked_by, fields_of, turned
 
 INBRED, DAM, LEFT = "GK-14/388b", "GK-17/472c", "GK-10/294b"
 NUMBER = "HOLGBRM000000000402"
@@ -100,7 +102,7 @@ def test_asked_again(site: Site, monkeypatch: pytest.MonkeyPatch) -> None:
     assert not upwards.is_downwards and turned(upwards, Order.ID).is_downwards and not turned(asked, Order.BIRTH).is_downwards
     # what an animal was before a change is no animal more
     site.post("/file/exit", id=DAM, day="2024-05-01")
-    monkeypatch.setattr("gudokeyi.web.views.animals.ON_A_PAGE", 251)
+    monkeypatch.setattr("gudokeyi.services.found_animals.ON_A_PAGE", 251)
     with site.desk.opened() as book:
         assert book
         found = found_by(book, Asked(page=9))

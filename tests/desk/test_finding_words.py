@@ -11,11 +11,11 @@ import pytest
 from gudokeyi.domain.kinds import Field, Role
 from gudokeyi.domain.provenance import BirthBasis, BirthSource, ExitBasis, ExitSource, Period, SexSource
 from gudokeyi.domain.refusals import Refusal
+from gudokeyi.domain.settings import LANGUAGES
 from gudokeyi.ingest.findings.cells import ExitInferred, IdAgain
 from gudokeyi.reconcile.findings.animals import BirthDayInferred, KeptByHand, KeptFromBook, RowIsGone, ValueChanged
 from gudokeyi.reconcile.findings.parents import DayFact, ParentRefused
 from gudokeyi.reconcile.findings.rows import OwnerDayInferred
-from gudokeyi.store.settings import LANGUAGES
 from gudokeyi.web.language import PageLanguage
 from gudokeyi.web.views.messages import sentence_of
 

@@ -5,8 +5,9 @@ import pytest
 
 from desk.site import Site
 from gudokeyi.services import overview
-from gudokeyi.services.overview import Overview, later, overview_of
+from gudokeyi.services.overview import later
 from gudokeyi.store.book import Book
+from gudokeyi.store.counts import Overview, overview_of
 
 DAM, SIRE = "GK-17/472c", "GK-10/294b"
 FORMS = [

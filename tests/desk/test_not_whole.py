@@ -10,10 +10,10 @@ import pytest
 
 from desk.site import Site, shown
 from front_desk.desk import Desk
+from gudokeyi.domain.settings import LANGUAGES
 from gudokeyi.locale import SENTENCES
 from gudokeyi.services.cache import stamp_of
 from gudokeyi.store.messages import NotWhole
-from gudokeyi.store.settings import LANGUAGES
 from gudokeyi.web.changing import go_on, see_whole
 
 DAM, SIRE, CALF = "GK-17/472c", "GK-10/294b", "HOLGBRM000000000402"

@@ -8,9 +8,9 @@ from desk.site import Site, shown
 from desk.test_desk_filing import DAM, SIRE
 from gudokeyi.domain.changes import Option
 from gudokeyi.domain.kinds import Field
+from gudokeyi.domain.requests import WebFault
+from gudokeyi.domain.settings import LANGUAGES
 from gudokeyi.locale import SENTENCES, TEXTS
-from gudokeyi.store.settings import LANGUAGES
-from gudokeyi.web.messages import WebFault
 
 
 def test_correction_of_nothing(site: Site) -> None:

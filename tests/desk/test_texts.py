@@ -21,6 +21,8 @@ from gudokeyi.domain.findings import KINDS
 from gudokeyi.domain.kinds import ChangeKind
 from gudokeyi.domain.provenance import BirthBasis, BirthSource, Period, SexSource
 from gudokeyi.domain.refusals import Refusal
+from gudokeyi.domain.requests import Naming
+from gudokeyi.domain.settings import LANGUAGES
 from gudokeyi.ingest.messages import Where
 from gudokeyi.locale import SENTENCES
 from gudokeyi.locale.members import MEMBERS
@@ -31,8 +33,7 @@ from gudokeyi.reconcile.findings.animals import (
 from gudokeyi.reconcile.findings.plausibility import ExitsWithdrawn
 from gudokeyi.reconcile.messages import ImportFault
 from gudokeyi.reconcile.stored_findings import kind_named, kinds_of, modules_of_findings
-from gudokeyi.store.messages import BookFault, Naming
-from gudokeyi.store.settings import LANGUAGES
+from gudokeyi.store.messages import BookFault
 from gudokeyi.web.language import NAMES_OF_MEMBERS, PageLanguage, word_for
 from gudokeyi.web.views.messages import FINDINGS, VALUE, MessageView, sentence_in, sentence_of, text_for
 
@@ -196,9 +197,9 @@ def test_values() -> None:
 # modules whose mistakes only words of the command line can make
 OF_WORDS = {
     "domain/commands", "ingest/pedigree_files", "ingest/pedigrees", "packages", "reconcile/pedigree_links",
-    "render/trend_pictures", "services/exports", "services/history", "services/pedigree_imports",
-    "services/relationships", "services/search", "store/backup", "store/legacy/old_folder", "store/output_files",
-    "web/addresses", "web/server",
+    "render/trend_pictures", "services/exports", "services/output_files", "services/pedigree_imports",
+    "services/relationships", "services/restoring", "services/search", "store/backup", "store/legacy/old_folder",
+    "services/undoing", "web/addresses", "web/server",
 }  # fmt: skip
 
 

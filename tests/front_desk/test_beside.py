@@ -10,25 +10,25 @@ from collections.abc import Callable, Iterator
 import pytest
 
 from front_desk.desk import Desk
+from gudokeyi.background import Background, Pieces
 from gudokeyi.domain.messages import Mistake
-from gudokeyi.engine.program import Herdbook
-from gudokeyi.engine.workers import Background, Pieces
+from gudokeyi.services.book_program import BookProgram
 from gudokeyi.store.book import Book
 from gudokeyi.store.journal import Part
 from gudokeyi.store.transactions import reading
 
 # the program that a script stands for
-Program = Callable[[str], Herdbook]
+Program = Callable[[str], BookProgram]
 
 
 @pytest.fixture
 def herdbook(tmp_path: pathlib.Path, monkeypatch: pytest.MonkeyPatch) -> Program:
-    def made(script: str) -> Herdbook:
+    def made(script: str) -> BookProgram:
         path = tmp_path / "herdbook"
         path.write_text(script, encoding="utf-8")
         path.chmod(0o755)
         monkeypatch.setenv("HERDBOOK", str(path))
-        return Herdbook()
+        return BookProgram()
 
     return made
 

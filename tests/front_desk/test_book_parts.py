@@ -11,27 +11,27 @@ from typing import cast
 
 import pytest
 
-from gudokeyi.domain.animals import SocietyRecord
+from gudokeyi.domain.animals import NO_OWNER, SocietyRecord
 from gudokeyi.domain.changes import ChangeDetails, StoredFinding
 from gudokeyi.domain.commands import RegisterRecord, birth, leave, record_after, replay, transfer
-from gudokeyi.domain.kinds import ChangeKind, Field, Remembered, Standing
+from gudokeyi.domain.kinds import CELL_FIELDS, ChangeKind, Field, Remembered, Standing
 from gudokeyi.domain.messages import Mistake
 from gudokeyi.domain.provenance import BirthBasis, BirthSource, ExitBasis, ExitSource, OwnerDay, Period, SexSource
 from gudokeyi.ingest.animals import SheetAnimal
 from gudokeyi.reconcile.next_book import NextBook
 from gudokeyi.services.filing import owner_code_of, transferred, with_parents
 from gudokeyi.services.saving import cell_rows
+from gudokeyi.services.writing import write_owners
 from gudokeyi.store.animal_rows import known_of, record_of, row_of
-from gudokeyi.store.book import NO_OWNER, Book
+from gudokeyi.store.book import Book
 from gudokeyi.store.coefficients import few_descendants, kept_lines, write_coefficients
 from gudokeyi.store.history import all_changes, changed_one_by_one, told_by, write_change
 from gudokeyi.store.journal import NO_JOURNAL, Step, alike
 from gudokeyi.store.schema import MIGRATIONS
 from gudokeyi.store.state import (
-    ANIMALS, CELL_FIELDS, REMEMBERED, Meaning, as_written, bring_back, read_remembered, remembered_rows, renamings,
-    write_rows,
+    ANIMALS, REMEMBERED, Meaning, Rows, State, animal_rows, as_written, bring_back, read_remembered, remembered_rows,
+    renamings, write_rows,
 )  # fmt: skip
-from gudokeyi.store.writing import Rows, State, animal_rows, write_owners
 
 NUMBER = "HOLGBRF000000000001"
 BORN, GIVEN, LEFT = (datetime.date(year, 1, 2) for year in (2001, 2003, 2005))

@@ -11,8 +11,8 @@ import pytest
 from front_desk.desk import Desk
 from front_desk.whole import changes_of
 from gudokeyi.domain.messages import Mistake
+from gudokeyi.services.folder_files import refresh
 from gudokeyi.store import database, schema, transactions
-from gudokeyi.store.exports import refresh
 from gudokeyi.store.messages import BookFault
 
 

@@ -12,21 +12,24 @@ import pytest
 
 from front_desk.desk import Desk
 from front_desk.whole import FLOCK
+from gudokeyi.background import Background
 from gudokeyi.domain.changes import NO_MARK, Change, ChangeDetails
 from gudokeyi.domain.findings import Call
 from gudokeyi.domain.kinds import ChangeKind
 from gudokeyi.domain.messages import Mistake
-from gudokeyi.engine.program import Herdbook
-from gudokeyi.engine.workers import Background
+from gudokeyi.domain.settings import Setting
+from gudokeyi.process import stop_no_more
 from gudokeyi.reconcile.outcome import Outcome
-from gudokeyi.services import saving
+from gudokeyi.services import restoring, saving
+from gudokeyi.services.book_program import BookProgram
 from gudokeyi.services.saving import Prepared, save_import
+from gudokeyi.services.writing import write
 from gudokeyi.store import backup
 from gudokeyi.store.book import Book
-from gudokeyi.store.settings import Setting, change_settings
-from gudokeyi.store.state import Meaning, read_remembered
-from gudokeyi.store.transactions import Overtaken, changing, copy_of, stop_no_more
-from gudokeyi.store.writing import Filed, Rows, State, write
+from gudokeyi.store.journal import Filed
+from gudokeyi.store.settings import change_settings
+from gudokeyi.store.state import Meaning, Rows, State, read_remembered
+from gudokeyi.store.transactions import Overtaken, changing, copy_of
 
 
 def test_folder_that_goes_away(flock_desk: Desk, monkeypatch: pytest.MonkeyPatch) -> None:
@@ -40,7 +43,7 @@ def test_folder_that_goes_away(flock_desk: Desk, monkeypatch: pytest.MonkeyPatch
         return cast(Outcome, None), None
 
     with pytest.raises(Mistake, match="there is no book in the folder"):
-        save_import(folder, Herdbook(), prepare)
+        save_import(folder, BookProgram(), prepare)
     assert len(seen) == 1 and not folder.exists()
     assert "is whole: 1 change" in flock_desk.good("verify", "--book", "moved").out
 
@@ -65,7 +68,7 @@ def test_what_is_told_besides(flock_desk: Desk, monkeypatch: pytest.MonkeyPatch)
 
     for prepared, told in (prepare, "0"), (prepare_beside_another, "1"):
         notes.clear()
-        taken, besides = save_import(folder, Herdbook(), prepared)
+        taken, besides = save_import(folder, BookProgram(), prepared)
         assert taken.call.change == 7 and besides == [told, "of the exports"]
 
 
@@ -86,7 +89,7 @@ def test_nothing_is_remembered_any_more(flock_desk: Desk, monkeypatch: pytest.Mo
         for remembered in None, list[Meaning]():
             with changing(folder) as connection:
                 state = State(Rows({}, {}), remembered=remembered, keeps_coefficients=True)
-                write(Book(folder, connection), Herdbook(), Filed([]), lambda: state, ChangeDetails(ChangeKind.TAKE))
+                write(Book(folder, connection), BookProgram(), Filed([]), lambda: state, ChangeDetails(ChangeKind.TAKE))
             with contextlib.closing(sqlite3.connect(folder / "book.sqlite")) as connection:
                 found.append(bool(read_remembered(connection)))
     finally:
@@ -97,16 +100,17 @@ def test_nothing_is_remembered_any_more(flock_desk: Desk, monkeypatch: pytest.Mo
 def test_stopped_when_it_is_made(flock_desk: Desk, monkeypatch: pytest.MonkeyPatch) -> None:
     """A restoring, or a change of the settings, that ends can't be stopped any more, so nobody is told that it was."""
     monkeypatch.setenv("HERDBOOK", flock_desk.program)
+    monkeypatch.setattr("gudokeyi.process.ignores_stops", True)
     flock_desk.good("backup", "copy")
     folder, handlers = flock_desk.room / "book", list[object]()
-    monkeypatch.setattr(backup, "keep_old", lambda folder: handlers.append(signal.getsignal(signal.SIGINT)))
+    monkeypatch.setattr(restoring, "keep_old", lambda folder: handlers.append(signal.getsignal(signal.SIGINT)))
     # whoever changes a book beside others, as a desk does, is stopped with these
     Background(stop_no_more).value()
     try:
         for text in None, b"no database " * 999:
             if text is not None:
                 flock_desk.write("book/book.sqlite", text)
-            backup.restore(folder, flock_desk.room / "copy", Herdbook(), anyway=True)
+            restoring.restore(folder, flock_desk.room / "copy", BookProgram(), anyway=True)
             handlers.append(signal.getsignal(signal.SIGINT))
             signal.signal(signal.SIGINT, signal.default_int_handler)
         change_settings(folder, {Setting.NAME: "Verein"})
@@ -126,16 +130,16 @@ def test_restored_in_the_place_of_what_was_looked_at(flock_desk: Desk, monkeypat
     other = mark[0], mark[1] + 1
     marks = [mark, (2, mark[1]), mark, other]
     with monkeypatch.context() as patched:
-        patched.setattr(backup, "mark_now", lambda _: marks.pop(0))
+        patched.setattr(restoring, "mark_now", lambda _: marks.pop(0))
         for looked in mark, mark, NO_MARK, other:
             with pytest.raises(Overtaken):
-                backup.restore(folder, copy, Herdbook(), anyway=True, looked=looked)
+                restoring.restore(folder, copy, BookProgram(), anyway=True, looked=looked)
             marks += [mark] * (not marks)
     assert backup.mark_now(folder) == mark and not (folder / "old").exists()
     flock_desk.write("book/book.sqlite", b"no database " * 999)
     assert backup.mark_now(folder) is None
     try:
-        assert backup.restore(folder, copy, Herdbook(), anyway=True, looked=mark).number == 2
+        assert restoring.restore(folder, copy, BookProgram(), anyway=True, looked=mark).number == 2
     finally:
         signal.signal(signal.SIGINT, signal.default_int_handler)
 

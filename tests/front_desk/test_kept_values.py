@@ -9,7 +9,7 @@ from typing import Any, cast
 from gudokeyi.domain.animals import SocietyRecord
 from gudokeyi.domain.commands import RegisterRecord, birth, record_after
 from gudokeyi.domain.findings import Finding, Report
-from gudokeyi.domain.kinds import Field
+from gudokeyi.domain.kinds import CELL_FIELDS, Field
 from gudokeyi.domain.provenance import GIVEN_EXIT, BirthBasis, BirthSource, ExitBasis, ExitSource, SexSource
 from gudokeyi.ingest.animals import SheetAnimal
 from gudokeyi.ingest.day_cells import DayCells
@@ -20,7 +20,7 @@ from gudokeyi.reconcile.findings.animals import KeptByHand, KeptFromBook, SexInf
 from gudokeyi.reconcile.kept_values import keep_values
 from gudokeyi.reconcile.next_book import NextBook
 from gudokeyi.store.book import Book
-from gudokeyi.store.state import CELL_FIELDS
+from gudokeyi.store.database import empty
 
 NUMBER, SIRE, DAM = "HOLGBRM000000000001", "HOLGBRM000000000002", "HOLGBRF000000000003"
 BORN, LEFT = datetime.date(2001, 3, 31), datetime.date(2005, 6, 1)
@@ -40,7 +40,7 @@ def kept(
     cells = {("a",): ("a", *map(cast(Any, last).get, CELL_FIELDS))} if last is not None else {}
     book = SimpleNamespace(
         known={one.id: one for one in names.values()}, records={NUMBER: record}, by_number=lambda: names, cells=cells,
-        respelt=str, owner_of=OWNERS.__getitem__, connection=None,
+        respelt=str, owner_of=OWNERS.__getitem__, connection=empty(),
     )  # fmt: skip
     report, given = Report(), {field.value for field in Field if field not in lacks}
     for finding in found:

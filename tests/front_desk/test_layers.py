@@ -3,6 +3,7 @@ from __future__ import annotations
 
 import ast
 import pathlib
+import re
 from collections.abc import Iterator
 
 import gudokeyi
@@ -10,41 +11,21 @@ import gudokeyi
 HERE = pathlib.Path(gudokeyi.__file__).resolve().parent
 # from the bottom up; those that stand beside one another don't import each other
 LAYERS = (
-    {"other_python", "process"},
+    {"background", "other_python", "process"},
     {"domain"},
     {"engine", "store", "genetics", "ingest", "packages"},
     {"reconcile"},
     {"services"},
-    {"locale"},
+    {"bounds", "locale"},
     {"render"},
-    {"cli", "web"},
+    {"web"},
+    # two of its words begin the pages
+    {"cli"},
     {"start"},
 )
 HEIGHT = {part: height for height, parts in enumerate(LAYERS) for part in parts}
 # the modules that import others above or beside them, each with the parts that these are in
-EXCEPTIONS: dict[str, str] = {
-    "cli.words.browser": "web",
-    "cli.words.serving": "web",
-    "domain.commands": "store",
-    "engine.program": "store",
-    "ingest.animal_cells": "store",
-    "ingest.pedigrees": "reconcile store",
-    "ingest.sheet_animals": "reconcile store",
-    "locale.query_messages": "web",
-    "services.pedigree_imports": "render",
-    "services.sheet_imports": "render",
-    "store.backup": "engine",
-    "store.book": "engine",
-    "store.exports": "reconcile",
-    "store.journal": "engine",
-    "store.legacy.old_folder": "engine",
-    "store.opening": "engine",
-    "store.verification": "engine",
-    "store.writing": "engine",
-    "web.forms": "cli",
-    "web.routes.matings": "cli",
-    "web.sheet_work": "cli",
-}
+EXCEPTIONS: dict[str, str] = {}
 
 
 def imported(path: pathlib.Path) -> Iterator[str]:
@@ -81,3 +62,47 @@ def test_parts() -> None:
 def test_direction() -> None:
     """An exception that is needed no more is to be taken away here."""
     assert found() == EXCEPTIONS
+
+
+# what begins or stands in statements of SQL alone
+SQL = re.compile(
+    r"\b(SELECT .+ FROM|INSERT INTO|DELETE FROM|UPDATE \w+ SET|CREATE (TABLE|INDEX)|DROP (TABLE|INDEX)|ALTER TABLE|PRAGMA|"
+    r"WITH RECURSIVE|BEGIN IMMEDIATE|ORDER BY|GROUP BY|LEFT JOIN|CROSS JOIN|IS (NOT )?NULL|json_each|iif\(|ifnull\()", re.DOTALL
+)  # fmt: skip
+CALLS = ("execute", "executemany", "executescript")
+
+
+def sql_in(path: pathlib.Path) -> Iterator[str]:
+    """The texts of a module that are SQL, and what asks a database, each with its line."""
+    tree = ast.parse(path.read_text(encoding="utf-8"))
+    for node in ast.walk(tree):
+        if isinstance(node, ast.Constant) and isinstance(node.value, str) and SQL.search(node.value):
+            yield f"{path.name}:{node.lineno}: {node.value[:60]}"
+        if isinstance(node, ast.Attribute) and node.attr in CALLS:
+            yield f"{path.name}:{node.lineno}: {node.attr}"
+
+
+# what the terminal may import: what is above values, the program, the database, measures and sheets
+BEHIND_SERVICES = {"engine", "store", "genetics", "ingest", "reconcile"}
+
+
+def test_faces() -> None:
+    """Terminal and pages have no way to a book but the use cases. `web/views` is a part of what renders: it makes pages of
+    what these answer, in the language of who asks."""
+    modules = [path for part in ("cli", "web") for path in (HERE / part).rglob("*.py") if path.parent.name != "views"]
+    wrong = {path.relative_to(HERE).as_posix(): sorted(BEHIND_SERVICES & {*imported(path)}) for path in modules}
+    assert {path: parts for path, parts in wrong.items() if parts} == {}
+
+
+def test_sql() -> None:
+    """A database is asked in the store alone."""
+    outside = [path for path in HERE.rglob("*.py") if path.relative_to(HERE).parts[0] != "store"]
+    assert [one for path in sorted(outside) for one in sql_in(path)] == []
+    # that it would be found
+    assert len([*sql_in(HERE / "store" / "counts.py")]) > 5
+
+
+def test_empty_book() -> None:
+    """An empty book is a value: nobody asks whether there is a connection to one."""
+    asked = re.compile(r"(book|self)\.connection is (not )?None")
+    assert [path.name for path in HERE.rglob("*.py") if asked.search(path.read_text(encoding="utf-8"))] == []

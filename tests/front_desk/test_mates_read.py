@@ -7,16 +7,17 @@ import sqlite3
 import pytest
 
 from front_desk.desk import Desk
+from gudokeyi.background import Background
 from gudokeyi.domain.kinds import Role
 from gudokeyi.domain.messages import Mistake
-from gudokeyi.engine.program import Herdbook
-from gudokeyi.engine.workers import Background
+from gudokeyi.services.book_program import BookProgram
 from gudokeyi.services.lists import BIRTH_OF, birth_of
 from gudokeyi.services.matings import (
     Answers, Candidate, Candidates, advise_on_all, all_candidates, birth_shown, named_candidates, shown_of, told_of,
 )  # fmt: skip
-from gudokeyi.services.selection import HAS_LEFT, LISTED, MAY_BE_MATED, MatesRead, Why
 from gudokeyi.store.book import Book
+from gudokeyi.store.conditions import HAS_LEFT, LISTED, Condition
+from gudokeyi.store.mates import MAY_BE_MATED, MatesRead, Why
 from gudokeyi.store.queries import selected
 from gudokeyi.store.transactions import reading
 
@@ -55,7 +56,7 @@ def test_as_the_rows(desk: Desk, role: Role, also_left: bool) -> None:
         assert [*zip(read.numbers, read.ids)] == [(book.known[id].number, id) for id in read.ids]
         by_id, named = {one.id: one for one in wanted.animals}, [book.known[id] for id in read.ids]
         assert [*map(birth_shown, read.births)] == [by_id[id].birth for id in read.ids]
-        may = {id for id, number in selected(book, ("id", "number"), [MAY_BE_MATED]) if number[6] == role.sex}
+        may = {id for id, number in selected(book, ("id", "number"), Condition(MAY_BE_MATED)) if number[6] == role.sex}
         assert also_left or may == {*by_id}
         # as they are named, each once
         assert named_candidates(book, role, named * 2).animals == [by_id[one.id] for one in named]
@@ -119,7 +120,7 @@ def test_advice_where_the_journal_can_not_be_read_beside(mrode_desk: Desk, monke
     monkeypatch.setattr("gudokeyi.store.journal.connect", closed)
     monkeypatch.setenv("HERDBOOK", mrode_desk.program)
     with reading(mrode_desk.room / "book") as connection:
-        book, program = Book(mrode_desk.room / "book", connection), Herdbook()
+        book, program = Book(mrode_desk.room / "book", connection), BookProgram()
         with book.journal_read_beside():
             read, dam = MatesRead(book, Role.SIRE, False), book.known["2"]
             begun = program.begin_matings(dam.number, read.numbers, book)
@@ -133,9 +134,9 @@ def test_many_sires_are_asked_for_in_parts(mrode_desk: Desk, monkeypatch: pytest
     mrode_desk.good("birth", "0a", "--sex", "m", "--day", "2020-01-01")
     wanted = mrode_desk.good("mating", "--dam", "2").out
     monkeypatch.setenv("HERDBOOK", mrode_desk.program)
-    monkeypatch.setattr("gudokeyi.engine.program.MOST_NUMBERS", 3)
+    monkeypatch.setattr("gudokeyi.services.book_program.MOST_NUMBERS", 3)
     with reading(mrode_desk.room / "book") as connection:
-        book, program = Book(mrode_desk.room / "book", connection), Herdbook()
+        book, program = Book(mrode_desk.room / "book", connection), BookProgram()
         read, dam = MatesRead(book, Role.SIRE, False), book.known["2"]
         begun = program.begin_matings(dam.number, read.numbers, book)
         assert read.ids == ["1", "4", "5", "0a"] and len(begun) == 2

@@ -1,6 +1,7 @@
 """A folder of version 0.11 is taken over on the first call, with the same numbers."""
 from __future__ import annotations
 
+import fcntl
 import hashlib
 import os
 import pathlib
@@ -9,14 +10,13 @@ from typing import cast
 
 import pytest
 
-import fcntl
 from front_desk.desk import Desk
 from front_desk.old_folder import FILES, LIST, SHEET
 from front_desk.whole import changes_of, ended, start
 from gudokeyi.domain.messages import Mistake
 from gudokeyi.domain.provenance import OwnerDay
-from gudokeyi.engine.program import Herdbook
-from gudokeyi.store import backup
+from gudokeyi.services import old_folders, restoring
+from gudokeyi.services.book_program import BookProgram
 from gudokeyi.store.book import Book
 from gudokeyi.store.legacy import old_folder
 from gudokeyi.store.legacy.files import is_old
@@ -96,14 +96,14 @@ def test_begun_where_it_is_whole(old_desk: Desk, monkeypatch: pytest.MonkeyPatch
     """Else there is no book and the files stay; the next call takes them over, though they stand in `old` already."""
     folder = old_desk.room / "book"
 
-    def fault(book: Book, program: Herdbook, path: pathlib.Path) -> None:
+    def fault(book: Book, program: BookProgram, path: pathlib.Path) -> None:
         assert book.records.keys() == {line.split(",")[1] for line in FILES["commands.csv"].splitlines()[1:]}
         raise Mistake(f"{path} is faulty")
 
     monkeypatch.setenv("HERDBOOK", old_desk.program)
     with monkeypatch.context() as faulty, pytest.raises(Mistake, match="book/ids.csv is faulty"):
-        faulty.setattr(old_folder, "verify", fault)
-        old_folder.take_over(folder, Herdbook())
+        faulty.setattr(old_folders, "verify", fault)
+        old_folders.take_over(folder, BookProgram())
     assert {name: old_desk.text(f"book/{name}") for name in FILES} == FILES and is_old(folder)
     assert old_desk.good("list").out == LIST
 
@@ -135,7 +135,7 @@ def test_what_its_files_say_of_animals(old_desk: Desk, monkeypatch: pytest.Monke
     """The texts of parents, and that the days of owners are inferred; what nobody knows is told as changed."""
     old_desk.write("book/parents.csv", b"id,role,written\nc,sire,Bob\nd,dam,Eva\n")
     monkeypatch.setenv("HERDBOOK", old_desk.program)
-    known = old_folder.read(old_desk.room / "book", Herdbook()).known
+    known = old_folder.read(old_desk.room / "book", BookProgram().file).known
     texts = {id: (one.written_sire, one.written_dam) for id, one in known.items()}
     assert texts == dict.fromkeys("abegx", ("", "")) | {"c": ("Bob", ""), "d": ("", "Eva")}
     assert {one.owner_day for one in known.values()} == {OwnerDay.INFERRED}
@@ -146,7 +146,7 @@ def test_what_its_files_say_of_animals(old_desk: Desk, monkeypatch: pytest.Monke
         assert word in FILES["ids.csv"]
         old_desk.write("book/ids.csv", FILES["ids.csv"].replace(word, other).encode())
         with pytest.raises(Mistake, match="ids.csv is missing or was changed"):
-            old_folder.read(old_desk.room / "book", Herdbook())
+            old_folder.read(old_desk.room / "book", BookProgram().file)
 
 
 def test_two_first_calls_at_once(old_desk: Desk, monkeypatch: pytest.MonkeyPatch) -> None:
@@ -154,22 +154,22 @@ def test_two_first_calls_at_once(old_desk: Desk, monkeypatch: pytest.MonkeyPatch
     others: list[subprocess.Popen[bytes]] = []
     read = old_folder.read
 
-    def read_while_another_comes(folder: pathlib.Path, program: Herdbook) -> old_folder.OldBook:
+    def read_while_another_comes(folder: pathlib.Path, file: old_folder.FileAll) -> old_folder.OldBook:
         others.append(start(old_desk, "list"))
         assert not may_be_taken_over(folder)
-        return read(folder, program)
+        return read(folder, file)
 
-    monkeypatch.setattr(old_folder, "read", read_while_another_comes)
+    monkeypatch.setattr(old_folders, "read", read_while_another_comes)
     monkeypatch.setenv("HERDBOOK", old_desk.program)
-    old_folder.take_over(old_desk.room / "book", Herdbook())
+    old_folders.take_over(old_desk.room / "book", BookProgram())
     assert [ended(one).out for one in others] == [LIST] and changes_of(old_desk.room / "book") == 1
 
 
 def test_nobody_takes_it_over_where_a_backup_is_restored(old_desk: Desk, monkeypatch: pytest.MonkeyPatch) -> None:
     folder, may = old_desk.room / "book", list[bool]()
-    monkeypatch.setattr(backup, "prepare", lambda *_: None)
-    monkeypatch.setattr(backup, "put_in_place", lambda *_: may.append(may_be_taken_over(folder)))
-    backup.restore(folder, old_desk.room / "copy", cast(Herdbook, None), anyway=True)
+    monkeypatch.setattr(restoring, "prepare", lambda *_: None)
+    monkeypatch.setattr(restoring, "put_in_place", lambda *_: may.append(may_be_taken_over(folder)))
+    restoring.restore(folder, old_desk.room / "copy", cast(BookProgram, None), anyway=True)
     assert may == [False] and may_be_taken_over(folder)
 
 

@@ -5,15 +5,17 @@ import os
 import pathlib
 
 import pytest
-
 from front_desk.desk import Desk
 from front_desk.whole import FLOCK
+
 from gudokeyi.domain.messages import Mistake
 from gudokeyi.ingest.files import MOST_BYTES, MOST_LETTERS, MOST_ROWS, check_bounds, read_bytes
 from gudokeyi.ingest.sheets import SheetRow
-from gudokeyi.store import backup as backups, files, output_files
+from gudokeyi.services import output_files, restoring as backups
+from gudokeyi.store import files
 from gudokeyi.store.book import Book
 from gudokeyi.store.transactions import reading
+from gudokeyi.web.routes.restoring import restoring
 
 ODD = "id,name,sex,born,sire,dam\n@SUM(A1),+x,F,2001-01-01,,\nA 1,\x1b[31mred,F,2001-01-01,,\nA-1,,F,2001-01-01,,\nA/1,,M,2001-01-01,,\n"
 

@@ -5,7 +5,7 @@ import datetime
 from types import SimpleNamespace
 from typing import NamedTuple, cast
 
-from gudokeyi.domain.animals import SocietyRecord
+from gudokeyi.domain.animals import NO_OWNER, SocietyRecord
 from gudokeyi.domain.commands import Command, birth, record_after, transfer
 from gudokeyi.domain.findings import Finding, Report
 from gudokeyi.domain.provenance import OwnerDay
@@ -13,7 +13,8 @@ from gudokeyi.ingest.animals import SheetAnimal
 from gudokeyi.ingest.days import Span, month_of, year_of
 from gudokeyi.reconcile.findings.rows import OwnerDayInferred, OwnerDayMoved
 from gudokeyi.reconcile.owner_days import OwnerDays, Owners
-from gudokeyi.store.book import NO_OWNER, Book
+from gudokeyi.store.book import Book
+from gudokeyi.store.database import empty
 
 NUMBER, NORD, SUED = "HOLGBRF000000000001", 4, 5
 BORN, DAY, LATER, LAST = (datetime.date(year, 2, 3) for year in (2001, 2003, 2005, 2007))
@@ -43,7 +44,7 @@ def found(
     names = {herd: name for name, herd in owners.items()} | {NO_OWNER: ""}
     known = {"a": SocietyRecord(NUMBER, "a", owner_day=INFERRED)}
     book = SimpleNamespace(
-        known=known, records={NUMBER: record}, owners=owners, owner_of=names.get, connection=None
+        known=known, records={NUMBER: record}, owners=owners, owner_of=names.get, connection=empty()
     )  # fmt: skip
     report = Report()
     days = OwnerDays(cast(Book, book), report, None)

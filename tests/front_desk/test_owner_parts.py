@@ -6,7 +6,7 @@ from types import SimpleNamespace
 from typing import cast
 
 from front_desk.test_taking_parts import BORN, NUMBER
-from gudokeyi.domain.animals import SocietyRecord
+from gudokeyi.domain.animals import NO_OWNER, SocietyRecord
 from gudokeyi.domain.commands import birth, record_after, transfer
 from gudokeyi.domain.findings import Report
 from gudokeyi.domain.kinds import Field
@@ -16,7 +16,8 @@ from gudokeyi.ingest.days import DayFault, Span, month_of, year_of
 from gudokeyi.ingest.findings.cells import DayLeftOut
 from gudokeyi.reconcile.findings.rows import OwnerDayInferred, OwnerDayMoved
 from gudokeyi.reconcile.owner_days import OwnerDays, Owners
-from gudokeyi.store.book import NO_OWNER, Book
+from gudokeyi.store.book import Book
+from gudokeyi.store.database import empty
 
 
 def moved(basis: OwnerDay, born: str, *days: str, left: str = "") -> tuple[list[str], list[tuple[str, str]], OwnerDay]:
@@ -86,7 +87,7 @@ def test_owners_of_animals(today: datetime.date) -> None:
         owners = {"Nord": 4, "Süd": 5}
         names = {herd: name for name, herd in owners.items()} | {NO_OWNER: ""}
         book = SimpleNamespace(
-            known=known, records={NUMBER: record}, owners=owners, owner_of=names.get, connection=None
+            known=known, records={NUMBER: record}, owners=owners, owner_of=names.get, connection=empty()
         )  # fmt: skip
         days = OwnerDays(cast(Book, book), report, None)
         days.before = {NUMBER: 4}, {NUMBER: [given]}

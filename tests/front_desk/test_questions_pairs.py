@@ -16,8 +16,8 @@ from breed.drawn import drawn
 from front_desk.desk import Desk
 from gudokeyi.domain.animals import SocietyRecord
 from gudokeyi.domain.messages import MOST_NAMED, Mistake
-from gudokeyi.engine.program import Herdbook
 from gudokeyi.genetics.pedigree import UNKNOWN
+from gudokeyi.services.book_program import BookProgram
 from gudokeyi.services.relationships import related, relationships
 from gudokeyi.store.book import Book
 
@@ -131,7 +131,7 @@ def test_matings(society_desk: Desk) -> None:
 
 def test_too_many_pairs() -> None:
     """The program isn't asked for more than a table can have."""
-    book, program = Book(pathlib.Path("none"), None), cast(Herdbook, None)
+    book, program = Book(pathlib.Path("none"), None), cast(BookProgram, None)
     with pytest.raises(Mistake, match="these are 2,000,001 pairs, and at most 2,000,000 are written"):
         relationships(book, program, ["one"] * 3, ["other"] * 666_667)
     animals = cast(list[SocietyRecord], [types.SimpleNamespace(number="one")] * 2_000)

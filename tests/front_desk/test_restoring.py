@@ -13,7 +13,8 @@ from front_desk.desk import Desk
 from front_desk.test_history import CALF
 from front_desk.whole import GROWN
 from gudokeyi.domain.messages import Mistake
-from gudokeyi.engine.program import Herdbook
+from gudokeyi.services.book_program import BookProgram
+from gudokeyi.services.restoring import restore
 from gudokeyi.store import backup
 from gudokeyi.store.book import Book
 from gudokeyi.store.exports import LAST_BACKUP, LastBackup, last_backup, remember
@@ -70,7 +71,7 @@ def test_backups_that_are_none(flock_desk: Desk, monkeypatch: pytest.MonkeyPatch
     """Nothing is restored of a file that has no book, or something that no backup has, or that lacks something."""
     monkeypatch.setenv("HERDBOOK", flock_desk.program)
     flock_desk.good("backup", "copy")
-    folder, program = flock_desk.room / "other", Herdbook()
+    folder, program = flock_desk.room / "other", BookProgram()
     flock_desk.write("empty", b"")
     for name, statement, told in [
         ("empty", "", "has no book: name a backup"),
@@ -81,7 +82,7 @@ def test_backups_that_are_none(flock_desk: Desk, monkeypatch: pytest.MonkeyPatch
         if statement:
             changed(flock_desk, name, statement)
         with pytest.raises(Mistake, match=told):
-            backup.restore(folder, flock_desk.room / name, program, False)
+            restore(folder, flock_desk.room / name, program, False)
         assert not folder.exists()
 
 

@@ -12,8 +12,7 @@ import pytest
 
 from gudokeyi.domain.changes import StoredFinding
 from gudokeyi.domain.findings import KINDS, Entry, Finding
-from gudokeyi.ingest.findings.cells import LikeASum
-from gudokeyi.reconcile.findings.rows import IdUsedAgain
+from gudokeyi.ingest.findings.cells import IdUsedAgain, LikeASum
 from gudokeyi.reconcile.stored_findings import entry_of, modules_of_findings, told_of
 
 for module in modules_of_findings():

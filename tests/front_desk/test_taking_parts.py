@@ -9,10 +9,9 @@ from typing import Any, cast
 from gudokeyi.domain.animals import SocietyRecord
 from gudokeyi.domain.commands import birth, record_after
 from gudokeyi.domain.findings import Report, What
-from gudokeyi.domain.kinds import ChangeKind, CommandKind, Field, Role, Standing
+from gudokeyi.domain.kinds import CELL_FIELDS, ChangeKind, CommandKind, Field, Role, Standing
 from gudokeyi.domain.provenance import BirthBasis, BirthSource, ExitBasis, ExitSource, OwnerDay, SexSource
 from gudokeyi.domain.refusals import Refusal
-from gudokeyi.engine.program import Herdbook
 from gudokeyi.ingest.animals import SheetAnimal
 from gudokeyi.ingest.day_cells import DayCells
 from gudokeyi.ingest.days import year_of
@@ -25,9 +24,10 @@ from gudokeyi.reconcile.kept_values import keep_values
 from gudokeyi.reconcile.next_book import NextBook, known_after, written_parents
 from gudokeyi.reconcile.owner_days import OwnerDays
 from gudokeyi.reconcile.sexes import find_sexes
+from gudokeyi.services.book_program import BookProgram
 from gudokeyi.services.saving import cell_rows
 from gudokeyi.store.book import Book
-from gudokeyi.store.state import CELL_FIELDS
+from gudokeyi.store.database import empty
 
 NUMBER, BORN = "HOLGBRF000000000001", datetime.date(2001, 1, 2)
 DAYS = DayCells(UnknownParents(), month_first=False)
@@ -49,7 +49,7 @@ def test_numbers_of_a_taking() -> None:
         parts = ({one.id: one for one in some} for some in (known, dropped))
         first = next(iter([*(one.number for one in known), *former.values()]), "")
         found = dict(zip(("known", "dropped"), parts), former_numbers=lambda: former, greatest_digits=lambda: 7)
-        return cast(Book, SimpleNamespace(**found, connection=None, first_number=lambda: first))
+        return cast(Book, SimpleNamespace(**found, connection=empty(), first_number=lambda: first))
 
     new = ("b", 2001), ("c", 2000), ("a", 2001)
     digits = {"c": 8, "a": 9, "b": 10}
@@ -150,7 +150,7 @@ def test_what_was_filed_by_hand() -> None:
         name, owner, since = said.get(Field.NAME, ""), said.get(Field.OWNER, ""), year_of(int(said[Field.SINCE]))
         one = next_book(SheetAnimal("a", 2, name, owner=owner, cells=said, since=since), known, *said)
         last = {("a",): ("a", *map(cast(Any, before).get, CELL_FIELDS))}
-        vars(one.book).update(cells=last, records={NUMBER: record}, owner_of=str, respelt=str, connection=None)
+        vars(one.book).update(cells=last, records={NUMBER: record}, owner_of=str, respelt=str, connection=empty())
         keep_values(one)
         told = [entry.finding.field for entry in one.report.entries if isinstance(entry.finding, KeptByHand)]
         return one.animals["a"], {*one.overridden["a"]}, told
@@ -189,7 +189,7 @@ def test_refusals_behind_the_journal() -> None:
     """The first command behind it is seen, and what is refused in it, as of commands by hand, doesn't count."""
     for refused, wanted in ((2, False), (3, True), (4, True)):
         program = SimpleNamespace(file_text=lambda text, count, at=refused: {at: Refusal.SAME_OWNER})
-        assert filing(3).refused_behind(cast(Herdbook, program), b"", 2) is wanted
+        assert filing(3).refused_behind(cast(BookProgram, program), b"", 2) is wanted
 
 
 def test_a_birth_day_that_changes_is_told_but_where_both_are_invented() -> None:

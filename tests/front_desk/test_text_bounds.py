@@ -4,7 +4,7 @@ from __future__ import annotations
 import pytest
 
 from front_desk.desk import Desk
-from gudokeyi.store.messages import MOST_IN_ID, MOST_IN_NAME, MOST_IN_OWNER, NotSuch
+from gudokeyi.domain.requests import MOST_IN_ID, MOST_IN_NAME, MOST_IN_OWNER, NotSuch
 
 SHEET = "id,name,sex,born,sire,dam,owner\na,Bella,F,2001-01-01,,,Mill\n"
 BIRTH = ["--sex", "f", "--day", "2003-01-01"]

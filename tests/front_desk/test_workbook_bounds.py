@@ -16,16 +16,18 @@ import pytest
 from openpyxl.comments import Comment
 
 from front_desk.desk import TOP
+from gudokeyi.bounds import bound_look, bounded_reading
 from gudokeyi.domain.messages import Mistake
 from gudokeyi.ingest import files, workbooks
 from gudokeyi.ingest.columns import find_columns
-from gudokeyi.ingest.files import MOST_CELLS, MOST_ROWS, GivenFile, bound_look, check_bounds
+from gudokeyi.ingest.files import MOST_CELLS, MOST_ROWS, GivenFile, check_bounds
 from gudokeyi.ingest.messages import SheetFault
 from gudokeyi.ingest.sheets import Sheet, SheetRow
 from gudokeyi.ingest.unknown_parents import UnknownParents
 from gudokeyi.ingest.workbooks import Worksheet, cells_of, read_workbook
 from gudokeyi.reconcile.import_options import ImportOptions
 from gudokeyi.services import pedigree_imports, sheet_imports
+from gudokeyi.services.book_program import BookProgram
 
 PATH = pathlib.Path("flock.xlsx")
 TITLES, ANIMAL = ["Ohrmarke", "Geschlecht", "Geburtsdatum"], ["a", "m", "2001-01-01"]
@@ -190,7 +192,8 @@ def test_import_is_bounded(tmp_path: pathlib.Path, monkeypatch: pytest.MonkeyPat
     monkeypatch.setattr(pedigree_imports, "read_triples", read_slowly)
     take = pedigree_imports.import_pedigree if is_pedigree else sheet_imports.import_sheet
     with pytest.raises(Mistake, match="read"):
-        take(GivenFile(tmp_path / "a.csv", b"id\n"), ImportOptions(tmp_path / "book"))
+        file, options = GivenFile(tmp_path / "a.csv", b"id\n"), ImportOptions(tmp_path / "book")
+        take(file, options, BookProgram(), bounded_reading)
     assert seen == [True] and signal.getitimer(signal.ITIMER_VIRTUAL)[0] == signal.getitimer(signal.ITIMER_PROF)[0] == 0
     assert signal.getsignal(signal.SIGVTALRM) is signal.SIG_DFL
 
@@ -206,7 +209,7 @@ def test_counted() -> None:
 
 def looking(work: str) -> subprocess.CompletedProcess[str]:
     """A process that looks for a tenth of a second at most."""
-    code = f"from gudokeyi.ingest.files import bound_look\nbound_look(0.1)\n{work}"
+    code = f"from gudokeyi.bounds import bound_look\nbound_look(0.1)\n{work}"
     return subprocess.run([sys.executable, "-c", code], cwd=TOP / "src", capture_output=True, text=True, timeout=60)
 
 

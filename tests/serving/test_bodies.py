@@ -15,11 +15,11 @@ from desk.server import SECONDS
 from desk.site import HOST, shown
 from front_desk.desk import Desk
 from gudokeyi.domain.people import AccountRole
+from gudokeyi.domain.requests import NotSuch
+from gudokeyi.domain.settings import LANGUAGES
 from gudokeyi.locale import SENTENCES, TEXTS
 from gudokeyi.services.search import MOST_WORDS
 from gudokeyi.store.accounts import Accounts
-from gudokeyi.store.messages import NotSuch
-from gudokeyi.store.settings import LANGUAGES
 from gudokeyi.web.access import (
     FILES, MOST_FIELDS, MOST_FORM_BYTES, MOST_LETTERS, MOST_QUERY_BYTES, MOST_QUERY_FIELDS, MOST_TOLD,
 )  # fmt: skip

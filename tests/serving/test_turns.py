@@ -11,15 +11,15 @@ from collections.abc import Callable
 import pytest
 
 from front_desk.desk import Desk
-from gudokeyi.engine.program import Herdbook
 from gudokeyi.ingest.files import read_file
 from gudokeyi.reconcile.import_options import ImportOptions
-from gudokeyi.services import sheet_imports
+from gudokeyi.services import folder_files, restoring, sheet_imports
+from gudokeyi.services.book_program import BookProgram
+from gudokeyi.services.folder_files import refresh
+from gudokeyi.services.restoring import restore
 from gudokeyi.services.sheet_imports import import_sheet
 from gudokeyi.store import backup as backups, exports
-from gudokeyi.store.backup import restore
 from gudokeyi.store.book import Book
-from gudokeyi.store.exports import refresh
 from gudokeyi.store.transactions import Overtaken, reading
 from gudokeyi.web import sheet_work
 from gudokeyi.web.forms import new_form
@@ -113,7 +113,7 @@ def test_sheet_of_a_terminal(folder: pathlib.Path, society_desk: Desk, monkeypat
         behind(monkeypatch, sheet_imports, "finish", lambda: free.append(is_free(folder)))
 
     behind(monkeypatch, sheet_imports, "finish", file)
-    import_sheet(read_file(path), ImportOptions(folder, anyway=True))
+    import_sheet(read_file(path), ImportOptions(folder, anyway=True), BookProgram())
     assert free == [True, False] and kinds(folder) == ["take", "exit", "take"]
     living = {row["id"] for row in society_desk.listed("list", "--living")}
     assert "NEW-1" in living and DAM not in living
@@ -133,7 +133,7 @@ def test_exports(folder: pathlib.Path, society_desk: Desk, monkeypatch: pytest.M
             connection.commit()
         later.start()
 
-    behind(monkeypatch, exports, "report_text", file)
+    behind(monkeypatch, folder_files, "report_text", file)
     assert refresh(folder, 0) == ""
     later.join()
     with contextlib.closing(sqlite3.connect(folder / "book.sqlite")) as connection:
@@ -163,8 +163,8 @@ def test_restoring(folder: pathlib.Path, society_desk: Desk, monkeypatch: pytest
         filing.join(1.5)
         assert filing.is_alive()
 
-    behind(monkeypatch, backups, "keep_old", file)
-    restore(folder, society_desk.room / "copy.sqlite", Herdbook(), anyway=True)
+    behind(monkeypatch, restoring, "keep_old", file)
+    restore(folder, society_desk.room / "copy.sqlite", BookProgram(), anyway=True)
     filing.join()
     assert kinds(folder) == ["take", "restore", "exit"]
     (old,) = (folder / "old").glob("book-*.sqlite")
@@ -183,10 +183,10 @@ def test_restoring_of_another_book(folder: pathlib.Path, society_desk: Desk, mon
     it was left."""
     society_desk.good("backup", "copy.sqlite")
     exits = iter((OTHER, DAM))
-    for name in "prepare", "set_write_ahead":
+    for module, name in (restoring, "prepare"), (backups, "set_write_ahead"):
         looked = seen_now(folder).mark
-        behind(monkeypatch, backups, name, lambda: society_desk.good("exit", next(exits), "--day", DAY))
+        behind(monkeypatch, module, name, lambda: society_desk.good("exit", next(exits), "--day", DAY))
         with pytest.raises(Overtaken):
-            restore(folder, society_desk.room / "copy.sqlite", Herdbook(), anyway=True, looked=looked)
+            restore(folder, society_desk.room / "copy.sqlite", BookProgram(), anyway=True, looked=looked)
     assert kinds(folder) == ["take", "exit", "exit"] and not (folder / "old").exists()
     society_desk.good("verify")

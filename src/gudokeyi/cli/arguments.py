@@ -2,95 +2,35 @@
 from __future__ import annotations
 
 import argparse
-import datetime
+import functools
 import pathlib
-import re
-from typing import TYPE_CHECKING
+from collections.abc import Callable
+from typing import TypeVar
 
-from gudokeyi.store.messages import NotSuch
+from gudokeyi.domain.messages import Mistake
+from gudokeyi.services import option_values as values
+from gudokeyi.services.option_values import is_number
 
-if TYPE_CHECKING:
-    from fractions import Fraction
-
-# so many digits a number has at most
-MOST_DIGITS = 9
-FRACTION = re.compile(r"\s*[0-9.]{1,60}(/[0-9]{1,60})?\s*")
+Value = TypeVar("Value")
 
 
-def is_number(text: str) -> bool:
-    return text.isdecimal() and len(text) <= MOST_DIGITS
+def typed(reader: Callable[[str], Value]) -> Callable[[str], Value]:
+    """A reader of values, as argparse asks for one."""
+
+    @functools.wraps(reader)
+    def read(text: str) -> Value:
+        try:
+            return reader(text)
+        except Mistake as mistake:
+            raise argparse.ArgumentTypeError(mistake.sentences[0]) from None
+
+    return read
 
 
-def three_letters(text: str) -> str:
-    if not re.fullmatch("[A-Z]{3}", text):
-        raise argparse.ArgumentTypeError(NotSuch.LETTERS.said(text=text))
-    return text
-
-
-def day(text: str) -> datetime.date:
-    found = re.fullmatch(r"(\d{1,2})\.(\d{1,2})\.(\d{4})", text)
-    try:
-        return datetime.date(*map(int, found.groups()[::-1])) if found else datetime.date.fromisoformat(text)
-    except ValueError:
-        raise argparse.ArgumentTypeError(NotSuch.DAY.said(text=text)) from None
-
-
-def day_until_today(text: str) -> datetime.date:
-    found = day(text)
-    if found > datetime.date.today():
-        raise argparse.ArgumentTypeError(NotSuch.AFTER_TODAY.said(day=found))
-    return found
-
-
-def days(text: str) -> int:
-    if not is_number(text) or int(text) > 10_000:
-        raise argparse.ArgumentTypeError(NotSuch.DAYS.said(text=text))
-    return int(text)
-
-
-def sex(text: str) -> str:
-    """M or F, also by the words that a sheet may have."""
-    from gudokeyi.ingest.words import KNOWN_SEXES, sex_word
-
-    found = KNOWN_SEXES.get(sex_word(text))
-    if not found:
-        raise argparse.ArgumentTypeError(f"'{text}' is no word for a sex: write m or f")
-    return found
-
-
-def birth_days(text: str) -> tuple[datetime.date, datetime.date]:
-    """The first and the last day of `FROM..TO`: each a year, a month or a day, or nothing where there is no bound."""
-    from gudokeyi.ingest.days import FIRST_DAY, LAST_DAY, Unreadable, read_span
-
-    first, dots, last = re.sub(r"^(\d{4}) ?[-–] ?(\d{4})$", r"\1..\2", text).partition("..")
-    try:
-        begin = read_span(first).first if first else FIRST_DAY
-        end = read_span(last or (first if not dots else "")).last if last or not dots else LAST_DAY
-    except Unreadable:
-        forms = "2010..2019, 2010.. or 2010-03-01..2010-08-31"
-        raise argparse.ArgumentTypeError(f"'{text}' isn't written as {forms}") from None
-    return begin, end
-
-
-def coefficient(text: str) -> Fraction:
-    # every call would wait for it, and hardly one needs it
-    from fractions import Fraction
-
-    number, percent, behind = text.replace(",", ".").partition("%")
-    try:
-        # with an exponent a short text is a number of very many digits
-        found = Fraction(number + behind if FRACTION.fullmatch(number + behind) else "") / (100 if percent else 1)
-    except (ValueError, ZeroDivisionError):
-        found = Fraction(-1)
-    if not 0 <= found <= 1:
-        raise argparse.ArgumentTypeError(NotSuch.COEFFICIENT.said(text=text))
-    return found
-
-
-def positive(text: str) -> int:
-    if not is_number(text) or not 1 <= int(text) <= 1_000_000:
-        raise argparse.ArgumentTypeError(NotSuch.POSITIVE.said(text=text))
-    return int(text)
+three_letters = typed(values.three_letters)
+day, day_until_today, days = typed(values.day), typed(values.day_until_today), typed(values.days)
+coefficient, positive = typed(values.coefficient), typed(values.positive)
+sex, birth_days = typed(values.sex), typed(values.birth_days)
 
 
 def most(text: str) -> int | None:

@@ -12,12 +12,12 @@ import gudokeyi
 from gudokeyi.cli.output import tell
 from gudokeyi.domain.messages import Mistake
 from gudokeyi.domain.spelling import closest
-from gudokeyi.engine.program import Herdbook
-from gudokeyi.store.opening import opened
+from gudokeyi.services.book_program import BookProgram
+from gudokeyi.services.opening import opened
 
 if TYPE_CHECKING:
     from gudokeyi.packages import Group
-    from gudokeyi.store.book import Book
+    from gudokeyi.services.opening import Book
 
 # What is told where the words of a call can't be read: argparse's messages in plain sentences.
 
@@ -119,7 +119,7 @@ class CommandWords:
         return one
 
     def add_for_book(
-        self, name: str, does: Callable[[argparse.Namespace, Book, Herdbook], None], help: str, more: str = "",
+        self, name: str, does: Callable[[argparse.Namespace, Book, BookProgram], None], help: str, more: str = "",
         group: Group | None = None, shows: bool = True,
     ) -> Parser:  # fmt: skip
         """A word for a book that is there, with the packages that it needs. Behind what it does is told that the book
@@ -130,7 +130,7 @@ class CommandWords:
                 from gudokeyi.packages import need
 
                 need(group)
-            program = Herdbook()
+            program = BookProgram()
             with opened(asked.book, program) as book:
                 does(asked, book, program)
                 faults = not_whole(book, program) if shows else ()
@@ -140,10 +140,10 @@ class CommandWords:
         return self.add(name, does_with_book, help, more)
 
 
-def not_whole(book: Book, program: Herdbook) -> tuple[str, ...]:
+def not_whole(book: Book, program: BookProgram) -> tuple[str, ...]:
     """What is told where its kept coefficients aren't the program's, or where that isn't known. Whoever asked has the
     answer already."""
-    from gudokeyi.store.verification import told_of_coefficients
+    from gudokeyi.services.verification import told_of_coefficients
 
     sys.stdout.flush()
     why = program.why_not_there()

@@ -38,3 +38,7 @@ class SocietyRecord(NamedTuple):
     def written(self, role: str) -> str:
         """What the sheet writes of its `sire` or `dam`, where that isn't the parent's id."""
         return self.written_sire if role == "sire" else self.written_dam
+
+
+# the herd of animals whose owner isn't known
+NO_OWNER = 99_999_999

@@ -10,12 +10,17 @@ from typing import NamedTuple
 
 from gudokeyi.domain.collections import made
 from gudokeyi.domain.kinds import Role
-from gudokeyi.domain.messages import Mistake, counted
-from gudokeyi.store.messages import BookFault
+from gudokeyi.domain.messages import Message, Mistake, counted
 
 # the same days stand in many commands and rows, and books have days of 300 years alone
 day_text = functools.cache(datetime.date.isoformat)
 COLUMNS = ["kind", "animal", "day", "sire", "dam", "from", "to", "embryo"]
+
+
+class CommandFault(Message):
+    UNKNOWN = (
+        "a command of {animal} in the journal is of the kind '{kind}', which this front desk doesn't know: use a newer one"
+    )
 
 
 HEADER = f"{','.join(COLUMNS)}\n".encode()
@@ -85,7 +90,7 @@ def record_after(record: RegisterRecord | None, command: Command) -> RegisterRec
             return record._replace(owner_code=int(command.to_owner), since=day, from_owner=int(command.from_owner))
         case "exit" if record:
             return record._replace(left=datetime.date.fromisoformat(command.day))
-    raise Mistake(BookFault.COMMAND_UNKNOWN.said(kind=command.kind, animal=command.animal))
+    raise Mistake(CommandFault.UNKNOWN.said(kind=command.kind, animal=command.animal))
 
 
 def record_of_birth(command: Command) -> RegisterRecord:

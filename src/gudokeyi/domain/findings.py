@@ -12,8 +12,8 @@ from dataclasses import dataclass, replace
 from typing import ClassVar
 
 from gudokeyi.domain.changes import Option
-from gudokeyi.domain.stored_names import KIND_NAMES
 from gudokeyi.domain.messages import CALLED, Mistake, counted
+from gudokeyi.domain.stored_names import KIND_NAMES
 
 # How much harm comes of a finding that nobody looks at: the report begins with what does most.
 
@@ -268,6 +268,14 @@ class ImportRefused(Mistake):
         super().__init__(*self.told, *(one.words() for one in obstacles))
 
 
+class StrictlyRefused(ImportRefused):
+    """The same where nothing is to be left out, with all entries that would be."""
+
+    def __init__(self, left_out: Sequence[Entry], *obstacles: Finding) -> None:
+        super().__init__(*obstacles)
+        self.left_out = tuple(left_out)
+
+
 class Report:
     """The entries of an import, in the order in which they came."""
 
@@ -296,3 +304,7 @@ class Report:
         """By what they are about, and by line."""
         order = list(What)
         return sorted(self.entries, key=lambda entry: (order.index(entry.what), entry.line))
+
+
+class Obstacle(Finding):
+    what = What.WARNING

@@ -99,3 +99,7 @@ class Role(enum.StrEnum):
     def sex(self) -> str:
         """The letter of the sex that such a parent has."""
         return "M" if self is Role.SIRE else "F"
+
+
+# what is kept of the cells of a row, beside its id
+CELL_FIELDS = tuple(field for field in Field if field is not Field.ID)

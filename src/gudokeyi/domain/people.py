@@ -1,6 +1,7 @@
 """Who works at a book, and what each may do."""
 from __future__ import annotations
 
+import contextvars
 import enum
 from dataclasses import dataclass
 
@@ -26,3 +27,7 @@ class Person:
 
     name: str
     role: AccountRole
+
+
+# who works here by a name of the society's own, as those at a desk with accounts; empty for whom the system names
+WORKER: contextvars.ContextVar[str] = contextvars.ContextVar("worker", default="")

@@ -12,6 +12,7 @@ from typing import NoReturn
 
 import gudokeyi
 from gudokeyi.domain.messages import Mistake
+from gudokeyi.domain.mistakes import ProgramFailed
 from gudokeyi.engine.messages import ProgramFault
 
 NAME = "herdbook"
@@ -30,9 +31,9 @@ def located(asks: bool = True) -> pathlib.Path:
 
 def where_said(path: pathlib.Path) -> pathlib.Path:
     if not path.exists():
-        raise Mistake(ProgramFault.NOT_THERE.said(path=path, hint=SAY))
+        raise ProgramFailed(ProgramFault.NOT_THERE.said(path=path, hint=SAY))
     if path.is_dir():
-        raise Mistake(ProgramFault.IS_FOLDER.said(path=path, hint=SAY))
+        raise ProgramFailed(ProgramFault.IS_FOLDER.said(path=path, hint=SAY))
     return path
 
 
@@ -66,16 +67,16 @@ def built_in_clone(asks: bool) -> pathlib.Path:
     """The program that the clone's script has built of what is there now. The script asks a person at a terminal first."""
     script = CLONE / NAME
     if not is_clone() or not script.is_file():
-        raise Mistake(ProgramFault.NOT_FOUND.said(version=gudokeyi.__version__, hint=SAY))
+        raise ProgramFailed(ProgramFault.NOT_FOUND.said(version=gudokeyi.__version__, hint=SAY))
     asks = asks and os.path.realpath(sys.argv[0]) == str(CLONE / "gudokeyi") and sys.stderr.isatty()
     done = subprocess.run(
         [str(script), "--version"], stdin=subprocess.DEVNULL, stdout=subprocess.DEVNULL,
         stderr=None if asks else subprocess.DEVNULL,
     )  # fmt: skip
     if done.returncode and asks:
-        raise Mistake(ProgramFault.NOT_BUILT.said(hint=SAY))
+        raise ProgramFailed(ProgramFault.NOT_BUILT.said(hint=SAY))
     if done.returncode:
-        raise Mistake(ProgramFault.NOT_BUILT_HERE.said(script=script, hint=SAY))
+        raise ProgramFailed(ProgramFault.NOT_BUILT_HERE.said(script=script, hint=SAY))
     return CLONE / "crates" / NAME / "out" / NAME
 
 

@@ -11,23 +11,18 @@ import resource
 import shlex
 import signal
 import subprocess
-from collections.abc import Iterable, Sequence
-from typing import TYPE_CHECKING
+from collections.abc import Iterable
 
-from gudokeyi.domain.commands import Command, lines_of, text_of
+from gudokeyi.background import Background
+from gudokeyi.domain.commands import Command, text_of
 from gudokeyi.domain.messages import Count, Mistake
+from gudokeyi.domain.mistakes import ProgramFailed
 from gudokeyi.domain.refusals import Refusal
 from gudokeyi.engine.location import SAY, located
 from gudokeyi.engine.messages import ProgramFault
-from gudokeyi.engine.workers import Background
-
-if TYPE_CHECKING:
-    from gudokeyi.store.book import Book
 
 # so much memory and time a run may use
 MOST_BYTES, MOST_SECONDS = 4 << 30, 1200
-# so many numbers of animals may stand in one call: a command line has an end
-MOST_NUMBERS = os.sysconf("SC_ARG_MAX") // 40
 # so much a pipe may hold, if the system allows it
 PIPE_BYTES = 1 << 20
 
@@ -99,7 +94,7 @@ class Herdbook:
         except OSError as error:
             allow = f"allow it, as chmod u+x {shlex.quote(str(self.path))}"
             hint = allow if isinstance(error, PermissionError) else SAY
-            raise Mistake(ProgramFault.CANT_RUN.said(path=self.path, error=error, hint=hint)) from None
+            raise ProgramFailed(ProgramFault.CANT_RUN.said(path=self.path, error=error, hint=hint)) from None
 
     def run(self, words: list[str], book: bytes) -> str:
         """What it writes of a command file."""
@@ -110,7 +105,7 @@ class Herdbook:
                 given.seek(0)
             except OSError as error:
                 told = error.strerror or str(error)
-                raise Mistake(ProgramFault.CANT_DO.said(word=words[0], told=told, hint=": nothing is changed")) from None
+                raise ProgramFailed(ProgramFault.CANT_DO.said(word=words[0], told=told, hint=": nothing is changed")) from None
             running = self.start(words, given.fileno(), subprocess.PIPE, answers=answers.fileno())
             self.ended(running, self.waited_for(running, words), words)
             return text_in(answers)
@@ -144,7 +139,7 @@ class Herdbook:
         return err
 
     def took_too_long(self, words: list[str]) -> Mistake:
-        return Mistake(ProgramFault.TOO_LONG.said(word=words[0], minutes=MOST_SECONDS // 60, path=self.path))
+        return ProgramFailed(ProgramFault.TOO_LONG.said(word=words[0], minutes=MOST_SECONDS // 60, path=self.path))
 
     def lines(self, words: list[str], book: bytes) -> list[str]:
         """The lines that it writes of a command file."""
@@ -157,7 +152,7 @@ class Herdbook:
             hint = ". Somebody has changed the command file: restore it" if told.startswith("record ") else ""
             if told == "no memory" or status < 0:
                 hint = f" (it may use {MOST_BYTES >> 30} GB of memory). Nothing is changed"
-            raise Mistake(ProgramFault.CANT_DO.said(word=words[0], told=told, hint=hint))
+            raise ProgramFailed(ProgramFault.CANT_DO.said(word=words[0], told=told, hint=hint))
 
     def file(self, commands: list[Command]) -> dict[int, Refusal]:
         """The refusals of commands: for each refused one its place, from 0 on, and the refusal."""
@@ -168,41 +163,6 @@ class Herdbook:
         replies = self.lines(["file"], book)
         if len(replies) != count:
             commands = Count(count, "command")
-            raise Mistake(ProgramFault.REPLIES_LACK.said(replies=len(replies), commands=commands, path=self.path))
+            raise ProgramFailed(ProgramFault.REPLIES_LACK.said(replies=len(replies), commands=commands, path=self.path))
         refused = (line.split(",") for line in replies if not line.endswith(",accepted"))
         return {int(serial) - 1: Refusal(int(refusal)) for serial, _, refusal in refused}
-
-    def ask(self, words: list[str], book: Book) -> list[str]:
-        """The lines that it writes of a book's journal."""
-        return self.lines(words, book.command_file())
-
-    def beside(self, words: list[str], book: Book) -> Background[str]:
-        """The text that it writes of a book's journal, while something else is done, and while the journal is read if that
-        is read beside; else it is read before. Where it couldn't be read beside, that is raised, and to ask again
-        helps."""
-        pieces = book.beside
-        if pieces is not None and not pieces.has_failed:
-            return Background(functools.partial(self.run_meanwhile, words, pieces))
-        return Background(functools.partial(self.run, words, book.command_file()))
-
-    def begin_matings(self, dam: str, sires: Sequence[str], book: Book) -> list[Background[str]]:
-        """It begins to compute a mating of a dam with each of the sires, by their numbers: a text for some of them after
-        the other."""
-        return [
-            self.beside(["mating", "--dam", dam, *sires[first : first + MOST_NUMBERS]], book)
-            for first in range(0, len(sires), MOST_NUMBERS)
-        ]
-
-    def coefficients(self, numbers: Sequence[str], book: Book) -> list[str]:
-        """The lines of a few animals among those of all coefficients; none where it would be as much work as all of
-        them."""
-        return []
-
-    def refusals(self, book: Book) -> dict[int, Refusal]:
-        """The refusals of a book's journal: for each refused command its place, from 0 on, and the refusal."""
-        return self.file_text(book.command_file(), book.journal.length)
-
-    def reply(self, command: Command, book: Book) -> Refusal | None:
-        """Why it refuses a command behind a book's journal; none where it accepts it."""
-        length = book.journal.length
-        return self.file_text(book.command_file() + lines_of([command]), length + 1).get(length)

@@ -6,8 +6,9 @@ import collections
 from collections.abc import Callable
 
 from gudokeyi.domain.findings import Finding, Report
-from gudokeyi.domain.kinds import Field
+from gudokeyi.domain.kinds import CELL_FIELDS, Field
 from gudokeyi.domain.provenance import ExitBasis, ExitSource
+from gudokeyi.domain.requests import MOST_IN_NAME, MOST_IN_OWNER
 from gudokeyi.ingest.animals import SheetAnimal
 from gudokeyi.ingest.day_cells import DayCell, DayCells
 from gudokeyi.ingest.days import ANY_DAY, DayFault, Span
@@ -21,8 +22,6 @@ from gudokeyi.ingest.sexes import Sexes
 from gudokeyi.ingest.sheets import Sheet
 from gudokeyi.ingest.unknown_parents import UnknownParents, names_no_owner
 from gudokeyi.ingest.words import KNOWN_NO, KNOWN_YES, exit_word, is_error_value
-from gudokeyi.store.messages import MOST_IN_NAME, MOST_IN_OWNER
-from gudokeyi.store.state import CELL_FIELDS
 
 # The cells of a sheet that can't be read: which texts there are, and whether they are most of a column.
 

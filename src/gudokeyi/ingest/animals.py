@@ -6,10 +6,12 @@ import operator
 from collections.abc import Collection
 from dataclasses import dataclass, field
 
+from gudokeyi.domain.findings import Report
 from gudokeyi.domain.kinds import Role
 from gudokeyi.domain.messages import MessageText
 from gudokeyi.domain.provenance import GIVEN_BIRTH, GIVEN_EXIT, BirthBasis, ExitBasis, OwnerDay, SexSource
 from gudokeyi.ingest.days import ANY_DAY, Precision, Span
+from gudokeyi.ingest.findings.cells import IdUsedAgain
 from gudokeyi.ingest.messages import Where
 
 SIRE, DAM, DAY = Role.SIRE, Role.DAM, Precision.DAY
@@ -98,3 +100,22 @@ def links_outside(progeny: Collection[SheetAnimal], ids: Collection[str]) -> lis
 def parents_of_all(animals: dict[str, SheetAnimal]) -> dict[str, list[str]]:
     """The known parents of each animal."""
     return {id: animal.parent_ids() for id, animal in animals.items()}
+
+
+# an animal that is born so many days later may be another one
+YEARS_LATER = 700
+
+
+def lines_that_name(animals: dict[str, SheetAnimal], another: SheetAnimal) -> tuple[int, ...]:
+    """The lines of animals that have an id as a parent, and are born after the other animal that has it."""
+    progeny = [one for one in animals.values() if another.id in (one.sire, one.dam)]
+    return tuple(one.line for one in progeny if one.birth.last > another.birth.first)
+
+
+def tell_used_again(animals: dict[str, SheetAnimal], others: list[SheetAnimal], report: Report) -> None:
+    """The animals of a sheet, and those that have the id of another one there."""
+    for other in others:
+        first = animals[other.id]
+        lines = lines_that_name(animals, other)
+        found = IdUsedAgain(first.birth.first, first.name, other.birth.first, other.name, lines, first.line)
+        report.add(other.line, other.id, found)

@@ -2,14 +2,9 @@
 large it may be."""
 from __future__ import annotations
 
-import contextlib
-import csv
 import itertools
 import pathlib
-import resource
-import signal
-import sys
-from collections.abc import Iterator, Sequence
+from collections.abc import Sequence
 from dataclasses import dataclass, field
 from typing import BinaryIO
 
@@ -24,9 +19,6 @@ MOST_BYTES, MOST_ROWS, MOST_LETTERS = 50_000_000, 200_000, 10_000
 MOST_CELLS = 4_000_000
 # bytes of a backup, which has a book's whole history: 64 MB of 60,000 animals that were taken once
 MOST_BACKUP_BYTES = 500_000_000
-
-# the bounds say which cells are too long, in a sentence
-csv.field_size_limit(sys.maxsize)
 
 
 def read_bytes(path: pathlib.Path) -> bytes:
@@ -59,51 +51,6 @@ def check_bounds(path: pathlib.Path, rows: Sequence[tuple[int, list[str]]], titl
     if max(map(len, itertools.chain.from_iterable(cells for _, cells in rows)), default=0) > MOST_LETTERS:
         line = next(line for line, cells in rows if max(map(len, cells), default=0) > MOST_LETTERS)
         raise Mistake(SheetFault.LONG_CELL.said(line=line, most=MOST_LETTERS))
-
-
-# How much time and memory a process may use that looks at a sheet.
-
-# of its own work, and behind that until it is ended where it doesn't see that its time is over
-MOST_SECONDS, MORE_SECONDS = 180.0, 30.0
-MOST_MEMORY = 3 << 30
-
-
-def bound_look(seconds: float = MOST_SECONDS) -> None:
-    """From here on this process may use so much; a mistake comes of it where its time is over, and a `MemoryError`
-    where its memory is."""
-
-    def end(*_: object) -> None:
-        raise Mistake(SheetFault.TOO_SLOW.said(seconds=round(seconds)))
-
-    signal.signal(signal.SIGVTALRM, end)
-    signal.setitimer(signal.ITIMER_VIRTUAL, seconds)
-    # this one ends the process
-    signal.signal(signal.SIGPROF, signal.SIG_DFL)
-    signal.setitimer(signal.ITIMER_PROF, seconds + MORE_SECONDS)
-    most = resource.getrlimit(resource.RLIMIT_AS)[1]
-    bytes_now = MOST_MEMORY if most == resource.RLIM_INFINITY else min(MOST_MEMORY, most)
-    resource.setrlimit(resource.RLIMIT_AS, (bytes_now, most))
-
-
-@contextlib.contextmanager
-def bounded_reading(seconds: float = MOST_SECONDS) -> Iterator[None]:
-    """What is done within is bounded as a look is; what comes behind it, such as the writing of the book, isn't."""
-    memory = resource.getrlimit(resource.RLIMIT_AS)
-    handlers = {number: signal.getsignal(number) for number in (signal.SIGVTALRM, signal.SIGPROF)}
-    bound_look(seconds)
-    try:
-        yield
-    finally:
-        for timer in signal.ITIMER_VIRTUAL, signal.ITIMER_PROF:
-            signal.setitimer(timer, 0)
-        for number, handler in handlers.items():
-            signal.signal(number, handler)
-        resource.setrlimit(resource.RLIMIT_AS, memory)
-
-
-def bounded_import(is_preview: bool) -> contextlib.AbstractContextManager[None]:
-    """The bounds within which an import reads its file. The whole of a preview has them already."""
-    return contextlib.nullcontext() if is_preview else bounded_reading()
 
 
 # A file that somebody gave, as it was read: once, since it may be a pipe, or another file a moment later.

@@ -3,25 +3,25 @@ it has them."""
 from __future__ import annotations
 
 import operator
-from collections.abc import Mapping
+from collections.abc import Mapping, Sequence
 from dataclasses import dataclass
 from typing import Container
 
 from gudokeyi.domain.commands import COLUMNS
-from gudokeyi.domain.findings import Report
+from gudokeyi.domain.findings import ImportRefused, Report
 from gudokeyi.domain.kinds import Field
 from gudokeyi.domain.messages import Mistake, counted
+from gudokeyi.domain.requests import MOST_IN_ID
 from gudokeyi.ingest.animals import SheetAnimal
 from gudokeyi.ingest.days import ANY_DAY, Unreadable, read_span
 from gudokeyi.ingest.files import GivenFile, check_bounds
 from gudokeyi.ingest.findings.cells import DayLeftOut, LineAgain, SexUnread
+from gudokeyi.ingest.findings.files import ParentsInColumn
 from gudokeyi.ingest.pedigree_files import (
     STANDARD_INPUT, Columns, Line, are_titles, columns_read, family_column, find_pedigree_columns, read_lines,
 )  # fmt: skip
 from gudokeyi.ingest.sexes import Sexes
 from gudokeyi.ingest.words import composed
-from gudokeyi.reconcile.pedigree_links import refuse_other_column
-from gudokeyi.store.messages import MOST_IN_ID
 
 WITHOUT_TITLES: Columns = {Field.ID: 0, Field.SIRE: 1, Field.DAM: 2}
 # the sexes of PLINK and of R's kinship2; other numbers stand for an unknown sex there
@@ -162,3 +162,19 @@ def check_cells(line: Line, titles: Line | None, last: int) -> None:
             f"{line} has {count} cells, and line {titles.number} has {len(titles.cells)} titles: write one for each "
             "column (R writes such a file without row.names = FALSE), or an id with blanks in quotation marks"
         )
+
+
+def refuse_other_column(
+    titles: Line, lines: Sequence[Line], columns: Columns, animals: Mapping[str, SheetAnimal]
+) -> None:
+    """A mistake where a column that isn't read has more of the parents than that of the ids."""
+    parents = {parent for animal in animals.values() for parent in animal.parent_ids()}
+    found = len(parents & animals.keys())
+    others = [at for at, title in enumerate(titles.cells) if title and at not in columns.values()]
+    if found == len(parents) or not others:
+        return
+    counts = {at: len(parents & {cell for line in lines for cell in line.cells[at : at + 1]}) for at in others}
+    best = max(others, key=lambda at: counts[at])
+    if counts[best] > found:
+        ids = titles.cells[columns[Field.ID]]
+        raise ImportRefused(ParentsInColumn(titles.cells[best], counts[best], ids, found, len(parents)))

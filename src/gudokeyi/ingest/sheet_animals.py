@@ -11,8 +11,9 @@ from typing import Container
 
 from gudokeyi.domain.findings import Report
 from gudokeyi.domain.kinds import Field, Role
+from gudokeyi.domain.requests import MOST_IN_ID
 from gudokeyi.ingest.animal_cells import AnimalCells, ErrorValues, Unread
-from gudokeyi.ingest.animals import ROLES, SheetAnimal
+from gudokeyi.ingest.animals import ROLES, YEARS_LATER, SheetAnimal, tell_used_again
 from gudokeyi.ingest.day_cells import Order
 from gudokeyi.ingest.days import Span, Unreadable, read_span
 from gudokeyi.ingest.findings.cells import (
@@ -26,8 +27,6 @@ from gudokeyi.ingest.spellings import CUT
 from gudokeyi.ingest.titles import parts_of
 from gudokeyi.ingest.unknown_parents import UnknownParents
 from gudokeyi.ingest.words import KNOWN_SUMS, is_error_value, nearly, plain
-from gudokeyi.reconcile.ids import YEARS_LATER, tell_used_again
-from gudokeyi.store.messages import MOST_IN_ID
 
 # Rows that may be no animals: those that count or sum up, and those that have an id alone. They are taken, and told,
 # unless somebody says by a word of theirs that they are none.

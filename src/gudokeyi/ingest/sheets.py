@@ -15,7 +15,7 @@ from gudokeyi.domain.cells import from_spreadsheets, may_have_texts
 from gudokeyi.domain.collections import made
 from gudokeyi.domain.messages import Mistake
 from gudokeyi.ingest.encodings import decoding
-from gudokeyi.ingest.files import GivenFile, check_bounds
+from gudokeyi.ingest.files import MOST_LETTERS, GivenFile, check_bounds
 from gudokeyi.ingest.findings.columns import SheetFinding
 from gudokeyi.ingest.messages import SheetFault
 from gudokeyi.ingest.words import clean
@@ -144,8 +144,8 @@ def read_records(text: str, separator: str) -> list[SheetRow]:
     try:
         # without quotes each line is a row
         return [made(SheetRow, (line, cells)) for line, cells in enumerate(reader, 1) if any(cells)]
-    except csv.Error:
-        raise Mistake(SheetFault.OPEN_QUOTE.said(line=reader.line_num)) from None
+    except csv.Error as error:
+        raise unreadable(error, reader.line_num) from None
 
 
 def cleaned_records(text: str, separator: str) -> list[SheetRow]:
@@ -157,6 +157,13 @@ def cleaned_records(text: str, separator: str) -> list[SheetRow]:
             if any(texts):
                 rows.append(made(SheetRow, (begins, texts)))
             begins = reader.line_num + 1
-    except csv.Error:
-        raise Mistake(SheetFault.OPEN_QUOTE.said(line=begins)) from None
+    except csv.Error as error:
+        raise unreadable(error, begins) from None
     return rows
+
+
+def unreadable(error: csv.Error, line: int) -> Mistake:
+    """What is wrong with a cell; one that is longer than Python's module reads is too long in any case."""
+    if str(error).startswith("field larger"):
+        return Mistake(SheetFault.LONG_CELL.said(line=line, most=MOST_LETTERS))
+    return Mistake(SheetFault.OPEN_QUOTE.said(line=line))

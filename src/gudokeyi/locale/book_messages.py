@@ -2,6 +2,7 @@
 there, in German and in French."""
 from __future__ import annotations
 
+from gudokeyi.domain.commands import CommandFault
 from gudokeyi.domain.messages import Message
 from gudokeyi.engine.messages import ProgramFault
 from gudokeyi.store.messages import BookFault, NotWhole
@@ -110,7 +111,7 @@ SENTENCES: dict[Message, tuple[str, str, str]] = {
         "{path} kann nicht geschrieben werden ({error}): nichts ist geändert.",
         "{path} ne peut pas être écrit ({error}) : rien n'est modifié.",
     ),
-    BookFault.COMMAND_UNKNOWN: (
+    CommandFault.UNKNOWN: (
         "",
         "Ein Vorgang von {animal} im Journal ist von der Art „{kind}“, die dieses Programm nicht kennt: nehmen Sie ein neueres.",
         "Une commande de {animal} dans le journal est du genre « {kind} », que ce programme ne connaît pas : prenez-en un plus "

@@ -3,8 +3,7 @@ serve there, in German and in French."""
 from __future__ import annotations
 
 from gudokeyi.domain.messages import Message
-from gudokeyi.store.messages import Mating, Naming, NotSuch
-from gudokeyi.web.messages import WebFault
+from gudokeyi.domain.requests import Mating, Naming, NotSuch, WebFault
 
 SENTENCES: dict[Message, tuple[str, str, str]] = {
     Naming.NO_ANIMAL: ("", "Das Herdbuch hat kein Tier „{word}“: {hint}", "Le livre n'a pas d'animal « {word} » : {hint}"),
@@ -58,6 +57,14 @@ SENTENCES: dict[Message, tuple[str, str, str]] = {
         "",
         "„{text}“ ist kein Tag, wie 01.03.2001 oder 2001-03-01.",
         "« {text} » n'est pas une date comme 01.03.2001 ou 2001-03-01.",
+    ),
+    NotSuch.SEX: (
+        "", "„{text}“ ist kein Wort für ein Geschlecht: schreiben Sie m oder w.",
+        "« {text} » n'est pas un mot pour un sexe : écrivez m ou f.",
+    ),
+    NotSuch.SPAN: (
+        "", "„{text}“ ist nicht geschrieben wie 2010..2019, 2010.. oder 2010-03-01..2010-08-31.",
+        "« {text} » n'est pas écrit comme 2010..2019, 2010.. ou 2010-03-01..2010-08-31.",
     ),
     NotSuch.DAYS: ("", "„{text}“ ist keine Zahl von Tagen.", "« {text} » n'est pas un nombre de jours."),
     NotSuch.COEFFICIENT: (

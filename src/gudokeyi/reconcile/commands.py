@@ -18,8 +18,7 @@ from gudokeyi.reconcile.findings.rows import CommandLeftOut
 from gudokeyi.reconcile.messages import ImportFault
 from gudokeyi.reconcile.next_book import NextBook
 from gudokeyi.reconcile.owner_days import OwnerDays, owner_day_known
-from gudokeyi.store.journal import Step, alike
-from gudokeyi.store.writing import Filed
+from gudokeyi.store.journal import Filed, Step, alike
 
 YES = {True: "yes", False: ""}
 

@@ -7,13 +7,12 @@ import functools
 import re
 from collections.abc import Callable, Collection, Mapping, Sequence
 
+from gudokeyi.domain.findings import Obstacle
 from gudokeyi.domain.messages import some_of
 from gudokeyi.ingest.animals import SheetAnimal, links_outside
 from gudokeyi.ingest.spellings import NUMBER
 from gudokeyi.ingest.unknown_parents import UnknownParents
-from gudokeyi.reconcile.findings.obstacles import (
-    ManyWithoutLine, Obstacle, ParentsCut, ParentsInPart, WordsAsParents,
-)  # fmt: skip
+from gudokeyi.reconcile.findings.obstacles import ManyWithoutLine, ParentsCut, ParentsInPart, WordsAsParents
 
 # one in so many parents may have no line
 TENTH = 10

@@ -9,21 +9,20 @@ import operator
 from gudokeyi.domain.animals import SocietyRecord
 from gudokeyi.domain.commands import RegisterRecord
 from gudokeyi.domain.findings import Report
-from gudokeyi.ingest.animals import SheetAnimal, links_outside
+from gudokeyi.domain.settings import Setting
+from gudokeyi.ingest.animals import YEARS_LATER, SheetAnimal, lines_that_name, links_outside
+from gudokeyi.ingest.findings.cells import IdUsedAgain
 from gudokeyi.ingest.words import nearly, nearly_all
 from gudokeyi.reconcile.findings.parents import FoundByNearId
 from gudokeyi.reconcile.findings.plausibility import IdsAlike
-from gudokeyi.reconcile.findings.rows import BornAfterOffspring, IdUsedAgain
+from gudokeyi.reconcile.findings.rows import BornAfterOffspring
 from gudokeyi.reconcile.next_book import NextBook
 from gudokeyi.reconcile.parents import can_be, ids_given
 from gudokeyi.store.book import Book
-from gudokeyi.store.settings import Setting, letters_for, settings_of
-from gudokeyi.store.state import NOW
+from gudokeyi.store.conditions import with_id_like
+from gudokeyi.store.settings import letters_for, settings_of
 
 # Ids that differ in case, blanks or leading zeros alone: of a parent's cell, and of two rows.
-
-# the ids that may be alike, since they are so without any zero: their index has all that is asked for
-LIKELY = f"SELECT folded_id FROM animal WHERE {NOW} AND replace(replace(folded_id, ' ', ''), '0', '') = ?"
 
 
 class NearIds:
@@ -69,15 +68,12 @@ class NearIds:
 
 def id_alike(book: Book, id: str) -> list[IdsAlike]:
     """The animal of the book whose id differs so from that of one that is filed by hand."""
-    likely = book.rows(f"folded_id IN ({LIKELY})", "".join(id.casefold().split()).replace("0", ""))
+    likely = book.rows(with_id_like(id))
     alike = sorted(row.id for row in likely if row.id != id and nearly(row.id) == nearly(id))
     return [IdsAlike(one, 0) for one in alike[:1]]
 
 
 # Ids that are used again for other animals, born years apart: the row is left out, and the animal of the book stays.
-
-# an animal that is born so many days later may be another one
-YEARS_LATER = 700
 
 
 def leave_out_used_tags(
@@ -108,21 +104,6 @@ def animals_of_book(animals: dict[str, SheetAnimal], book: Book) -> list[tuple[S
     """Those that the book has, each with what it knows of it."""
     known = book.known
     return [(animal, known[id]) for id, animal in animals.items() if id in known] if known else []
-
-
-def lines_that_name(animals: dict[str, SheetAnimal], another: SheetAnimal) -> tuple[int, ...]:
-    """The lines of animals that have an id as a parent, and are born after the other animal that has it."""
-    progeny = [one for one in animals.values() if another.id in (one.sire, one.dam)]
-    return tuple(one.line for one in progeny if one.birth.last > another.birth.first)
-
-
-def tell_used_again(animals: dict[str, SheetAnimal], others: list[SheetAnimal], report: Report) -> None:
-    """The animals of a sheet, and those that have the id of another one there."""
-    for other in others:
-        first = animals[other.id]
-        lines = lines_that_name(animals, other)
-        found = IdUsedAgain(first.birth.first, first.name, other.birth.first, other.name, lines, first.line)
-        report.add(other.line, other.id, found)
 
 
 def earliest_calves(book: Book) -> dict[str, RegisterRecord]:

@@ -11,6 +11,8 @@ from gudokeyi.domain.changes import Option
 from gudokeyi.domain.findings import Call, quoted
 from gudokeyi.domain.kinds import Field, Remembered
 from gudokeyi.domain.messages import Mistake
+from gudokeyi.domain.requests import refuse_long
+from gudokeyi.domain.settings import Setting
 from gudokeyi.ingest.titles import parts_of
 from gudokeyi.ingest.unknown_parents import UnknownParents
 from gudokeyi.ingest.words import clean, listed, plain
@@ -18,18 +20,18 @@ from gudokeyi.reconcile.messages import ImportFault
 from gudokeyi.reconcile.plausibility import APART, YOUNGEST, Limits
 from gudokeyi.store.book import Book
 from gudokeyi.store.exports import SEMICOLONS
-from gudokeyi.store.messages import refuse_long
-from gudokeyi.store.settings import Setting, settings_of
+from gudokeyi.store.settings import settings_of
 from gudokeyi.store.state import Meaning, renamings
 
 # What is wished of an import: the options of the word `import`.
 
 
-@dataclass
+@dataclass(frozen=True)
 class ImportOptions:
-    """The options of `import`."""
+    """The options of an import, as the word `import` has them: `gudokeyi import --help` says what each does. Texts are those
+    that stand behind the words, days and bounds are days and numbers of them."""
 
-    book: pathlib.Path
+    book: pathlib.Path = pathlib.Path("book")
     columns: list[str] = field(default_factory=list)
     unknown: list[str] = field(default_factory=list)
     sexes: list[str] = field(default_factory=list)

@@ -7,7 +7,7 @@ import datetime
 from gudokeyi.domain.animals import SocietyRecord
 from gudokeyi.domain.commands import RegisterRecord
 from gudokeyi.domain.findings import Entry
-from gudokeyi.domain.kinds import Field, Role
+from gudokeyi.domain.kinds import CELL_FIELDS, Field, Role
 from gudokeyi.domain.provenance import Period
 from gudokeyi.ingest.animals import SheetAnimal
 from gudokeyi.ingest.days import DayFault, Span
@@ -17,7 +17,6 @@ from gudokeyi.reconcile.findings.animals import KeptByHand, KeptFromBook
 from gudokeyi.reconcile.impossible_parents import tried_again
 from gudokeyi.reconcile.next_book import NextBook
 from gudokeyi.reconcile.owner_days import DaysOfOthers
-from gudokeyi.store.state import CELL_FIELDS
 
 # what is told of an exit before the birth
 TOO_EARLY = (DayFault.BEFORE_BIRTH, DayFault.WITHIN_BEFORE_BIRTH)

@@ -3,15 +3,14 @@ from __future__ import annotations
 
 import datetime
 import functools
-import json
 from collections.abc import Iterator, Sequence
 from typing import NamedTuple
 
-from gudokeyi.domain.animals import SocietyRecord
+from gudokeyi.domain.animals import NO_OWNER, SocietyRecord
 from gudokeyi.domain.collections import made
 from gudokeyi.domain.commands import Command, RegisterRecord, first_owner_codes, transfer, transfers_of
 from gudokeyi.domain.findings import Finding, Report
-from gudokeyi.domain.kinds import Field, Remembered
+from gudokeyi.domain.kinds import Field
 from gudokeyi.domain.provenance import OwnerDay
 from gudokeyi.ingest.animals import SheetAnimal
 from gudokeyi.ingest.days import DayFault, Span, Unreadable, behind_since, read_span
@@ -20,10 +19,10 @@ from gudokeyi.ingest.unknown_parents import names_no_owner
 from gudokeyi.ingest.words import clean, plain
 from gudokeyi.reconcile.findings.rows import OwnerDayBack, OwnerDayInferred, OwnerDayMoved, OwnerDayOfOther
 from gudokeyi.reconcile.next_book import Meanings
-from gudokeyi.store.book import NO_OWNER, Book
+from gudokeyi.store.book import Book
+from gudokeyi.store.given_days import Said, all_cells, given_days, last_cell, renamed_ever, told_of_kind
 from gudokeyi.store.history import changes_behind
 from gudokeyi.store.journal import accepted_commands
-from gudokeyi.store.state import NOW
 
 # Whether a book knows since when an owner has an animal.
 
@@ -38,11 +37,8 @@ def owner_day_known(book: Book, known: SocietyRecord, from_owner: int | None, si
 
 def has_period(book: Book, id: str, since: datetime.date) -> bool:
     """Says the animal's last cell a month or a year in which this day is?"""
-    if book.connection is None:
-        return False
-    cell = book.connection.execute(f"SELECT cell_since FROM cell WHERE id = ? AND {NOW}", (id,)).fetchone()
     try:
-        span = read_span(behind_since(cell[0] or "" if cell else ""))
+        span = read_span(behind_since(last_cell(book, id)))
     except Unreadable:
         return False
     return not span.is_day and span.has(since)
@@ -50,17 +46,6 @@ def has_period(book: Book, id: str, since: datetime.date) -> bool:
 
 # The days on which owners change that were given, where imports moved them since: what made them impossible may be
 # mended.
-
-
-class Said(NamedTuple):
-    """What a change says of the day since which a herd has an animal: that it stands for the day `given`, or that it
-    is that itself."""
-
-    change: int
-    place: int
-    owner_code: int
-    day: str
-    given: str
 
 
 class GivenDays:
@@ -92,37 +77,27 @@ class GivenDays:
     @functools.cached_property
     def changes(self) -> set[int]:
         """Those that made the book what it is."""
-        return changes_behind(self.book.connection) if self.book.connection else set()
+        return changes_behind(self.book.connection)
 
     @functools.cached_property
     def moved(self) -> dict[str, list[Said]]:
         """The days that imports moved, by the animals' ids."""
         found: dict[str, list[Said]] = {}
-        if self.book.connection is None:
-            return found
-        told = "SELECT change, place, id, fields FROM told WHERE kind = ?"
-        for change, place, id, text in self.book.connection.execute(told, (OwnerDayMoved.kind(),)):
-            fields = json.loads(text)
+        for change, place, id, fields in told_of_kind(self.book, OwnerDayMoved.kind()):
             owner_code = self.owner_codes.get(fields["owner"])
             if owner_code and change in self.changes:
                 found.setdefault(id, []).append(Said(change, place, owner_code, fields["now"], fields["before"]))
         return found
 
     def held(self, id: str) -> Iterator[Said]:
-        """The days that were given for the owners that the book had, each by the change since which it had it so."""
-        assert self.book.connection is not None
-        rows = "SELECT since, herd, owned_since FROM animal WHERE id = ? AND owner_day = ? AND born IS NOT NULL"
-        for change, owner_code, day in self.book.connection.execute(rows, (id, OwnerDay.GIVEN.value)):
-            if change in self.changes:
-                yield Said(change, -1, owner_code, day, day)
+        """The days that were given, but for those of changes that were undone."""
+        return (one for one in given_days(self.book, id) if one.change in self.changes)
 
     @functools.cached_property
     def owner_codes(self) -> dict[str, int]:
         """The owners' herds, by all names that they had."""
-        assert self.book.connection is not None
         owner_codes = self.book.owners_came()
-        renamed = "SELECT word, meaning FROM remembered WHERE what = ? ORDER BY since, place"
-        for word, meaning in self.book.connection.execute(renamed, (Remembered.OWNER.value,)):
+        for word, meaning in renamed_ever(self.book):
             if word in owner_codes:
                 owner_codes.setdefault(meaning, owner_codes[word])
         return owner_codes | self.book.owners
@@ -162,11 +137,8 @@ class DaysOfOthers:
     def cells_before(self, id: str) -> Iterator[tuple[str, str]]:
         """The owner and the day of the cells of each sheet before, from the last on; no owner for a word that names
         none."""
-        if self.book.connection is None:
-            return
-        cells = "SELECT cell_owner, cell_since FROM cell WHERE id = ? ORDER BY since DESC"
-        for owner, since in self.book.connection.execute(cells, (id,)):
-            yield "" if names_no_owner(owner or "") else clean(owner), since or ""
+        for owner, since in all_cells(self.book, id):
+            yield "" if names_no_owner(owner) else clean(owner), since
 
     def are_one(self, one: str, other: str) -> bool:
         """Are these two names of one owner, who was renamed, or is only written otherwise?"""

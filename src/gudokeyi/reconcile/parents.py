@@ -9,6 +9,7 @@ from collections.abc import Mapping
 from gudokeyi.domain.findings import Finding, Report
 from gudokeyi.domain.kinds import Field, Role, Standing
 from gudokeyi.domain.pedigree_order import ancestors
+from gudokeyi.domain.requests import MOST_IN_ID
 from gudokeyi.domain.spelling import SameLetters
 from gudokeyi.ingest.animals import Link, SheetAnimal, links_outside
 from gudokeyi.ingest.findings.cells import TextTooLong
@@ -17,7 +18,6 @@ from gudokeyi.reconcile.findings.parents import AddedAsParent, FoundByName, Foun
 from gudokeyi.reconcile.findings.plausibility import MayBeUnknown, MoreMayBeUnknown
 from gudokeyi.reconcile.next_book import NextBook
 from gudokeyi.store.book import Book
-from gudokeyi.store.messages import MOST_IN_ID
 
 # Parents that have no row: found by their names, or added as founders; and which animal a text may mean.
 

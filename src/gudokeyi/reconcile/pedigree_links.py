@@ -5,17 +5,16 @@ from __future__ import annotations
 import pathlib
 from collections.abc import Collection, Mapping, Sequence
 
-from gudokeyi.domain.findings import Entry, ImportRefused, Part, Report, What
-from gudokeyi.domain.kinds import Field, Role
+from gudokeyi.domain.findings import Entry, ImportRefused, Obstacle, Part, Report, What
+from gudokeyi.domain.kinds import Role
 from gudokeyi.domain.messages import MOST_NAMED, Mistake, some_of
 from gudokeyi.domain.pedigree_order import ancestors
 from gudokeyi.ingest.animals import SheetAnimal, links_outside
 from gudokeyi.ingest.findings.cells import IdAgain
-from gudokeyi.ingest.pedigree_files import Columns, Line, read_ids
+from gudokeyi.ingest.pedigree_files import read_ids
 from gudokeyi.ingest.spellings import CUT, Spellings, is_as_number, number_of
 from gudokeyi.reconcile.findings.obstacles import (
-    IdsUsedAgain, LinksLost, NumbersShortened, NumbersTwice, Obstacle, ParentsAlike, ParentsInColumn, ParentsNamed,
-    SiresAndDams,
+    IdsUsedAgain, LinksLost, NumbersShortened, NumbersTwice, ParentsAlike, ParentsNamed, SiresAndDams,
 )  # fmt: skip
 from gudokeyi.reconcile.findings.parents import SameParentTwice
 from gudokeyi.reconcile.findings.rows import IdOfAnother, LineAfterOffspring
@@ -87,22 +86,6 @@ def told_elsewhere(meant: Mapping[str, str], progeny: Mapping[str, SheetAnimal])
     """Parents with the ids that may be meant, each with an offspring of its."""
     lines = {parent: f"of {progeny[parent].id} in line {progeny[parent].line}" for parent in meant}
     return some_of([f"{parent} ({lines[parent]}; is {id} meant?)" for parent, id in meant.items()])
-
-
-def refuse_other_column(
-    titles: Line, lines: Sequence[Line], columns: Columns, animals: Mapping[str, SheetAnimal]
-) -> None:
-    """A mistake where a column that isn't read has more of the parents than that of the ids."""
-    parents = {parent for animal in animals.values() for parent in animal.parent_ids()}
-    found = len(parents & animals.keys())
-    others = [at for at, title in enumerate(titles.cells) if title and at not in columns.values()]
-    if found == len(parents) or not others:
-        return
-    counts = {at: len(parents & {cell for line in lines for cell in line.cells[at : at + 1]}) for at in others}
-    best = max(others, key=lambda at: counts[at])
-    if counts[best] > found:
-        ids = titles.cells[columns[Field.ID]]
-        raise ImportRefused(ParentsInColumn(titles.cells[best], counts[best], ids, found, len(parents)))
 
 
 # Links of a pedigree that would be left out, or be those of other animals: each changes coefficients, so nothing is

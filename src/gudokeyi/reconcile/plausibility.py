@@ -11,13 +11,12 @@ from dataclasses import dataclass
 from gudokeyi.domain.animals import SocietyRecord
 from gudokeyi.domain.findings import Report
 from gudokeyi.domain.kinds import Field, Remembered, Role
-from gudokeyi.ingest.animals import DAM, SIRE, SheetAnimal
+from gudokeyi.ingest.animals import DAM, SIRE, YEARS_LATER, SheetAnimal
 from gudokeyi.reconcile.findings.parents import ParentRefused
 from gudokeyi.reconcile.findings.plausibility import (
     BirthsTooNear, CastratedSire, ColumnsSwapped, ManyOldAsLiving, OldAsLiving, SireLeftLongBefore, YoungParent,
 )  # fmt: skip
 from gudokeyi.reconcile.findings.rows import BirthMovedByYears
-from gudokeyi.reconcile.ids import YEARS_LATER
 from gudokeyi.reconcile.next_book import NextBook
 from gudokeyi.reconcile.outcome import Understood
 from gudokeyi.store.book import Book

@@ -7,8 +7,8 @@ from gudokeyi.domain.animals import SocietyRecord
 from gudokeyi.domain.kinds import Role, Standing
 from gudokeyi.domain.messages import counted
 from gudokeyi.reconcile.owner_days import owner_day_known
+from gudokeyi.render.history import STANDINGS, history_of
 from gudokeyi.services.animals import Relatives, relatives_of
-from gudokeyi.services.history import STANDINGS, history_of
 from gudokeyi.services.lists import exit_of
 from gudokeyi.store.animal_rows import AnimalRow, known_of
 from gudokeyi.store.book import Book
@@ -25,7 +25,7 @@ class AnimalView:
     def __init__(self, book: Book, known: SocietyRecord, shows_all: bool) -> None:
         self.book, self.known, self.shows_all = book, known, shows_all
         self.coefficients: Mapping[str, Coefficient] = kept_coefficients(book)
-        self.row = book.rows("number = ?", known.number)[0]
+        self.row = book.row(known)
 
     def lines(self) -> Iterator[str]:
         relatives = relatives_of(self.book, self.known)
@@ -36,9 +36,8 @@ class AnimalView:
         yield from self.kind("full sibs", relatives.full_sibs)
         for role in Role:
             yield from self.kind(f"half sibs by the {role}", relatives.half_sibs[role])
-        if self.book.connection is not None:
-            yield "history"
-            yield from (f"  {line}" for line in history_of(self.book.connection, self.known.id))
+        yield "history"
+        yield from (f"  {line}" for line in history_of(self.book.connection, self.known.id))
 
     def facts(self, relatives: Relatives) -> list[tuple[str, str]]:
         known, row = self.known, self.row

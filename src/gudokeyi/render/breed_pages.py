@@ -8,6 +8,7 @@ from fractions import Fraction
 from markupsafe import Markup
 
 from gudokeyi.domain.decimals import fixed, percent
+from gudokeyi.domain.settings import LANGUAGES
 from gudokeyi.genetics.breed_state import State
 from gudokeyi.genetics.founders import Contribution
 from gudokeyi.genetics.measures import Measure, Name
@@ -16,7 +17,6 @@ from gudokeyi.render.breed_plots import INBREEDING, Line, bar_plot, line_plot
 from gudokeyi.render.drawing import rendered
 from gudokeyi.render.languages import Language
 from gudokeyi.services.breed_pedigree import Breed
-from gudokeyi.store.settings import LANGUAGES
 
 # so many rows of a table stand on the page; the files have all
 MOST_ROWS = 20

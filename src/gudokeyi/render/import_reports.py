@@ -9,9 +9,11 @@ import math
 from collections.abc import Iterable, Iterator, Sequence
 from dataclasses import dataclass
 
-from gudokeyi.domain.findings import DROP_GONE, Call, Entry, Finding, ImportRefused, Report, Severity, Suggestion, What
+from gudokeyi.domain.findings import (
+    DROP_GONE, Call, Entry, Finding, ImportRefused, Report, Severity, StrictlyRefused, Suggestion, What,
+)  # fmt: skip
 from gudokeyi.domain.kinds import Field
-from gudokeyi.domain.messages import Mistake
+from gudokeyi.domain.messages import MOST_NAMED, Mistake
 from gudokeyi.domain.refusals import Refusal
 from gudokeyi.ingest.findings.cells import CellLeftOut, ErrorValue, ExitsWithoutDay
 from gudokeyi.ingest.findings.sheets import CellsUnread, ErrorCells
@@ -211,7 +213,14 @@ def told_with(call: Call) -> Iterator[None]:
     try:
         yield
     except ImportRefused as mistake:
-        raise Mistake(*mistake.told, *obstacle_lines(mistake.obstacles, call)) from None
+        raise Mistake(*told_of(mistake), *obstacle_lines(mistake.obstacles, call)) from None
+
+
+def told_of(mistake: ImportRefused) -> list[str]:
+    """What it is about, in sentences: of what would be left out the first ones."""
+    if not isinstance(mistake, StrictlyRefused):
+        return [*mistake.told]
+    return [sentence.text for sentence in itertools.islice(sentences_of([*mistake.left_out]), MOST_NAMED)]
 
 
 def obstacle_lines(obstacles: Sequence[Finding], call: Call) -> Iterator[str]:

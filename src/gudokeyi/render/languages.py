@@ -5,8 +5,8 @@ from __future__ import annotations
 import enum
 
 from gudokeyi.domain.provenance import BirthBasis, ExitBasis, OwnerDay, SexSource
+from gudokeyi.domain.settings import LANGUAGES as LANGUAGES
 from gudokeyi.store.coefficients import Coefficient
-from gudokeyi.store.settings import LANGUAGES as LANGUAGES
 
 # The marks behind what isn't known for certain: a day, a sex or a parent.
 

@@ -7,10 +7,12 @@ from dataclasses import dataclass
 
 from gudokeyi.domain.animals import SocietyRecord
 from gudokeyi.domain.kinds import Role
-from gudokeyi.services.selection import AGE_ORDER
-from gudokeyi.store.animal_rows import AnimalRow
+from gudokeyi.store.animal_rows import AnimalRow, known_of as known_of
 from gudokeyi.store.book import Book
-from gudokeyi.store.coefficients import Coefficient
+from gudokeyi.store.coefficients import (
+    Coefficient as Coefficient, coefficients_among as coefficients_among, kept_coefficients as kept_coefficients,
+)  # fmt: skip
+from gudokeyi.store.conditions import offspring_of
 
 # An animal's parents, offspring and sibs.
 
@@ -29,19 +31,19 @@ class Relatives:
 def relatives_of(book: Book, known: SocietyRecord) -> Relatives:
     record = book.records[known.number]
     parents = {role: record.parent(role) for role in Role}
-    rows = {role: next(iter(book.rows("number = ?", number)), None) for role, number in parents.items()}
-    with_parent = {role: offspring_of(book, number, role) if number else [] for role, number in parents.items()}
+    rows = {role: book.row_of(number) for role, number in parents.items()}
+    with_parent = {role: progeny_of(book, number, role) if number else [] for role, number in parents.items()}
     sibs = [row for row in with_parent[Role.SIRE] if row.number != known.number]
     full = [row for row in sibs if row.dam and row.dam == record.dam]
     are_full = {row.number for row in full} | {known.number}
     halves = {role: [row for row in with_parent[role] if row.number not in are_full] for role in Role}
     own = Role.SIRE if known.is_male else Role.DAM
-    return Relatives(rows, by_partner(offspring_of(book, known.number, own), own), full, halves)
+    return Relatives(rows, by_partner(progeny_of(book, known.number, own), own), full, halves)
 
 
-def offspring_of(book: Book, number: str, role: Role) -> list[AnimalRow]:
-    """Those of which an animal is the sire, or the dam."""
-    return book.rows(f"{role.value} = ? {AGE_ORDER}", number)
+def progeny_of(book: Book, number: str, role: Role) -> list[AnimalRow]:
+    """Those of which an animal is the sire, or the dam, in age order."""
+    return book.rows(offspring_of(number, role), in_age_order=True)
 
 
 def by_partner(offspring: Sequence[AnimalRow], role: Role) -> dict[str, list[AnimalRow]]:

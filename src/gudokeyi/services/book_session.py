@@ -4,22 +4,23 @@ from __future__ import annotations
 
 import contextlib
 import datetime
-import json
 import threading
 from collections import OrderedDict
 from collections.abc import Sequence
 
+from gudokeyi.background import Background
 from gudokeyi.domain.changes import NO_MARK, Change, Mark
 from gudokeyi.domain.commands import Command, birth, lines_of, text_of
 from gudokeyi.domain.messages import Mistake
+from gudokeyi.domain.mistakes import ProgramFailed
 from gudokeyi.domain.refusals import Refusal
 from gudokeyi.engine.messages import ProgramFault
-from gudokeyi.engine.program import Herdbook
-from gudokeyi.engine.session import Answer, Places, Session, SessionEnded, SessionFault
-from gudokeyi.engine.workers import Background
+from gudokeyi.engine.session import Answer, Places, Session, SessionEnded as SessionEnded, SessionFault
+from gudokeyi.services.book_program import BookProgram
 from gudokeyi.services.cache import mark_of
+from gudokeyi.store.ancestor_births import births_for_one, births_of, parents_of
 from gudokeyi.store.book import Book
-from gudokeyi.store.history import changed_one_by_one, last_change, login
+from gudokeyi.store.history import changed_one_by_one, is_change, last_change, login
 from gudokeyi.store.journal import NO_JOURNAL, Journal, Part, lines_with_refusals, parts_of, refusals_of
 from gudokeyi.store.transactions import reading
 
@@ -30,44 +31,19 @@ from gudokeyi.store.transactions import reading
 LARGE = 5_000
 # of more animals it is quicker to ask for all
 MOST = 30_000
-# each animal as it stands in the book now, by the births of a command file, in age order
-# (no dam leaves there, so that an embryo is as others are)
-BIRTHS = """
-    WITH RECURSIVE one (number) AS (
-        SELECT value FROM json_each(:numbers)
-        UNION SELECT iif(side = 0, sire, dam)
-        FROM one CROSS JOIN animal USING (number) CROSS JOIN (SELECT 0 AS side UNION ALL SELECT 1)
-        WHERE until IS NULL AND iif(side = 0, sire, dam) IS NOT NULL AND {goes_on}
-    )
-    SELECT 'birth,' || number || ',' || born || ',' || {sire} || ',' || {dam} || ',,' || herd || ','
-    FROM one CROSS JOIN animal USING (number) WHERE until IS NULL ORDER BY born, number
-"""
-WITH_ALL = BIRTHS.format(goes_on="true", sire="ifnull(sire, '0')", dam="ifnull(dam, '0')")
-# of an animal with an unknown parent the ancestors of the other don't matter
-IS_ASKED = "number IN (SELECT value FROM json_each(:numbers))"
-WITH_PARENT = BIRTHS.format(
-    goes_on=IS_ASKED, sire=f"iif({IS_ASKED}, ifnull(sire, '0'), '0')", dam=f"iif({IS_ASKED}, ifnull(dam, '0'), '0')"
-)
 # so many offspring are expected at once
 MOST_CALVES = 64
 # the digits of an offspring that has no number yet
 NO_DIGITS = "999999999999"
-BOTH_KNOWN = "SELECT sire IS NOT NULL AND dam IS NOT NULL FROM animal WHERE until IS NULL AND number = ?"
 
 
-def lines_alone(program: Herdbook, book: Book, numbers: Sequence[str]) -> list[str]:
+def lines_alone(program: BookProgram, book: Book, numbers: Sequence[str]) -> list[str]:
     """The program's line of each animal's coefficient; none where such a register can't be made, or is too large."""
-    assert book.connection is not None
-    is_simple = len(numbers) == 1 and not book.connection.execute(BOTH_KNOWN, (numbers[0],)).fetchone()[0]
-    return lines_among(program, births_of(book, numbers, WITH_PARENT if is_simple else WITH_ALL), numbers)
+    births = births_for_one(book, numbers[0]) if len(numbers) == 1 else births_of(book, numbers)
+    return lines_among(program, births, numbers)
 
 
-def births_of(book: Book, numbers: Sequence[str], asked: str = WITH_ALL) -> list[str]:
-    assert book.connection is not None
-    return [birth for (birth,) in book.connection.execute(asked, {"numbers": json.dumps(numbers)})]
-
-
-def lines_among(program: Herdbook, births: list[str], numbers: Sequence[str]) -> list[str]:
+def lines_among(program: BookProgram, births: list[str], numbers: Sequence[str]) -> list[str]:
     """The lines of some animals in a register of these births."""
     if len(births) > MOST:
         return []
@@ -87,7 +63,7 @@ class Expected:
         self.lock = threading.Lock()
         self.kept: OrderedDict[tuple[str, str], tuple[Change, str]] = OrderedDict()
 
-    def ask(self, program: Herdbook, book: Book, sire: str, dam: str, day: datetime.date) -> None:
+    def ask(self, program: BookProgram, book: Book, sire: str, dam: str, day: datetime.date) -> None:
         assert book.change is not None
         number = f"{dam[:7]}{NO_DIGITS}"
         offspring = lines_of([birth(number, day, sire, dam, 1, False)]).decode().rstrip()
@@ -99,10 +75,9 @@ class Expected:
 
     def line_of(self, book: Book, number: str) -> str:
         """The line of an animal that is born; empty where that isn't known."""
-        assert book.connection is not None
-        parents = "SELECT sire, dam FROM animal WHERE until IS NULL AND number = ?"
+        sire, dam = parents_of(book, number) or (None, None)
         with self.lock:
-            found = self.kept.get(book.connection.execute(parents, (number,)).fetchone())
+            found = self.kept.get((sire or "", dam or ""))
         return f"{number},{found[1]}" if found and changed_one_by_one(book.connection, found[0]) else ""
 
 
@@ -128,7 +103,7 @@ class BookMoved(Exception):
     """The book was changed since it was opened, and the session stands at what it is now."""
 
 
-class BookSession(Herdbook):
+class BookSession(BookProgram):
     """The program, whose one session answers, at the journal of the book that is asked of; where that isn't the book of
     now any more it is to be opened anew. Each stored reply is compared with the session's."""
 
@@ -143,6 +118,11 @@ class BookSession(Herdbook):
         self.is_closed = False
         # the journal that the session has filed, and the mark of the book that has it
         self.journal, self.mark = NO_JOURNAL, NO_MARK
+
+    @classmethod
+    def for_many(cls) -> BookSession:
+        """With as many desks and inspectors as an office may have."""
+        return cls(Places(16, 16))
 
     def ask(self, words: list[str], book: Book) -> list[str]:
         if words[0] in QUESTIONS and "--with" not in words and book.journal.length:
@@ -170,12 +150,11 @@ class BookSession(Herdbook):
 
     def refusals(self, book: Book) -> dict[int, Refusal]:
         """The stored ones: each was compared with the session's reply as that came to the journal."""
-        assert book.connection is not None
         for _ in range(TRIES):
             with contextlib.suppress(SessionEnded):
                 self.at(book)
                 return refusals_of(book.connection, book.journal)
-        raise Mistake(ProgramFault.SESSION_ENDS.said())
+        raise ProgramFailed(ProgramFault.SESSION_ENDS.said())
 
     def asked(self, question: list[str], book: Book) -> list[str]:
         """What an inspector of the session answers."""
@@ -185,11 +164,11 @@ class BookSession(Herdbook):
                 if answer.fault == TOO_LONG:
                     raise ReportTooLong
                 if answer.fault:
-                    raise Mistake(ProgramFault.SESSION_CANT_DO.said(fault=answer.fault))
+                    raise ProgramFailed(ProgramFault.SESSION_CANT_DO.said(fault=answer.fault))
                 if answer.steps != book.journal.length:
                     raise BookMoved
                 return answer.lines
-        raise Mistake(ProgramFault.SESSION_ENDS.said())
+        raise ProgramFailed(ProgramFault.SESSION_ENDS.said())
 
     def answer_of(self, question: list[str], book: Book) -> Answer:
         session = self.at(book)
@@ -206,7 +185,7 @@ class BookSession(Herdbook):
             for _ in range(TRIES):
                 with contextlib.suppress(SessionEnded):
                     return self.reply_of(command, book)
-        raise Mistake(ProgramFault.SESSION_ENDS.said())
+        raise ProgramFailed(ProgramFault.SESSION_ENDS.said())
 
     def reply_of(self, command: Command, book: Book) -> Refusal | None:
         session = self.at(book, to_file=True)
@@ -216,7 +195,7 @@ class BookSession(Herdbook):
             self.forget(session)
             raise
         except SessionFault as fault:
-            raise Mistake(ProgramFault.SESSION_CANT_FILE.said(fault=str(fault))) from None
+            raise ProgramFailed(ProgramFault.SESSION_CANT_FILE.said(fault=str(fault))) from None
         self.journal = Journal(self.journal.edition, self.journal.length + 1)
         return refusal
 
@@ -253,7 +232,7 @@ class BookSession(Herdbook):
                 raise
             except SessionFault as fault:
                 self.forget(self.session)
-                raise Mistake(ProgramFault.JOURNAL_CANT_BE_FILED.said(fault=str(fault))) from None
+                raise ProgramFailed(ProgramFault.JOURNAL_CANT_BE_FILED.said(fault=str(fault))) from None
             self.mark = mark_of(book)
             return self.session
 
@@ -263,7 +242,6 @@ class BookSession(Herdbook):
 
     def catch_up(self, session: Session, book: Book) -> None:
         """Files the commands of a book that the session lacks, and compares each reply with the stored one."""
-        assert book.connection is not None
         for part in parts_of(book.connection, book.journal):
             first = max(part.first, self.journal.length + 1)
             for begin in range(first, part.last + 1, AT_ONCE):
@@ -278,7 +256,7 @@ class BookSession(Herdbook):
             return
         at = next(place for place, pair in enumerate(zip(replies, stored)) if pair[0] != pair[1])
         self.forget(session)
-        raise Mistake(ProgramFault.REPLY_DIFFERS.said(place=first + at))
+        raise ProgramFailed(ProgramFault.REPLY_DIFFERS.said(place=first + at))
 
     def forget(self, session: Session | None) -> None:
         """Ends a session, so that the next question begins a new one."""
@@ -301,10 +279,8 @@ class BookSession(Herdbook):
 
 
 def has_change(book: Book, mark: Mark) -> bool:
-    assert book.connection is not None
-    number, moment = mark
-    asked = "SELECT 1 FROM change WHERE (change, time) = (?, ?)"
-    return book.connection.execute(asked, (number, moment // 1000)).fetchone() is not None
+    """Is the change with a mark one of this book?"""
+    return is_change(book.connection, *mark)
 
 
 def is_of_now(book: Book) -> bool:

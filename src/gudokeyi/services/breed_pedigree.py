@@ -2,19 +2,21 @@
 from __future__ import annotations
 
 import datetime
-from collections.abc import Collection
+from collections.abc import Callable, Collection, Sequence
 from dataclasses import dataclass
+from fractions import Fraction
 
 from gudokeyi.domain.animals import SocietyRecord
 from gudokeyi.domain.kinds import Standing
-from gudokeyi.domain.messages import Mistake
+from gudokeyi.domain.mistakes import OwnerNotFound
 from gudokeyi.domain.provenance import BirthSource, ExitSource
+from gudokeyi.domain.requests import Naming
+from gudokeyi.genetics.breed_state import State
 from gudokeyi.genetics.pedigree import COEFFICIENT_BITS, UNKNOWN, Pedigree
 from gudokeyi.ingest.words import as_known
 from gudokeyi.store.animal_rows import AnimalRow, known_of
 from gudokeyi.store.book import Book
 from gudokeyi.store.coefficients import kept_coefficients
-from gudokeyi.store.messages import Naming
 
 
 @dataclass(frozen=True)
@@ -89,9 +91,24 @@ def owned_by(breed: Breed, owner: str) -> list[int]:
     name = as_known(owner, breed.book.owners)
     owner_code = breed.book.owners.get(name)
     if owner_code is None:
-        raise Mistake(Naming.NO_OWNER.said(name=name, hint=Naming.AS_IN_SHEET.said()))
+        raise OwnerNotFound(Naming.NO_OWNER.said(name=name, hint=Naming.AS_IN_SHEET.said()))
     return [rank for rank in living(breed) if breed.rows[rank].owner_code == owner_code]
 
 
 def among(breed: Breed, animals: Collection[SocietyRecord]) -> list[int]:
     return sorted({breed.ranks[known.number] for known in animals})
+
+
+def mean_kinships_of(breed: Breed, population: Sequence[int]) -> dict[str, Fraction]:
+    """Each animal's mean kinship with a population, by its number."""
+    from gudokeyi.genetics.kinship import Kinship
+
+    of_each = Kinship.of(breed.pedigree).mean_of_each(population)
+    return {row.number: of_each[at] for at, row in enumerate(breed.rows)}
+
+
+def state_of_breed(breed: Breed, population: Sequence[int], tell: Callable[[str], None]) -> State:
+    """The measures of a reference population, by the animals' ranks. `tell` is told of each step of the work."""
+    from gudokeyi.genetics.breed_state import state_of
+
+    return state_of(breed.pedigree, population, tell)

@@ -3,7 +3,6 @@ matrix."""
 from __future__ import annotations
 
 import functools
-import json
 import pathlib
 import re
 from collections.abc import Iterable, Iterator, Sequence
@@ -12,14 +11,15 @@ from gudokeyi.domain.animals import SocietyRecord
 from gudokeyi.domain.messages import Mistake
 from gudokeyi.domain.pedigree_order import ancestors
 from gudokeyi.domain.provenance import BirthSource, ExitSource, SexSource
-from gudokeyi.engine.program import Herdbook
+from gudokeyi.services.book_program import BookProgram
 from gudokeyi.services.lists import LIST_COLUMNS, Column, ColumnRecipe, Facts, as_it_is, each, made_table, parent
+from gudokeyi.services.output_files import write_outs
 from gudokeyi.services.tables import Kind, Table
 from gudokeyi.store.animal_rows import birth_basis, exit_basis
 from gudokeyi.store.book import Book
+from gudokeyi.store.conditions import ANY, Condition, among
 from gudokeyi.store.legacy.files import STANDINGS
-from gudokeyi.store.output_files import write_outs
-from gudokeyi.store.queries import known_parents
+from gudokeyi.store.queries import EMBRYO, known_parents
 
 # The whole pedigree as a file, by the society's ids and in age order.
 
@@ -75,7 +75,7 @@ COLUMNS = (
     parent("dam"),
     LIST_COLUMNS[Column.OWNER],
     each("exit", Kind.TEXT, ("departed", "exit_source", "exit_period", "exit_text"), said_of_day),
-    as_it_is("embryo", "iif(embryo, '1', '')"),
+    as_it_is("embryo", EMBRYO),
     as_it_is("herdbook_number", "number"),
     LIST_COLUMNS[Column.COEFFICIENT],
     LIST_COLUMNS[Column.DECIMAL],
@@ -91,24 +91,23 @@ COLUMNS = (
 UNKNOWN = "NA"
 
 
-def conditions_of(book: Book, kept: Iterable[SocietyRecord] | None) -> tuple[list[str], list[object]]:
-    """What holds for all animals, or for those that are to be kept and their ancestors; with the values for its
-    question marks."""
+def condition_of(book: Book, kept: Iterable[SocietyRecord] | None) -> Condition:
+    """What holds for all animals, or for those that are to be kept and their ancestors."""
     if kept is None:
-        return [], []
+        return ANY
     numbers = {known.number for known in kept}
     wanted = sorted(ancestors(numbers, known_parents(book).__getitem__) | numbers)
-    return ["number IN (SELECT value FROM json_each(?))"], [json.dumps(wanted)]
+    return among(wanted)
 
 
 def export_table(book: Book, kept: Iterable[SocietyRecord] | None) -> Table:
     """A sheet that can be taken again, with the inferred days and sexes, and what each comes from, behind it."""
-    return made_table(book, COLUMNS, *conditions_of(book, kept))
+    return made_table(book, COLUMNS, condition_of(book, kept))
 
 
 def triples(book: Book, kept: Iterable[SocietyRecord] | None) -> list[tuple[str, str, str]]:
     """The id of each animal, its sire's and its dam's, empty for an unknown one."""
-    found = made_table(book, [LIST_COLUMNS[Column.ID], parent("sire"), parent("dam")], *conditions_of(book, kept))
+    found = made_table(book, [LIST_COLUMNS[Column.ID], parent("sire"), parent("dam")], condition_of(book, kept))
     return [(str(id), str(sire), str(dam)) for id, sire, dam in found.rows]
 
 
@@ -137,7 +136,7 @@ def quoted(id: str) -> str:
 BITS = 96
 
 
-def summed(book: Book, program: Herdbook) -> tuple[list[str], dict[int, int]]:
+def summed(book: Book, program: BookProgram) -> tuple[list[str], dict[int, int]]:
     """The numbers of the rows, in age order, and the elements of the lower triangle: by `row << 16 | column`, counted
     from 0, in units of 2^-96."""
     order: list[str] = []
@@ -159,7 +158,7 @@ def scaled(value: str) -> int:
     return ((int(numerator) << BITS + 1) + below) // (2 * below)
 
 
-def write_inverse(book: Book, program: Herdbook, path: pathlib.Path, force: bool) -> tuple[int, int, pathlib.Path]:
+def write_inverse(book: Book, program: BookProgram, path: pathlib.Path, force: bool) -> tuple[int, int, pathlib.Path]:
     """Writes the matrix and, beside it, the ids of its rows, one a line. Answers how many rows and elements there
     are."""
     order, elements = summed(book, program)

@@ -4,31 +4,31 @@ from __future__ import annotations
 import datetime
 from dataclasses import dataclass, field, replace
 
-from gudokeyi.domain.animals import SocietyRecord
+from gudokeyi.domain.animals import NO_OWNER, SocietyRecord
 from gudokeyi.domain.changes import Change, ChangeDetails, Option, StoredFinding
 from gudokeyi.domain.commands import Command, RegisterRecord, birth, leave, parents, record_after, transfer
 from gudokeyi.domain.findings import Entry, Finding
 from gudokeyi.domain.kinds import ChangeKind, Field, Standing
-from gudokeyi.domain.messages import Mistake
+from gudokeyi.domain.mistakes import InvalidValue, OwnerNotFound
 from gudokeyi.domain.provenance import GIVEN_EXIT, OwnerDay
 from gudokeyi.domain.refusals import Refusal
-from gudokeyi.engine.program import Herdbook
+from gudokeyi.domain.requests import Naming, NotSuch, refuse_long
 from gudokeyi.ingest.unknown_parents import names_no_owner
-from gudokeyi.ingest.words import clean
+from gudokeyi.ingest.words import clean as clean
 from gudokeyi.reconcile.findings.animals import CommandRefused, NewAnimal, ValueChanged
 from gudokeyi.reconcile.ids import id_alike
 from gudokeyi.reconcile.import_options import unknown_parents
 from gudokeyi.reconcile.owners import new_owner
 from gudokeyi.reconcile.plausibility import young_parents
 from gudokeyi.reconcile.stored_findings import told_of
+from gudokeyi.services.book_program import BookProgram
 from gudokeyi.services.search import find
+from gudokeyi.services.writing import write
 from gudokeyi.store.animal_rows import row_of
-from gudokeyi.store.book import NO_OWNER, Book
-from gudokeyi.store.journal import Step
-from gudokeyi.store.messages import Naming, NotSuch, refuse_long
+from gudokeyi.store.book import Book
+from gudokeyi.store.journal import Filed, Step
 from gudokeyi.store.settings import letters_for
-from gudokeyi.store.state import select_rows
-from gudokeyi.store.writing import Filed, Rows, State, write
+from gudokeyi.store.state import Rows, State, rows_with_id
 
 
 @dataclass(frozen=True)
@@ -69,10 +69,13 @@ class Offspring:
 
 def born(book: Book, offspring: Offspring) -> FiledCommand:
     """A birth; one of an animal that is in the book is filed with its number, and the program refuses it."""
+    offspring = replace(
+        offspring, id=clean(offspring.id), name=clean(offspring.name), owner=clean(offspring.owner)
+    )
     if not offspring.id:
-        raise Mistake(NotSuch.NO_ID.said())
+        raise InvalidValue(NotSuch.NO_ID.said())
     if offspring.id in unknown_parents(book):
-        raise Mistake(NotSuch.NO_ANIMALS_ID.said(word=offspring.id))
+        raise InvalidValue(NotSuch.NO_ANIMALS_ID.said(word=offspring.id))
     for field, text in ((Field.ID, offspring.id), (Field.NAME, offspring.name), (Field.OWNER, offspring.owner)):
         refuse_long(field, text)
     refuse_to_come(offspring.day)
@@ -106,7 +109,7 @@ def parent_named(book: Book, word: str, may_be_file: bool = True) -> SocietyReco
 def refuse_to_come(day: datetime.date) -> None:
     """A mistake where a day is after today, as in a sheet: nobody knows yet whether it comes so."""
     if day > datetime.date.today():
-        raise Mistake(NotSuch.AFTER_TODAY.said(day=day))
+        raise InvalidValue(NotSuch.AFTER_TODAY.said(day=day))
 
 
 def number_for(book: Book, offspring: Offspring) -> str:
@@ -156,14 +159,15 @@ def transferred(
     book: Book, known: SocietyRecord, day: datetime.date, to_owner: str, from_owner: str | None
 ) -> FiledCommand:
     """Another owner; the from_owner is the owner that the book has where none is named."""
+    to_owner, from_owner = clean(to_owner), None if from_owner is None else clean(from_owner)
     if names_no_owner(to_owner):
-        raise Mistake(NotSuch.NO_TAKER.said())
+        raise InvalidValue(NotSuch.NO_TAKER.said())
     refuse_long(Field.OWNER, to_owner)
     refuse_to_come(day)
     record = book.records[known.number]
     owner_code, new_owners = owner_code_of(book, to_owner)
     if from_owner is not None and from_owner not in book.owners:
-        raise Mistake(Naming.NO_OWNER.said(name=from_owner, hint=Naming.AS_IN_BOOK.said()))
+        raise OwnerNotFound(Naming.NO_OWNER.said(name=from_owner, hint=Naming.AS_IN_BOOK.said()))
     herd_before = record.owner_code if from_owner is None else book.owners[from_owner]
     found = ValueChanged("owner", to_owner, book.owner_of(record.owner_code))
     after = known._replace(by_hand=known.by_hand | {Field.OWNER}, owner_day=OwnerDay.GIVEN)
@@ -193,7 +197,7 @@ def id_of(book: Book, number: str) -> str:
     return book.by_number()[number].id if number else ""
 
 
-def file(book: Book, program: Herdbook, one: FiledCommand) -> tuple[Change, Refusal | None]:
+def file(book: Book, program: BookProgram, one: FiledCommand) -> tuple[Change, Refusal | None]:
     """Files a command as a change of its own, with the program's reply: why it is refused, or none."""
     refusal = program.reply(one.command, book)
     rows = Rows({}, {}) if refusal else rows_of(book, one)
@@ -213,8 +217,7 @@ def told_by(one: FiledCommand, findings: tuple[Finding, ...]) -> tuple[StoredFin
 
 def rows_of(book: Book, one: FiledCommand) -> Rows:
     """The animal's row before and after."""
-    assert book.connection is not None
-    before = select_rows(book.connection, "id = ?", one.known.id)
+    before = rows_with_id(book.connection, one.known.id)
     record: RegisterRecord | None = None if one.kind is ChangeKind.BIRTH else book.records[one.known.number]
     after = row_of(one.known, record_after(record, one.command))
     return Rows({(row.id,): row for row in before}, {(after.id,): after})

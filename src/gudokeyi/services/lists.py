@@ -9,11 +9,12 @@ from typing import TYPE_CHECKING, Any
 
 from gudokeyi.domain.decimals import decimal, decimal_of_text
 from gudokeyi.domain.provenance import BirthSource
-from gudokeyi.services.selection import Choice, conditions_of
+from gudokeyi.services.selection import Choice, condition_of
 from gudokeyi.services.tables import Cell, Kind, Table
 from gudokeyi.store.animal_rows import SEX_SOURCES, birth_basis, exit_basis
 from gudokeyi.store.book import Book
-from gudokeyi.store.queries import FRACTION, PERCENT, PLACE, selected
+from gudokeyi.store.conditions import Condition
+from gudokeyi.store.queries import FRACTION, OFFSPRING, PERCENT, PLACE, selected
 
 if TYPE_CHECKING:
     from fractions import Fraction
@@ -44,8 +45,8 @@ class Facts:
     @cached_property
     def mean_kinships(self) -> list[Fraction]:
         """Each animal's with the living ones; where none lives, with all."""
-        from gudokeyi.services.breed_pedigree import living
         from gudokeyi.genetics.kinship import Kinship
+        from gudokeyi.services.breed_pedigree import living
 
         population = living(self.breed) or range(len(self.breed.pedigree))
         return Kinship.of(self.breed.pedigree).mean_of_each(population)
@@ -103,13 +104,10 @@ def each(title: str, kind: Kind, of: tuple[str, ...], cell: Callable[..., Cell])
     return ColumnRecipe(title, kind, of, lambda facts, *columns: map(cell, *columns))
 
 
-def made_table(
-    book: Book, columns: Sequence[ColumnRecipe], conditions: Sequence[str], values: Sequence[object]
-) -> Table:
-    """A row with these columns for each animal for which all conditions hold, in age order. `values` are those of the
-    conditions' question marks."""
+def made_table(book: Book, columns: Sequence[ColumnRecipe], condition: Condition) -> Table:
+    """A row with these columns for each animal for which a condition holds, in age order."""
     wanted = list(dict.fromkeys(name for column in columns for name in column.of))
-    found: dict[str, Sequence[Any]] = dict(zip(wanted, zip(*selected(book, wanted, conditions, values))))
+    found: dict[str, Sequence[Any]] = dict(zip(wanted, zip(*selected(book, wanted, condition))))
     facts = Facts(book)
     cells = [column.cells(facts, *(found.get(name, ()) for name in column.of)) for column in columns]
     return Table([(column.title, column.kind) for column in columns], [list(one) for one in cells])
@@ -148,12 +146,6 @@ BIRTH_OF = ("born", "birth_source", "birth_period", "birth_no_such_day")
 EXIT_OF = ("departed", "exit_source", "exit_period", "exit_no_such_day", "exit_text")
 # what the source of a birth day is that the sheet gives
 GIVEN = BirthSource.GIVEN.value
-# how many offspring an animal has in the book
-OFFSPRING = " + ".join(
-    f"(SELECT count(*) FROM animal AS calf WHERE calf.until IS NULL AND calf.{role} = animal.number)"
-    for role in ("sire", "dam")
-)
-
 
 def birth_of(born: str | None, source: str, period: str | None, no_such_day: str | None) -> str:
     """The birth day with its mark. Most have none."""
@@ -209,11 +201,9 @@ LIST_COLUMNS = {
 }
 
 
-def animals_table(
-    book: Book, conditions: Sequence[str], values: Sequence[object], columns: Sequence[Column] = USUAL
-) -> Table:
-    """The animals for which all conditions hold, in age order, with these columns."""
-    return made_table(book, [LIST_COLUMNS[column] for column in columns], conditions, values)
+def animals_table(book: Book, condition: Condition, columns: Sequence[Column] = USUAL) -> Table:
+    """The animals for which a condition holds, in age order, with these columns."""
+    return made_table(book, [LIST_COLUMNS[column] for column in columns], condition)
 
 
 # Lists of animals, by the society's own ids.
@@ -221,4 +211,4 @@ def animals_table(
 
 def animals_listed(book: Book, choice: Choice = Choice(), columns: Sequence[Column] = USUAL) -> Table:
     """The animals of a choice with these columns, in age order."""
-    return animals_table(book, *conditions_of(book, choice), columns)
+    return animals_table(book, condition_of(book, choice), columns)

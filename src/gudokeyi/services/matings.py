@@ -8,21 +8,23 @@ from collections.abc import Sequence
 from dataclasses import dataclass
 from typing import NamedTuple
 
+from gudokeyi.background import Background
 from gudokeyi.domain.animals import SocietyRecord
 from gudokeyi.domain.collections import made
 from gudokeyi.domain.kinds import Role
-from gudokeyi.domain.messages import Count, MessageText, Mistake, Some, number_and_some, some_of, why
+from gudokeyi.domain.messages import Count, MessageText, Some, number_and_some, some_of, why
+from gudokeyi.domain.mistakes import MatingImpossible
 from gudokeyi.domain.provenance import BirthSource
 from gudokeyi.domain.refusals import MatingFault
-from gudokeyi.engine.program import Herdbook
-from gudokeyi.engine.workers import Background
+from gudokeyi.domain.requests import Mating
+from gudokeyi.services.book_program import BookProgram
 from gudokeyi.services.lists import BIRTH_OF, LIST_COLUMNS, USUAL, birth_of
 from gudokeyi.services.relationships import Pairs
-from gudokeyi.services.selection import MatesRead, Why, birth_day
 from gudokeyi.services.tables import Begun, Cell, Kind, Table
 from gudokeyi.store.book import Book
 from gudokeyi.store.coefficients import decimals_of_units, units_of
-from gudokeyi.store.messages import Mating
+from gudokeyi.store.conditions import among
+from gudokeyi.store.mates import MatesRead, Why, birth_day
 from gudokeyi.store.queries import selected
 
 # Who may be mated: those that are named, or all that there are, with who was passed over.
@@ -79,14 +81,14 @@ class Candidates:
         passed += [Mating.CASTRATED.said(castrated=Count(len(self.castrated), "castrated one"))] * bool(self.castrated)
         passed += [Mating.WITHOUT_ROW.said(count=len(self.without_row))] * bool(self.without_row)
         among = Mating.AMONG.said(passed=Some(passed)) if passed else ""
-        raise Mistake(Mating.NO_CANDIDATE.said(sex=SEXES[self.role], role=self.role, among=among, hint=hint))
+        raise MatingImpossible(Mating.NO_CANDIDATE.said(sex=SEXES[self.role], role=self.role, among=among, hint=hint))
 
 
 def candidates_of(book: Book, role: Role, named: Sequence[SocietyRecord] | None) -> Candidates:
     """Those that are named, each of which has to have the sex; where none is, all that there are."""
     wrong = [known.id for known in named or () if known.number[6] != role.sex]
     if wrong:
-        raise Mistake(Mating.WRONG_SEX.said(animals=Some(wrong), role=role, sex=OTHERS[role]))
+        raise MatingImpossible(Mating.WRONG_SEX.said(animals=Some(wrong), role=role, sex=OTHERS[role]))
     found = all_candidates(book, role) if named is None else named_candidates(book, role, named)
     return found.needed(Mating.NAME_IN_FILE.said(role=role))
 
@@ -94,7 +96,7 @@ def candidates_of(book: Book, role: Role, named: Sequence[SocietyRecord] | None)
 def named_candidates(book: Book, role: Role, named: Sequence[SocietyRecord]) -> Candidates:
     """In the order in which they are named, whatever they are."""
     numbers = list(dict.fromkeys(known.number for known in named))
-    rows = selected(book, OF_CANDIDATE, ["number IN (SELECT value FROM json_each(?))"], [json.dumps(numbers)])
+    rows = selected(book, OF_CANDIDATE, among(numbers))
     by_number = {
         number: Candidate(number, id, name, born, birth_of(born, *basis), basis[0] in WITH_YEAR)
         for number, id, name, born, *basis in rows
@@ -186,6 +188,8 @@ class Advice(NamedTuple):
     table: Table
     refused: list[MessageText]
     sires: Candidates
+    # the same by the sires' ids
+    faults: tuple[tuple[str, MatingFault], ...] = ()
 
 
 class SiresView(NamedTuple):
@@ -197,14 +201,14 @@ class SiresView(NamedTuple):
     by_id: list[int]
 
 
-def advise_on_named(book: Book, program: Herdbook, dam: SocietyRecord, named: Sequence[SocietyRecord]) -> Advice:
+def advise_on_named(book: Book, program: BookProgram, dam: SocietyRecord, named: Sequence[SocietyRecord]) -> Advice:
     """Advice on sires that are named, each of them once."""
     sires = named_candidates(book, Role.SIRE, named)
     return advice_of(dam, sires, by_mating(book, program, dam, sires))
 
 
 def advise_on_all(
-    book: Book, program: Herdbook, dam: SocietyRecord, read: MatesRead, begun: Sequence[
+    book: Book, program: BookProgram, dam: SocietyRecord, read: MatesRead, begun: Sequence[
         Background[str]
     ], also_left: bool
 ) -> Advice:
@@ -245,15 +249,15 @@ def told_of(
     refused = [(ids[at], MatingFault(int(answers.percents[at]))) for at in places if answers.fractions[at] == REFUSED]
     of_dam = [fault for _, fault in refused if fault.is_of_dam()]
     if of_dam:
-        raise Mistake(Mating.NOT_A_DAM.said(dam=dam.id, **why(of_dam[0])))
+        raise MatingImpossible(Mating.NOT_A_DAM.said(dam=dam.id, **why(of_dam[0])))
     told = [Mating.REFUSED.said(sire=id, **why(fault)) for id, fault in refused]
     mated = [fraction != REFUSED for fraction in answers.fractions]
     columns = [*shown.cells, answers.fractions, answers.percents]
     *cells, fractions, percents = ([*itertools.compress(column, mated)] for column in columns)
-    return Advice(advice_table(shown_of(*cells), Answers(fractions, percents, False)), told, sires)
+    return Advice(advice_table(shown_of(*cells), Answers(fractions, percents, False)), told, sires, tuple(refused))
 
 
-def by_mating(book: Book, program: Herdbook, dam: SocietyRecord, sires: Candidates) -> Answers:
+def by_mating(book: Book, program: BookProgram, dam: SocietyRecord, sires: Candidates) -> Answers:
     """What the program says of a mating with each of the sires, in their order."""
     return answers_of(program.begin_matings(dam.number, sires.numbers, book))
 

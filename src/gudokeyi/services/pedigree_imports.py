@@ -1,19 +1,19 @@
 """From a geneticist's pedigree, `id sire dam`, to a book in its folder."""
 from __future__ import annotations
 
-from gudokeyi.domain.findings import Call, ImportRefused, Report
+import contextlib
+
+from gudokeyi.domain.findings import Call, ImportRefused, Obstacle, Report
 from gudokeyi.domain.kinds import Field
 from gudokeyi.domain.messages import Mistake, counted
-from gudokeyi.engine.program import Herdbook
 from gudokeyi.ingest.day_cells import DayCells
-from gudokeyi.ingest.files import GivenFile, bounded_import
+from gudokeyi.ingest.files import GivenFile
 from gudokeyi.ingest.pedigree_files import READ, STANDARD_INPUT
 from gudokeyi.ingest.pedigrees import Triples, read_triples
 from gudokeyi.ingest.titles import read_given
 from gudokeyi.reconcile.all_animals import add_others
 from gudokeyi.reconcile.birth_days import find_days, invent_days
 from gudokeyi.reconcile.doubtful_founders import founders_in_doubt
-from gudokeyi.reconcile.findings.obstacles import Obstacle
 from gudokeyi.reconcile.guards import OtherAnimals
 from gudokeyi.reconcile.import_options import ImportOptions, unknown_parents, with_settings
 from gudokeyi.reconcile.impossible_parents import cut_cycles
@@ -23,35 +23,35 @@ from gudokeyi.reconcile.pedigree_links import (
     keep_with_ancestors, leave_out_same_parent, refuse_alike, refuse_both, refuse_lost_links, refuse_used_ids,
 )  # fmt: skip
 from gudokeyi.reconcile.sexes import find_sexes, invent_sexes
-from gudokeyi.render.import_reports import told_with
-from gudokeyi.services.saving import Prepared, save_import
-from gudokeyi.services.sheet_imports import About, finish, tell
+from gudokeyi.services.book_program import BookProgram
+from gudokeyi.services.output_files import check_place
+from gudokeyi.services.saving import Prepared, outcome_of
+from gudokeyi.services.sheet_imports import About, Bounds, finish
 from gudokeyi.store.book import Book
 from gudokeyi.store.files import source_of
-from gudokeyi.store.opening import to_look_at
-from gudokeyi.store.output_files import check_place
 
 
-def import_pedigree(file: GivenFile, import_options: ImportOptions) -> list[str]:
-    """Takes a pedigree; answers what is to be told besides."""
-    program, call = Herdbook(), import_options.call("--pedigree", str(file.path))
-    with told_with(call):
-        if import_options.preview:
-            with to_look_at(import_options.book, program) as book:
-                outcome, notes = import_pedigree_into(book, file, import_options, program, call)[0], book.notes
-        else:
-            outcome, notes = save_import(
-                import_options.book, program, lambda book: import_pedigree_into(book, file, import_options, program,
-                call),
-            )  # fmt: skip
-        tell(outcome)
-    return notes
+def import_pedigree(
+    file: GivenFile, import_options: ImportOptions, program: BookProgram, bounds: Bounds = contextlib.nullcontext
+) -> tuple[Outcome, list[str]]:
+    """The same of a pedigree as of a sheet."""
+
+    def prepare(book: Book) -> tuple[Outcome, Prepared | None]:
+        return import_pedigree_into(book, file, import_options, program, bounds)
+
+    return outcome_of(import_options, program, prepare)
+
+
+def call_for(file: GivenFile, import_options: ImportOptions) -> Call:
+    """How a pedigree is imported in a terminal."""
+    return import_options.call("--pedigree", str(file.path))
 
 
 def import_pedigree_into(
-    book: Book, file: GivenFile, import_options: ImportOptions, program: Herdbook, call: Call
+    book: Book, file: GivenFile, import_options: ImportOptions, program: BookProgram, bounds: Bounds
 ) -> tuple[Outcome, Prepared | None]:
     """What a pedigree makes of a book, and the change that is to be made, none for a preview."""
+    call = call_for(file, import_options)
     check_place(book, file.path)
     book.read_all()
     report = Report()
@@ -59,7 +59,7 @@ def import_pedigree_into(
     unknown = unknown_parents(book, import_options.unknown, import_options.known)
     days = DayCells(unknown, month_first=False)
     import_options = with_settings(book, import_options)
-    with bounded_import(import_options.preview):
+    with bounds():
         triples = read_triples(file, given_columns(import_options.columns), unknown, book.known, report)
         animals, about = triples.animals, [*triples.told]
         ids = animals.keys() | book.known.keys()

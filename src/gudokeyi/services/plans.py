@@ -11,16 +11,15 @@ from gudokeyi.domain.animals import SocietyRecord
 from gudokeyi.domain.decimals import percent
 from gudokeyi.domain.kinds import Role
 from gudokeyi.domain.messages import Count, MessageText, counted, some_of
-from gudokeyi.domain.provenance import BirthSource
-from gudokeyi.engine.program import Herdbook
-from gudokeyi.genetics.plans import Assume, Bound, Plan, Rules, Unmated, plan_of
-from gudokeyi.services.matings import COLUMNS, WITH_YEAR, Candidates, candidates_of
+from gudokeyi.domain.requests import Mating
+from gudokeyi.genetics.breed_state import Step as Step
+from gudokeyi.genetics.plans import Assume as Assume, Bound, Plan, Rules, Unmated as Unmated, plan_of
+from gudokeyi.services.book_program import BookProgram
+from gudokeyi.services.matings import COLUMNS, Candidates, candidates_of
 from gudokeyi.services.relationships import Pairs, pairs_of
-from gudokeyi.services.selection import MAY_BE_MATED
 from gudokeyi.services.tables import Cell, Kind, Table
-from gudokeyi.store.book import IN_BOOK, Book
-from gudokeyi.store.messages import Mating
-from gudokeyi.store.state import ALL_ROWS, NOW
+from gudokeyi.store.book import Book
+from gudokeyi.store.mates import ages_at_first_offspring, mates_by_sex
 
 # What a plan of matings assumes where nobody says otherwise: it is read from the book, whose species isn't known.
 
@@ -89,12 +88,8 @@ def prepared(book: Book, asked: Asked, named: Named = ALL) -> Prepared:
 def usual_bounds(book: Book) -> tuple[UsualAge, int | None]:
     """The usual age, and most dams for a sire where nobody is named; none where there is no sire. Nobody is looked at one
     by one: a page waits for it."""
-    assert book.connection is not None
     usual = usual_age(book)
-    too_young = f"birth_source IN {WITH_YEAR} AND born > :youngest AND born <= :today"
-    asked = f"SELECT substr(number, 7, 1), count(*) FROM {ALL_ROWS} WHERE {NOW} AND {MAY_BE_MATED} AND NOT ({too_young}) GROUP BY 1"
-    days = {"youngest": born_at_latest(usual.days), "today": born_at_latest(0)}
-    counts: dict[str, int] = dict(book.connection.execute(asked, days))
+    counts = mates_by_sex(book, born_at_latest(usual.days), born_at_latest(0))
     dams, sires = (counts.get(role.sex, 0) for role in (Role.DAM, Role.SIRE))
     return usual, usual_most(dams, sires) if sires else None
 
@@ -104,21 +99,6 @@ def usual_age(book: Book) -> UsualAge:
     if len(ages) < FEWEST_PARENTS:
         return UsualAge(YEAR, 0)
     return UsualAge(ages[len(ages) // ONE_OF], len(ages))
-
-
-def ages_at_first_offspring(book: Book) -> dict[str, int]:
-    """Of each parent, by its number, in days, where both birth days are given."""
-    assert book.connection is not None
-    asked = f"""
-        SELECT number, CAST(julianday(born) AS INTEGER) AS day, sire, dam FROM {ALL_ROWS}
-        WHERE {NOW} AND {IN_BOOK} AND birth_source = ? ORDER BY day DESC
-    """
-    born: dict[str, int] = {}
-    first: dict[str, int] = {}
-    # the older one's day stays: a page waits for each look at what is there already
-    for number, day, sire, dam in book.connection.execute(asked, (BirthSource.GIVEN.value,)):
-        born[number] = first[sire] = first[dam] = day
-    return {parent: day - born[parent] for parent, day in first.items() if parent in born}
 
 
 def usual_most(dams: int, sires: int) -> int:
@@ -161,7 +141,7 @@ class Planned:
     pairs: Pairs
 
 
-def best_plan(book: Book, program: Herdbook, dams: Candidates, sires: Candidates, rules: Rules) -> Planned:
+def best_plan(book: Book, program: BookProgram, dams: Candidates, sires: Candidates, rules: Rules) -> Planned:
     pairs = pairs_of(book, program, dams.numbers, sires.numbers)
     values = {pair: one.value for pair, one in pairs.coefficients.items()}
     kinships = mean_kinships(book, sires.numbers) if rules.kinship_weight else {}
@@ -170,8 +150,8 @@ def best_plan(book: Book, program: Herdbook, dams: Candidates, sires: Candidates
 
 def mean_kinships(book: Book, sires: Sequence[str]) -> dict[str, Fraction]:
     """The sires' mean kinship with the living animals."""
-    from gudokeyi.services.breed_pedigree import breed_of, living
     from gudokeyi.genetics.kinship import Kinship
+    from gudokeyi.services.breed_pedigree import breed_of, living
 
     breed = breed_of(book)
     of_each = Kinship.of(breed.pedigree).mean_of_each(living(breed))

@@ -10,12 +10,13 @@ from typing import TYPE_CHECKING, NamedTuple
 from gudokeyi.domain.animals import SocietyRecord
 from gudokeyi.domain.decimals import decimal_of_text
 from gudokeyi.domain.messages import Mistake
-from gudokeyi.engine.program import MOST_NUMBERS, Herdbook
+from gudokeyi.domain.mistakes import MatingImpossible
+from gudokeyi.domain.requests import Mating
 from gudokeyi.genetics.pedigree import MOST_STEPS
+from gudokeyi.services.book_program import MOST_NUMBERS, BookProgram
 from gudokeyi.services.tables import Cell, Kind, Table
 from gudokeyi.store.book import Book
 from gudokeyi.store.coefficients import Coefficient, of_offspring
-from gudokeyi.store.messages import Mating
 from gudokeyi.store.queries import selected
 
 if TYPE_CHECKING:
@@ -36,7 +37,7 @@ class Pairs:
     refused: list[Pair]
 
 
-def pairs_of(book: Book, program: Herdbook, dams: Sequence[str], sires: Sequence[str]) -> Pairs:
+def pairs_of(book: Book, program: BookProgram, dams: Sequence[str], sires: Sequence[str]) -> Pairs:
     """All pairs of some dams and sires, by their numbers."""
     found = offspring_coefficients(book, program, dams, sires)
     refused = list(refused_pairs(book, program, too_deep(book, dams, sires)))
@@ -46,18 +47,18 @@ def pairs_of(book: Book, program: Herdbook, dams: Sequence[str], sires: Sequence
 
 
 def offspring_coefficients(
-    book: Book, program: Herdbook, dams: Sequence[str], sires: Sequence[str]
+    book: Book, program: BookProgram, dams: Sequence[str], sires: Sequence[str]
 ) -> dict[Pair, Coefficient]:
     """By the numbers of a dam and a sire, dam by dam."""
     found = relationships(book, program, dams, sires)
     return {(dam, sire): of_offspring(found[dam, sire]) for dam in dams for sire in sires}
 
 
-def relationships(book: Book, program: Herdbook, some: Sequence[str], others: Sequence[str]) -> dict[Pair, str]:
+def relationships(book: Book, program: BookProgram, some: Sequence[str], others: Sequence[str]) -> dict[Pair, str]:
     """Those of each of some animals with each of the others, by their numbers, as the program writes the fractions."""
     count = len(some) * len(others)
     if count > MOST_PAIRS:
-        raise Mistake(Mating.TOO_MANY_PAIRS.said(pairs=count, most=MOST_PAIRS))
+        raise MatingImpossible(Mating.TOO_MANY_PAIRS.said(pairs=count, most=MOST_PAIRS))
     # the program goes through the pedigree once for each of those that it is given first
     few, many = (some, others) if len(some) < len(others) else (others, some)
     found: dict[Pair, str] = {}
@@ -84,7 +85,7 @@ def depths(book: Book) -> dict[str, int]:
     return found
 
 
-def refused_pairs(book: Book, program: Herdbook, pairs: Sequence[Pair]) -> Iterator[Pair]:
+def refused_pairs(book: Book, program: BookProgram, pairs: Sequence[Pair]) -> Iterator[Pair]:
     """Those of the pairs that the program refuses to mate."""
     for dam, of_dam in itertools.groupby(pairs, key=lambda pair: pair[0]):
         words = ["mating", "--dam", dam, *(sire for _, sire in of_dam)]
@@ -115,7 +116,7 @@ class Related(NamedTuple):
 
 
 def related(
-    book: Book, program: Herdbook, animals: Sequence[SocietyRecord], others: Sequence[SocietyRecord] | None
+    book: Book, program: BookProgram, animals: Sequence[SocietyRecord], others: Sequence[SocietyRecord] | None
 ) -> list[Related]:
     """All pairs of some animals, each with itself too; or else each of them with each of the others."""
     numbers = [known.number for known in animals]

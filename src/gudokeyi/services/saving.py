@@ -6,24 +6,24 @@ import pathlib
 from collections.abc import Callable
 from dataclasses import dataclass, replace
 
+from gudokeyi.background import Background
 from gudokeyi.domain.animals import SocietyRecord
 from gudokeyi.domain.changes import Change, ChangeDetails, Source
 from gudokeyi.domain.commands import RegisterRecord, lines_of, record_after, replay, text_of
 from gudokeyi.domain.findings import What
-from gudokeyi.domain.kinds import ChangeKind, Field
-from gudokeyi.engine.program import Herdbook
-from gudokeyi.engine.workers import Background
+from gudokeyi.domain.kinds import CELL_FIELDS, ChangeKind, Field
 from gudokeyi.process import keep
 from gudokeyi.reconcile.import_options import ImportOptions
 from gudokeyi.reconcile.next_book import NextBook, known_after
 from gudokeyi.reconcile.outcome import Outcome
 from gudokeyi.reconcile.stored_findings import told_of
+from gudokeyi.services.book_program import BookProgram
+from gudokeyi.services.opening import export, still_to_change, to_change, to_look_at, to_prepare
+from gudokeyi.services.writing import write
 from gudokeyi.store.book import Book
-from gudokeyi.store.journal import accepted_commands
-from gudokeyi.store.opening import export, no_book, still_to_change, to_change, to_prepare
-from gudokeyi.store.state import CELL_FIELDS, Values
-from gudokeyi.store.transactions import Overtaken
-from gudokeyi.store.writing import Filed, Rows, State, animal_rows, write
+from gudokeyi.store.journal import Filed, accepted_commands
+from gudokeyi.store.state import Rows, State, Values, animal_rows
+from gudokeyi.store.transactions import Overtaken, no_book
 
 # the cells of an animal that had none
 NOTHING = (None,) * len(CELL_FIELDS)
@@ -43,7 +43,15 @@ class Prepared:
 Prepare = Callable[[Book], tuple[Outcome, Prepared | None]]
 
 
-def save_import(folder: pathlib.Path, program: Herdbook, prepare: Prepare) -> tuple[Outcome, list[str]]:
+def outcome_of(import_options: ImportOptions, program: BookProgram, prepare: Prepare) -> tuple[Outcome, list[str]]:
+    """What an import makes, or for a preview would make; and what is to be told besides."""
+    if not import_options.preview:
+        return save_import(import_options.book, program, prepare)
+    with to_look_at(import_options.book, program) as book:
+        return prepare(book)[0], book.notes
+
+
+def save_import(folder: pathlib.Path, program: BookProgram, prepare: Prepare) -> tuple[Outcome, list[str]]:
     """Takes what is prepared; answers what is to be told besides. Where somebody else changes the book meanwhile it is
     prepared once more, and then others wait for that. Where the book goes away meanwhile no other is begun."""
     before: Change | None = None
@@ -54,14 +62,14 @@ def save_import(folder: pathlib.Path, program: Herdbook, prepare: Prepare) -> tu
         with still_to_change(folder, book.change) as now:
             return saved(now, program, outcome, prepared, book.notes)
     with to_change(folder, program) as book:
-        if before is not None and book.connection is None:
+        if before is not None and not book.is_there:
             raise no_book(folder)
         outcome, prepared = prepare(book)
         return saved(book, program, outcome, prepared, book.notes)
 
 
 def saved(
-    book: Book, program: Herdbook, outcome: Outcome, prepared: Prepared | None, notes: list[str]
+    book: Book, program: BookProgram, outcome: Outcome, prepared: Prepared | None, notes: list[str]
 ) -> tuple[Outcome, list[str]]:
     assert prepared is not None
     change = save(book, program, prepared)
@@ -70,22 +78,18 @@ def saved(
     return outcome, notes + export(book.folder)
 
 
-def save(book: Book, program: Herdbook, prepared: Prepared) -> Change:
+def save(book: Book, program: BookProgram, prepared: Prepared) -> Change:
     """The change, after which the book can't be used any more."""
     return write(book, program, prepared.filed, prepared.state, prepared.made)
 
 
 def prepared_of(
-    next_book: NextBook, filed: Filed, program: Herdbook, import_options: ImportOptions, source: Source, new: int
+    next_book: NextBook, filed: Filed, program: BookProgram, import_options: ImportOptions, source: Source, new: int
 ) -> Prepared:
     """What is to be written. Nothing is yet."""
     book, report = next_book.book, next_book.report
     coefficients = begin_coefficients(book, program, filed)
-    owner_codes = (
-        set() if book.connection is None else {
-            owner_code for (owner_code,) in book.connection.execute("SELECT herd FROM owner")
-        }
-    )
+    owner_codes = {*book.owners_came().values()}
     counts = report.counts()
     made = ChangeDetails(
         ChangeKind.PEDIGREE if next_book.is_pedigree else ChangeKind.TAKE,
@@ -100,7 +104,7 @@ def prepared_of(
         form=import_options.form,
     )
     new_owners = {owner: owner_code for owner, owner_code in book.owners.items() if owner_code not in owner_codes}
-    if book.connection is None:
+    if not book.is_there:
         # where the program fails no book is begun
         coefficients.value()
 
@@ -119,13 +123,13 @@ def prepared_of(
 def before_others_wait(book: Book, find: Callable[[], State]) -> Callable[[], State]:
     """The state after a change is found out before the change begins, for which others wait. For a book that isn't there
     yet nobody waits: it is found out beside the writing of its journal."""
-    if book.connection is None:
+    if not book.is_there:
         return Background(find).value
     state = find()
     return lambda: state
 
 
-def begin_coefficients(book: Book, program: Herdbook, filed: Filed) -> Background[list[str]]:
+def begin_coefficients(book: Book, program: BookProgram, filed: Filed) -> Background[list[str]]:
     """The program begins to compute those after the commands."""
     text = text_after(book, filed)
     return Background(lambda: program.lines(["inbreeding"], text))

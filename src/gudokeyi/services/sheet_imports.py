@@ -2,18 +2,18 @@
 nothing is refused, and told."""
 from __future__ import annotations
 
-import itertools
+import contextlib
 import pathlib
+from collections.abc import Callable
 from dataclasses import dataclass
 
 from gudokeyi.domain.changes import Option, Source
-from gudokeyi.domain.findings import Call, ImportRefused, Report, What
+from gudokeyi.domain.findings import Call, ImportRefused, Report, StrictlyRefused, What
 from gudokeyi.domain.kinds import Field, Remembered
 from gudokeyi.domain.messages import MOST_NAMED
-from gudokeyi.engine.program import Herdbook
 from gudokeyi.ingest.animals import SheetAnimal
 from gudokeyi.ingest.columns import Columns, find_columns
-from gudokeyi.ingest.files import GivenFile, bounded_import
+from gudokeyi.ingest.files import GivenFile
 from gudokeyi.ingest.sheet_animals import Rows
 from gudokeyi.ingest.sheets import Sheet, read_sheet
 from gudokeyi.ingest.titles import known_titles, read_given, read_sexes
@@ -35,13 +35,12 @@ from gudokeyi.reconcile.owners import tell_mistyped_owners, tell_owners_alike, t
 from gudokeyi.reconcile.parents import may_be_unknown
 from gudokeyi.reconcile.pedigree_links import refuse_lost_links
 from gudokeyi.reconcile.plausibility import Limits, PlausibilityChecks, tell_swapped_columns
-from gudokeyi.render.import_reports import lines_of, sentences_of, told_with
-from gudokeyi.services.saving import Prepared, prepared_of, save_import
+from gudokeyi.services.book_program import BookProgram
+from gudokeyi.services.output_files import check_place
+from gudokeyi.services.saving import Prepared, outcome_of, prepared_of
 from gudokeyi.store.book import Book
 from gudokeyi.store.files import source_of
-from gudokeyi.store.opening import to_look_at
-from gudokeyi.store.output_files import check_place
-from gudokeyi.store.writing import Filed
+from gudokeyi.store.journal import Filed
 
 # The end of an import: the book is filed, prepared to be saved where nothing is refused, and told.
 
@@ -59,7 +58,7 @@ class About:
 
 
 def finish(
-    next_book: NextBook, program: Herdbook, import_options: ImportOptions, source: Source, about: About
+    next_book: NextBook, program: BookProgram, import_options: ImportOptions, source: Source, about: About
 ) -> tuple[Outcome, Prepared | None]:
     """Files the book, and prepares what is written where nothing keeps it from being taken, and no preview is
     wished."""
@@ -71,7 +70,7 @@ def finish(
     return outcome, prepared_of(next_book, filed, program, import_options, source, outcome.after.new)
 
 
-def file(next_book: NextBook, program: Herdbook, import_options: ImportOptions, about: About) -> tuple[Filed, Outcome]:
+def file(next_book: NextBook, program: BookProgram, import_options: ImportOptions, about: About) -> tuple[Filed, Outcome]:
     """The commands by which the book becomes what is wished, and what that makes of it. Nothing is written."""
     book, report = next_book.book, next_book.report
     give_numbers(next_book, import_options.breed, import_options.country)
@@ -126,36 +125,32 @@ def refuse_left_out(next_book: NextBook, import_options: ImportOptions) -> None:
         next_book.obstacles.append(obstacle)
         return
     left_out = [entry for entry in report.in_order() if entry.what is What.LEFT_OUT]
-    told = [sentence.text for sentence in itertools.islice(sentences_of(left_out), MOST_NAMED)]
-    raise ImportRefused(obstacle, *may_be_unknown(report), told=told)
-
-
-def tell(outcome: Outcome) -> None:
-    """Prints what an import made, or would make."""
-    print("\n".join(lines_of(outcome)))
+    raise StrictlyRefused(left_out, obstacle, *may_be_unknown(report))
 
 
 # From a sheet to a book in its folder.
 
 
-def import_sheet(file: GivenFile, import_options: ImportOptions) -> list[str]:
-    """Takes a sheet, or tells what would be taken; answers what is to be told besides."""
-    program, call = Herdbook(), import_options.call(str(file.path))
-    with told_with(call):
-        if import_options.preview:
-            with to_look_at(import_options.book, program) as book:
-                outcome, notes = import_sheet_into(book, file, import_options, program)[0], book.notes
-        else:
-            outcome, notes = save_import(
-                import_options.book, program, lambda book: import_sheet_into(book, file, import_options, program)
-            )
-        tell(outcome)
-    return notes
+# within which a sheet is read
+Bounds = Callable[[], contextlib.AbstractContextManager[None]]
+
+
+def import_sheet(
+    file: GivenFile, import_options: ImportOptions, program: BookProgram, bounds: Bounds = contextlib.nullcontext
+) -> tuple[Outcome, list[str]]:
+    """Takes a sheet, or sees what would be taken for a preview: answers that, and what is to be told besides. An
+    `ImportRefused` says why nothing is taken."""
+
+    def prepare(book: Book) -> tuple[Outcome, Prepared | None]:
+        return import_sheet_into(book, file, import_options, program, bounds)
+
+    return outcome_of(import_options, program, prepare)
 
 
 def import_sheet_into(
-    book: Book, file: GivenFile, import_options: ImportOptions, program: Herdbook
-) -> tuple[Outcome, Prepared | None]:
+    book: Book, file: GivenFile, import_options: ImportOptions, program: BookProgram,
+    bounds: Bounds = contextlib.nullcontext,
+) -> tuple[Outcome, Prepared | None]:  # fmt: skip
     """What a sheet makes of a book, and the change that is to be made, none for a preview."""
     path, source = file.path, source_of(file.path, file.data)
     check_place(book, path)
@@ -163,7 +158,7 @@ def import_sheet_into(
     import_options = with_settings(book, import_options)
     words = remember(book, import_options)
     rename_owners(book, import_options)
-    with bounded_import(import_options.preview):
+    with bounds():
         read = read_animals(file, import_options, book, words)
     keep(book, read)
     next_book = NextBook(book, read.animals, set(read.columns.found), read.report, read.rows.cells.days)

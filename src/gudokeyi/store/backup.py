@@ -10,26 +10,18 @@ import time
 from collections.abc import Callable
 from typing import BinaryIO
 
-from gudokeyi.domain.changes import NO_MARK, Change, ChangeDetails, Mark, Source
-from gudokeyi.domain.kinds import ChangeKind
+from gudokeyi.domain.changes import NO_MARK, Mark, Source
 from gudokeyi.domain.messages import Mistake
-from gudokeyi.engine.program import Herdbook
-from gudokeyi.store.book import Book
-from gudokeyi.store.database import (
-    DAMAGED, companions, connect, migrate, path_of, primary, told, version_of, with_unfinished,
-)  # fmt: skip
-from gudokeyi.store.exports import remember
-from gudokeyi.store.files import cant_be_written, put, source_of, sync_folder
-from gudokeyi.store.history import last_change, next_number, now, write_change
+from gudokeyi.process import stop_no_more
+from gudokeyi.store.database import DAMAGED, companions, connect, path_of, primary, told, version_of, with_unfinished
+from gudokeyi.store.files import put, source_of, sync_folder
+from gudokeyi.store.history import last_change
 from gudokeyi.store.legacy.files import OLD, is_old
-from gudokeyi.store.legacy.old_folder import alone, are_exports, keep_files
+from gudokeyi.store.legacy.old_folder import are_exports, keep_files
 from gudokeyi.store.messages import BackupFault, BookFault
-from gudokeyi.store.output_files import check, check_new
-from gudokeyi.store.schema import VERSION
 from gudokeyi.store.transactions import (
-    Overtaken, bytes_of, copy_of, file_of, make_folder, opened_to_read, reading, set_write_ahead, stop_no_more,
+    bytes_of, copy_of, file_of, make_folder, opened_to_read, reading, set_write_ahead,
 )  # fmt: skip
-from gudokeyi.store.verification import verify
 
 # A backup that somebody gave, as it is read: once, since it may be a pipe, or another one a moment later.
 
@@ -71,21 +63,6 @@ def taken_into(room: pathlib.Path, path: pathlib.Path) -> pathlib.Path:
 # Copies a book as a whole, and brings it back from a copy.
 
 
-def backup(book: Book, path: pathlib.Path, force: bool) -> None:
-    """Writes a copy of the book as it is now, whoever changes it meanwhile: one file, which is whole or isn't there."""
-    assert book.connection is not None
-    check(book, path, force)
-    with copied(book.connection) as file:
-        text = file.read()
-    try:
-        put(path, text, replaces=force)
-    except FileExistsError:
-        raise Mistake(f"{path} is there already: name another file, or write over it with --force") from None
-    except OSError as error:
-        raise cant_be_written(path, error) from None
-    remember(book)
-
-
 def copied(connection: sqlite3.Connection) -> BinaryIO:
     """A book as one file, which is there as long as it is open; what keeps its copy from being made is told of the place
     where that is, and not of the book."""
@@ -95,40 +72,6 @@ def copied(connection: sqlite3.Connection) -> BinaryIO:
         if isinstance(error, sqlite3.Error) and primary(error) in DAMAGED:
             raise
         raise Mistake(BackupFault.NO_ROOM.said(folder=tempfile.tempdir, error=str(error))) from None
-
-
-def restore(
-    folder: pathlib.Path, path: pathlib.Path, program: Herdbook, anyway: bool, looked: Mark | None = None
-) -> Change:
-    """Makes the book of a copy that of a folder. A book that is there goes to the folder `old` before, with all that
-    anybody changed until then; so do the files of version 0.11. Where it isn't the one that somebody looked at, this
-    raises `Overtaken`."""
-    if path_of(folder).exists() and path.exists() and path.samefile(path_of(folder)):
-        raise Mistake(f"{path} is the book itself: name a backup")
-    if not has_file(folder) and not has_old_files(folder):
-        check_new(folder)
-    with tempfile.TemporaryDirectory(prefix="society-") as room:
-        copy = pathlib.Path(room) / "book.sqlite"
-        change = prepare(path, copy, program)
-
-        def look() -> None:
-            if looked is not None and mark_now(folder) not in (None, looked):
-                raise Overtaken
-            if (has_file(folder) or has_old_files(folder)) and not anyway:
-                raise Mistake(
-                    f"there is a book in the folder {folder}: to restore {path} in its place say --anyway; the one that "
-                    f"is there goes to {folder / OLD} then"
-                )
-
-        def keep() -> None:
-            look()
-            keep_old(folder)
-
-        look()
-        # nobody takes the files of version 0.11 over meanwhile
-        with alone(folder) if is_old(folder) else contextlib.nullcontext():
-            put_in_place(folder, copy, keep)
-    return change
 
 
 def mark_now(folder: pathlib.Path) -> Mark | None:
@@ -156,27 +99,6 @@ def has_file(folder: pathlib.Path) -> bool:
 def has_old_files(folder: pathlib.Path) -> bool:
     """Is the book that is there one of version 0.11, whose files are the book?"""
     return is_old(folder) and not has_file(folder) and not are_exports(folder)
-
-
-def prepare(path: pathlib.Path, copy: pathlib.Path, program: Herdbook) -> Change:
-    """A copy of a backup that is whole, with a change behind its others that tells of the restoring."""
-    source, version = read_once(path, copy)
-    try:
-        with contextlib.closing(connect(copy, "rw")) as connection:
-            connection.execute("BEGIN IMMEDIATE")
-            if version < VERSION:
-                migrate(connection, version)
-            book = Book(copy.parent, connection)
-            verify(book, program, path)
-            write_change(
-                connection, next_number(connection), now(), book.journal, ChangeDetails(ChangeKind.RESTORE, source)
-            )
-            change = last_change(connection)
-            assert change is not None
-            connection.execute("COMMIT")
-            return change
-    except sqlite3.Error as error:
-        raise Mistake(BackupFault.NOT_RESTORED.said(path=path, error=str(error))) from None
 
 
 def put_in_place(folder: pathlib.Path, copy: pathlib.Path, keep: Callable[[], None]) -> None:

@@ -5,17 +5,17 @@ import contextlib
 import functools
 import pathlib
 import sqlite3
-import sys
 from collections.abc import Iterable, Iterator, Mapping
 
-from gudokeyi.domain.animals import SocietyRecord
+from gudokeyi.background import Pieces
+from gudokeyi.domain.animals import NO_OWNER, SocietyRecord
 from gudokeyi.domain.changes import Change
 from gudokeyi.domain.collections import Lazy, whole
 from gudokeyi.domain.commands import RegisterRecord
-from gudokeyi.domain.kinds import Remembered, Standing
-from gudokeyi.engine.workers import SECONDS_IN_TURN, Pieces
+from gudokeyi.domain.kinds import Standing
 from gudokeyi.store.animal_rows import AnimalRow, known_of, record_of
-from gudokeyi.store.database import path_of
+from gudokeyi.store.conditions import AGE_ORDER, ANY, IN_BOOK, WITHOUT_ROW, Condition, with_id, with_number
+from gudokeyi.store.database import empty, path_of
 from gudokeyi.store.history import last_change
 from gudokeyi.store.journal import (
     NO_JOURNAL, Journal, Step, command_file, command_file_in_background, refusals_of, steps_of,
@@ -24,18 +24,15 @@ from gudokeyi.store.state import (
     ALL_ROWS, CELLS, NOW, Meaning, Values, as_written, owners_came, read_remembered, rows_now, select_rows,
 )  # fmt: skip
 
-NO_OWNER = 99_999_999
-# animals of the book, in place of those that were dropped from it
-IN_BOOK = "standing <> 'dropped'"
-
 
 class Book:
-    """A book as a connection sees it, within a transaction; an empty one where there is no connection. Animals are read
-    as they are asked for."""
+    """A book as a connection sees it, within a transaction. Where there is no book in the folder it is an empty one, of
+    which all is asked alike. Animals are read as they are asked for."""
 
-    def __init__(self, folder: pathlib.Path, connection: sqlite3.Connection | None) -> None:
-        self.folder, self.connection = folder, connection
-        self.change: Change | None = last_change(connection) if connection else None
+    def __init__(self, folder: pathlib.Path, connection: sqlite3.Connection | None = None) -> None:
+        self.folder, self.is_there = folder, connection is not None
+        self.connection = empty() if connection is None else connection
+        self.change: Change | None = last_change(self.connection)
         self.names_of_owner_codes: dict[int, str] = {}
         # how owners were written until now, and are from now on
         self.renamed: list[tuple[str, str]] = []
@@ -67,22 +64,18 @@ class Book:
     def journal_read_beside(self) -> Iterator[None]:
         """The journal is read beside what is done within, for whoever needs it there later. Nothing that isn't committed
         may be in it."""
-        if self.connection is None:
+        if not self.is_there:
             yield
             return
-        self.beside, in_turn = command_file_in_background(self.connection, self.journal), sys.getswitchinterval()
-        sys.setswitchinterval(min(in_turn, SECONDS_IN_TURN))
+        self.beside = command_file_in_background(self.connection, self.journal)
         try:
             yield
         finally:
-            sys.setswitchinterval(in_turn)
             # a process that ended before the other connection is closed would leave files beside the book
             self.beside.wait()
 
     @functools.cached_property
     def journal_text(self) -> bytes:
-        if self.connection is None:
-            raise ValueError("an empty book has no journal")
         if self.beside is not None:
             with contextlib.suppress(sqlite3.Error):
                 return self.beside.value()
@@ -94,7 +87,7 @@ class Book:
 
     def each_step(self) -> Iterator[Step]:
         """The journal's commands with their replies, one after the other."""
-        if self.connection is not None and self.journal.length:
+        if self.journal.length:
             yield from steps_of(self.command_file(), refusals_of(self.connection, self.journal))
 
     @functools.cached_property
@@ -103,34 +96,42 @@ class Book:
 
     # -- animals
 
-    def rows(self, where: str, *values: object) -> list[AnimalRow]:
+    def rows(self, condition: Condition, in_age_order: bool = False) -> list[AnimalRow]:
         """The animals for which a condition holds."""
-        return select_rows(self.connection, f"{IN_BOOK} AND {where}", *values) if self.connection else []
+        order = f" {AGE_ORDER}" * in_age_order
+        return select_rows(self.connection, f"{IN_BOOK} AND {condition.text}{order}", *condition.values)
+
+    def row(self, known: SocietyRecord) -> AnimalRow:
+        """That of an animal of the book."""
+        return self.rows(with_number(known.number))[0]
+
+    def row_of(self, number: str) -> AnimalRow | None:
+        return next(iter(self.rows(with_number(number))), None)
 
     def read_known(self, id: str) -> SocietyRecord | None:
-        return next((known_of(row) for row in self.rows("id = ?", id)), None)
+        return next((known_of(row) for row in self.rows(with_id(id))), None)
 
     def read_numbered(self, number: str) -> SocietyRecord | None:
-        return next((known_of(row) for row in self.rows("number = ?", number)), None)
+        return next((known_of(row) for row in self.rows(with_number(number))), None)
 
     def read_record(self, number: str) -> RegisterRecord | None:
-        return next((record_of(row) for row in self.rows("number = ?", number)), None)
+        return next((record_of(row) for row in self.rows(with_number(number))), None)
 
     def read_id(self, number: str) -> str | None:
-        return next((row.id for row in self.rows("number = ?", number)), None)
+        return next((row.id for row in self.rows(with_number(number))), None)
 
     def read_all_ids(self) -> dict[str, str]:
-        return dict(self.numbers_and_ids("true"))
+        return dict(self.numbers_and_ids(ANY))
 
-    def numbers_and_ids(self, where: str) -> Iterable[tuple[str, str]]:
+    def numbers_and_ids(self, condition: Condition) -> Iterable[tuple[str, str]]:
         """Those of the animals for which a condition holds, in no order."""
-        wanted = f"SELECT number, id FROM {ALL_ROWS} WHERE {NOW} AND {IN_BOOK} AND {where}"
-        return self.connection.execute(wanted) if self.connection else ()
+        wanted = f"SELECT number, id FROM {ALL_ROWS} WHERE {NOW} AND {IN_BOOK} AND {condition.text}"
+        return self.connection.execute(wanted, condition.values)
 
     @functools.cached_property
     def every_row(self) -> list[AnimalRow]:
         """The rows of all animals, with those that were dropped."""
-        return select_rows(self.connection, "true ORDER BY substr(number, 8)") if self.connection else []
+        return select_rows(self.connection, "true ORDER BY substr(number, 8)")
 
     @functools.cached_property
     def all_rows(self) -> list[AnimalRow]:
@@ -152,8 +153,6 @@ class Book:
 
     def former_numbers(self) -> dict[str, str]:
         """The last number of each animal that was in the book once, as before an undo, and isn't named there now."""
-        if self.connection is None:
-            return {}
         former = """
             SELECT id, number FROM animal AS one WHERE until IS NOT NULL
             AND NOT EXISTS (SELECT 1 FROM animal WHERE id = one.id AND until IS NULL) ORDER BY since
@@ -162,8 +161,6 @@ class Book:
 
     def first_number(self) -> str:
         """That with the least digits, or in an empty book the first that it had; empty where there was none."""
-        if self.connection is None:
-            return ""
         # SQLite answers the number of the row that has the least
         least = f"SELECT number, min(substr(number, 8)) FROM {ALL_ROWS} WHERE {NOW} AND {IN_BOOK}"
         first = self.connection.execute(least).fetchone()[0]
@@ -171,8 +168,6 @@ class Book:
 
     def number_before(self, id: str) -> str:
         """The number of an animal that was dropped, or else its last one; empty where there was none."""
-        if self.connection is None:
-            return ""
         before = f"""
             SELECT number FROM animal WHERE id = ? AND (until IS NOT NULL OR standing = '{Standing.DROPPED.value}')
             ORDER BY until IS NULL DESC, since DESC LIMIT 1
@@ -182,8 +177,6 @@ class Book:
 
     def greatest_digits(self) -> int:
         """The greatest twelve digits that an animal has or had as its number."""
-        if self.connection is None:
-            return 0
         greatest = "SELECT max(substr(number, 8)) FROM animal WHERE substr(number, 8) NOT GLOB '*[A-Z]*'"
         return int(self.connection.execute(greatest).fetchone()[0] or 0)
 
@@ -195,7 +188,7 @@ class Book:
 
     def without_row(self) -> list[str]:
         """The ids of the added parents, and of those that are gone."""
-        return sorted(id for _, id in self.numbers_and_ids("standing IN ('gone', 'parent')"))
+        return sorted(id for _, id in self.numbers_and_ids(WITHOUT_ROW))
 
     # -- owners, and what is remembered
 
@@ -206,7 +199,7 @@ class Book:
 
     def owners_came(self) -> dict[str, int]:
         """The owners' herds, by the names by which they came."""
-        return owners_came(self.connection) if self.connection else {}
+        return owners_came(self.connection)
 
     def respelt(self, owner: str) -> str:
         """An owner of a cell of the last sheet, as it is written from now on."""
@@ -225,9 +218,9 @@ class Book:
     @functools.cached_property
     def cells(self) -> dict[Values, Values]:
         """The last cells of each animal that had a row, by its id."""
-        return rows_now(self.connection, CELLS) if self.connection else {}
+        return rows_now(self.connection, CELLS)
 
     @functools.cached_property
     def remembered(self) -> list[Meaning]:
         """What the book remembers of how its sheets are read. An import that sets it anew keeps it with its change."""
-        return read_remembered(self.connection) if self.connection else []
+        return read_remembered(self.connection)

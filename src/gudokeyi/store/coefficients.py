@@ -83,21 +83,20 @@ def of_offspring(relationship: str) -> Coefficient:
 
 def kept_coefficients(book: Book) -> Mapping[str, Coefficient]:
     """The coefficient of each number, in age order."""
-    return coefficients_of(book.connection) if book.connection else {}
 
-
-def coefficients_of(connection: sqlite3.Connection) -> Mapping[str, Coefficient]:
     def one(number: str) -> Coefficient | None:
-        row = connection.execute("SELECT fraction, percent FROM coefficient WHERE number = ?", (number,)).fetchone()
-        return Coefficient(*row) if row else None
+        return kept_coefficient(book.connection, number)
 
-    return Lazy(one, lambda: read_coefficients(connection))
+    return Lazy(one, lambda: read_coefficients(book.connection))
+
+
+def kept_coefficient(connection: sqlite3.Connection, number: str) -> Coefficient | None:
+    row = connection.execute("SELECT fraction, percent FROM coefficient WHERE number = ?", (number,)).fetchone()
+    return Coefficient(*row) if row else None
 
 
 def coefficients_among(book: Book, numbers: list[str]) -> dict[str, Coefficient]:
     """Those of some numbers, by one question."""
-    if book.connection is None:
-        return {}
     chosen = "SELECT number, fraction, percent FROM coefficient WHERE number IN (SELECT value FROM json_each(?))"
     rows = book.connection.execute(chosen, (json.dumps(numbers),))
     return {number: Coefficient(fraction, percent) for number, fraction, percent in rows}

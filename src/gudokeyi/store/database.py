@@ -9,6 +9,7 @@ import urllib.parse
 from collections.abc import Iterator
 
 from gudokeyi.domain.messages import CALLED, Mistake
+from gudokeyi.domain.mistakes import BookUnusable
 from gudokeyi.store.messages import BookFault
 from gudokeyi.store.schema import APPLICATION, MIGRATIONS, VERSION
 
@@ -63,6 +64,14 @@ def connect(path: pathlib.Path, mode: str) -> sqlite3.Connection:
     return connection
 
 
+def empty() -> sqlite3.Connection:
+    """A book that has nothing yet, and stands in no file."""
+    # an import asks it beside its writing too
+    connection = sqlite3.connect(":memory:", isolation_level=None, check_same_thread=False)
+    migrate(connection, 0)
+    return connection
+
+
 def is_empty(connection: sqlite3.Connection) -> bool:
     """Has it no tables? So a call leaves it that was ended before its first change."""
     return bool(connection.execute("SELECT count(*) FROM sqlite_schema").fetchone()[0] == 0)
@@ -77,9 +86,9 @@ def version_of(connection: sqlite3.Connection, path: pathlib.Path) -> int:
     if has_no_tables and application in (0, APPLICATION):
         return 0
     if application != APPLICATION or version < 1:
-        raise Mistake(BookFault.OTHER_PROGRAM.said(path=path))
+        raise BookUnusable(BookFault.OTHER_PROGRAM.said(path=path))
     if version > VERSION:
-        raise Mistake(BookFault.NEWER.said(path=path, version=version, known=VERSION))
+        raise BookUnusable(BookFault.NEWER.said(path=path, version=version, known=VERSION))
     return version
 
 
@@ -90,6 +99,17 @@ def migrate(connection: sqlite3.Connection, version: int) -> None:
             connection.execute(statement)
     connection.execute(f"PRAGMA application_id = {APPLICATION}")
     connection.execute(f"PRAGMA user_version = {VERSION}")
+
+
+def begin_anew(connection: sqlite3.Connection, version: int) -> None:
+    """Begins to change a copy, which nobody else has, and makes one of this version of it."""
+    connection.execute("BEGIN IMMEDIATE")
+    if version < VERSION:
+        migrate(connection, version)
+
+
+def end_anew(connection: sqlite3.Connection) -> None:
+    connection.execute("COMMIT")
 
 
 def statements(script: str) -> Iterator[str]:
@@ -106,9 +126,19 @@ def told(error: sqlite3.Error, path: pathlib.Path) -> Mistake:
     """The sentence for what SQLite reports of a file that isn't changed then."""
     kind = primary(error)
     if kind in DAMAGED:
-        return Mistake(BookFault.DAMAGED.said(path=path, error=error, called=CALLED))
+        return BookUnusable(BookFault.DAMAGED.said(path=path, error=error, called=CALLED))
     if kind in FULL:
-        return Mistake(BookFault.NO_ROOM.said(path=path))
+        return BookUnusable(BookFault.NO_ROOM.said(path=path))
     if kind == sqlite3.SQLITE_BUSY:
-        return Mistake(BookFault.BUSY.said(path=path, minutes=SECONDS_TO_WAIT // 60))
-    return Mistake((BookFault.CLOSED if kind in CLOSED else BookFault.OTHER).said(path=path, error=error))
+        return BookUnusable(BookFault.BUSY.said(path=path, minutes=SECONDS_TO_WAIT // 60))
+    return BookUnusable((BookFault.CLOSED if kind in CLOSED else BookFault.OTHER).said(path=path, error=error))
+
+
+def damages_of(connection: sqlite3.Connection, quickly: bool, most: int) -> list[str]:
+    """What SQLite tells of damaged tables, and but for a quick look of indexes, in its words; so much at most."""
+    check = "quick_check" if quickly else "integrity_check"
+    found = [text for (text,) in connection.execute(f"PRAGMA {check}({most})") if text != "ok"]
+    if found:
+        return found
+    broken = connection.execute("PRAGMA foreign_key_check").fetchmany(most)
+    return [f"a row of the table {table} names one of {parent} that isn't there" for table, _, parent, _ in broken]

@@ -10,7 +10,6 @@ import functools
 import json
 import os
 import pathlib
-import sqlite3
 import time
 from collections.abc import Iterator
 from dataclasses import dataclass
@@ -20,12 +19,10 @@ from gudokeyi.domain.provenance import GIVEN_BIRTH, GIVEN_EXIT, BirthSource, Exi
 from gudokeyi.process import keep
 from gudokeyi.store.animal_rows import birth_basis, exit_basis
 from gudokeyi.store.book import Book
-from gudokeyi.store.database import DATABASE as BOOK, connect, path_of
-from gudokeyi.store.files import put, table, take_away_left
-from gudokeyi.store.history import change_numbered, told_by
-from gudokeyi.store.legacy.files import STANDINGS, keep_old_files
+from gudokeyi.store.files import put, table
+from gudokeyi.store.history import change_numbered
+from gudokeyi.store.legacy.files import STANDINGS
 from gudokeyi.store.state import ALL_ROWS, NOW
-from gudokeyi.store.transactions import begin_to_read
 
 # When the last backup of a book was made. It is kept beside the database, since no backup has its own.
 
@@ -57,7 +54,7 @@ def last_backup(book: Book) -> LastBackup | None:
         with open(book.folder / LAST_BACKUP, encoding="utf-8", newline="") as file:
             row = next(csv.DictReader(file))
         found = LastBackup(datetime.datetime.fromisoformat(row["time"]), int(row["change"]))
-        change = change_numbered(book.connection, found.change) if book.connection else None
+        change = change_numbered(book.connection, found.change)
         # the last one that was made by an earlier version has no moment
         return found if change and row.get("moment") in (None, str(change.moment)) else None
     except (OSError, StopIteration, ValueError, KeyError, TypeError, csv.Error):
@@ -96,22 +93,6 @@ def are_fresh(folder: pathlib.Path, change: Change) -> bool:
         return False
 
 
-def refresh(folder: pathlib.Path, seconds: float) -> str:
-    """Writes them anew where they aren't fresh, of the book as it is now, whoever changes it meanwhile. Others who write
-    them are waited for so long. Answers why it couldn't, in words."""
-    path = path_of(folder)
-    try:
-        # behind those that somebody else writes, so that they are never of an earlier change than what is there
-        with turn(folder, seconds), contextlib.closing(connect(path, "rw")) as connection:
-            begin_to_read(connection)
-            write_exports(Book(folder, connection))
-    except sqlite3.Error as error:
-        return f"{', '.join(NAMES)} in {folder} couldn't be written ({error})"
-    except OSError as error:
-        return f"{', '.join(NAMES)} in {folder} couldn't all be written ({error.strerror or error})"
-    return ""
-
-
 @contextlib.contextmanager
 def turn(folder: pathlib.Path, seconds: float) -> Iterator[None]:
     """While this lasts nobody else writes them."""
@@ -131,22 +112,8 @@ def turn(folder: pathlib.Path, seconds: float) -> Iterator[None]:
         os.close(descriptor)
 
 
-def write_exports(book: Book) -> None:
-    change = book.change
-    if change is None or are_fresh(book.folder, change):
-        return
-    keep_old_files(book.folder)
-    # nobody else writes exports now
-    take_away_left(book.folder, NAMES, (BOOK, LAST_BACKUP))
-    with book.journal_read_beside():
-        put(book.folder / IDS, ids_text(book, change), change.moment)
-        put(book.folder / REPORT, report_text(book, change), change.moment)
-        put(book.folder / COMMANDS, book.command_file(), change.moment)
-
-
 def ids_text(book: Book, change: Change) -> bytes:
     """Which number stands for which id, and what was inferred."""
-    assert book.connection is not None
     found = book.connection.execute(f"SELECT number, id, name, standing, {BASES} FROM {ALL_ROWS} WHERE {NOW}")
     columns: list[tuple[str, ...]] = [*zip(*found)]
     if not columns:
@@ -170,15 +137,3 @@ def words_of(bases: str | None) -> tuple[str, str, str]:
         return GIVEN_BIRTH.words(), GIVEN_EXIT.words(), SexSource.GIVEN.words()
     birth, period, no_day, sex, exit, *parts = json.loads(bases)
     return birth_basis(birth, period, no_day).words(), exit_basis(exit, *parts).words(), SexSource(sex).words()
-
-
-def report_text(book: Book, change: Change) -> bytes:
-    """What the change told."""
-    # whoever asks the book would wait for it
-    from gudokeyi.reconcile.stored_findings import entry_of
-
-    assert book.connection is not None
-    semicolons = any(option.option == SEMICOLONS for option in change.options)
-    entries = map(entry_of, told_by(book.connection, change.number))
-    rows = [(entry.line or "", entry.id, entry.what, entry.why, change.number) for entry in entries]
-    return table(REPORT_TITLES, zip(*rows), semicolons)

@@ -1,7 +1,6 @@
 """The history of a book: its changes, as they are kept and read."""
 from __future__ import annotations
 
-import contextvars
 import datetime
 import json
 import os
@@ -12,6 +11,7 @@ from collections.abc import Iterable
 
 from gudokeyi.domain.changes import Change, ChangeDetails, Option, Source, StoredFinding
 from gudokeyi.domain.kinds import ChangeKind
+from gudokeyi.domain.people import WORKER
 from gudokeyi.store.bulk_insert import insert_many
 from gudokeyi.store.journal import Journal
 from gudokeyi.store.state import TABLES
@@ -24,8 +24,6 @@ ONE_BY_ONE = (ChangeKind.BIRTH.value, ChangeKind.TRANSFER.value, ChangeKind.EXIT
 # those that make a state as a whole
 WHOLE_STATES = (ChangeKind.TAKE, ChangeKind.PEDIGREE, ChangeKind.UNDO, ChangeKind.RESTORE)
 EPOCH = datetime.datetime(1970, 1, 1, tzinfo=datetime.timezone.utc)
-# who works here by a name of the society's own, as those at a desk with accounts; empty for whom the system names
-WORKER: contextvars.ContextVar[str] = contextvars.ContextVar("worker", default="")
 
 
 text_of = json.JSONEncoder(ensure_ascii=False).encode
@@ -133,9 +131,15 @@ def last_changes(connection: sqlite3.Connection, most: int, behind: int = 0) -> 
 def changed_one_by_one(connection: sqlite3.Connection, then: Change) -> bool:
     """Is this a change of the book, since which only animals one by one were born, given away or left? No parents of
     another and no coefficient changed then."""
-    is_there = connection.execute("SELECT 1 FROM change WHERE (change, time) = (?, ?)", (then.number, then.moment // 1000))
     others = f"SELECT 1 FROM change WHERE change > ? AND kind NOT IN ({', '.join(map(repr, ONE_BY_ONE))}) LIMIT 1"
-    return is_there.fetchone() is not None and connection.execute(others, (then.number,)).fetchone() is None
+    is_there = is_change(connection, then.number, then.moment)
+    return is_there and connection.execute(others, (then.number,)).fetchone() is None
+
+
+def is_change(connection: sqlite3.Connection, number: int, moment: int) -> bool:
+    """Is there a change with this number, made at this moment?"""
+    asked = "SELECT 1 FROM change WHERE (change, time) = (?, ?)"
+    return connection.execute(asked, (number, moment // 1000)).fetchone() is not None
 
 
 def last_that_changed(connection: sqlite3.Connection) -> int:
@@ -169,6 +173,12 @@ def taken_back_by(connection: sqlite3.Connection, number: int) -> int:
 def all_changes(connection: sqlite3.Connection) -> list[Change]:
     rows = connection.execute(f"SELECT {COLUMNS} FROM change ORDER BY change").fetchall()
     return [change_of(connection, row) for row in rows]
+
+
+def files_taken(connection: sqlite3.Connection) -> tuple[set[str], set[str]]:
+    """The places and the digests of all files that changes came from."""
+    taken = connection.execute("SELECT path, digest FROM change WHERE digest IS NOT NULL").fetchall()
+    return {place for place, _ in taken}, {digest for _, digest in taken}
 
 
 def told_by(connection: sqlite3.Connection, number: int) -> list[StoredFinding]:

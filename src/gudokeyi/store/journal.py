@@ -5,11 +5,12 @@ import contextlib
 import pathlib
 import sqlite3
 from collections.abc import Collection, Iterable, Iterator
+from dataclasses import dataclass
 from typing import NamedTuple
 
+from gudokeyi.background import Pieces
 from gudokeyi.domain.commands import HEADER, Command
 from gudokeyi.domain.refusals import Refusal
-from gudokeyi.engine.workers import Pieces
 from gudokeyi.store.bulk_insert import insert_many
 from gudokeyi.store.database import connect
 
@@ -181,3 +182,13 @@ def command_file_in_background(connection: sqlite3.Connection, journal: Journal)
                 yield at, piece_of(other, parts[at])
 
     return Pieces(HEADER, len(parts), [read] * READERS)
+
+
+@dataclass(frozen=True)
+class Filed:
+    """The commands of a change. They go on from the journal, or from as many of its commands as a new edition keeps.
+    `text` is the command file after them, where it was made before."""
+
+    steps: list[Step]
+    keeps: int | None = None
+    text: bytes = b""

@@ -1,11 +1,9 @@
-"""What is wrong with a book, its file, its backup or the program that answers for it, with what somebody asks a book
-for, and with accounts."""
+"""What is wrong with a book, its file, its backup or its accounts."""
 from __future__ import annotations
 
 import enum
 
-from gudokeyi.domain.kinds import Field
-from gudokeyi.domain.messages import Message, Mistake
+from gudokeyi.domain.messages import Message
 
 # What is wrong with a book, its file or the program that answers for it.
 
@@ -47,9 +45,6 @@ class BookFault(Message):
         "{path} isn't of a book, and one in the folder {folder} would write over it: move it away, or name another folder "
         "by --book"
     )
-    COMMAND_UNKNOWN = (
-        "a command of {animal} in the journal is of the kind '{kind}', which this front desk doesn't know: use a newer one"
-    )
     COEFFICIENTS_LACK = (
         "{path} keeps {kept} of {there}, so it isn't whole: restore a backup, as {called} restore FILE --anyway"
     )
@@ -74,86 +69,6 @@ class NotWhole(Message):
     STATE = "the journal has {animals} otherwise, the first is {first}"
     ORDER = "the kept coefficients aren't in the program's order"
     COEFFICIENTS = "the program has {coefficients} otherwise, the first is {first}'s"
-
-
-# What is wrong with what somebody asks a book for: with the name of an animal or an owner, or a value.
-
-
-@enum.unique
-class Naming(Message):
-    """A name that stands for no animal and no owner, or for several, and what may be meant."""
-
-    NO_ANIMAL = "the book has no animal '{word}': {hint}"
-    IS_FILE = "the book has no animal '{word}', which is a file: an option that names files is for that"
-    SEVERAL = (
-        "{count} animals have the name '{word}': name one by its id, as `find` shows them with their birth days: {ids}"
-    )
-    NO_OWNER = "the book has no owner '{name}': {hint}"
-    # hints
-    WITH_BLANKS = "put an id or a name with blanks between quotation marks"
-    MANY_PARTS = "`find` shows those that have it in their ids or names"
-    MEANT = "is {names} meant?"
-    FIND = "`find` looks for a part of an id, a name or an owner"
-    FIND_OWNERS = "`find` finds owners by a part of the name"
-    AS_IN_BOOK = "write one as the book has it, or leave out --from"
-    AS_IN_SHEET = "write the name as the sheet has it"
-
-
-@enum.unique
-class NotSuch(Message):
-    """A value that can't be read."""
-
-    LETTERS = "'{text}' isn't three letters A to Z"
-    LETTERS_OF = "'{text}' isn't three letters A to Z, as the {setting} in numbers has to be"
-    LANGUAGE = "'{text}' isn't one of the languages {languages}"
-    DAY = "'{text}' isn't a day written as 2001-03-01 or 01.03.2001"
-    DAYS = "'{text}' isn't a number of days"
-    COEFFICIENT = "'{text}' isn't a fraction or a decimal from 0 to 1, as 1/16, 0.0625 or 6.25%"
-    POSITIVE = "'{text}' isn't a whole number from 1 on"
-    YEAR = "'{text}' isn't a year from {first} to {last}"
-    WORDS = "a search has {most} words at most, and this one has {count:,}: write fewer"
-    LONG_ID = "an id has {most} letters at most, and this one has {letters:,}: write a shorter one"
-    LONG_NAME = "a name has {most} letters at most, and this one has {letters:,}: write a shorter one"
-    LONG_OWNER = "an owner's name has {most} letters at most, and this one has {letters:,}: write a shorter one"
-    # a birth
-    NO_ID = "an animal needs an id: write one"
-    NO_ANIMALS_ID = "'{word}' is a word for an unknown parent: give the animal another id"
-    # a command
-    NO_TAKER = "the new owner is missing: write a name"
-    AFTER_TODAY = "the day {day} is after today: write one that has come"
-
-
-@enum.unique
-class Mating(Message):
-    """Why there is nobody to mate, or no advice."""
-
-    NO_CANDIDATE = "the book has no living {sex} that may be a {role}{among}: {hint}"
-    AMONG = " (passed over: {passed})"
-    LEFT = "{count} left"
-    CASTRATED = "{castrated}"
-    WITHOUT_ROW = "{count} without a row"
-    WRONG_SEX = "{animals}: no {role} can be {sex}: take these out of --{role}s"
-    TOO_MANY_PAIRS = "these are {pairs:,} pairs, and at most {most:,} are written: name fewer animals in files"
-    NOT_A_DAM = "{dam}: {refusal} (fault {number}): name a female as the dam"
-    REFUSED = "{sire}: refused: {refusal} (fault {number})"
-    # hints
-    NAME_ONE = "name one"
-    NAME_ONE_OR_LEFT = "name one, or ask for those that left too by --left"
-    NAME_IN_FILE = "name some in a file, as --{role}s FILE"
-    NONE_SO_OLD = "none is so old: ask for fewer days by --minimum-age, or for all by --minimum-age 0"
-    # what a plan assumes
-    ASSUMED_AGE = (
-        "assumed: parents are {days:,} days old at least, as nineteen of twenty of the book's {parents:,} were at their first "
-        "offspring (left out: {count}); --minimum-age says otherwise"
-    )
-    ASSUMED_YEAR = (
-        "assumed: parents are {days:,} days old at least (left out: {count}); --minimum-age says otherwise"
-    )
-    ASSUMED_MOST = (
-        "assumed: no sire has more than {most:,} dams, twice as many as if all had the same; --most-for-a-sire says otherwise"
-    )
-    ASK_FOR_LEFT = "ask for those that left too"
-    NAME_OTHERS = "name others"
 
 
 # Why a backup can't be restored.
@@ -191,19 +106,3 @@ class AccountFault(Message):
     NOT_THE_SAME = "the two passwords aren't the same: write them again"
     LENGTH = "a password has {least} to {most} letters: take some words that you remember"
     GUESSED = "the password is guessed too easily: take some words that you remember"
-
-
-# How long the texts are that are filed, in letters: one rule for forms, words and sheets.
-
-MOST_IN_ID, MOST_IN_NAME, MOST_IN_OWNER = 60, 120, 200
-BOUNDS = {
-    Field.ID: (MOST_IN_ID, NotSuch.LONG_ID), Field.NAME: (MOST_IN_NAME, NotSuch.LONG_NAME),
-    Field.OWNER: (MOST_IN_OWNER, NotSuch.LONG_OWNER),
-}  # fmt: skip
-
-
-def refuse_long(field: Field, text: str) -> None:
-    """A mistake where an id, a name or an owner is longer than it may be."""
-    most, sentence = BOUNDS[field]
-    if len(text) > most:
-        raise Mistake(sentence.said(letters=len(text), most=most))

@@ -1,14 +1,23 @@
 """What is asked of many animals at once: columns of all of them in age order, and the ancestors of one."""
 from __future__ import annotations
 
-import sqlite3
 from collections.abc import Sequence
 from typing import Any
 
-from gudokeyi.domain.messages import CALLED, Count, Mistake
-from gudokeyi.store.book import IN_BOOK, Book
+from gudokeyi.domain.messages import CALLED, Count
+from gudokeyi.domain.mistakes import BookNotWhole
+from gudokeyi.store.book import Book
+from gudokeyi.store.conditions import ANY, IN_BOOK, Condition
 from gudokeyi.store.messages import BookFault
 from gudokeyi.store.state import ALL_ROWS, NOW
+
+# whether an animal comes from a stored embryo, as a sheet says it
+EMBRYO = "iif(embryo, '1', '')"
+# how many offspring an animal has in the book
+OFFSPRING = " + ".join(
+    f"(SELECT count(*) FROM animal AS offspring WHERE offspring.until IS NULL AND offspring.{role} = animal.number)"
+    for role in ("sire", "dam")
+)
 
 # Reads what is asked for of many animals, as values and in age order: the quickest way to a list of all of them.
 
@@ -18,30 +27,25 @@ WITH_COEFFICIENT = f"{ALL_ROWS} CROSS JOIN coefficient USING (number)"
 ALL_WITH_COEFFICIENT = "coefficient CROSS JOIN animal USING (number)"
 
 
-def selected(
-    book: Book, wanted: Sequence[str], conditions: Sequence[str] = (), values: Sequence[object] = ()
-) -> list[tuple[Any, ...]]:
-    """These columns of each animal for which all conditions hold: of its row, or of its coefficient. A column may be an
+def selected(book: Book, wanted: Sequence[str], condition: Condition = ANY) -> list[tuple[Any, ...]]:
+    """These columns of each animal for which a condition holds: of its row, or of its coefficient. A column may be an
     expression."""
-    if book.connection is None:
-        return []
     source, order = ALL_ROWS, "born, number"
     if {PLACE, FRACTION, PERCENT} & set(wanted):
-        source, order = WITH_COEFFICIENT if conditions else ALL_WITH_COEFFICIENT, PLACE
-        check_coefficients(book, book.connection)
-    where = " AND ".join([NOW, IN_BOOK, *conditions])
-    return book.connection.execute(
-        f"SELECT {', '.join(wanted)} FROM {source} WHERE {where} ORDER BY {order}", values
-    ).fetchall()
+        source, order = ALL_WITH_COEFFICIENT if condition == ANY else WITH_COEFFICIENT, PLACE
+        check_coefficients(book)
+    where = f"{NOW} AND {IN_BOOK} AND {condition.text}"
+    asked = f"SELECT {', '.join(wanted)} FROM {source} WHERE {where} ORDER BY {order}"
+    return book.connection.execute(asked, condition.values).fetchall()
 
 
-def check_coefficients(book: Book, connection: sqlite3.Connection) -> None:
+def check_coefficients(book: Book) -> None:
     """A mistake where not each animal has a coefficient: it would be left out without a word."""
     animals = f"SELECT count(*) FROM {ALL_ROWS} WHERE {NOW} AND {IN_BOOK}"
-    there, kept = connection.execute(f"SELECT ({animals}), (SELECT count(*) FROM coefficient)").fetchone()
+    there, kept = book.connection.execute(f"SELECT ({animals}), (SELECT count(*) FROM coefficient)").fetchone()
     if there != kept:
         counts = {"kept": Count(kept, "coefficient"), "there": Count(there, "animal")}
-        raise Mistake(BookFault.COEFFICIENTS_LACK.said(path=book.path, **counts, called=CALLED))
+        raise BookNotWhole(BookFault.COEFFICIENTS_LACK.said(path=book.path, **counts, called=CALLED))
 
 
 def known_parents(book: Book) -> dict[str, list[str]]:
@@ -67,4 +71,4 @@ ANCESTORS = """
 
 def ancestors_of(book: Book, number: str) -> set[str]:
     """The numbers of all its known ancestors."""
-    return {one for (one,) in book.connection.execute(ANCESTORS, {"number": number})} if book.connection else set()
+    return {one for (one,) in book.connection.execute(ANCESTORS, {"number": number})}

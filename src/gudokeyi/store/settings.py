@@ -3,39 +3,24 @@ with the book and isn't a part of its history."""
 from __future__ import annotations
 
 import contextlib
-import enum
 import pathlib
 import sqlite3
 from collections.abc import Mapping
 
 from gudokeyi.domain.animals import BREED, COUNTRY
-from gudokeyi.domain.messages import Mistake
+from gudokeyi.domain.mistakes import InvalidValue
+from gudokeyi.domain.requests import NotSuch
+from gudokeyi.domain.settings import LANGUAGES, Setting
+from gudokeyi.process import stop_no_more
 from gudokeyi.store.book import Book
-from gudokeyi.store.messages import NotSuch
-from gudokeyi.store.opening import no_book
-from gudokeyi.store.transactions import changing, checkpoint, stop_no_more
+from gudokeyi.store.transactions import changing, checkpoint, no_book
 
 # What a society says of itself, which its certificates show. It is kept with the book and isn't a part of its history.
-
-LANGUAGES = ("en", "de", "fr")
-
-
-class Setting(enum.StrEnum):
-    # the society's
-    NAME = "name"
-    ADDRESS = "address"
-    # with which new numbers begin
-    BREED = "breed"
-    COUNTRY = "country"
-    # words for an unknown parent, in the next sheets and in what is filed by hand
-    UNKNOWN = "unknown"
-    # of the desk in a browser
-    LANGUAGE = "language"
 
 
 def settings_of(book: Book) -> dict[Setting, str]:
     """Each setting, empty where none was given."""
-    found = dict(book.connection.execute("SELECT setting, value FROM setting")) if book.connection else {}
+    found = dict(book.connection.execute("SELECT setting, value FROM setting"))
     return {setting: found.get(setting.value, "") for setting in Setting}
 
 
@@ -66,10 +51,10 @@ def checked(setting: Setting, text: str) -> str:
     text = lines_of(text)
     if setting in (Setting.BREED, Setting.COUNTRY) and text:
         if not (len(text) == 3 and text.isascii() and text.isalpha()):
-            raise Mistake(NotSuch.LETTERS_OF.said(text=text, setting=setting))
+            raise InvalidValue(NotSuch.LETTERS_OF.said(text=text, setting=setting))
         return text.upper()
     if setting is Setting.LANGUAGE and text not in ("", *LANGUAGES):
-        raise Mistake(NotSuch.LANGUAGE.said(text=text, languages=", ".join(LANGUAGES)))
+        raise InvalidValue(NotSuch.LANGUAGE.said(text=text, languages=", ".join(LANGUAGES)))
     return text
 
 

@@ -5,11 +5,14 @@ from __future__ import annotations
 import itertools
 import operator
 import sqlite3
-from collections.abc import Callable, Collection, Iterable, Mapping
+from collections.abc import Collection, Iterable, Mapping
+from dataclasses import dataclass, field
 from typing import NamedTuple
 
-from gudokeyi.domain.kinds import Field, Remembered
-from gudokeyi.store.animal_rows import COLUMNS, AnimalRow
+from gudokeyi.domain.animals import SocietyRecord
+from gudokeyi.domain.commands import RegisterRecord
+from gudokeyi.domain.kinds import CELL_FIELDS, Remembered
+from gudokeyi.store.animal_rows import COLUMNS, AnimalRow, row_of
 from gudokeyi.store.bulk_insert import indexes_behind, insert_many
 
 # The state of a book after a change: its animals, the last cells of each, and what it remembers of its sheets.
@@ -19,7 +22,6 @@ NOW = "until IS NULL"
 ALL_ROWS = "animal NOT INDEXED"
 # the state after a change
 THEN = "since <= :change AND (until IS NULL OR until > :change)"
-CELL_FIELDS = tuple(field for field in Field if field is not Field.ID)
 CELL_COLUMNS = "id, " + ", ".join(f"cell_{field.value}" for field in CELL_FIELDS)
 
 # a row of a table without the changes between which it holds; its first values are its key
@@ -109,6 +111,11 @@ def select_rows(connection: sqlite3.Connection, where: str, *values: object) -> 
     return [*map(AnimalRow._make, found)]
 
 
+def rows_with_id(connection: sqlite3.Connection, id: str) -> list[AnimalRow]:
+    """The row of the last state with an id, also of an animal that was dropped; none where there is none."""
+    return select_rows(connection, "id = ?", id)
+
+
 # How owners are written. The table has the name by which each came; what is remembered says how it is written now, one
 # owner after the other, and of each name once.
 
@@ -116,6 +123,10 @@ def select_rows(connection: sqlite3.Connection, where: str, *values: object) -> 
 def owners_came(connection: sqlite3.Connection) -> dict[str, int]:
     """The owners' herds, by the names by which they came."""
     return dict(connection.execute("SELECT name, herd FROM owner ORDER BY herd"))
+
+
+def add_owner(connection: sqlite3.Connection, name: str, owner_code: int) -> None:
+    connection.execute("INSERT INTO owner (name, herd) VALUES (?, ?)", (name, owner_code))
 
 
 def as_written(came: Mapping[str, int], remembered: Iterable[Meaning]) -> dict[str, int]:
@@ -172,3 +183,34 @@ def renamings(came: Mapping[str, int], now: Mapping[int, str]) -> list[tuple[str
         del names[owner_codes[owner_code]]
         names[name], owner_codes[owner_code] = owner_code, name
     return found
+
+
+@dataclass(frozen=True)
+class Rows:
+    """Rows of the state before and after a change. Those that aren't named stay."""
+
+    before: dict[Values, Values]
+    after: dict[Values, Values]
+
+
+@dataclass(frozen=True)
+class State:
+    """What a change makes of the state; what it doesn't give stays as it is."""
+
+    animals: Rows
+    cells: Rows | None = None
+    remembered: list[Meaning] | None = None
+    new_owners: dict[str, int] = field(default_factory=dict)
+    # no animal is born and no parent changed
+    keeps_coefficients: bool = False
+    # the number of the only animal that is born, or whose parents change, where nothing else does: the coefficients of
+    # animals that don't descend from it stay
+    born: str = ""
+    corrected: str = ""
+    # all coefficients after it as the program writes them, where somebody asked before
+    coefficients: list[str] | None = None
+
+
+def animal_rows(known: dict[str, SocietyRecord], records: dict[str, RegisterRecord]) -> dict[Values, Values]:
+    """The rows of animals, by their ids; one that was dropped has no record."""
+    return {(id,): row_of(one, records.get(one.number)) for id, one in known.items()}

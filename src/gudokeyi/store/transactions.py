@@ -4,14 +4,13 @@ from __future__ import annotations
 
 import contextlib
 import pathlib
-import signal
 import sqlite3
-import threading
 import time
 from collections.abc import Callable, Iterator
 from typing import BinaryIO, TypeVar
 
-from gudokeyi.domain.messages import CALLED, Mistake
+from gudokeyi.domain.messages import CALLED
+from gudokeyi.domain.mistakes import BookUnusable, NoBook
 from gudokeyi.store.database import (
     CLOSED, SECONDS_TO_WAIT, TRIES, connect, is_empty, migrate, path_of, primary, told, version_of, with_unfinished,
 )  # fmt: skip
@@ -22,6 +21,8 @@ from gudokeyi.store.schema import VERSION
 
 # so much of a book is kept in memory
 MOST_KILOBYTES = 64_000
+# how the names of sheets end
+SHEETS = (".csv", ".xlsx")
 
 
 @contextlib.contextmanager
@@ -37,6 +38,20 @@ def reading(folder: pathlib.Path) -> Iterator[sqlite3.Connection | None]:
             yield None if version_of(connection, path) == 0 else connection
         except sqlite3.Error as error:
             raise told(error, path) from None
+
+
+def no_book(folder: pathlib.Path) -> NoBook:
+    """With the command that takes the only sheet that is here, if there is one."""
+    from gudokeyi.domain.findings import Call, Suggestion
+
+    there = "" if folder.is_absolute() else ", or go to the folder in which you took one"
+    sheets = [path for path in pathlib.Path().iterdir() if path.suffix.lower() in SHEETS and path.is_file()]
+    if len(sheets) != 1:
+        hint = f": `{CALLED} import --help` says how"
+        return NoBook(BookFault.NO_BOOK.said(folder=folder, there=there, hint=hint))
+    command = Call((str(sheets[0]),), folder).command(Suggestion(""))
+    told = BookFault.NO_BOOK.said(folder=folder, there=there, hint="")
+    return NoBook(told, BookFault.ONLY_SHEET.said(sheet=sheets[0], command=command))
 
 
 @contextlib.contextmanager
@@ -100,11 +115,11 @@ def copy_of(path: pathlib.Path, room: pathlib.Path) -> pathlib.Path:
                 if one.exists():
                     shutil.copyfile(one, target)
         except OSError as error:
-            raise Mistake(BookFault.CANT_BE_READ.said(path=path, error=error)) from None
+            raise BookUnusable(BookFault.CANT_BE_READ.said(path=path, error=error)) from None
         if marks(path) == before:
             return copy
         time.sleep(0.05)
-    raise Mistake(BookFault.ALWAYS_CHANGED.said(path=path))
+    raise BookUnusable(BookFault.ALWAYS_CHANGED.said(path=path))
 
 
 def marks(path: pathlib.Path) -> list[tuple[int, int, int] | None]:
@@ -201,11 +216,11 @@ def make_folder(folder: pathlib.Path) -> bool:
     except FileExistsError:
         if folder.is_dir():
             return False
-        raise Mistake(BookFault.FOLDER_IS_FILE.said(folder=folder)) from None
+        raise BookUnusable(BookFault.FOLDER_IS_FILE.said(folder=folder)) from None
     except FileNotFoundError:
-        raise Mistake(BookFault.NO_FOLDER.said(folder=folder.parent)) from None
+        raise BookUnusable(BookFault.NO_FOLDER.said(folder=folder.parent)) from None
     except OSError as error:
-        raise Mistake(BookFault.FOLDER_CLOSED.said(folder=folder, error=error)) from None
+        raise BookUnusable(BookFault.FOLDER_CLOSED.said(folder=folder, error=error)) from None
     return True
 
 
@@ -263,12 +278,6 @@ def commit(connection: sqlite3.Connection, folder: pathlib.Path, change: int, ti
             set_write_ahead(connection)
 
 
-def stop_no_more() -> None:
-    """From here on a change is made, and somebody who stops it now would be told something else."""
-    if threading.current_thread() is threading.main_thread():
-        signal.signal(signal.SIGINT, signal.SIG_IGN)
-
-
 def checkpoint(connection: sqlite3.Connection) -> None:
     """Puts what was changed into the file itself, as far as nobody reads what was before: a later change does the rest.
     To wait for readers would keep others from changing the book."""
@@ -291,4 +300,4 @@ def is_made(path: pathlib.Path, change: int, time_of_change: int) -> bool:
             found = connection.execute("SELECT 1 FROM change WHERE (change, time) = (?, ?)", (change, time_of_change))
             return found.fetchone() is not None
     except sqlite3.Error as error:
-        raise Mistake(BookFault.UNSURE.said(path=path, error=error, change=change, called=CALLED)) from None
+        raise BookUnusable(BookFault.UNSURE.said(path=path, error=error, change=change, called=CALLED)) from None

@@ -21,9 +21,8 @@ from waitress.parser import HTTPRequestParser
 from werkzeug.wrappers import Response as AnyResponse
 
 from gudokeyi.domain.messages import Mistake
-from gudokeyi.domain.people import AccountRole, Person
-from gudokeyi.ingest.files import MOST_BACKUP_BYTES, MOST_BYTES
-from gudokeyi.store.history import WORKER
+from gudokeyi.domain.people import WORKER, AccountRole, Person
+from gudokeyi.services.imports import MOST_BACKUP_BYTES, MOST_BYTES
 
 # Who asks the desk, and what each may do at the book.
 

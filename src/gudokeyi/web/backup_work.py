@@ -4,15 +4,13 @@ from __future__ import annotations
 import contextlib
 import datetime
 import pathlib
-import tempfile
 from dataclasses import dataclass
 
 from gudokeyi.domain.changes import Mark
-from gudokeyi.engine.program import Herdbook
-from gudokeyi.store.backup import mark_now, prepare, restore
-from gudokeyi.store.book import Book
-from gudokeyi.store.history import change_numbered
-from gudokeyi.store.transactions import Overtaken, opened_to_read, reading
+from gudokeyi.services.book_program import BookProgram
+from gudokeyi.services.history import change_numbered
+from gudokeyi.services.opening import Overtaken, book_in
+from gudokeyi.services.restoring import mark_now, prepared_copy, restore
 from gudokeyi.web.sheet_work import Imported
 from gudokeyi.web.workers import Doing, Tell
 
@@ -32,14 +30,10 @@ class Backup:
 def looked_into(path: pathlib.Path, tell: Tell) -> Backup:
     """What a backup has, once it is seen that it is whole."""
     tell(Doing.RESTORING)
-    with tempfile.TemporaryDirectory(prefix="society-") as room:
-        copy = pathlib.Path(room) / "book.sqlite"
-        # its last change would tell of the restoring
-        changes = prepare(path, copy, Herdbook()).number - 1
-        with opened_to_read(copy) as connection:
-            book = Book(copy.parent, connection)
-            last = change_numbered(connection, changes)
-            return Backup(changes, len(book.known), last.time if last else None)
+    with prepared_copy(path, BookProgram()) as (book, change):
+        # the last one tells of the restoring
+        last = change_numbered(book, change.number - 1)
+        return Backup(change.number - 1, len(book.known), last.time if last else None)
 
 
 def restored(folder: pathlib.Path, path: pathlib.Path, looked: Mark, tell: Tell) -> Imported:
@@ -51,13 +45,13 @@ def restored(folder: pathlib.Path, path: pathlib.Path, looked: Mark, tell: Tell)
         if now is not None and not follows(folder, now, looked):
             break
         with contextlib.suppress(Overtaken):
-            change = restore(folder, path, Herdbook(), anyway=True, looked=now or looked)
+            change = restore(folder, path, BookProgram(), anyway=True, looked=now or looked)
             return Imported(change.number, mark=change.mark, meanwhile=now[0] - looked[0] if now else 0)
     return Imported(0, True)
 
 
 def follows(folder: pathlib.Path, now: Mark, looked: Mark) -> bool:
     """Is the book of now the one that was looked at, or one that came of it?"""
-    with reading(folder) as connection:
-        change = change_numbered(connection, looked[0]) if connection else None
+    with book_in(folder) as book:
+        change = change_numbered(book, looked[0])
         return now == looked or (change is not None and change.mark == looked)

@@ -9,16 +9,13 @@ from fractions import Fraction
 
 from gudokeyi.domain.changes import Mark
 from gudokeyi.domain.messages import Mistake
-from gudokeyi.genetics.breed_state import state_of
-from gudokeyi.genetics.kinship import Kinship
+from gudokeyi.domain.requests import WebFault
+from gudokeyi.domain.settings import LANGUAGES
 from gudokeyi.render.breed_pages import BreedWords, breed_part
 from gudokeyi.services import breed_pedigree
-from gudokeyi.services.breed_pedigree import Breed, breed_of
+from gudokeyi.services.breed_pedigree import Breed, breed_of, mean_kinships_of, state_of_breed
 from gudokeyi.services.cache import mark_of
-from gudokeyi.store.book import Book
-from gudokeyi.store.opening import only_read
-from gudokeyi.store.settings import LANGUAGES
-from gudokeyi.web.messages import WebFault
+from gudokeyi.services.opening import Book, only_read
 from gudokeyi.web.served_book import ServedBook
 from gudokeyi.web.workers import Job, Stage, Tell
 
@@ -54,10 +51,9 @@ def measured(folder: pathlib.Path, whom: Whom, tell: Tell) -> Measured:
         population = population_of(breed, whom)
         if not population:
             raise Mistake(WebFault.NONE_OF_THESE.said())
-        state = state_of(breed.pedigree, population, tell)
+        state = state_of_breed(breed, population, tell)
         parts = {name: breed_part(state, breed, name, said_of(whom, BreedWords(name))) for name in LANGUAGES}
-        of_each = Kinship.of(breed.pedigree).mean_of_each(population)
-        return Measured(mark_of(book), parts, {row.number: of_each[at] for at, row in enumerate(breed.rows)})
+        return Measured(mark_of(book), parts, mean_kinships_of(breed, population))
 
 
 def population_of(breed: Breed, whom: Whom) -> Sequence[int]:

@@ -3,23 +3,18 @@ from __future__ import annotations
 
 import contextlib
 import pathlib
-import sqlite3
 import threading
 from collections.abc import Iterator
 from typing import cast
 
 from gudokeyi.domain.changes import Mark
 from gudokeyi.domain.messages import CALLED, Mistake
-from gudokeyi.engine.program import Herdbook
-from gudokeyi.engine.session import SessionEnded
-from gudokeyi.services.book_session import BookMoved
+from gudokeyi.domain.requests import WebFault
+from gudokeyi.services.book_program import BookProgram
+from gudokeyi.services.book_session import BookMoved, SessionEnded
 from gudokeyi.services.cache import Stamp, mark_of, stamp_of
-from gudokeyi.store.book import Book
-from gudokeyi.store.messages import NotWhole
-from gudokeyi.store.opening import no_book
-from gudokeyi.store.transactions import changing, reading
-from gudokeyi.store.verification import told_of_coefficients, verify
-from gudokeyi.web.messages import WebFault
+from gudokeyi.services.opening import Book, alone_to_change, book_in, no_book
+from gudokeyi.services.verification import NotWhole, told_of_coefficients, verify
 from gudokeyi.web.served_book import ServedBook
 from gudokeyi.web.workers import Job, Stage, Tell
 
@@ -28,9 +23,8 @@ from gudokeyi.web.workers import Job, Stage, Tell
 
 def seen_whole(folder: pathlib.Path, _: Tell) -> Mark:
     """The mark of the book as it is now, once it is seen that it is whole; else a mistake."""
-    with reading(folder) as connection:
-        book = Book(folder, connection)
-        verify(book, Herdbook(), quickly=True)
+    with book_in(folder) as book:
+        verify(book, BookProgram(), quickly=True)
         return mark_of(book)
 
 
@@ -73,19 +67,18 @@ def to_change(desk: ServedBook) -> Iterator[Book]:
     # where that is under way it isn't done twice
     desk.is_seen.wait()
     with desk.jobs.turn:
-        with changing(desk.folder) as connection:
-            yield from whole(desk, connection)
+        with alone_to_change(desk.folder) as book:
+            yield from whole(desk, book)
         with desk.opened() as changed:
             # it was whole before
             desk.trusted = stamp_of(changed) if changed else ()
 
 
-def whole(desk: ServedBook, connection: sqlite3.Connection | None) -> Iterator[Book]:
+def whole(desk: ServedBook, book: Book) -> Iterator[Book]:
     if desk.is_closing:
         raise Mistake(WebFault.CLOSING.said())
-    if connection is None:
+    if not book.is_there:
         raise no_book(desk.folder)
-    book = Book(desk.folder, connection)
     if stamp_of(book) != desk.trusted:
         verified(desk, book)
     try:

@@ -20,7 +20,7 @@ from werkzeug.wrappers import Response
 from werkzeug.wsgi import wrap_file
 
 from gudokeyi.domain.messages import Mistake
-from gudokeyi.web.messages import WebFault
+from gudokeyi.domain.requests import WebFault
 
 # The example's sheet, which a new user may play with: that of a clone, or of an installed package.
 

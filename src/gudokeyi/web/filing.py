@@ -9,14 +9,13 @@ from gudokeyi.domain.animals import SocietyRecord
 from gudokeyi.domain.changes import Change, Option
 from gudokeyi.domain.kinds import ChangeKind
 from gudokeyi.domain.messages import Mistake
-from gudokeyi.ingest.words import clean
+from gudokeyi.domain.requests import WebFault
 from gudokeyi.services.filing import (
-    FiledCommand, Offspring, born, departed, file, parent_named, transferred, with_parents,
+    FiledCommand, Offspring, born, clean, departed, file, parent_named, transferred, with_parents,
 )  # fmt: skip
+from gudokeyi.services.opening import Book
 from gudokeyi.services.search import find
-from gudokeyi.store.book import Book
 from gudokeyi.web.forms import OF_ANIMAL, ROLES, change_once, made_by, parents_of, shown_in, token_with
-from gudokeyi.web.messages import WebFault
 from gudokeyi.web.served_book import ServedBook
 
 # the kinds of commands with the fields of their forms, which the history has as options but for the animal

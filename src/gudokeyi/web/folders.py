@@ -7,9 +7,8 @@ import pathlib
 import re
 
 from gudokeyi.domain.messages import Mistake
-from gudokeyi.store.database import DATABASE
-from gudokeyi.store.legacy.files import is_old
-from gudokeyi.web.messages import WebFault
+from gudokeyi.domain.requests import WebFault
+from gudokeyi.services.opening import DATABASE, has_book
 
 # the book's folder in one that has other files
 BOOK = "book"
@@ -48,10 +47,6 @@ def documents() -> pathlib.Path:
         if found:
             return pathlib.Path(found[1].replace("$HOME", str(home)))
     return home
-
-
-def has_book(folder: pathlib.Path) -> bool:
-    return (folder / DATABASE).is_file() or is_old(folder)
 
 
 def books_found() -> list[pathlib.Path]:

@@ -1,7 +1,6 @@
 """Forms that change the book: their tokens, the state of the book that a page showed, and fields that can't be read."""
 from __future__ import annotations
 
-import argparse
 import hashlib
 import re
 import secrets
@@ -9,14 +8,13 @@ from collections.abc import Callable, Mapping, Sequence
 
 from flask import abort, request
 
-from gudokeyi.cli.arguments import day_until_today, days, three_letters
 from gudokeyi.domain.animals import SocietyRecord
 from gudokeyi.domain.changes import Change, Mark
 from gudokeyi.domain.messages import Mistake
-from gudokeyi.ingest.titles import read_sexes
-from gudokeyi.reconcile.import_options import ImportOptions, rename_owners
-from gudokeyi.store.book import Book
-from gudokeyi.store.history import change_by_form
+from gudokeyi.services.history import change_made_by
+from gudokeyi.services.imports import ImportOptions, read_sexes, rename_owners
+from gudokeyi.services.opening import Book
+from gudokeyi.services.option_values import day_until_today, days, three_letters
 from gudokeyi.web.changing import to_change
 from gudokeyi.web.served_book import ServedBook
 
@@ -57,7 +55,7 @@ def change_once(desk: ServedBook, form: str, make: Callable[[Book], Change | Non
 
 def made_by(book: Book | None, form: str) -> Change | None:
     """The change that a form made in a book."""
-    return change_by_form(book.connection, form) if book and book.connection else None
+    return change_made_by(book, form)
 
 
 # Which book a page showed, as its form has it: so it is seen whether that is still the book of now.
@@ -146,6 +144,6 @@ def wrong_fields(given: Mapping[str, str], book: Book) -> dict[str, str]:
         try:
             if given.get(name):
                 reader(given[name])
-        except (argparse.ArgumentTypeError, Mistake) as error:
-            found[name] = error.args[0] if isinstance(error, argparse.ArgumentTypeError) else error.sentences[0]
+        except Mistake as mistake:
+            found[name] = mistake.sentences[0]
     return found

@@ -12,12 +12,12 @@ from gudokeyi.domain.decimals import percent
 from gudokeyi.domain.findings import What
 from gudokeyi.domain.kinds import ChangeKind, CommandKind, Field, Role, Standing
 from gudokeyi.domain.refusals import MatingFault, Refusal
-from gudokeyi.genetics.breed_state import Step
-from gudokeyi.genetics.plans import Unmated
+from gudokeyi.domain.settings import LANGUAGES, Setting
 from gudokeyi.locale import TEXTS
 from gudokeyi.locale.members import MEMBERS
 from gudokeyi.render.languages import Language
-from gudokeyi.store.settings import LANGUAGES, Setting, settings_of
+from gudokeyi.services.plans import Step, Unmated
+from gudokeyi.services.settings import settings_of
 from gudokeyi.web.served_book import served_book
 from gudokeyi.web.workers import Doing
 

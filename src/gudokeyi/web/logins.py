@@ -19,7 +19,7 @@ from flask.wrappers import Response
 
 from gudokeyi.domain.cells import escape, for_terminals
 from gudokeyi.domain.people import Person
-from gudokeyi.store.accounts import A_DAY, Account, Accounts, folded
+from gudokeyi.services.accounts import A_DAY, Account, Accounts, folded
 from gudokeyi.web.access import the_logins, the_person
 from gudokeyi.web.addresses import ServerAddress
 

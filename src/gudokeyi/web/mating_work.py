@@ -12,16 +12,13 @@ from gudokeyi.domain.animals import SocietyRecord
 from gudokeyi.domain.changes import Mark
 from gudokeyi.domain.kinds import Role
 from gudokeyi.domain.messages import MessageText, Mistake
-from gudokeyi.engine.program import Herdbook
-from gudokeyi.genetics.plans import Unmated
+from gudokeyi.domain.requests import Mating, WebFault
+from gudokeyi.services.book_program import BookProgram
 from gudokeyi.services.book_session import BookMoved
 from gudokeyi.services.cache import mark_of
 from gudokeyi.services.matings import Advice, advice_of, all_candidates, by_mating
-from gudokeyi.services.plans import Asked, Planned, Prepared, best_plan, plan_table, prepared, usual_bounds
-from gudokeyi.store.book import Book
-from gudokeyi.store.messages import BookFault, Mating
-from gudokeyi.store.opening import only_read
-from gudokeyi.web.messages import WebFault
+from gudokeyi.services.opening import Book, BookFault, only_read
+from gudokeyi.services.plans import Asked, Planned, Prepared, Unmated, best_plan, plan_table, prepared, usual_bounds
 from gudokeyi.web.served_book import ServedBook
 from gudokeyi.web.workers import ADVICE, Doing, Job, Stage, Tell
 
@@ -127,7 +124,7 @@ def compare(desk: ServedBook, plan: PlanMade) -> None:
 
 
 def planned(folder: pathlib.Path, asked: Asked, tell: Tell) -> PlanMade:
-    program = Herdbook()
+    program = BookProgram()
     with only_read(folder) as book:
         tell(Doing.COEFFICIENTS)
         among = prepared(book, asked)

@@ -19,12 +19,12 @@ from typing import IO
 from flask import Flask
 
 from gudokeyi.domain.messages import Mistake
+from gudokeyi.domain.requests import WebFault
 from gudokeyi.services.book_session import BookSession
 from gudokeyi.web.access import LinkLogins
 from gudokeyi.web.app import web_app
 from gudokeyi.web.changing import begin_to_see
 from gudokeyi.web.folders import own_folder, remembered
-from gudokeyi.web.messages import WebFault
 from gudokeyi.web.routes import folder as asking
 from gudokeyi.web.served_book import ServedBook
 from gudokeyi.web.server import ADDRESS, THREADS, answer, bound, served_book_of

@@ -14,10 +14,8 @@ from werkzeug.wrappers import Response
 
 from gudokeyi.services.book_session import BookSession
 from gudokeyi.services.cache import BookCache, Stamp
+from gudokeyi.services.opening import DATABASE, Book, book_in
 from gudokeyi.services.overview import Overviews
-from gudokeyi.store.book import Book
-from gudokeyi.store.database import DATABASE
-from gudokeyi.store.transactions import reading
 from gudokeyi.web.files import Uploads
 from gudokeyi.web.workers import Exports, Jobs
 
@@ -61,8 +59,8 @@ class ServedBook:
     @contextlib.contextmanager
     def opened(self) -> Iterator[Book | None]:
         """The book as it is now, whoever changes it meanwhile; none where there is none."""
-        with reading(self.folder) as connection:
-            yield Book(self.folder, connection) if connection else None
+        with book_in(self.folder) as book:
+            yield book if book.is_there else None
 
     def end_changes(self) -> None:
         """Waits for a change that is under way; no other begins."""

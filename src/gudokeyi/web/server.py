@@ -13,7 +13,6 @@ import signal
 import socket
 import sys
 import tempfile
-import threading
 import webbrowser
 from collections.abc import Callable, Iterator
 from dataclasses import replace
@@ -23,18 +22,17 @@ from flask import Flask
 from waitress import create_server
 
 from gudokeyi.domain.messages import CALLED, Mistake
-from gudokeyi.engine.workers import SECONDS_IN_TURN
+from gudokeyi.domain.requests import WebFault
+from gudokeyi.process import with_cells_of_any_length, with_short_turns
+from gudokeyi.services.accounts import Accounts
 from gudokeyi.services.book_session import BookSession
-from gudokeyi.store.accounts import Accounts
-from gudokeyi.store.opening import take_over
-from gudokeyi.store.transactions import up_to_date
+from gudokeyi.services.opening import take_over, up_to_date
 from gudokeyi.web.access import LinkLogins, bounded_channel
 from gudokeyi.web.addresses import ListenAddress, server_address
 from gudokeyi.web.app import web_app
 from gudokeyi.web.changing import begin_to_see
 from gudokeyi.web.files import Uploads
 from gudokeyi.web.logins import AccessLog, AccountLogins, Throttle
-from gudokeyi.web.messages import WebFault
 from gudokeyi.web.served_book import ServedBook
 from gudokeyi.web.workers import PAUSE, Exports, Jobs
 
@@ -103,7 +101,8 @@ def answer(
         lambda environ, start: app()(environ, start), sockets=[listening], threads=threads, ident=None, expose_tracebacks=False,
     )  # fmt: skip
     server.channel_class = bounded_channel(app)
-    sys.setswitchinterval(SECONDS_IN_TURN)
+    with_short_turns()
+    with_cells_of_any_length()
     gc.set_threshold(*LOOKED_FOR)
     signal.signal(signal.SIGTERM, signal.default_int_handler)
     with contextlib.suppress(KeyboardInterrupt):

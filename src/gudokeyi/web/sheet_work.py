@@ -1,7 +1,6 @@
 """A dropped sheet: how it is read, what it would change, and its import; both in a process beside the server."""
 from __future__ import annotations
 
-import argparse
 import csv
 import hashlib
 import io
@@ -10,73 +9,23 @@ from collections.abc import Callable, Collection, Mapping
 from dataclasses import dataclass, field, replace
 from typing import TypeVar
 
-from gudokeyi.cli.arguments import day, days, three_letters
+from gudokeyi.bounds import bound_look, bounded_reading
 from gudokeyi.domain.changes import NO_MARK, Change, Mark, Option
-from gudokeyi.domain.findings import ROW, Entry, Finding, ImportRefused, Severity, What
-from gudokeyi.domain.kinds import Field, Remembered
+from gudokeyi.domain.findings import ROW, Entry, Finding, ImportRefused, What
 from gudokeyi.domain.messages import Mistake
-from gudokeyi.engine.program import Herdbook
-from gudokeyi.ingest.columns import find_columns
-from gudokeyi.ingest.files import bound_look, read_file
-from gudokeyi.ingest.findings.cells import OddRow
-from gudokeyi.ingest.messages import SheetFault
-from gudokeyi.ingest.sheets import read_sheet
-from gudokeyi.ingest.titles import known_titles, read_given
-from gudokeyi.ingest.unknown_parents import UnknownParents
-from gudokeyi.reconcile.import_options import ImportOptions, remember, with_settings
-from gudokeyi.reconcile.outcome import BookAfter
+from gudokeyi.domain.settings import Setting
+from gudokeyi.services.book_program import BookProgram
 from gudokeyi.services.cache import Stamp, mark_of, stamp_of
+from gudokeyi.services.imports import BookAfter, ImportOptions, read_file
+from gudokeyi.services.opening import Book, Overtaken, book_in, still_to_change, to_look_at, to_prepare
+from gudokeyi.services.option_values import day, days, three_letters
 from gudokeyi.services.saving import save
-from gudokeyi.services.sheet_imports import import_sheet_into, titles_before
-from gudokeyi.store.book import Book
-from gudokeyi.store.opening import still_to_change, to_look_at, to_prepare
-from gudokeyi.store.settings import Setting, settings_of
-from gudokeyi.store.transactions import Overtaken, reading
+from gudokeyi.services.settings import settings_of
+from gudokeyi.services.sheet_imports import import_sheet_into
+from gudokeyi.services.sheet_previews import ColumnsView, columns_shown, severity_of
 from gudokeyi.web.forms import made_by, owners_of
 from gudokeyi.web.views.findings import Days, days_of, first_of_each, totals_of
 from gudokeyi.web.workers import Doing, Tell
-
-# The columns of a dropped sheet as they were understood, with its first rows.
-
-# so many of the first rows are shown, and so many letters of a cell
-ROWS, LETTERS = 5, 60
-
-
-@dataclass(frozen=True)
-class ColumnsView:
-    """Each title with the field that is read from it, empty where none is; and the first rows, with their lines."""
-
-    titles: tuple[str, ...]
-    fields: tuple[str, ...]
-    rows: tuple[tuple[int, tuple[str, ...]], ...]
-    count: int
-
-    def title_of(self, field: Field) -> str:
-        return next((title for title, name in zip(self.titles, self.fields) if name == field), "")
-
-
-def columns_shown(book: Book, path: pathlib.Path, import_options: ImportOptions) -> ColumnsView:
-    """As an import finds them; a mistake where the file can't be read."""
-    words = remember(book, with_settings(book, import_options))
-    now = read_given(import_options.columns)
-    before = titles_before(book) | read_given(words[Remembered.COLUMNS])
-    named = {*before.values(), *now.values()}
-    sheet = read_sheet(
-        read_file(path), lambda row: known_titles(row) + sum(title in named for title in row), import_options.worksheet
-    )
-    unknown = UnknownParents(words[Remembered.UNKNOWN], words[Remembered.KNOWN])
-    with_row = [known.id for known in book.known.values() if known.standing.had_row()]
-    before = {name: title for name, title in before.items() if name not in now}
-    columns = find_columns(sheet, now, before, unknown, with_row)
-    fields = {at: name for name, at in columns.found.items()}
-    if not any(sheet.titles):
-        raise Mistake(SheetFault.NO_TITLES.said(path=path))
-    return ColumnsView(
-        tuple(sheet.titles),
-        tuple(fields.get(at, "") for at in range(len(sheet.titles))),
-        tuple((row.line, tuple(cell[:LETTERS] for cell in row.cells)) for row in sheet.rows[:ROWS]),
-        len(sheet.rows),
-    )
 
 
 # A dropped sheet: how it is read and what it would change, and its import; both in a process beside the server.
@@ -153,7 +102,7 @@ class Imported:
 
 def looked_at(folder: pathlib.Path, path: pathlib.Path, chosen: Chosen, tell: Tell) -> Look:
     bound_look()
-    program = Herdbook()
+    program = BookProgram()
     tell(Doing.COLUMNS)
     with to_look_at(folder, program) as book:
         columns, failed = columns_of(book, path, chosen, folder)
@@ -177,11 +126,6 @@ def looked_at(folder: pathlib.Path, path: pathlib.Path, chosen: Chosen, tell: Te
     )  # fmt: skip
 
 
-def severity_of(entry: Entry) -> tuple[Severity, bool]:
-    """The greatest harm comes first; and before all else rows that may be no animals."""
-    return entry.finding.does(), not isinstance(entry.finding, OddRow)
-
-
 def look_of(seen: Seen, columns: ColumnsView | None, mistake: Mistake) -> Look:
     """That of a sheet that can't be read."""
     if isinstance(mistake, ImportRefused):
@@ -202,7 +146,7 @@ def columns_of(
 def imported(folder: pathlib.Path, path: pathlib.Path, chosen: Chosen, looked: Seen, form: str, tell: Tell) -> Imported:
     """Takes a sheet, if the book is still the one that was looked at, the sheet is read as it was then, and its form
     didn't take it. Others file while that is prepared; who waits for it waits for the writing alone."""
-    program = Herdbook()
+    program = BookProgram()
     tell(Doing.TAKING)
     try:
         with to_prepare(folder, program) as book:
@@ -214,7 +158,7 @@ def imported(folder: pathlib.Path, path: pathlib.Path, chosen: Chosen, looked: S
             if seen != looked:
                 return Imported(0, seen.mark != looked.mark, seen.mark == looked.mark)
             _, prepared = import_sheet_into(
-                book, read_file(path), replace(import_options_of(folder, chosen), form=form), program
+                book, read_file(path), replace(import_options_of(folder, chosen), form=form), program, bounded_reading
             )
         assert prepared is not None
         with still_to_change(folder, book.change) as now:
@@ -227,8 +171,7 @@ def imported(folder: pathlib.Path, path: pathlib.Path, chosen: Chosen, looked: S
 
 def stamp_behind(folder: pathlib.Path, change: Change) -> Stamp:
     """The book and its file behind a change; nothing where it isn't the last one any more."""
-    with reading(folder) as connection:
-        book = Book(folder, connection)
+    with book_in(folder) as book:
         return stamp_of(book) if mark_of(book) == change.mark else ()
 
 
@@ -270,7 +213,4 @@ def one_cell(text: str) -> str:
 
 def read(reader: Callable[[str], Value], text: str) -> Value | None:
     """What a field says, none where it is empty."""
-    try:
-        return reader(text) if text else None
-    except argparse.ArgumentTypeError as error:
-        raise Mistake(*error.args) from None
+    return reader(text) if text else None

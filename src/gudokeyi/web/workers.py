@@ -18,9 +18,9 @@ from dataclasses import dataclass
 from typing import BinaryIO
 
 from gudokeyi.domain.messages import Mistake
-from gudokeyi.store.exports import refresh
-from gudokeyi.store.history import WORKER
-from gudokeyi.web.messages import WebFault
+from gudokeyi.domain.people import WORKER
+from gudokeyi.domain.requests import WebFault
+from gudokeyi.services.folder_files import refresh
 
 # Work in a process beside the server, which may need much memory and time: how it is begun and done, and what it tells
 # of how far it is and of what comes of it.

@@ -7,15 +7,16 @@ import pathlib
 from gudokeyi.cli.arguments import add_force, file, whole_number
 from gudokeyi.cli.output import tell
 from gudokeyi.cli.parser import CommandWords
-from gudokeyi.domain.messages import CALLED, Mistake, counted
-from gudokeyi.engine.program import Herdbook
-from gudokeyi.services.history import details, heading, undo
-from gudokeyi.store.backup import backup, restore
-from gudokeyi.store.book import Book
-from gudokeyi.store.history import all_changes, change_numbered, last_that_changed
-from gudokeyi.store.opening import export, opened, there_to_change
-from gudokeyi.store.settings import Setting, change_settings, settings_of
-from gudokeyi.store.verification import verify
+from gudokeyi.domain.messages import Mistake, counted
+from gudokeyi.domain.settings import Setting
+from gudokeyi.render.history import details, heading
+from gudokeyi.services.book_program import BookProgram
+from gudokeyi.services.history import change_numbered, changes_of
+from gudokeyi.services.opening import Book, export, opened, there_to_change
+from gudokeyi.services.restoring import backup, restore
+from gudokeyi.services.settings import change_settings, settings_of
+from gudokeyi.services.undoing import check_last, undo
+from gudokeyi.services.verification import verify
 
 # what each setting is
 SETTINGS = {
@@ -64,13 +65,12 @@ def add_words(words: CommandWords) -> None:
     )
 
 
-def do_history(asked: argparse.Namespace, book: Book, program: Herdbook) -> None:
-    assert book.connection is not None
+def do_history(asked: argparse.Namespace, book: Book, program: BookProgram) -> None:
     if asked.number is None:
-        for change in all_changes(book.connection):
+        for change in changes_of(book):
             print(heading(change))
         return
-    found = change_numbered(book.connection, asked.number)
+    found = change_numbered(book, asked.number)
     if not found:
         last = book.change.number if book.change else 0
         raise Mistake(f"the book has no change {asked.number}: its changes are 1 to {last}")
@@ -79,7 +79,7 @@ def do_history(asked: argparse.Namespace, book: Book, program: Herdbook) -> None
 
 
 def do_undo(asked: argparse.Namespace) -> None:
-    program = Herdbook()
+    program = BookProgram()
     with there_to_change(asked.book, program) as book:
         if asked.change is not None:
             check_last(book, asked.change)
@@ -90,18 +90,7 @@ def do_undo(asked: argparse.Namespace) -> None:
         tell(note)
 
 
-def check_last(book: Book, number: int) -> None:
-    """A mistake where a change isn't the last that changed something."""
-    assert book.connection is not None
-    last = last_that_changed(book.connection)
-    if number != last:
-        raise Mistake(
-            f"change {number} isn't the last that changed something, which is {last}: see what came by {CALLED} history, "
-            "and bring back an earlier state by --to"
-        )
-
-
-def do_verify(asked: argparse.Namespace, book: Book, program: Herdbook) -> None:
+def do_verify(asked: argparse.Namespace, book: Book, program: BookProgram) -> None:
     verify(book, program)
     changes = book.change.number if book.change else 0
     print(
@@ -111,7 +100,7 @@ def do_verify(asked: argparse.Namespace, book: Book, program: Herdbook) -> None:
 
 
 def do_settings(asked: argparse.Namespace) -> None:
-    program = Herdbook()
+    program = BookProgram()
     given = {Setting(name): text for name, text in vars(asked).items() if name in list(Setting) and text is not None}
     with opened(asked.book, program) as book:
         settings = settings_of(book)
@@ -123,14 +112,14 @@ def do_settings(asked: argparse.Namespace) -> None:
         print(f"{setting}: {', '.join(text.splitlines()) or 'not said'}")
 
 
-def do_backup(asked: argparse.Namespace, book: Book, program: Herdbook) -> None:
+def do_backup(asked: argparse.Namespace, book: Book, program: BookProgram) -> None:
     backup(book, asked.file, asked.force)
     changes = book.change.number if book.change else 0
     print(f"{asked.file} has the book with its {counted(changes, 'change')}")
 
 
 def do_restore(asked: argparse.Namespace) -> None:
-    change = restore(asked.book, asked.file, Herdbook(), asked.anyway)
+    change = restore(asked.book, asked.file, BookProgram(), asked.anyway)
     notes = export(asked.book)
     print(heading(change))
     for note in notes:

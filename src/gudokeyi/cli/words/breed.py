@@ -7,17 +7,18 @@ from collections.abc import Callable
 from fractions import Fraction
 from typing import TYPE_CHECKING
 
-from gudokeyi.cli.answers import give_table, named_in
+from gudokeyi.cli.answers import give_table
 from gudokeyi.cli.arguments import add_force, add_output, birth_days, coefficient, days, file, most
 from gudokeyi.cli.output import tell
 from gudokeyi.cli.parser import CommandWords
 from gudokeyi.domain.kinds import Role
 from gudokeyi.domain.messages import Mistake, counted
-from gudokeyi.engine.program import Herdbook
-from gudokeyi.genetics.plans import Assume
 from gudokeyi.packages import Group
-from gudokeyi.store.book import Book
-from gudokeyi.store.output_files import write_into, write_outs, write_page
+from gudokeyi.services.book_program import BookProgram
+from gudokeyi.services.opening import Book
+from gudokeyi.services.output_files import write_into, write_outs, write_page
+from gudokeyi.services.plans import Assume
+from gudokeyi.services.search import named_in
 
 if TYPE_CHECKING:
     from gudokeyi.services.breed_pedigree import Breed
@@ -76,18 +77,17 @@ def add_population(word: argparse.ArgumentParser) -> None:
     which.add_argument("--among", type=pathlib.Path, metavar="FILE", help="the animals of a file, one id a line")
 
 
-def do_breed(asked: argparse.Namespace, book: Book, program: Herdbook) -> None:
-    from gudokeyi.services.breed_pedigree import breed_of
+def do_breed(asked: argparse.Namespace, book: Book, program: BookProgram) -> None:
     from gudokeyi.render.breed_pages import breed_page
-    from gudokeyi.genetics.breed_state import state_of
     from gudokeyi.render.breed_tables import files_of
+    from gudokeyi.services.breed_pedigree import breed_of, state_of_breed
 
     breed = breed_of(book)
     population, of_whom = population_of(asked, breed)
     if not population:
         raise Mistake(f"the book has none of {of_whom}: name others by --born, --owner or --among")
     report: Callable[[str], None] = tell if len(breed.pedigree) > LARGE else lambda what: None
-    state = state_of(breed.pedigree, population, lambda what: report(f"{what} .."))
+    state = state_of_breed(breed, population, lambda what: report(f"{what} .."))
     page = breed_page(state, breed, asked.language, of_whom).encode()
     if asked.csv:
         files = files_of(state, breed)
@@ -103,8 +103,8 @@ def do_breed(asked: argparse.Namespace, book: Book, program: Herdbook) -> None:
 
 def population_of(asked: argparse.Namespace, breed: Breed) -> tuple[list[int], str]:
     """The ranks of the reference population, and who it is in the language of the page."""
-    from gudokeyi.services import breed_pedigree
     from gudokeyi.render.breed_pages import BreedWords as PageWords
+    from gudokeyi.services import breed_pedigree
 
     words = PageWords(asked.language)
     if asked.born:
@@ -119,9 +119,8 @@ def population_of(asked: argparse.Namespace, breed: Breed) -> tuple[list[int], s
     return breed_pedigree.living(breed), words.word("living")
 
 
-def do_plan(asked: argparse.Namespace, book: Book, program: Herdbook) -> None:
-    from gudokeyi.services.plans import Asked, prepared
-    from gudokeyi.services.plans import best_plan, plan_table, told_of
+def do_plan(asked: argparse.Namespace, book: Book, program: BookProgram) -> None:
+    from gudokeyi.services.plans import Asked, best_plan, plan_table, prepared, told_of
 
     files = {Role.DAM: asked.dams, Role.SIRE: asked.sires}
     named = {role: named_in(path, book) if path else None for role, path in files.items()}

@@ -13,14 +13,12 @@ from gudokeyi.domain.changes import Option
 from gudokeyi.domain.findings import What
 from gudokeyi.domain.kinds import ChangeKind
 from gudokeyi.domain.messages import Mistake
-from gudokeyi.engine.program import Herdbook
-from gudokeyi.ingest.words import clean
+from gudokeyi.services.book_program import BookProgram
 from gudokeyi.services.filing import (
     FiledCommand, Offspring, born, departed, file, parent_named, transferred, with_parents,
 )  # fmt: skip
+from gudokeyi.services.opening import Book, export, there_to_change
 from gudokeyi.services.search import find
-from gudokeyi.store.book import Book
-from gudokeyi.store.opening import export, there_to_change
 
 # the command that somebody wishes, given the book
 Wished = Callable[[argparse.Namespace, Book], FiledCommand]
@@ -60,7 +58,7 @@ def add_parents(word: Parser, otherwise: str) -> None:
 
 def does(wished: Wished) -> Callable[[argparse.Namespace], None]:
     def filed(asked: argparse.Namespace) -> None:
-        program = Herdbook()
+        program = BookProgram()
         with there_to_change(asked.book, program) as book:
             one = replace(wished(asked, book), options=options_of(asked))
             change, refusal = file(book, program, one)
@@ -103,8 +101,8 @@ def parent(book: Book, word: str | None) -> SocietyRecord | None:
 
 def wished_birth(asked: argparse.Namespace, book: Book) -> FiledCommand:
     offspring = Offspring(
-        clean(asked.id), asked.sex, asked.day, clean(asked.name), parent(book, asked.sire),
-        parent(book, asked.dam), clean(asked.owner), asked.embryo, asked.breed or "", asked.country or "",
+        asked.id, asked.sex, asked.day, asked.name, parent(book, asked.sire), parent(book, asked.dam), asked.owner,
+        asked.embryo, asked.breed or "", asked.country or "",
     )  # fmt: skip
     return born(book, offspring)
 
@@ -117,8 +115,7 @@ def wished_parents(asked: argparse.Namespace, book: Book) -> FiledCommand:
 
 
 def wished_transfer(asked: argparse.Namespace, book: Book) -> FiledCommand:
-    from_owner = None if asked.from_owner is None else clean(asked.from_owner)
-    return transferred(book, find(book, asked.id), asked.day, clean(asked.to), from_owner)
+    return transferred(book, find(book, asked.id), asked.day, asked.to, asked.from_owner)
 
 
 def wished_exit(asked: argparse.Namespace, book: Book) -> FiledCommand:

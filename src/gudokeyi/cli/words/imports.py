@@ -2,24 +2,22 @@
 from __future__ import annotations
 
 import argparse
-import datetime
+import contextlib
 import gc
 import pathlib
-import sys
 from typing import TYPE_CHECKING
 
+from gudokeyi.bounds import bound_look, bounded_reading
 from gudokeyi.cli.arguments import day_until_today, days, three_letters
 from gudokeyi.cli.output import tell
 from gudokeyi.cli.parser import CommandWords
 from gudokeyi.domain.messages import Mistake
-from gudokeyi.engine.workers import SECONDS_IN_TURN
 from gudokeyi.packages import Group, need
-from gudokeyi.process import is_the_only_one
-from gudokeyi.store.transactions import anew_where_a_book_came
+from gudokeyi.process import is_the_only_one, with_cells_of_any_length
+from gudokeyi.services.book_program import BookProgram
 
 if TYPE_CHECKING:
-    from gudokeyi.ingest.files import GivenFile
-    from gudokeyi.reconcile.import_options import ImportOptions
+    from gudokeyi.services.imports import Bounds, Import
 
 
 def add_words(words: CommandWords) -> None:
@@ -115,9 +113,8 @@ def add_words(words: CommandWords) -> None:
 
 
 def do_import(asked: argparse.Namespace) -> None:
-    from gudokeyi.ingest.files import bound_look
-    from gudokeyi.ingest.pedigree_files import given_file
-    from gudokeyi.reconcile.import_options import ImportOptions
+    with_cells_of_any_length()
+    from gudokeyi.services.imports import Import, ImportOptions
 
     if (asked.sheet is None) == (asked.pedigree is None):
         raise Mistake("import reads one file: name a sheet, or a pedigree with --pedigree")
@@ -129,30 +126,33 @@ def do_import(asked: argparse.Namespace) -> None:
         raise Mistake("--no-animal and --animal are for a sheet: leave such lines out of a pedigree")
     if asked.sheet and (asked.keep or asked.leave_out):
         raise Mistake("--keep and --leave-out are for a pedigree, as --pedigree FILE")
-    import_options = ImportOptions(
+    options = ImportOptions(
         asked.book, asked.columns, asked.unknown, asked.sexes, asked.breed or "", asked.country or "", asked.day,
         asked.strict, asked.drop_gone, asked.semicolons, asked.keep, asked.leave_out, asked.worksheet,
         asked.month_first, asked.anyway, asked.preview, asked.youngest, asked.apart, asked.known, asked.owner,
         asked.day_first, no_animal=asked.no_animal, animal=asked.animal,
     )  # fmt: skip
-    file = given_file(asked.sheet or asked.pedigree, is_pedigree=not asked.sheet)
-    if asked.sheet and file.is_workbook():
+    wished = Import(asked.sheet or asked.pedigree, options, is_pedigree=not asked.sheet)
+    if wished.is_workbook:
         need(Group.WORKBOOKS, ": or save the sheet as CSV, and take that")
     # what an import makes of a large sheet is needed to its end, and nothing of it goes round: to look for what isn't
     # needed any more would find nothing, again and again
     gc.disable()
-    # what writes the book waits for Python between two statements, while something else is done beside
-    sys.setswitchinterval(SECONDS_IN_TURN)
     is_the_only_one()
-    for note in anew_where_a_book_came(lambda: imported(file, import_options, not asked.sheet)):
+    for note in imported(wished):
         tell(note)
 
 
-def imported(file: GivenFile, import_options: ImportOptions, is_pedigree: bool) -> list[str]:
-    if is_pedigree:
-        from gudokeyi.services.pedigree_imports import import_pedigree
+def imported(wished: Import) -> list[str]:
+    """Imports, and prints what that made; answers what is to be told behind it."""
+    from gudokeyi.render.import_reports import lines_of, told_with
 
-        return import_pedigree(file, import_options)
-    from gudokeyi.services.sheet_imports import import_sheet
-
-    return import_sheet(file, import_options)
+    # the whole of a preview is bounded already
+    bounds: Bounds = contextlib.nullcontext
+    if not wished.options.preview:
+        bounds = bounded_reading
+    program = BookProgram()
+    with told_with(wished.call()):
+        outcome, notes = wished.made(program, bounds)
+        print("\n".join(lines_of(outcome)))
+    return notes

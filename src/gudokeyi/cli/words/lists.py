@@ -8,9 +8,9 @@ from gudokeyi.cli.arguments import add_choice, add_output, birth_days, sex
 from gudokeyi.cli.output import tell
 from gudokeyi.cli.parser import CommandWords
 from gudokeyi.domain.messages import number_and_some
-from gudokeyi.engine.program import Herdbook
+from gudokeyi.services.book_program import BookProgram
 from gudokeyi.services.lists import USUAL, Column
-from gudokeyi.store.book import Book
+from gudokeyi.services.opening import Book
 
 
 def add_words(words: CommandWords) -> None:
@@ -36,9 +36,9 @@ def columns(text: str) -> list[Column]:
     return list(dict.fromkeys([*USUAL * text.startswith("+"), *map(Column, words)]))
 
 
-def do_list(asked: argparse.Namespace, book: Book, program: Herdbook) -> None:
-    from gudokeyi.services.selection import Choice
+def do_list(asked: argparse.Namespace, book: Book, program: BookProgram) -> None:
     from gudokeyi.services.lists import animals_listed
+    from gudokeyi.services.selection import Choice
 
     choice = Choice(asked.living, asked.sex or "", asked.owner, asked.born)
     give_table(asked, book, animals_listed(book, choice, asked.columns or USUAL))

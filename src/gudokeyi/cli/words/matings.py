@@ -12,9 +12,9 @@ from gudokeyi.domain.messages import Mistake
 from gudokeyi.process import is_the_only_one, keep
 
 if TYPE_CHECKING:
-    from gudokeyi.engine.program import Herdbook
+    from gudokeyi.services.book_program import BookProgram
     from gudokeyi.services.matings import Advice
-    from gudokeyi.store.book import Book
+    from gudokeyi.services.opening import Book
 
 # the status where each sire that was named is refused: a script reads no message
 ALL_REFUSED = 3
@@ -48,7 +48,7 @@ def add_words(words: CommandWords) -> None:
     add_output(mating)
 
 
-def do_mating(asked: argparse.Namespace, book: Book, program: Herdbook) -> None:
+def do_mating(asked: argparse.Namespace, book: Book, program: BookProgram) -> None:
     if asked.dams or asked.sires_in:
         do_many_matings(asked, book, program)
         return
@@ -74,35 +74,20 @@ def do_mating(asked: argparse.Namespace, book: Book, program: Herdbook) -> None:
         asked.status = ALL_REFUSED
 
 
-def advice_for(asked: argparse.Namespace, book: Book, program: Herdbook) -> Advice:
-    """What is needed further is imported while the journal is read."""
+def advice_for(asked: argparse.Namespace, book: Book, program: BookProgram) -> Advice:
+    from gudokeyi.services.advising import advise
     from gudokeyi.services.search import find
 
-    dam, named = find(book, asked.dam), [find(book, sire) for sire in asked.sires]
-    if named:
-        from gudokeyi.services.matings import advise_on_named
-
-        return advise_on_named(book, program, dam, named)
-    from gudokeyi.services.selection import MatesRead
-    from gudokeyi.domain.kinds import Role
-
-    with book.journal_read_beside():
-        sires = MatesRead(book, Role.SIRE, asked.left)
-        begun = program.begin_matings(dam.number, sires.numbers, book)
-        import gudokeyi.cli.answers
-        from gudokeyi.services.matings import advise_on_all
-
-        return advise_on_all(book, program, dam, sires, begun, asked.left)
+    return advise(book, program, find(book, asked.dam), [find(book, sire) for sire in asked.sires], asked.left)
 
 
-def do_many_matings(asked: argparse.Namespace, book: Book, program: Herdbook) -> None:
+def do_many_matings(asked: argparse.Namespace, book: Book, program: BookProgram) -> None:
     """A table of all pairs."""
-    from gudokeyi.services.matings import candidates_of
-    from gudokeyi.services.matings import mates_matrix, mates_table, told_of_refused
+    from gudokeyi.cli.answers import give_table
     from gudokeyi.domain.kinds import Role
-    from gudokeyi.services.search import find
+    from gudokeyi.services.matings import candidates_of, mates_matrix, mates_table, told_of_refused
     from gudokeyi.services.relationships import pairs_of
-    from gudokeyi.cli.answers import give_table, named_in
+    from gudokeyi.services.search import find, named_in
 
     if asked.dam and asked.dams or asked.sires and asked.sires_in:
         raise Mistake("mating takes animals that are named, or those of a file, not both")

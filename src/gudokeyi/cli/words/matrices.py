@@ -6,8 +6,8 @@ import argparse
 from gudokeyi.cli.arguments import add_force, file
 from gudokeyi.cli.parser import CommandWords
 from gudokeyi.domain.messages import counted
-from gudokeyi.engine.program import Herdbook
-from gudokeyi.store.book import Book
+from gudokeyi.services.book_program import BookProgram
+from gudokeyi.services.opening import Book
 
 
 def add_words(words: CommandWords) -> None:
@@ -19,7 +19,7 @@ def add_words(words: CommandWords) -> None:
     add_force(inverse)
 
 
-def do_inverse(asked: argparse.Namespace, book: Book, program: Herdbook) -> None:
+def do_inverse(asked: argparse.Namespace, book: Book, program: BookProgram) -> None:
     from gudokeyi.services.exports import write_inverse
 
     rows, elements, ids = write_inverse(book, program, asked.matrix_market, asked.force)

@@ -5,21 +5,21 @@ import argparse
 import datetime
 import pathlib
 
-from gudokeyi.cli.answers import named_in
 from gudokeyi.cli.arguments import add_choice, add_force, day, file, generations
 from gudokeyi.cli.parser import CommandWords
 from gudokeyi.domain.animals import SocietyRecord
 from gudokeyi.domain.messages import Mistake, counted
-from gudokeyi.engine.program import Herdbook
+from gudokeyi.domain.settings import LANGUAGES, Setting
 from gudokeyi.packages import Group
 from gudokeyi.render.drawing import file_name
 from gudokeyi.render.languages import Language
-from gudokeyi.services.search import find
-from gudokeyi.store.book import Book
-from gudokeyi.store.coefficients import kept_coefficients
-from gudokeyi.store.output_files import write_outs, write_page
-from gudokeyi.store.settings import LANGUAGES, Setting, settings_of
-from gudokeyi.store.verification import refuse_to_certify
+from gudokeyi.services.animals import kept_coefficients
+from gudokeyi.services.book_program import BookProgram
+from gudokeyi.services.opening import Book
+from gudokeyi.services.output_files import write_outs, write_page
+from gudokeyi.services.search import find, named_in
+from gudokeyi.services.settings import settings_of
+from gudokeyi.services.verification import refuse_to_certify
 
 
 def add_words(words: CommandWords) -> None:
@@ -57,7 +57,7 @@ def add_words(words: CommandWords) -> None:
         add_force(one)
 
 
-def do_certificate(asked: argparse.Namespace, book: Book, program: Herdbook) -> None:
+def do_certificate(asked: argparse.Namespace, book: Book, program: BookProgram) -> None:
     from gudokeyi.render.certificates import Issue, certificates_page
 
     animals = animals_asked_for(asked, book)
@@ -71,8 +71,7 @@ def do_certificate(asked: argparse.Namespace, book: Book, program: Herdbook) -> 
 
 def animals_asked_for(asked: argparse.Namespace, book: Book) -> list[SocietyRecord]:
     """Those that are named, or those of an owner or that live; each once."""
-    from gudokeyi.services.selection import Choice, chosen
-    from gudokeyi.store.animal_rows import known_of
+    from gudokeyi.services.selection import Choice, known_chosen
 
     choice = Choice(asked.living, "", asked.owner)
     named = [find(book, id) for id in asked.ids] + (named_in(asked.among, book) if asked.among else [])
@@ -80,13 +79,13 @@ def animals_asked_for(asked: argparse.Namespace, book: Book) -> list[SocietyReco
         raise Mistake("certificate takes animals that are named, or those of --owner and --living, not both")
     if not named and choice.is_everything:
         raise Mistake("certificate needs animals: name them, or choose some by --owner or --living")
-    animals = named or [known_of(row) for row in chosen(book, choice)]
+    animals = named or known_chosen(book, choice)
     if not animals:
         raise Mistake("there is no such animal: `list` with the same options shows which there are")
     return list({known.number: known for known in animals}.values())
 
 
-def do_pedigree(asked: argparse.Namespace, book: Book, program: Herdbook) -> None:
+def do_pedigree(asked: argparse.Namespace, book: Book, program: BookProgram) -> None:
     from gudokeyi.render.pedigree_pictures import Pedigree
 
     known = find(book, asked.id)
@@ -97,7 +96,7 @@ def do_pedigree(asked: argparse.Namespace, book: Book, program: Herdbook) -> Non
     give(asked, book, drawn.text(), file_name("pedigree", known.id, ".html" if drawn.is_long else ".svg"), pages)
 
 
-def do_trend(asked: argparse.Namespace, book: Book, program: Herdbook) -> None:
+def do_trend(asked: argparse.Namespace, book: Book, program: BookProgram) -> None:
     from gudokeyi.render.trend_pictures import trend_picture
 
     give(asked, book, trend_picture(book, kept_coefficients(book), Language(asked.language)), "trend.svg")

@@ -5,15 +5,15 @@ import argparse
 import pathlib
 import sys
 
-from gudokeyi.cli.answers import give_table, named_in
+from gudokeyi.cli.answers import give_table
 from gudokeyi.cli.arguments import add_output
 from gudokeyi.cli.parser import CommandWords
 from gudokeyi.domain.animals import SocietyRecord
 from gudokeyi.domain.messages import Mistake, counted
-from gudokeyi.engine.program import Herdbook
-from gudokeyi.services.search import find
-from gudokeyi.store.book import Book
-from gudokeyi.store.output_files import write_outs
+from gudokeyi.services.book_program import BookProgram
+from gudokeyi.services.opening import Book
+from gudokeyi.services.output_files import write_outs
+from gudokeyi.services.search import find, named_in
 
 
 def add_words(words: CommandWords) -> None:
@@ -50,20 +50,20 @@ def add_words(words: CommandWords) -> None:
         add_output(one)
 
 
-def do_show(asked: argparse.Namespace, book: Book, program: Herdbook) -> None:
+def do_show(asked: argparse.Namespace, book: Book, program: BookProgram) -> None:
     from gudokeyi.render.animals import AnimalView
 
     for line in AnimalView(book, find(book, asked.id), asked.all).lines():
         print(line)
 
 
-def do_find(asked: argparse.Namespace, book: Book, program: Herdbook) -> None:
+def do_find(asked: argparse.Namespace, book: Book, program: BookProgram) -> None:
     from gudokeyi.services.search import animals_found
 
     give_table(asked, book, animals_found(book, asked.text))
 
 
-def do_kinship(asked: argparse.Namespace, book: Book, program: Herdbook) -> None:
+def do_kinship(asked: argparse.Namespace, book: Book, program: BookProgram) -> None:
     from gudokeyi.services.relationships import each_once, kinship_matrix, kinship_table, related
 
     named = [find(book, id) for id in asked.ids]
@@ -78,7 +78,7 @@ def do_kinship(asked: argparse.Namespace, book: Book, program: Herdbook) -> None
         give_table(asked, book, kinship_table(book, pairs))
 
 
-def do_export(asked: argparse.Namespace, book: Book, program: Herdbook) -> None:
+def do_export(asked: argparse.Namespace, book: Book, program: BookProgram) -> None:
     from gudokeyi.services.exports import export_table, triples, triples_text
 
     if asked.triples and asked.semicolons:

@@ -7,7 +7,6 @@ import getpass
 from gudokeyi.cli.parser import CommandWords
 from gudokeyi.domain.messages import Mistake
 from gudokeyi.packages import Group, need
-from gudokeyi.store.transactions import make_folder
 
 ROLES = ("inspector", "clerk", "keeper")
 LOOPBACK = "127.0.0.1"
@@ -52,9 +51,8 @@ def do_serve(asked: argparse.Namespace) -> None:
     need(Group.BROWSER)
     need(Group.BREED)
     from gudokeyi.services.book_session import BookSession
-    from gudokeyi.engine.session import Places
-    from gudokeyi.web.server import serve
     from gudokeyi.web.addresses import listen_address
+    from gudokeyi.web.server import serve
 
     place, proxy = listen_address(asked.listen), asked.behind_proxy
     if not place.is_loopback and not proxy and not asked.insecure:
@@ -62,7 +60,7 @@ def do_serve(asked: argparse.Namespace) -> None:
             f"{place.address} is an address of the network, on which passwords would be read by others: say "
             "--behind-proxy where a proxy has a certificate, or --insecure if it has to be so"
         )
-    program = BookSession(Places(16, 16))
+    program = BookSession.for_many()
     program.look_for()
     serve(asked.book, program, place, asked.name, proxy)
 
@@ -70,7 +68,7 @@ def do_serve(asked: argparse.Namespace) -> None:
 def do_account(asked: argparse.Namespace) -> None:
     need(Group.BROWSER)
     from gudokeyi.domain.people import AccountRole
-    from gudokeyi.store.accounts import Accounts
+    from gudokeyi.services.accounts import Accounts, make_folder
 
     accounts = Accounts(asked.book)
     if asked.list:

@@ -4,7 +4,8 @@ from __future__ import annotations
 from dataclasses import dataclass
 
 from gudokeyi.domain.changes import Option
-from gudokeyi.domain.findings import Severity, Suggestion
+from gudokeyi.domain.findings import Obstacle, Severity, Suggestion
+from gudokeyi.domain.kinds import Field
 from gudokeyi.domain.messages import counted
 from gudokeyi.ingest.findings.columns import SheetFinding
 from gudokeyi.ingest.findings.sheets import shortened
@@ -131,3 +132,27 @@ class WorksheetLacks(SheetFinding):
 
     def suggestions(self) -> tuple[Suggestion, ...]:
         return WorksheetUnclear(self.path, self.worksheets, False).suggestions()
+
+
+@dataclass(frozen=True, slots=True)
+class ParentsInColumn(Obstacle):
+    """Another column has more of the parents than that which is read for the ids."""
+
+    title: str
+    found: int
+    ids: str
+    found_in_ids: int
+    parents: int
+
+    def words(self) -> str:
+        return (
+            f"of {counted(self.parents, 'parent')} {self.found} stand in the column '{self.title}', and "
+            f"{self.found_in_ids} in '{self.ids}', which is read for the ids: to take founders in their place changes "
+            "coefficients"
+        )
+
+    def suggestions(self) -> tuple[Suggestion, ...]:
+        titles = (self.title, self.ids)
+        return tuple(
+            Suggestion(f"if '{one}' has the ids", (Option("--columns", f"{Field.ID.value}={one}"),)) for one in titles
+        )

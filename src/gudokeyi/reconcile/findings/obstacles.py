@@ -5,7 +5,7 @@ import enum
 from dataclasses import dataclass
 
 from gudokeyi.domain.changes import Option
-from gudokeyi.domain.findings import ANYWAY, LEAVE_OUT, Finding, Suggestion, What, columns
+from gudokeyi.domain.findings import ANYWAY, LEAVE_OUT, Obstacle, Suggestion, columns
 from gudokeyi.domain.kinds import Field
 from gudokeyi.domain.messages import counted
 from gudokeyi.reconcile.findings.plausibility import RowOf
@@ -13,10 +13,6 @@ from gudokeyi.reconcile.findings.plausibility import RowOf
 # What keeps a sheet from being taken, though it can be read: each kind as data, and in words.
 
 STRICT = "--strict"
-
-
-class Obstacle(Finding):
-    what = What.WARNING
 
 
 class LooksLike(enum.Enum):
@@ -284,30 +280,6 @@ class ParentsNamed(Obstacle):
 
     def suggestions(self) -> tuple[Suggestion, ...]:
         return (Suggestion("to take those of these names where they can be the parents", (LEAVE_OUT,)),)
-
-
-@dataclass(frozen=True, slots=True)
-class ParentsInColumn(Obstacle):
-    """Another column has more of the parents than that which is read for the ids."""
-
-    title: str
-    found: int
-    ids: str
-    found_in_ids: int
-    parents: int
-
-    def words(self) -> str:
-        return (
-            f"of {counted(self.parents, 'parent')} {self.found} stand in the column '{self.title}', and "
-            f"{self.found_in_ids} in '{self.ids}', which is read for the ids: to take founders in their place changes "
-            "coefficients"
-        )
-
-    def suggestions(self) -> tuple[Suggestion, ...]:
-        titles = (self.title, self.ids)
-        return tuple(
-            Suggestion(f"if '{one}' has the ids", (Option("--columns", f"{Field.ID.value}={one}"),)) for one in titles
-        )
 
 
 @dataclass(frozen=True, slots=True)

@@ -9,42 +9,7 @@ from gudokeyi.domain.findings import ANYWAY, Finding, LeftOut, Part, Severity, S
 from gudokeyi.domain.kinds import CommandKind
 from gudokeyi.domain.provenance import Period
 from gudokeyi.domain.refusals import Refusal
-
-
-@dataclass(frozen=True, slots=True)
-class IdUsedAgain(LeftOut):
-    """The id is that of another animal, of the book or of another line of the sheet, that was born years before.
-    `named_in` are the lines of animals that are born later, and have this id as a parent: they are taken for offspring of
-    the first."""
-
-    born_there: datetime.date
-    name_there: str
-    born_here: datetime.date
-    name_here: str
-    named_in: tuple[int, ...]
-    # the line of the other one, 0 where the book has it
-    line: int = 0
-
-    part = Part.ROW
-    severity = Severity.ANIMALS
-    # how else two animals would have one id
-    otherwise = "the tag was used again"
-
-    def thing(self) -> str:
-        return "the row"
-
-    def why(self) -> str:
-        there, here = (f"'{name}', " if name else "" for name in (self.name_there, self.name_here))
-        lines = ", ".join(map(str, self.named_in))
-        means = f"; as a parent in line {lines} it means the first" if self.named_in else ""
-        which = f"line {self.line}" if self.line else "the book"
-        return (
-            f"{which} has this id for another animal ({there}born {self.born_there}; here {here}born {self.born_here})"
-            f"{means}: if {self.otherwise}, give this one an id of its own, also where its offspring name it"
-        )
-
-    def suggestions(self) -> tuple[Suggestion, ...]:
-        return () if self.line else (Suggestion("if it is the same animal", (ANYWAY,)),)
+from gudokeyi.ingest.findings.cells import IdUsedAgain
 
 
 @dataclass(frozen=True, slots=True)

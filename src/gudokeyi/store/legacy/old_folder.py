@@ -1,4 +1,4 @@
-"""The folder of a book of version 0.11, whose files were the book: it is taken over, and the files stay in `old`."""
+"""The folder of a book of version 0.11, whose files were the book: what they say, and how they are kept."""
 from __future__ import annotations
 
 import collections
@@ -7,29 +7,25 @@ import csv
 import fcntl
 import os
 import pathlib
-from collections.abc import Iterator
-from dataclasses import dataclass, replace
+from collections.abc import Callable, Iterator
+from dataclasses import dataclass
 
-from gudokeyi.domain.animals import SocietyRecord
-from gudokeyi.domain.changes import ChangeDetails, Source
+from gudokeyi.domain.animals import NO_OWNER, SocietyRecord
 from gudokeyi.domain.commands import Command, RegisterRecord, read_commands, replay
-from gudokeyi.domain.kinds import ChangeKind, Field, Remembered, Standing
+from gudokeyi.domain.kinds import CELL_FIELDS, Field, Remembered, Standing
 from gudokeyi.domain.messages import Mistake
 from gudokeyi.domain.provenance import OwnerDay
-from gudokeyi.engine.program import Herdbook
-from gudokeyi.store.book import NO_OWNER, Book
+from gudokeyi.domain.refusals import Refusal
 from gudokeyi.store.database import path_of
-from gudokeyi.store.files import digest_of, place_of, put
-from gudokeyi.store.journal import Step
+from gudokeyi.store.files import put
 from gudokeyi.store.legacy.files import (
-    ALL_NAMES, COMMANDS, IDS, ID_TITLES, OLD, OLD_NAMES, OPTIONS, OWNERS, PARENTS, REPORT, STANDING_OF, is_old,
-    read_birth, read_exit, read_sex,
+    ALL_NAMES, COMMANDS, IDS, ID_TITLES, OLD, OLD_NAMES, OPTIONS, OWNERS, PARENTS, STANDING_OF, read_birth, read_exit,
+    read_sex,
 )  # fmt: skip
-from gudokeyi.store.state import CELL_FIELDS, Meaning, Values
-from gudokeyi.store.transactions import changing, creating
-from gudokeyi.store.verification import verify
-from gudokeyi.store.writing import Filed, Rows, State, animal_rows, end, write_unended
+from gudokeyi.store.state import Meaning, Values
 
+# files commands, and answers the refusals by their places
+FileAll = Callable[[list[Command]], dict[int, Refusal]]
 # of those that are written from a database
 EXPORTED = [*ID_TITLES, "change"]
 
@@ -42,20 +38,6 @@ class OldBook:
     known: dict[str, SocietyRecord]
     owners: dict[str, int]
     remembered: list[Meaning]
-
-
-def take_over(folder: pathlib.Path, program: Herdbook) -> None:
-    """Makes of a folder of version 0.11 one of this version, where it is one and there is no book yet. The files are
-    copied to `old` before, so that they are there whenever this ends."""
-    if not is_old(folder):
-        return
-    with alone(folder):
-        with changing(folder) as connection:
-            if connection is None and is_old(folder):
-                old = read(folder, program)
-                keep_files(folder)
-                write_old(Book(folder, None), program, old, (folder / COMMANDS).read_bytes())
-        clear(folder)
 
 
 @contextlib.contextmanager
@@ -105,21 +87,6 @@ def clear(folder: pathlib.Path) -> None:
                 (folder / name).unlink()
 
 
-def write_old(book: Book, program: Herdbook, old: OldBook, text: bytes) -> None:
-    """The book of the files, once it is seen that it is whole."""
-    made = ChangeDetails(ChangeKind.FOLDER, Source(COMMANDS, place_of(book.folder / OLD / COMMANDS), digest_of(text)))
-    in_book = {id: known for id, known in old.known.items() if known.standing is not Standing.DROPPED}
-    made = replace(made, counts=(("animals", len(in_book)), ("commands", len(old.commands))))
-    records = replay(old.commands)
-    cells = Rows({}, last_cells(in_book, records, {owner_code: owner for owner, owner_code in old.owners.items()}))
-    state = State(Rows({}, animal_rows(old.known, records)), cells, old.remembered, old.owners)
-    filed = Filed([Step(command) for command in old.commands])
-    with creating(book.folder) as connection:
-        number, moment = write_unended(book, connection, program, filed, lambda: state, made)
-        verify(Book(book.folder, connection), program, book.folder / IDS)
-        end(book, connection, number, moment)
-
-
 def last_cells(
     in_book: dict[str, SocietyRecord], records: dict[str, RegisterRecord], owners: dict[int, str]
 ) -> dict[Values, Values]:
@@ -143,7 +110,8 @@ def last_cells(
     return cells
 
 
-def read(folder: pathlib.Path, program: Herdbook) -> OldBook:
+def read(folder: pathlib.Path, file: FileAll) -> OldBook:
+    """What the files say, once the program, by which commands are filed, refuses none of them."""
     path = folder / COMMANDS
     if are_exports(folder):
         raise Mistake(
@@ -154,7 +122,7 @@ def read(folder: pathlib.Path, program: Herdbook) -> OldBook:
         raise Mistake(f"the folder {folder} has files of version 0.11, and no {COMMANDS}: restore it")
     listed = [known_of(folder, row) for row in read_table(folder, IDS, ID_TITLES)]
     commands = read_commands(path)
-    refused = program.file(commands)
+    refused = file(commands)
     if refused:
         place, refusal = next(iter(refused.items()))
         raise Mistake(

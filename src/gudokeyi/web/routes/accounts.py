@@ -7,8 +7,7 @@ from flask import Blueprint, flash, redirect, render_template, request, url_for
 
 from gudokeyi.domain.messages import Mistake
 from gudokeyi.domain.people import AccountRole
-from gudokeyi.store.accounts import Accounts
-from gudokeyi.store.messages import AccountFault
+from gudokeyi.services.accounts import AccountFault, Accounts
 from gudokeyi.web.language import page_language
 from gudokeyi.web.logins import the_account_logins
 from gudokeyi.web.served_book import Answer

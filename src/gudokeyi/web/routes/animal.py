@@ -8,14 +8,13 @@ from markupsafe import Markup
 from werkzeug.wrappers import Response
 
 from gudokeyi.domain.animals import SocietyRecord
+from gudokeyi.domain.settings import Setting
 from gudokeyi.render.certificates import Issue, certificates_page
 from gudokeyi.render.pedigree_pictures import Pedigree
-from gudokeyi.services.animals import relatives_of
+from gudokeyi.services.animals import kept_coefficients, known_of, relatives_of
+from gudokeyi.services.opening import Book
 from gudokeyi.services.selection import Choice, chosen
-from gudokeyi.store.animal_rows import known_of
-from gudokeyi.store.book import Book
-from gudokeyi.store.coefficients import kept_coefficients
-from gudokeyi.store.settings import Setting, settings_of
+from gudokeyi.services.settings import settings_of
 from gudokeyi.web.access import printed
 from gudokeyi.web.breed_work import kinship_of
 from gudokeyi.web.changing import refuse_to_print
@@ -33,7 +32,7 @@ DRAWN, MOST_GENERATIONS = 4, 10
 @with_book
 def animal(book: Book, number: str) -> Answer:
     known = animal_of(book, number)
-    row = book.rows("number = ?", known.number)[0]
+    row = book.row(known)
     coefficients, words = kept_coefficients(book), page_language()
     pedigree = Pedigree(book, known, coefficients, DRAWN, words.language)
     return render_template(

@@ -7,14 +7,13 @@ from flask import Blueprint, jsonify, render_template, request, url_for
 from werkzeug.wrappers import Response
 
 from gudokeyi.domain.messages import Mistake
-from gudokeyi.store.book import Book
-from gudokeyi.store.coefficients import coefficients_among
+from gudokeyi.services.animals import coefficients_among
+from gudokeyi.services.found_animals import Asked, Found, Order, file_of, first_rows, found_by
+from gudokeyi.services.opening import Book
 from gudokeyi.web.changing import refuse_to_print
 from gudokeyi.web.language import page_language
 from gudokeyi.web.served_book import Answer, served_book, with_book
-from gudokeyi.web.views.animals import (
-    Asked, Found, Order, asked_by, fields_of, file_of, first_rows, found_by, line_of, turned,
-)  # fmt: skip
+from gudokeyi.web.views.animals import asked_by, fields_of, line_of, turned
 from gudokeyi.web.views.messages import MessageView, on_page
 
 page = Blueprint("animals", __name__)

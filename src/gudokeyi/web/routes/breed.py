@@ -6,9 +6,9 @@ from markupsafe import Markup
 
 from gudokeyi.domain.changes import Mark
 from gudokeyi.domain.messages import Mistake
-from gudokeyi.ingest.words import as_known
-from gudokeyi.store.book import Book
-from gudokeyi.store.history import change_numbered
+from gudokeyi.services.history import change_numbered
+from gudokeyi.services.opening import Book
+from gudokeyi.services.selection import as_known
 from gudokeyi.web.breed_work import BREED, Measured, Whom, measures_of
 from gudokeyi.web.language import page_language
 from gudokeyi.web.served_book import Answer, served_book, with_book
@@ -45,7 +45,7 @@ def breed(book: Book) -> Answer:
 
 def has_had(book: Book, mark: Mark) -> bool:
     """Is it that of a state of this book? One of another history may have the number of one of its changes."""
-    change = change_numbered(book.connection, mark[0]) if book.connection else None
+    change = change_numbered(book, mark[0])
     return change is not None and change.mark == mark
 
 

@@ -10,9 +10,9 @@ from gudokeyi.domain.findings import What
 from gudokeyi.domain.kinds import ChangeKind
 from gudokeyi.domain.messages import Mistake
 from gudokeyi.services.book_session import BookMoved
+from gudokeyi.services.history import change_numbered, taken_back_by
+from gudokeyi.services.opening import Book
 from gudokeyi.services.search import find
-from gudokeyi.store.book import Book
-from gudokeyi.store.history import change_numbered, taken_back_by
 from gudokeyi.web.access import may
 from gudokeyi.web.filing import KINDS, Form, file_form, written_in
 from gudokeyi.web.forms import OF_ANIMAL, sent_form, with_those_of_now
@@ -83,15 +83,14 @@ def form_again(book: Book, kind: str, faults: list[MessageView]) -> Answer:
 @with_book
 def answer(book: Book, number: int) -> Answer:
     """The reply to a command, as it is stored; where it was refused the form is there again with what was written."""
-    assert book.connection is not None
-    change = change_numbered(book.connection, number)
+    change = change_numbered(book, number)
     if change is None or change.kind not in KINDS.values():
         abort(404)
-    line, kind = line_of(book.connection, change, page_language()), change.kind.value
+    line, kind = line_of(book, change, page_language()), change.kind.value
     if line.refused and may("filing.form"):
         given = to_correct(book, kind, written_in(change, line.id), book.known.get(line.id))
         return shown(book, kind, given, [], line)
     groups = told_of_change(book, number, page_language())
     looks = [one for group in groups if group.what is What.WARNING for one in group.lines]
-    by = taken_back_by(book.connection, number)
+    by = taken_back_by(book, number)
     return render_template("answer.html", kind=kind, change=line, known=book.known.get(line.id), looks=looks, by=by)

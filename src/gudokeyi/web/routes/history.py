@@ -8,11 +8,11 @@ from werkzeug.wrappers import Response
 
 from gudokeyi.domain.changes import Change
 from gudokeyi.services.cache import mark_of
-from gudokeyi.services.history import undo
-from gudokeyi.store.backup import copied
-from gudokeyi.store.book import Book
-from gudokeyi.store.exports import last_backup, remember, report_text
-from gudokeyi.store.history import change_numbered, last_changes, last_that_changed, taken_back_by
+from gudokeyi.services.folder_files import report_text
+from gudokeyi.services.history import change_numbered, last_changes, last_that_changed, taken_back_by
+from gudokeyi.services.opening import Book
+from gudokeyi.services.restoring import copy_of_book, last_backup, remember
+from gudokeyi.services.undoing import undo
 from gudokeyi.web.access import is_of_another_site, the_logins
 from gudokeyi.web.files import download
 from gudokeyi.web.forms import change_once, mark_text, sent_form, sent_mark
@@ -29,29 +29,29 @@ MOST_SHOWN, MOST_TOLD = 200, 20
 @page.get("/history", endpoint="page")
 @with_book
 def history(book: Book) -> Answer:
-    assert book.connection is not None and book.change is not None
-    connection, count = book.connection, book.change.number
+    assert book.change is not None
+    count = book.change.number
     part = part_read(
-        count, lambda first, most: lines_of(connection, last_changes(connection, most, first), page_language())
+        count, lambda first, most: lines_of(book, last_changes(book, most, first), page_language())
     )
-    last = last_that_changed(connection)
+    last = last_that_changed(book)
     return render_template("history.html", part=part, last=last, backed_up=last_backup(book))
 
 
 @page.get("/history/<change:number>")
 @with_book
 def change(book: Book, number: int) -> Answer:
-    assert book.connection is not None and book.change is not None
-    found = change_numbered(book.connection, number)
+    assert book.change is not None
+    found = change_numbered(book, number)
     if found is None:
         abort(404)
     words = page_language()
     count, shown = differences_of(book, number, words, MOST_SHOWN)
     return render_template(
-        "change.html", change=line_of(book.connection, found, words), source=found.source,
+        "change.html", change=line_of(book, found, words), source=found.source,
         given=given_of(found, words), length=found.length, edition=found.edition, count=count, differences=shown,
-        groups=told_of_change(book, number, words), last=last_that_changed(book.connection),
-        by=taken_back_by(book.connection, number),
+        groups=told_of_change(book, number, words), last=last_that_changed(book),
+        by=taken_back_by(book, number),
     )  # fmt: skip
 
 
@@ -59,8 +59,7 @@ def change(book: Book, number: int) -> Answer:
 @with_book
 def report(book: Book, number: int) -> Answer:
     """All that a change told, as the book's own report has it."""
-    assert book.connection is not None
-    found = change_numbered(book.connection, number)
+    found = change_numbered(book, number)
     if found is None:
         abort(404)
     response = Response(report_text(book, found), mimetype="text/csv")
@@ -72,13 +71,13 @@ def report(book: Book, number: int) -> Answer:
 @with_book
 def ask_undo(book: Book, number: int) -> Answer:
     """Asks whether the state after a change is brought back; 0 is the empty book."""
-    assert book.connection is not None and book.change is not None
+    assert book.change is not None
     last = book.change.number
-    if number >= last_that_changed(book.connection):
+    if number >= last_that_changed(book):
         abort(404)
-    newest = last_changes(book.connection, min(last - number, MOST_TOLD))
+    newest = last_changes(book, min(last - number, MOST_TOLD))
     return render_template(
-        "undo.html", number=number, taken_back=lines_of(book.connection, newest, page_language()),
+        "undo.html", number=number, taken_back=lines_of(book, newest, page_language()),
         more=last - number - len(newest), looked=mark_text(mark_of(book)),
     )  # fmt: skip
 
@@ -106,11 +105,10 @@ def bring_back(number: int) -> Answer:
 def backup(book: Book) -> Answer:
     """The whole book with its history, as the word `backup` writes it. It counts as one where no other site asked for
     it, and the browser got all of it."""
-    assert book.connection is not None
     if is_of_another_site(the_logins().origin()):
         abort(403, "other site")
     name, mimetype = f"book-{datetime.date.today()}.sqlite", "application/vnd.sqlite3"
     if request.method == "HEAD":
         return Response(mimetype=mimetype)
-    with copied(book.connection) as file:
+    with copy_of_book(book) as file:
         return download(file, lambda: remember(book), mimetype, name)

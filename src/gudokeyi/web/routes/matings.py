@@ -8,14 +8,13 @@ from typing import NamedTuple
 from flask import Blueprint, abort, render_template, request
 from werkzeug.wrappers import Response
 
-from gudokeyi.cli.arguments import coefficient, days, positive
 from gudokeyi.domain.messages import Mistake
-from gudokeyi.genetics.plans import Assume
 from gudokeyi.services.matings import Advice
-from gudokeyi.services.plans import Asked
+from gudokeyi.services.opening import Book
+from gudokeyi.services.option_values import coefficient, days, positive
+from gudokeyi.services.plans import Asked, Assume
 from gudokeyi.services.search import find
 from gudokeyi.services.tables import Cell
-from gudokeyi.store.book import Book
 from gudokeyi.web.language import page_language
 from gudokeyi.web.mating_work import Bounds, PlanMade, advice_for, plan_for, told_of, usual_of
 from gudokeyi.web.paging import part_of

@@ -6,7 +6,7 @@ from flask import Blueprint, abort, flash, redirect, render_template, request, u
 from werkzeug.wrappers import Response
 
 from gudokeyi.domain.changes import NO_MARK
-from gudokeyi.store.backup import mark_now
+from gudokeyi.services.restoring import mark_now
 from gudokeyi.web.access import the_name
 from gudokeyi.web.backup_work import Backup, looked_into, restored
 from gudokeyi.web.files import Upload

@@ -5,8 +5,9 @@ from flask import Blueprint, flash, redirect, render_template, request, url_for
 
 from gudokeyi.domain.kinds import Remembered
 from gudokeyi.domain.messages import Mistake
-from gudokeyi.store.book import Book
-from gudokeyi.store.settings import Setting, change_settings, checked, letters_for, lines_of, settings_of
+from gudokeyi.domain.settings import Setting
+from gudokeyi.services.opening import Book
+from gudokeyi.services.settings import change_settings, checked, letters_for, lines_of, settings_of
 from gudokeyi.web.language import page_language
 from gudokeyi.web.served_book import Answer, served_book, with_book
 from gudokeyi.web.views.messages import MessageView, on_page

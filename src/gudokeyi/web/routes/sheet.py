@@ -11,7 +11,7 @@ from werkzeug.wrappers import Response
 from gudokeyi.domain.changes import NO_MARK, Option
 from gudokeyi.domain.findings import DROP_GONE, Entry, What
 from gudokeyi.domain.kinds import Field
-from gudokeyi.store.book import Book
+from gudokeyi.services.opening import Book
 from gudokeyi.web.access import the_name
 from gudokeyi.web.changing import go_on
 from gudokeyi.web.files import EXAMPLE, Upload

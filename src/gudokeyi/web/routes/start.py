@@ -6,9 +6,9 @@ import functools
 from flask import Blueprint, redirect, render_template, request, session, url_for
 from werkzeug.wrappers import Response
 
-from gudokeyi.store.backup import has_old_files
-from gudokeyi.store.history import last_changes
-from gudokeyi.store.settings import LANGUAGES
+from gudokeyi.domain.settings import LANGUAGES
+from gudokeyi.services.history import last_changes
+from gudokeyi.services.restoring import has_old_files
 from gudokeyi.web.addresses import is_safe_redirect
 from gudokeyi.web.files import EXAMPLE
 from gudokeyi.web.language import CHOSEN, page_language
@@ -25,11 +25,11 @@ LAST_CHANGES = 5
 def start() -> Answer:
     desk = served_book()
     with desk.opened() as book:
-        if book is None or book.connection is None or book.change is None:
+        if book is None or book.change is None:
             taking, is_old = desk.jobs.under_way(TAKING), has_old_files(desk.folder)
             return render_template("begin.html", has_example=EXAMPLE.exists(), taking=taking, is_old=is_old)
         overview = desk.kept.of(book, ("glance",), functools.partial(desk.overviews.of, book))
-        last = lines_of(book.connection, last_changes(book.connection, LAST_CHANGES), page_language())
+        last = lines_of(book, last_changes(book, LAST_CHANGES), page_language())
         return render_template("start.html", overview=overview, changes=last)
 
 

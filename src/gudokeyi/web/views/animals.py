@@ -2,15 +2,15 @@
 from __future__ import annotations
 
 import datetime
-import enum
 from collections.abc import Mapping, Sequence
-from dataclasses import dataclass, replace
+from dataclasses import replace
 from typing import NamedTuple
 
-from gudokeyi.domain.animals import SocietyRecord
+from gudokeyi.domain.animals import NO_OWNER, SocietyRecord
 from gudokeyi.domain.kinds import Field, Role, Standing
 from gudokeyi.domain.messages import Mistake
 from gudokeyi.domain.provenance import BirthBasis, ExitBasis, ExitSource
+from gudokeyi.domain.requests import NotSuch
 from gudokeyi.ingest.days import FIRST_DAY, LAST_DAY
 from gudokeyi.locale.members import MEMBERS
 from gudokeyi.reconcile.owner_days import owner_day_known
@@ -18,14 +18,12 @@ from gudokeyi.render.drawing import FONT, escape
 from gudokeyi.render.languages import mark_of
 from gudokeyi.render.pedigree_pictures import Pedigree
 from gudokeyi.services.animals import Relatives
-from gudokeyi.services.lists import Column, animals_table
-from gudokeyi.services.search import conditions_of as conditions_of_words
-from gudokeyi.services.selection import Choice, conditions_of as conditions_of_choice
-from gudokeyi.services.tables import Table
-from gudokeyi.store.animal_rows import COLUMNS, SEX_SOURCES, AnimalRow, birth_basis, exit_basis, known_of
-from gudokeyi.store.book import IN_BOOK, NO_OWNER, Book
+from gudokeyi.services.found_animals import Asked
+from gudokeyi.services.opening import Book
+from gudokeyi.services.selection import Choice
+from gudokeyi.store.animal_rows import SEX_SOURCES, AnimalRow, birth_basis, exit_basis, known_of
 from gudokeyi.store.coefficients import Coefficient
-from gudokeyi.store.messages import NotSuch
+from gudokeyi.store.sorted_animals import Order
 from gudokeyi.web.language import PageLanguage
 from gudokeyi.web.paging import page_of
 
@@ -156,7 +154,7 @@ class Shower:
         return self.words(role.value), self.line(row) if row else None, known.written(role)
 
     def litter(self, number: str, rows: Sequence[AnimalRow]) -> Litter:
-        partner = self.book.rows("number = ?", number)[0] if number else None
+        partner = self.book.row_of(number) if number else None
         return Litter(self.line(partner) if partner else None, self.lines(rows))
 
 
@@ -197,53 +195,6 @@ def basis_said(basis: BirthBasis, words: PageLanguage) -> str:
 
 # The rows of the page of animals: found by words and filters, sorted, and a page of them at a time.
 
-ON_A_PAGE = 50
-# what a file of the animals has
-IN_FILE = (
-    Column.ID, Column.NAME, Column.NUMBER, Column.SEX, Column.BIRTH, Column.SIRE, Column.DAM, Column.OWNER, Column.EXIT,
-    Column.COEFFICIENT, Column.DECIMAL, Column.PERCENT,
-)  # fmt: skip
-
-
-class Order(enum.StrEnum):
-    """What the rows are sorted by; the page names it so."""
-
-    BIRTH = "birth"
-    ID = "id"
-    NAME = "name"
-    SEX = "sex"
-    COEFFICIENT = "coefficient"
-
-
-SORTED_BY = {
-    Order.BIRTH: "born {way}, number {way}",
-    Order.ID: "folded_id {way}, id {way}",
-    # those without a name come last
-    Order.NAME: "folded_name = '', folded_name {way}, folded_id {way}",
-    Order.SEX: "substr(number, 7, 1) {way}, folded_id",
-    Order.COEFFICIENT: "CAST(percent AS REAL) {way}, folded_id",
-}
-
-
-@dataclass(frozen=True)
-class Asked:
-    """What somebody looks for, and how it is shown. Pages count from 1."""
-
-    words: tuple[str, ...] = ()
-    choice: Choice = Choice()
-    order: Order = Order.BIRTH
-    is_downwards: bool = False
-    page: int = 1
-
-
-class Found(NamedTuple):
-    """The rows of a page, and how many there are on all."""
-
-    rows: list[AnimalRow]
-    total: int
-    page: int
-    pages: int
-
 
 def asked_by(given: Mapping[str, str]) -> Asked:
     """That of the fields of a form; a mistake where one can't be read."""
@@ -276,52 +227,6 @@ def year(text: str, otherwise: int) -> int:
     if not (text.isascii() and text.isdecimal() and len(text) < 9 and FIRST_DAY.year <= int(text) <= LAST_DAY.year):
         raise Mistake(NotSuch.YEAR.said(text=text, first=FIRST_DAY.year, last=LAST_DAY.year))
     return int(text)
-
-
-def found_by(book: Book, asked: Asked) -> Found:
-    """A page of the animals; the last one where there are fewer pages."""
-    assert book.connection is not None
-    where, values = where_of(book, asked)
-    rows = rows_of(book, asked, where, values, asked.page)
-    if asked.page == 1 and len(rows) < ON_A_PAGE:
-        # they needn't be counted
-        return Found(rows, len(rows), 1, 1)
-    total = book.connection.execute(f"SELECT count(*) FROM animal WHERE {where}", values).fetchone()[0]
-    pages = max(1, -(-total // ON_A_PAGE))
-    page = min(asked.page, pages)
-    return Found(rows if page == asked.page else rows_of(book, asked, where, values, page), total, page, pages)
-
-
-def rows_of(book: Book, asked: Asked, where: str, values: list[object], page: int) -> list[AnimalRow]:
-    """The rows of a page."""
-    assert book.connection is not None
-    joined = " JOIN coefficient USING (number)" * (asked.order is Order.COEFFICIENT)
-    by = SORTED_BY[asked.order].format(way="DESC" if asked.is_downwards else "ASC")
-    # in order they are first alone, since whole rows take long to be sorted
-    in_order = book.connection.execute(
-        f"SELECT animal FROM animal{joined} WHERE {where} ORDER BY {by} LIMIT ? OFFSET ?",
-        [*values, ON_A_PAGE, (page - 1) * ON_A_PAGE],
-    )
-    one = f"SELECT {COLUMNS} FROM animal WHERE animal = ?"
-    return [AnimalRow(*book.connection.execute(one, place).fetchone()) for place in in_order.fetchall()]
-
-
-def first_rows(book: Book, asked: Asked) -> list[AnimalRow]:
-    """The rows of the first page, without how many there are."""
-    return rows_of(book, asked, *where_of(book, asked), 1)
-
-
-def where_of(book: Book, asked: Asked) -> tuple[str, list[object]]:
-    chosen, values = conditions_of_choice(book, asked.choice)
-    found, more = conditions_of_words(book, asked.words)
-    return " AND ".join(["until IS NULL", IN_BOOK, *chosen, *found]), values + more
-
-
-def file_of(book: Book, asked: Asked) -> Table:
-    """All of the animals, in age order, as the word `list` writes them."""
-    chosen, values = conditions_of_choice(book, asked.choice)
-    found, more = conditions_of_words(book, asked.words)
-    return animals_table(book, [*chosen, *found], [*values, *more], IN_FILE)
 
 
 def turned(asked: Asked, order: Order) -> Asked:

@@ -3,13 +3,12 @@ from __future__ import annotations
 
 import collections
 import contextlib
-import json
-import sqlite3
 from collections.abc import Iterable, Iterator
 from dataclasses import dataclass
 from typing import NamedTuple
 
-from gudokeyi.domain.changes import Change, Option, StoredFinding
+from gudokeyi.domain.animals import NO_OWNER
+from gudokeyi.domain.changes import Change, Option
 from gudokeyi.domain.findings import What
 from gudokeyi.domain.kinds import ChangeKind
 from gudokeyi.domain.messages import Mistake
@@ -18,11 +17,13 @@ from gudokeyi.ingest.unknown_parents import unknown_words
 from gudokeyi.locale import TEXTS
 from gudokeyi.reconcile.findings.animals import CommandRefused
 from gudokeyi.reconcile.stored_findings import entry_of, kind_named
-from gudokeyi.services.history import (
-    facts, is_said_by_rows, names_of_parents, renamed_by, rows_by_change, rows_of_owner_codes, told_of_animal,
+from gudokeyi.render.history import facts, is_said_by_rows
+from gudokeyi.services.opening import Book
+from gudokeyi.store.animal_rows import AnimalRow
+from gudokeyi.store.changed_animals import (
+    id_of_command, ids_changed, names_of_parents, renamed_by, rows_around, rows_by_change, rows_of_owner_codes,
+    told_by_kind, told_of_animal,
 )  # fmt: skip
-from gudokeyi.store.animal_rows import COLUMNS, AnimalRow
-from gudokeyi.store.book import NO_OWNER, Book
 from gudokeyi.store.history import FILED_BY_HAND, change_numbered, told_by
 from gudokeyi.store.state import names_now
 from gudokeyi.web.language import PageLanguage
@@ -57,12 +58,12 @@ class ChangeLine:
     refused: str
 
 
-def lines_of(connection: sqlite3.Connection, changes: Iterable[Change], words: PageLanguage) -> list[ChangeLine]:
-    return [line_of(connection, change, words) for change in changes]
+def lines_of(book: Book, changes: Iterable[Change], words: PageLanguage) -> list[ChangeLine]:
+    return [line_of(book, change, words) for change in changes]
 
 
-def line_of(connection: sqlite3.Connection, change: Change, words: PageLanguage) -> ChangeLine:
-    id, found = filed_by(connection, change) if change.kind in FILED_BY_HAND else ("", None)
+def line_of(book: Book, change: Change, words: PageLanguage) -> ChangeLine:
+    id, found = filed_by(book, change) if change.kind in FILED_BY_HAND else ("", None)
     refused = words("was refused", why(found, words)) if found else ""
     counts = "" if change.kind in FILED_BY_HAND else counts_of(change, words)
     what = what_of(change, words)
@@ -86,26 +87,16 @@ def what_of(change: Change, words: PageLanguage) -> str:
     return words(f"change {change.kind.value}", named)
 
 
-def filed_by(connection: sqlite3.Connection, change: Change) -> Filed:
+def filed_by(book: Book, change: Change) -> Filed:
     """Of which animal a command was, and its reply, as the history has them."""
-    entries = [entry_of(one) for one in told_by(connection, change.number)]
+    entries = [entry_of(one) for one in told_by(book.connection, change.number)]
     refused = next((one.finding for one in entries if isinstance(one.finding, CommandRefused)), None)
-    return Filed(entries[0].id if entries else id_in_journal(connection, change), refused)
+    return Filed(entries[0].id if entries else id_of_command(book.connection, change), refused)
 
 
 def why(refused: CommandRefused, words: PageLanguage) -> str:
     since = f"; {words('owner since inferred', words.day(refused.owner_since))}" if refused.owner_since else ""
     return words(f"refusal {refused.refusal.value}") + since
-
-
-def id_in_journal(connection: sqlite3.Connection, change: Change) -> str:
-    """The animal of the last command of a change that told nothing, as one that left everything as it was."""
-    asked = """
-        SELECT id FROM command JOIN animal ON number = command.animal WHERE edition = ? AND place = ?
-        ORDER BY since DESC LIMIT 1
-    """
-    found = connection.execute(asked, (change.edition, change.length)).fetchone()
-    return str(found[0]) if found else ""
 
 
 # The options with which a change was made, in words: the history has them as a terminal would.
@@ -181,30 +172,19 @@ class Difference(NamedTuple):
 
 # the owners' names by their herds, before a change and after it
 Owners = tuple[dict[int, str], dict[int, str]]
-# the animals whose row began or ended with a change
-CHANGED = "FROM (SELECT id FROM animal WHERE since = :change UNION SELECT id FROM animal WHERE until = :change)"
 
 
 def differences_of(book: Book, number: int, words: PageLanguage, most: int) -> tuple[int, list[Difference]]:
     """How many animals a change changed, and the first of them."""
-    assert book.connection is not None
-    ask, asked = book.connection.execute, {"change": number, "most": most}
     former, then = renamed_by(book.connection, number)
     same = {row.id: row for row in rows_of_owner_codes(book.connection, [*then], number)}
-    count = ask(f"SELECT count(*) {CHANGED}", asked).fetchone()[0] + len(same)
-    ids = sorted({*same, *(id for (id,) in ask(f"SELECT id {CHANGED} ORDER BY id LIMIT :most", asked))})[:most]
-    before, after = (same | rows_of(book, ids, column, number) for column in ("until", "since"))
+    changed, first = ids_changed(book.connection, number, most)
+    ids = sorted({*same, *first})[:most]
+    before, after = (same | rows_around(book.connection, ids, column, number) for column in ("until", "since"))
     names = names_of_parents(book.connection, [*before.values(), *after.values()])
     owners = names_now(book.connection) | {NO_OWNER: ""}
     both = owners | former, owners | then
-    return count, [difference(id, before.get(id), after.get(id), names, both, words) for id in ids]
-
-
-def rows_of(book: Book, ids: list[str], column: str, number: int) -> dict[str, AnimalRow]:
-    """The rows of some animals that began or ended with a change."""
-    assert book.connection is not None
-    chosen = f"SELECT {COLUMNS} FROM animal WHERE id IN (SELECT value FROM json_each(?)) AND {column} = ?"
-    return {row.id: row for row in map(AnimalRow._make, book.connection.execute(chosen, (json.dumps(ids), number)))}
+    return changed + len(same), [difference(id, before.get(id), after.get(id), names, both, words) for id in ids]
 
 
 def difference(
@@ -222,16 +202,8 @@ def difference(
 
 def told_of_change(book: Book, number: int, words: PageLanguage) -> list[Group]:
     """What a change told, by kind: of each kind of finding the first."""
-    assert book.connection is not None
-    ask = book.connection.execute
-    counts: dict[str, int] = dict(ask("SELECT kind, count(*) FROM told WHERE change = ? GROUP BY kind", (number,)))
-    wanted = "SELECT kind, part, line, id, fields FROM told WHERE change = ? AND kind = ? ORDER BY place LIMIT ?"
-    rows = [row for kind in counts for row in ask(wanted, (number, kind, MOST_SHOWN))]
-    entries = [
-        entry_of(
-            StoredFinding(kind, part, line, id, tuple(json.loads(fields).items()))
-        ) for kind, part, line, id, fields in rows
-    ]
+    counts, told = told_by_kind(book.connection, number, MOST_SHOWN)
+    entries = [entry_of(one) for one in told]
     totals = collections.Counter[What]()
     for kind, count in counts.items():
         totals[kind_named(kind).what] += count
@@ -248,7 +220,6 @@ class OwnChange(NamedTuple):
 
 def own_changes(book: Book, id: str, words: PageLanguage) -> list[OwnChange]:
     """What the history has of one animal, the newest first."""
-    assert book.connection is not None
     began, ended = (rows_by_change(book.connection, id, column) for column in ("since", "until"))
     told = told_of_animal(book.connection, id)
     names = names_of_parents(book.connection, [*began.values(), *ended.values()])
@@ -262,5 +233,5 @@ def own_changes(book: Book, id: str, words: PageLanguage) -> list[OwnChange]:
         is_changed = number in began or number in ended
         rows = ended.get(number), began.get(number)
         changed = difference(id, *rows, names, (owners, owners), words) if is_changed else None
-        found.append(OwnChange(line_of(book.connection, change, words), changed, sentences))
+        found.append(OwnChange(line_of(book, change, words), changed, sentences))
     return found

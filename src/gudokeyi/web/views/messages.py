@@ -17,7 +17,7 @@ from gudokeyi.domain.messages import AnyOf, Count, MessageText, Mistake, Some
 from gudokeyi.domain.provenance import NO_DAY, ExitSource, OwnerDay, Period
 from gudokeyi.domain.refusals import Refusal
 from gudokeyi.ingest.days import DayFault
-from gudokeyi.ingest.findings.cells import ExitInferred, IdAgain, LineAgain
+from gudokeyi.ingest.findings.cells import ExitInferred, IdAgain, IdUsedAgain, LineAgain
 from gudokeyi.ingest.findings.sheets import CellsUnread
 from gudokeyi.ingest.messages import Where
 from gudokeyi.locale import SENTENCES, TEXTS, findings, parent_findings, sheet_findings
@@ -27,7 +27,7 @@ from gudokeyi.locale.singular import OF_ONE
 from gudokeyi.locale.value_parts import ADVICE, CELLS_DIFFER, MONTH, NO_SUCH_DAY, QUOTED
 from gudokeyi.reconcile.findings.animals import BirthDayInferred, KeptByHand, KeptFromBook, RowIsGone, ValueChanged
 from gudokeyi.reconcile.findings.parents import DayFact, ParentRefused
-from gudokeyi.reconcile.findings.rows import CommandLeftOut, IdOfAnother, IdUsedAgain, OwnerDayInferred
+from gudokeyi.reconcile.findings.rows import CommandLeftOut, IdOfAnother, OwnerDayInferred
 from gudokeyi.render.languages import mark_of
 from gudokeyi.web.language import PageLanguage, page_language, word_for
 from gudokeyi.web.served_book import served_book

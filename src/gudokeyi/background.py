@@ -8,8 +8,6 @@ from collections.abc import Callable, Iterable, Iterator, Sequence
 from typing import Generic, TypeVar
 
 Value = TypeVar("Value")
-# so long, in seconds, one thread keeps the others waiting that read, write or answer
-SECONDS_IN_TURN = 0.0005
 
 
 class Background(Generic[Value]):

@@ -3,83 +3,40 @@ from __future__ import annotations
 
 import sqlite3
 from collections.abc import Callable
-from dataclasses import dataclass, field
 
-from gudokeyi.domain.animals import SocietyRecord
 from gudokeyi.domain.changes import Change, ChangeDetails
-from gudokeyi.domain.commands import RegisterRecord
 from gudokeyi.domain.kinds import Remembered
-from gudokeyi.engine.program import Herdbook
-from gudokeyi.store.animal_rows import row_of
+from gudokeyi.process import stop_no_more
+from gudokeyi.services.book_program import BookProgram
 from gudokeyi.store.book import Book
 from gudokeyi.store.coefficients import add_coefficient, change_coefficients, few_descendants, write_coefficients
 from gudokeyi.store.history import last_change, next_number, now, write_change
-from gudokeyi.store.journal import Journal, Step, append, begin_edition
+from gudokeyi.store.journal import Filed, Journal, append, begin_edition
 from gudokeyi.store.state import (
-    ANIMALS, CELLS, REMEMBERED, Meaning, Values, free_name, read_remembered, remembered_rows, rows_now, write_rows,
+    ANIMALS, CELLS, REMEMBERED, Meaning, State, add_owner, free_name, owners_came, read_remembered, remembered_rows,
+    rows_now, write_rows,
 )  # fmt: skip
-from gudokeyi.store.transactions import commit, creating, stop_no_more
+from gudokeyi.store.transactions import commit, creating
 
 
-@dataclass(frozen=True)
-class Filed:
-    """The commands of a change. They go on from the journal, or from as many of its commands as a new edition keeps.
-    `text` is the command file after them, where it was made before."""
-
-    steps: list[Step]
-    keeps: int | None = None
-    text: bytes = b""
-
-
-@dataclass(frozen=True)
-class Rows:
-    """Rows of the state before and after a change. Those that aren't named stay."""
-
-    before: dict[Values, Values]
-    after: dict[Values, Values]
-
-
-@dataclass(frozen=True)
-class State:
-    """What a change makes of the state; what it doesn't give stays as it is."""
-
-    animals: Rows
-    cells: Rows | None = None
-    remembered: list[Meaning] | None = None
-    new_owners: dict[str, int] = field(default_factory=dict)
-    # no animal is born and no parent changed
-    keeps_coefficients: bool = False
-    # the number of the only animal that is born, or whose parents change, where nothing else does: the coefficients of
-    # animals that don't descend from it stay
-    born: str = ""
-    corrected: str = ""
-    # all coefficients after it as the program writes them, where somebody asked before
-    coefficients: list[str] | None = None
-
-
-def animal_rows(known: dict[str, SocietyRecord], records: dict[str, RegisterRecord]) -> dict[Values, Values]:
-    """The rows of animals, by their ids; one that was dropped has no record."""
-    return {(id,): row_of(one, records.get(one.number)) for id, one in known.items()}
-
-
-def write(book: Book, program: Herdbook, filed: Filed, find_state: Callable[[], State], made: ChangeDetails) -> Change:
+def write(book: Book, program: BookProgram, filed: Filed, find_state: Callable[[], State], made: ChangeDetails) -> Change:
     """Makes a change, after which the book can't be used any more. A book that isn't there yet is made. The state is
     asked for when the journal is written."""
-    if book.connection is not None:
+    if book.is_there:
         return write_within(book, book.connection, program, filed, find_state, made)
     with creating(book.folder) as connection:
         return write_within(book, connection, program, filed, find_state, made)
 
 
 def write_within(
-    book: Book, connection: sqlite3.Connection, program: Herdbook, filed: Filed, find_state: Callable[[], State],
+    book: Book, connection: sqlite3.Connection, program: BookProgram, filed: Filed, find_state: Callable[[], State],
     made: ChangeDetails,
 ) -> Change:  # fmt: skip
     return end(book, connection, *write_unended(book, connection, program, filed, find_state, made))
 
 
 def write_unended(
-    book: Book, connection: sqlite3.Connection, program: Herdbook, filed: Filed, find_state: Callable[[], State],
+    book: Book, connection: sqlite3.Connection, program: BookProgram, filed: Filed, find_state: Callable[[], State],
     made: ChangeDetails,
 ) -> tuple[int, int]:  # fmt: skip
     """Writes all of a change, whose end makes it one; answers its number and its moment."""
@@ -111,7 +68,7 @@ def write_owners(connection: sqlite3.Connection, state: State) -> list[Meaning] 
     how that is written."""
     remembered = state.remembered
     others = read_remembered(connection) if remembered is None else remembered
-    there = {name for (name,) in connection.execute("SELECT name FROM owner")}
+    there = {*owners_came(connection)}
     # those that somebody has for a while as they are read one after the other too
     there |= {name for one in others if one.what is Remembered.OWNER for name in (one.word, one.meaning)}
     for name, owner_code in state.new_owners.items():
@@ -119,11 +76,11 @@ def write_owners(connection: sqlite3.Connection, state: State) -> list[Meaning] 
         if stored != name:
             remembered = others = [*others, Meaning(Remembered.OWNER, stored, name)]
         there.add(stored)
-        connection.execute("INSERT INTO owner (name, herd) VALUES (?, ?)", (stored, owner_code))
+        add_owner(connection, stored, owner_code)
     return remembered
 
 
-def keeps_most(book: Book, connection: sqlite3.Connection, program: Herdbook, state: State) -> bool:
+def keeps_most(book: Book, connection: sqlite3.Connection, program: BookProgram, state: State) -> bool:
     """Keeps the coefficients that one animal changes, if the program can be asked for these alone."""
     if not state.born and not state.corrected:
         return False
@@ -143,7 +100,7 @@ def written_journal(connection: sqlite3.Connection, journal: Journal, filed: Fil
     return append(connection, journal, filed.steps)
 
 
-def compute_and_end(book: Book, connection: sqlite3.Connection, program: Herdbook, number: int, moment: int) -> Change:
+def compute_and_end(book: Book, connection: sqlite3.Connection, program: BookProgram, number: int, moment: int) -> Change:
     """Computes what is kept of the new state, and ends the change."""
     write_coefficients(connection, program.ask(["inbreeding"], Book(book.folder, connection)))
     return end(book, connection, number, moment)

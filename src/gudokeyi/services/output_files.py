@@ -10,6 +10,7 @@ from gudokeyi.store.book import Book
 from gudokeyi.store.database import ACCOUNTS, companions, path_of
 from gudokeyi.store.exports import IDS, ID_TITLES, LAST_BACKUP, NAMES, REPORT, REPORT_TITLES
 from gudokeyi.store.files import cant_be_written, digest_of, has_titles, place_of, put
+from gudokeyi.store.history import files_taken
 from gudokeyi.store.legacy.files import OLD, OLD_NAMES
 from gudokeyi.store.messages import BookFault
 
@@ -112,10 +113,7 @@ def is_one_of(path: pathlib.Path, files: list[pathlib.Path]) -> bool:
 
 def is_taken_sheet(book: Book, path: pathlib.Path) -> bool:
     """Was it taken: by its place, or by what stands in it?"""
-    if book.connection is None:
-        return False
-    taken = book.connection.execute("SELECT path, digest FROM change WHERE digest IS NOT NULL").fetchall()
-    paths, digests = {place for place, _ in taken}, {digest for _, digest in taken}
+    paths, digests = files_taken(book.connection)
     try:
         return place_of(path) in paths or digest_of(path.read_bytes()) in digests
     except OSError as error:
@@ -133,7 +131,7 @@ def check_place(book: Book, path: pathlib.Path) -> None:
     """A mistake where the book that a file is taken into would write over it, or over another one."""
     if is_one_of(path, names_of_book(book.folder)):
         raise Mistake(BookFault.SHEET_IN_PLACE.said(path=path, folder=book.folder))
-    if book.connection is None:
+    if not book.is_there:
         check_new(book.folder)
 
 

@@ -7,36 +7,42 @@ import pathlib
 from collections.abc import Iterator
 
 from gudokeyi.domain.changes import Change
-from gudokeyi.domain.messages import CALLED, Mistake
-from gudokeyi.engine.program import Herdbook
-from gudokeyi.store.book import Book
+from gudokeyi.services.book_program import BookProgram
+from gudokeyi.store.book import Book as Book
+from gudokeyi.store.database import DATABASE as DATABASE
 from gudokeyi.store.legacy.files import is_old
-from gudokeyi.store.messages import BookFault
-from gudokeyi.store.transactions import Overtaken, changing, reading, up_to_date
+from gudokeyi.store.messages import BookFault as BookFault
+from gudokeyi.store.transactions import (
+    Overtaken as Overtaken, changing, no_book as no_book, reading, up_to_date as up_to_date,
+)  # fmt: skip
 
-# how the names of sheets end
-SHEETS = (".csv", ".xlsx")
 # so long exports wait for somebody who writes them, after a change of one's own
 SECONDS_FOR_EXPORTS = 600
 
 
-def take_over(folder: pathlib.Path, program: Herdbook) -> None:
+def take_over(folder: pathlib.Path, program: BookProgram) -> None:
     """Makes of a folder of version 0.11 one of this version, where it is one and there is no book yet."""
     if is_old(folder):
-        from gudokeyi.store.legacy import old_folder
+        from gudokeyi.services import old_folders
 
-        old_folder.take_over(folder, program)
+        old_folders.take_over(folder, program)
+
+
+def has_book(folder: pathlib.Path) -> bool:
+    """Is there a file of a book, or a folder of version 0.11?"""
+    return (folder / DATABASE).is_file() or is_old(folder)
 
 
 @contextlib.contextmanager
-def opened(folder: pathlib.Path, program: Herdbook) -> Iterator[Book]:
+def opened(folder: pathlib.Path, program: BookProgram) -> Iterator[Book]:
     """The book as it is now, whoever changes it meanwhile; it has to be there."""
     take_over(folder, program)
     up_to_date(folder)
     with only_read(folder) as book:
         yield book
     # whoever asks waits for less before the answer
-    from gudokeyi.store.exports import are_fresh, refresh
+    from gudokeyi.services.folder_files import refresh
+    from gudokeyi.store.exports import are_fresh
 
     if book.change is not None and not are_fresh(folder, book.change):
         # somebody who changes the book writes them too, and in a folder without rights they stay as they are
@@ -52,22 +58,23 @@ def only_read(folder: pathlib.Path) -> Iterator[Book]:
         yield Book(folder, connection)
 
 
-def no_book(folder: pathlib.Path) -> Mistake:
-    """With the command that takes the only sheet that is here, if there is one."""
-    from gudokeyi.domain.findings import Call, Suggestion
-
-    there = "" if folder.is_absolute() else ", or go to the folder in which you took one"
-    sheets = [path for path in pathlib.Path().iterdir() if path.suffix.lower() in SHEETS and path.is_file()]
-    if len(sheets) != 1:
-        hint = f": `{CALLED} import --help` says how"
-        return Mistake(BookFault.NO_BOOK.said(folder=folder, there=there, hint=hint))
-    command = Call((str(sheets[0]),), folder).command(Suggestion(""))
-    told = BookFault.NO_BOOK.said(folder=folder, there=there, hint="")
-    return Mistake(told, BookFault.ONLY_SHEET.said(sheet=sheets[0], command=command))
+@contextlib.contextmanager
+def book_in(folder: pathlib.Path) -> Iterator[Book]:
+    """The same, and an empty one where there is none."""
+    with reading(folder) as connection:
+        yield Book(folder, connection)
 
 
 @contextlib.contextmanager
-def to_look_at(folder: pathlib.Path, program: Herdbook) -> Iterator[Book]:
+def alone_to_change(folder: pathlib.Path) -> Iterator[Book]:
+    """The book to be changed, an empty one where there is none. Others who change it are waited for; whether it is whole
+    isn't seen."""
+    with changing(folder) as connection:
+        yield Book(folder, connection)
+
+
+@contextlib.contextmanager
+def to_look_at(folder: pathlib.Path, program: BookProgram) -> Iterator[Book]:
     """The book for a preview of a change, an empty one where there is none. Nobody waits for it."""
     take_over(folder, program)
     with reading(folder) as connection:
@@ -75,10 +82,10 @@ def to_look_at(folder: pathlib.Path, program: Herdbook) -> Iterator[Book]:
 
 
 @contextlib.contextmanager
-def to_change(folder: pathlib.Path, program: Herdbook) -> Iterator[Book]:
+def to_change(folder: pathlib.Path, program: BookProgram) -> Iterator[Book]:
     """The book to be changed, an empty one where there is none. Others who change it are waited for, and then it is
     seen that it is whole."""
-    from gudokeyi.store.verification import verify
+    from gudokeyi.services.verification import verify
 
     take_over(folder, program)
     with changing(folder) as connection:
@@ -88,10 +95,10 @@ def to_change(folder: pathlib.Path, program: Herdbook) -> Iterator[Book]:
 
 
 @contextlib.contextmanager
-def to_prepare(folder: pathlib.Path, program: Herdbook) -> Iterator[Book]:
+def to_prepare(folder: pathlib.Path, program: BookProgram) -> Iterator[Book]:
     """The book as it is now, an empty one where there is none, for a change of it that is prepared while others change
     it. It is seen that it is whole."""
-    from gudokeyi.store.verification import verify
+    from gudokeyi.services.verification import verify
 
     take_over(folder, program)
     up_to_date(folder)
@@ -112,17 +119,17 @@ def still_to_change(folder: pathlib.Path, before: Change | None) -> Iterator[Boo
 
 
 @contextlib.contextmanager
-def there_to_change(folder: pathlib.Path, program: Herdbook) -> Iterator[Book]:
+def there_to_change(folder: pathlib.Path, program: BookProgram) -> Iterator[Book]:
     """The same, of a book that has to be there."""
     with to_change(folder, program) as book:
-        if book.connection is None:
+        if not book.is_there:
             raise no_book(folder)
         yield book
 
 
 def export(folder: pathlib.Path) -> list[str]:
     """Writes the exports after a change; answers why it couldn't, in a sentence."""
-    from gudokeyi.store.exports import refresh
+    from gudokeyi.services.folder_files import refresh
 
     told = refresh(folder, SECONDS_FOR_EXPORTS)
     return [f"the change is made, but {told}: a later call writes them"] if told else []

@@ -1,0 +1,58 @@
+"""Writes what the folder of a book has besides the database, for others to read: after each change, and where it isn't as
+it was written."""
+from __future__ import annotations
+
+import contextlib
+import pathlib
+import sqlite3
+
+from gudokeyi.domain.changes import Change
+from gudokeyi.store.book import Book
+from gudokeyi.store.database import DATABASE, connect, path_of
+from gudokeyi.store.exports import (
+    COMMANDS, IDS, LAST_BACKUP, NAMES, REPORT, REPORT_TITLES, SEMICOLONS, are_fresh, ids_text, turn,
+)  # fmt: skip
+from gudokeyi.store.files import put, table, take_away_left
+from gudokeyi.store.history import told_by
+from gudokeyi.store.legacy.files import keep_old_files
+from gudokeyi.store.transactions import begin_to_read
+
+
+def refresh(folder: pathlib.Path, seconds: float) -> str:
+    """Writes them anew where they aren't fresh, of the book as it is now, whoever changes it meanwhile. Others who write
+    them are waited for so long. Answers why it couldn't, in words."""
+    path = path_of(folder)
+    try:
+        # behind those that somebody else writes, so that they are never of an earlier change than what is there
+        with turn(folder, seconds), contextlib.closing(connect(path, "rw")) as connection:
+            begin_to_read(connection)
+            write_exports(Book(folder, connection))
+    except sqlite3.Error as error:
+        return f"{', '.join(NAMES)} in {folder} couldn't be written ({error})"
+    except OSError as error:
+        return f"{', '.join(NAMES)} in {folder} couldn't all be written ({error.strerror or error})"
+    return ""
+
+
+def write_exports(book: Book) -> None:
+    change = book.change
+    if change is None or are_fresh(book.folder, change):
+        return
+    keep_old_files(book.folder)
+    # nobody else writes exports now
+    take_away_left(book.folder, NAMES, (DATABASE, LAST_BACKUP))
+    with book.journal_read_beside():
+        put(book.folder / IDS, ids_text(book, change), change.moment)
+        put(book.folder / REPORT, report_text(book, change), change.moment)
+        put(book.folder / COMMANDS, book.command_file(), change.moment)
+
+
+def report_text(book: Book, change: Change) -> bytes:
+    """What the change told."""
+    # whoever asks the book would wait for it
+    from gudokeyi.reconcile.stored_findings import entry_of
+
+    semicolons = any(option.option == SEMICOLONS for option in change.options)
+    entries = map(entry_of, told_by(book.connection, change.number))
+    rows = [(entry.line or "", entry.id, entry.what, entry.why, change.number) for entry in entries]
+    return table(REPORT_TITLES, zip(*rows), semicolons)

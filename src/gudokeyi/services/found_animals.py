@@ -1,0 +1,74 @@
+"""Animals that somebody looks for by words and by what they are, sorted, and a page of them at a time."""
+from __future__ import annotations
+
+from dataclasses import dataclass
+from typing import NamedTuple
+
+from gudokeyi.services.lists import Column, animals_table
+from gudokeyi.services.search import condition_of_words
+from gudokeyi.services.selection import Choice, condition_of
+from gudokeyi.services.tables import Table
+from gudokeyi.store.animal_rows import AnimalRow
+from gudokeyi.store.book import Book
+from gudokeyi.store.conditions import Condition
+from gudokeyi.store.sorted_animals import Order as Order, count_of, some_in_order
+
+ON_A_PAGE = 50
+# what a file of the animals has
+IN_FILE = (
+    Column.ID, Column.NAME, Column.NUMBER, Column.SEX, Column.BIRTH, Column.SIRE, Column.DAM, Column.OWNER, Column.EXIT,
+    Column.COEFFICIENT, Column.DECIMAL, Column.PERCENT,
+)  # fmt: skip
+
+
+@dataclass(frozen=True)
+class Asked:
+    """What somebody looks for, and how it is shown. Pages count from 1."""
+
+    words: tuple[str, ...] = ()
+    choice: Choice = Choice()
+    order: Order = Order.BIRTH
+    is_downwards: bool = False
+    page: int = 1
+
+
+class Found(NamedTuple):
+    """The rows of a page, and how many there are on all."""
+
+    rows: list[AnimalRow]
+    total: int
+    page: int
+    pages: int
+
+
+def found_by(book: Book, asked: Asked) -> Found:
+    """A page of the animals; the last one where there are fewer pages."""
+    condition = condition_of_asked(book, asked)
+    rows = rows_of(book, asked, condition, asked.page)
+    if asked.page == 1 and len(rows) < ON_A_PAGE:
+        # they needn't be counted
+        return Found(rows, len(rows), 1, 1)
+    total = count_of(book, condition)
+    pages = max(1, -(-total // ON_A_PAGE))
+    page = min(asked.page, pages)
+    return Found(rows if page == asked.page else rows_of(book, asked, condition, page), total, page, pages)
+
+
+def rows_of(book: Book, asked: Asked, condition: Condition, page: int) -> list[AnimalRow]:
+    """The rows of a page."""
+    behind = (page - 1) * ON_A_PAGE
+    return some_in_order(book, condition, asked.order, asked.is_downwards, ON_A_PAGE, behind)
+
+
+def first_rows(book: Book, asked: Asked) -> list[AnimalRow]:
+    """The rows of the first page, without how many there are."""
+    return rows_of(book, asked, condition_of_asked(book, asked), 1)
+
+
+def condition_of_asked(book: Book, asked: Asked) -> Condition:
+    return condition_of(book, asked.choice) & condition_of_words(book, asked.words)
+
+
+def file_of(book: Book, asked: Asked) -> Table:
+    """All of the animals, in age order, as the word `list` writes them."""
+    return animals_table(book, condition_of_asked(book, asked), IN_FILE)

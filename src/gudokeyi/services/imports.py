@@ -1,0 +1,41 @@
+"""An import of a sheet or of a geneticist's pedigree: the file, the options, and what it makes of a book."""
+from __future__ import annotations
+
+import contextlib
+import pathlib
+
+from gudokeyi.domain.findings import Call
+from gudokeyi.ingest.files import (
+    MOST_BACKUP_BYTES as MOST_BACKUP_BYTES, MOST_BYTES as MOST_BYTES, GivenFile, read_file as read_file,
+)  # fmt: skip
+from gudokeyi.ingest.pedigree_files import given_file
+from gudokeyi.ingest.titles import read_sexes as read_sexes
+from gudokeyi.reconcile.import_options import ImportOptions as ImportOptions, rename_owners as rename_owners
+from gudokeyi.reconcile.outcome import BookAfter as BookAfter, Outcome
+from gudokeyi.services.book_program import BookProgram
+from gudokeyi.services.pedigree_imports import call_for, import_pedigree
+from gudokeyi.services.sheet_imports import Bounds as Bounds, import_sheet
+from gudokeyi.store.transactions import anew_where_a_book_came
+
+
+class Import:
+    """An import of one file, which is read once."""
+
+    def __init__(self, path: pathlib.Path, options: ImportOptions, is_pedigree: bool = False) -> None:
+        self.options, self.is_pedigree = options, is_pedigree
+        self.file: GivenFile = given_file(path, is_pedigree=is_pedigree)
+
+    @property
+    def is_workbook(self) -> bool:
+        """Is the file an .xlsx file, to read which another package is needed?"""
+        return not self.is_pedigree and self.file.is_workbook()
+
+    def call(self) -> Call:
+        """How it is called in a terminal."""
+        return call_for(self.file, self.options) if self.is_pedigree else self.options.call(str(self.file.path))
+
+    def made(self, program: BookProgram, bounds: Bounds = contextlib.nullcontext) -> tuple[Outcome, list[str]]:
+        """What it makes of the book, or for a preview would make; and what is to be told besides. The file is read within
+        bounds. An `ImportRefused` says why nothing is taken."""
+        importing = import_pedigree if self.is_pedigree else import_sheet
+        return anew_where_a_book_came(lambda: importing(self.file, self.options, program, bounds))
