@@ -4,6 +4,7 @@ from __future__ import annotations
 import dataclasses
 import datetime
 import pathlib
+from collections.abc import Callable
 from fractions import Fraction
 
 import pytest
@@ -216,6 +217,19 @@ def test_unusable(book: Book, tmp_path: pathlib.Path) -> None:
         patched.setenv("HERDBOOK", str(tmp_path / "nothing"))
         without = Book.open(book.folder)
         assert without.list() == book.list()
-        for asked in (lambda: without.mating("a9"), lambda: without.certificate("a12"), without.verify, without.undo):
+        asked: list[Callable[[], object]] = [without.verify, without.undo, lambda: without.mating("a9")]
+        for one in asked:
             with pytest.raises(gudokeyi.ProgramFailed, match="isn't there"):
-                asked()
+                one()
+
+
+def test_long_cells(book: Book, tmp_path: pathlib.Path) -> None:
+    """A cell that is longer than Python's module reads is told as one that is too long, also where no process is set."""
+    from gudokeyi.domain.messages import Mistake
+    from gudokeyi.ingest.pedigree_files import first_cell, given_file, read_lines
+
+    path, long = tmp_path / "long.txt", "b" * 140_000
+    path.write_text(f"id,sire,dam\n{long},,\n", encoding="utf-8")
+    with pytest.raises(Mistake, match="line 2: a cell has more than 10,000 letters"):
+        read_lines(given_file(path, is_pedigree=True))
+    assert first_cell(f"{long},x") == long

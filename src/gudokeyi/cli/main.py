@@ -11,13 +11,14 @@ from gudokeyi.cli.output import Harmless
 from gudokeyi.cli.parser import joined
 from gudokeyi.cli.words import words_for
 from gudokeyi.domain.messages import Mistake
-from gudokeyi.process import end, is_for_one_change, with_short_turns
+from gudokeyi.process import end, is_for_one_change, with_cells_of_any_length, with_short_turns
 
 
 def main(words: list[str]) -> int:
     # most of what a call makes is needed to its end, so looking for what isn't comes rarely
     gc.set_threshold(500_000)
     with_short_turns()
+    with_cells_of_any_length()
     is_for_one_change()
     for stream in sys.stdout, sys.stderr:
         if isinstance(stream, io.TextIOWrapper):

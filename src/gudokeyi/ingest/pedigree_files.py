@@ -15,8 +15,9 @@ from gudokeyi.domain.kinds import Field
 from gudokeyi.domain.messages import Mistake
 from gudokeyi.domain.spelling import closest
 from gudokeyi.ingest.encodings import decoded
-from gudokeyi.ingest.files import GivenFile, bounded, read_bytes, read_file
+from gudokeyi.ingest.files import MOST_LETTERS, GivenFile, bounded, read_bytes, read_file
 from gudokeyi.ingest.findings.columns import LikelyColumn, NamedColumnLacks, PedigreeTitlesLack
+from gudokeyi.ingest.messages import SheetFault
 from gudokeyi.ingest.titles import KNOWN_TITLES
 from gudokeyi.ingest.words import composed, listed, plain
 
@@ -56,7 +57,12 @@ def cells_of(number: int, part: str, separator: str | None) -> list[str]:
     """The cells of a line; without a separator blanks stand between them."""
     if separator:
         # a quotation mark may stand behind a blank
-        cells = [cell.strip() for cell in next(csv.reader([part], delimiter=separator, skipinitialspace=separator != "\t"))]
+        try:
+            row = next(csv.reader([part], delimiter=separator, skipinitialspace=separator != "\t"))
+        except csv.Error:
+            # longer than Python's module reads, and so than a cell may be
+            raise Mistake(SheetFault.LONG_CELL.said(line=number, most=MOST_LETTERS)) from None
+        cells = [cell.strip() for cell in row]
         cells = [cell[2:-1] if KEPT.fullmatch(cell) else cell for cell in cells] if '="' in part else cells
         return [*map(from_spreadsheets, cells)] if may_have_texts(part) else cells
     check_blanks(number, part)
@@ -197,6 +203,10 @@ def read_ids(path: pathlib.Path, is_known: Callable[[str], bool]) -> list[str]:
 def first_cell(line: str) -> str:
     separator = next((one for one in ";,\t" if one in line), None)
     if separator:
-        return next(csv.reader([line], delimiter=separator))[0].strip()
+        try:
+            return next(csv.reader([line], delimiter=separator))[0].strip()
+        except csv.Error:
+            # longer than Python's module reads: no animal has such an id
+            return line.partition(separator)[0].strip()
     found = re.match(r'"([^"]*)"|(\S+)', line)
     return (found[1] or found[2]) if found else line

@@ -13,7 +13,7 @@ from gudokeyi.cli.output import tell
 from gudokeyi.cli.parser import CommandWords
 from gudokeyi.domain.messages import Mistake
 from gudokeyi.packages import Group, need
-from gudokeyi.process import is_the_only_one, with_cells_of_any_length
+from gudokeyi.process import is_the_only_one
 from gudokeyi.services.book_program import BookProgram
 
 if TYPE_CHECKING:
@@ -113,7 +113,6 @@ def add_words(words: CommandWords) -> None:
 
 
 def do_import(asked: argparse.Namespace) -> None:
-    with_cells_of_any_length()
     from gudokeyi.services.imports import Import, ImportOptions
 
     if (asked.sheet is None) == (asked.pedigree is None):
