@@ -14,8 +14,8 @@ from front_desk.desk import Desk
 from gudokeyi.engine.session import Answer
 from gudokeyi.locale import TEXTS
 from gudokeyi.services.book_session import BookMoved, BookSession
+from gudokeyi.services.history import last_that_changed
 from gudokeyi.store.book import Book
-from gudokeyi.store.history import last_that_changed
 
 
 def test_by_the_session(site: Site, monkeypatch: pytest.MonkeyPatch) -> None:
@@ -141,14 +141,14 @@ def test_book_moved_behind_the_question(site: Site, monkeypatch: pytest.MonkeyPa
         site.desk.program.ask(["certificate", "HOLGBRM000000000402"], book)
 
 
-def raising_once(error: Exception) -> Callable[[sqlite3.Connection], int]:
+def raising_once(error: Exception) -> Callable[[Book], int]:
     """`last_that_changed`, but for the first call."""
     errors = [error]
 
-    def last(connection: sqlite3.Connection) -> int:
+    def last(book: Book) -> int:
         if errors:
             raise errors.pop()
-        return last_that_changed(connection)
+        return last_that_changed(book)
 
     return last
 
