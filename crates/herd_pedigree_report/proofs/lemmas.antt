@@ -1,0 +1,4 @@
+pub mod ListFacts
+pub mod PairFacts
+pub mod NamedFacts
+pub mod ReportFacts

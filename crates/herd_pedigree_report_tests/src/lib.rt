@@ -1,0 +1,5 @@
+//! Tests of the reports of pedigrees.
+#![tactic(auto)]
+
+#[cfg(test)]
+mod tests;

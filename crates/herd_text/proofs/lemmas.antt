@@ -1,0 +1,3 @@
+pub mod TextFacts
+pub mod Pieces
+pub mod Exits
