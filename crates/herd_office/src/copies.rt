@@ -1,5 +1,5 @@
 //! The writer of the readers' copies, as the office uses it.
-ghost use Rattle.std.specs.Prelude.{◌≡◌, ◌<◌, [], ◌∷◌, length, Some, IfErr, IfOk};
+ghost use Rattle.std.specs.Prelude.{◌≡◌, ◌<◌, ◌≤◌, ◌⊎◌, ◌↔◌, [], ◌∷◌, length, Some, IfErr, IfOk, IsTrue};
 ghost use Rattle.left_right.specs.Sides.{view};
 ghost use Rattle.herd_office.specs.Copies.{IsTold, absorbed, office_of};
 ghost use Rattle.herd_office.specs.Shelves.{AreOf, after, pending, published};
@@ -83,7 +83,11 @@ impl<R: Wait + Drop> Held<R> {
     }
 
     // Whether both copies have room for a record more, or the limits allow none.
-    fn has_room(&self) -> bool {
+    fn has_room(&self) -> bool
+        ensures { IsTrue result ↔ ((published self.now.writer).copybook.limits.animals
+            ≤ length (published self.now.writer).copybook.book)
+            ⊎ (length (published self.now.writer).copybook.book < self.now.room) }
+    {
         let copybook = &self.writer.published().copybook;
         copybook.is_full() || copybook.records().len() < self.room
     }

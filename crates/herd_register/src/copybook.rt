@@ -1,10 +1,11 @@
-ghost use Rattle.std.specs.Prelude.{◌≡◌, ◌<◌, ◌≤◌, ◌↔◌, [], if◌then◌else◌, is_ok, length, IsOk, IsTrue, List, vec_capacity, vec_len};
+ghost use Rattle.std.specs.Prelude.{◌≡◌, ◌+◌, ◌<◌, ◌≤◌, ◌↔◌, [], if◌then◌else◌, is_ok, length, max, min, IsOk, IsTrue, List, OnOk, vec_capacity, vec_len};
 ghost use Rattle.herd_frozen.specs.rules.Lawful.{IsLawful};
 ghost use Rattle.herd_frozen.specs.declared.TheConstants.{DEPTH_LIMIT, MOST_ANIMALS};
 ghost use Rattle.herd_register.specs.Change.{changed_by};
 ghost use Rattle.herd_register.specs.Copybook.{copybook_of, taken_over};
 ghost use Rattle.herd_register.specs.Run.{run_book};
 ghost use Rattle.herd_register.specs.declared.command.Command.{Command};
+ghost use Rattle.herd_register.specs.declared.copybook.TheConstants.{FIRST_ROOM};
 
 use crate::change::Change;
 use crate::limits::Limits;
@@ -51,9 +52,8 @@ impl<A: Allocator> Copybook<A> {
     pub fn make_room(&mut self) -> Result<(), AllocError>
         ensures { self.new ≡ self.old }
     {
-        let count = self.records.len();
-        let rest = (self.limits.animals as usize).saturating_sub(count);
-        self.records.reserve_exact(count.max(FIRST_ROOM).min(rest))
+        let most = self.limits.animals as usize;
+        make_room_in(&mut self.records, most)
     }
 
     /// For how many records it has room in all.
@@ -104,6 +104,20 @@ impl<A: Allocator> Copybook<A> {
     {
         self.records.as_slice()
     }
+}
+
+// Makes room for as many records again as there are, at first for `FIRST_ROOM`, where there may be so many.
+fn make_room_in<A: Allocator>(
+    records: &mut Vec<(AnimalNumber, Animal), A>,
+    most: usize,
+) -> Result<(), AllocError>
+    ensures items { records.new.items ≡ records.old.items }
+    ensures room { OnOk result (min (length records.old.items + max (length records.old.items) FIRST_ROOM) most
+        ≤ vec_capacity records.new) }
+{
+    let count = records.len();
+    let rest = most.saturating_sub(count);
+    records.reserve_exact(count.max(FIRST_ROOM).min(rest))
 }
 
 // Makes a change of records, of which there may be so many.

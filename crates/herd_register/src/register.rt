@@ -109,9 +109,10 @@ impl<A: Allocator> Register<A> {
 
     /// What the last step made of the records, which were those of the steps before it.
     pub fn last_change(&self) -> Change
-        ensures { (earlier : List Step) (last : Step) → self.now.journal ≡ earlier ++ last ∷ []
+        ensures made { (earlier : List Step) (last : Step) → self.now.journal ≡ earlier ++ last ∷ []
             → changed_by self.now.limits.animals (run_book self.now.limits (commands_of earlier)) result
             ≡ register_book self.now }
+        ensures none { self.now.journal ≡ [] → result ≡ Change.Nothing }
     {
         let [.., last] = self.journal.as_slice() else {
             return Change::Nothing;

@@ -1,4 +1,4 @@
--- `Register::last_change`: its clause.
+-- `Register::last_change`: its clause `made`.
 use Rattle.std.proofs.Common.{◌≡◌, ◌++◌, ◌∷◌, ◌-◌, [], List, ap, get_or, length, sym, subst, ◌∙◌}
 use Rattle.herd_register.specs.declared.reply.Reply.TheVariants.{Accepted, Refused}
 use Rattle.herd_register.specs.declared.step.Step.{Step}
@@ -8,8 +8,8 @@ use Rattle.herd_register.specs.Run.{commands_of, fault, IsLegal, run_book, set}
 use Rattle.herd_register.proofs.ChangeFacts.{last_accepted, last_of, last_refused}
 use Rattle.herd_register.proofs.register.Register.last_change.Goals as goal
 
-pub returns-in-Accepted : goal.returns-in-Accepted
-returns-in-Accepted g c earlier last is =
+pub returns-in-Accepted-clause-made : goal.returns-in-Accepted-clause-made
+returns-in-Accepted-clause-made g c earlier last is =
     let i = c.self.inside in
     let found = c.last-item.result in
     let read : found ≡ get_or i.journal.items (length i.journal.items - 1) found = subst (λ (s : List Step). found ≡ get_or s (length s - 1) found) c.as_slice.ensures.value c.last-item.is in
@@ -26,8 +26,8 @@ returns-in-Accepted g c earlier last is =
     ∙ c.self.invariant.book)
     is
 
-pub returns-in-Refused : goal.returns-in-Refused
-returns-in-Refused g c earlier last is =
+pub returns-in-Refused-clause-made : goal.returns-in-Refused-clause-made
+returns-in-Refused-clause-made g c earlier last is =
     let i = c.self.inside in
     let found = c.last-item.result in
     let read : found ≡ get_or i.journal.items (length i.journal.items - 1) found = subst (λ (s : List Step). found ≡ get_or s (length s - 1) found) c.as_slice.ensures.value c.last-item.is in
