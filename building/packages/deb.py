@@ -54,7 +54,7 @@ def deb_files(release: Release, shared: Files) -> Files:
         "usr/lib/systemd/system/herdbook.service": from_file(TOP / "examples/serving/herdbook.service"),
         **below(DOC, pages),
         f"{DOC}/README.md": from_file(TOP / "README.md"),
-        f"{DOC}/PROVED": text(release.proved()),
+        f"{DOC}/PROVED": text(f"{release.proved()}in this package: the same without the names of its functions\n"),
         f"{DOC}/copyright": from_file(PARTS / "copyright"),
         f"{DOC}/changelog.gz": File(gzip.compress(changelog().encode(), 9, mtime=0)),
         f"{DOC}/examples/society.csv": Link("../../../gudokeyi/examples/society.csv"),

@@ -2,6 +2,7 @@
 from __future__ import annotations
 
 import datetime
+import hashlib
 import pathlib
 import re
 import subprocess
@@ -39,6 +40,7 @@ class Release:
             f"kit: {self.kit.partition(' ')[0]}\n"
             f"rt version: {self.kit}\n"
             f"proved functions: {self.functions}\n"
+            f"sha256 as built: {hashlib.sha256(self.program.read_bytes()).hexdigest()}\n"
             f"runs on: Linux, x86-64-v2, glibc 2.{self.glibc} or later\n"
         )
 

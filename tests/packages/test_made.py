@@ -3,6 +3,7 @@ from __future__ import annotations
 
 import dataclasses
 import datetime
+import hashlib
 import io
 import os
 import pathlib
@@ -174,6 +175,7 @@ def test_archive(release: Release, tmp_path: pathlib.Path) -> None:
     assert {path.name for path in folder.iterdir()} == {"herdbook", wheel.name, "PROVED", "README", "LICENCE", "SHA256SUMS"}
     told = (folder / "PROVED").read_text()
     assert "commit: c0ffee\nkit: a\nrt version: a kit logic 1\nproved functions: 600\n" in told
+    assert f"sha256 as built: {hashlib.sha256((folder / 'herdbook').read_bytes()).hexdigest()}\n" in told
 
 
 @pytest.mark.parametrize("program", PROGRAMS, ids=["gudokeyi", "herdbook"])
