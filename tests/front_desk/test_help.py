@@ -1,8 +1,11 @@
 """Help of the front desk."""
 from __future__ import annotations
 
+import subprocess
+
 import pytest
 
+import gudokeyi
 from front_desk.desk import CALLED, Desk
 from gudokeyi.cli.words import FAMILIES, words_for
 
@@ -22,3 +25,12 @@ def test_help(desk: Desk, word: str) -> None:
     assert word in desk.good("--help").out
     assert "--book FOLDER" in shown
     assert f"usage: {CALLED} {word}" in shown
+
+
+def test_version(desk: Desk) -> None:
+    """It is the program's."""
+    done = desk.good("--version")
+    assert done.out == f"gudokeyi {gudokeyi.__version__}\n" and not done.err
+    assert f"herdbook {gudokeyi.__version__}" == subprocess.run(
+        [desk.program, "--version"], capture_output=True, text=True, check=True
+    ).stdout.strip()

@@ -96,7 +96,8 @@ class Version(argparse.Action):
     """Writes the version, which isn't known before it is asked for."""
 
     def __call__(self, parser: argparse.ArgumentParser, *_: object) -> NoReturn:
-        parser.exit(message=f"gudokeyi {gudokeyi.__version__}\n")
+        print(f"gudokeyi {gudokeyi.__version__}")
+        parser.exit()
 
 
 class CommandWords:
