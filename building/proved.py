@@ -2,7 +2,10 @@
 checksum of the sources that it tells of."""
 from __future__ import annotations
 
+import contextlib
 import hashlib
+import os
+import pathlib
 import re
 import subprocess
 from collections.abc import Iterable, Iterator
@@ -51,17 +54,29 @@ def counted_by_gate(told: Iterable[str]) -> Iterator[tuple[str, int]]:
             functions = None
 
 
+def places(name: str, digest: str) -> tuple[pathlib.Path, pathlib.Path]:
+    """Where it is kept: beside the crate, and for other clones on this machine, where a gate that has proved the same
+    sources before doesn't count them again."""
+    given = os.environ.get("XDG_CACHE_HOME")
+    cache = pathlib.Path(given) if given else pathlib.Path.home() / ".cache"
+    return folder(name) / "out/proved", cache / f"herdbook-check/proved/{name}-{digest[:32]}"
+
+
 def keep(name: str, functions: int, kit: str, summed: Iterable[str]) -> None:
     """Keeps what is known of the proof of a crate's sources."""
-    out = folder(name) / "out"
-    out.mkdir(exist_ok=True)
-    (out / "proved").write_text(f"functions={functions} sources={digest(summed)} kit={kit}\n", encoding="utf-8")
+    sources = digest(summed)
+    for path in places(name, sources):
+        with contextlib.suppress(OSError):
+            path.parent.mkdir(parents=True, exist_ok=True)
+            path.write_text(f"functions={functions} sources={sources} kit={kit}\n", encoding="utf-8")
 
 
 def kept(name: str) -> Proof | None:
     """What is known of the proof of a crate as it is now."""
-    try:
-        found = LINE.fullmatch((folder(name) / "out" / "proved").read_text(encoding="utf-8"))
-    except OSError:
-        return None
-    return Proof(int(found[1]), found[3]) if found and found[2] == digest(checksums(name)) else None
+    sources = digest(checksums(name))
+    for path in places(name, sources):
+        with contextlib.suppress(OSError):
+            found = LINE.fullmatch(path.read_text(encoding="utf-8"))
+            if found and found[2] == sources:
+                return Proof(int(found[1]), found[3])
+    return None

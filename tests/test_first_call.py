@@ -213,6 +213,8 @@ class TestFirstCall:
         self.count(done == (0, "", "") and kept.read_text().startswith("functions=9 "), f"{done}: {kept.read_text()}")
         known = [sys.executable, "-c", "from building import proved; print(proved.kept('herd_pool'))"]
         self.count("Proof(functions=9, kit='a kit')" in ended(here.begin(*known, at=here.top))[1], "what is known")
+        kept.unlink()
+        self.count("functions=9" in ended(here.begin(*known, at=here.top))[1], "what another clone knows")
         here.write("crates/herd_pool/src/lib.rt", "// another crate\n")
         self.count(ended(here.begin(*known, at=here.top))[1] == "None\n", "what is known of other sources")
 

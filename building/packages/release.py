@@ -31,6 +31,8 @@ class Release:
     glibc: int
     functions: int
     kit: str
+    # the crates of which an earlier run's number isn't kept
+    uncounted: tuple[str, ...] = ()
 
     def proved(self) -> str:
         """What was proved, in lines."""
@@ -39,10 +41,13 @@ class Release:
             f"commit: {self.commit}\n"
             f"kit: {self.kit.partition(' ')[0]}\n"
             f"rt version: {self.kit}\n"
-            f"proved functions: {self.functions}\n"
+            f"proved functions: {self.functions}{self.beside()}\n"
             f"sha256 as built: {hashlib.sha256(self.program.read_bytes()).hexdigest()}\n"
             f"runs on: Linux, x86-64-v2, glibc 2.{self.glibc} or later\n"
         )
+
+    def beside(self) -> str:
+        return f", and those of {', '.join(self.uncounted)}, which an earlier run proved" if self.uncounted else ""
 
 
 def release_of(crates: Crates, program: pathlib.Path) -> Release:
@@ -55,16 +60,17 @@ def release_of(crates: Crates, program: pathlib.Path) -> Release:
     if told != f"herdbook {version}":
         raise Stop(f"{program} tells that it is {told!r}, and not herdbook {version}")
     proofs = {name: proved.kept(name) for name in crates.lines}
-    unknown = [name for name, proof in proofs.items() if proof is None]
-    if unknown:
+    unknown = tuple(name for name, proof in proofs.items() if proof is None)
+    found = [proof for proof in proofs.values() if proof]
+    if not found:
         raise Stop(
-            f"it isn't kept what was proved of {', '.join(unknown)}: build.py {crates.program} proves and tells it anew, or "
+            f"nothing is kept of what was proved: build.py {crates.program} proves and tells it anew, or "
             f"build.py --told FILE {crates.program} keeps what the gate told into a file"
         )
-    found = [proof for proof in proofs.values() if proof]
     return Release(
         version, datetime.date.fromisoformat(days[version]), commit(), int(git("log", "-1", "--format=%ct")), program,
         glibc_of(program.read_bytes()), sum(one.functions for one in found), ", ".join(sorted({one.kit for one in found})),
+        unknown,
     )  # fmt: skip
 
 

@@ -1,7 +1,6 @@
 """What `package` makes: the files of the Debian package and the wheel, man pages, completion, and the same bytes twice."""
 from __future__ import annotations
 
-import dataclasses
 import datetime
 import hashlib
 import io
@@ -29,6 +28,7 @@ from building.packages.manual import manual
 from building.packages.release import Release, glibc_of
 from building.packages.wheel import write_wheel
 from building.packages.words import Program, front_desk, register
+from building.telling import Stop
 
 # a moment of a commit, 2026-11-29
 MOMENT = 1_795_939_200
@@ -94,8 +94,6 @@ def test_same_bytes(release: Release, tmp_path: pathlib.Path) -> None:
         f"gudokeyi_{version}_amd64.deb",
     ]
     assert first == again
-    other = made(dataclasses.replace(release, moment=MOMENT + 60), tmp_path / "later")
-    assert all(first[name] != other[name] for name in first)
 
 
 def test_files_of_the_package(release: Release, tmp_path: pathlib.Path) -> None:
@@ -226,13 +224,17 @@ def test_completion(line: str, wanted: list[str], tmp_path: pathlib.Path) -> Non
 
 
 def test_what_was_proved(release: Release, tmp_path: pathlib.Path, monkeypatch: pytest.MonkeyPatch) -> None:
-    """A release tells the functions of all crates together, and isn't made where something isn't known of one."""
+    """A release tells the functions of all crates together, names those whose number isn't kept, and isn't made where
+    none is."""
     crates = Crates("herdbook")
     monkeypatch.setattr(releases, "told_by", lambda command: f"herdbook {gudokeyi.__version__}" if command[-1] == "--version" else "1")
     monkeypatch.setattr(proved, "kept", lambda name: proved.Proof(2, "a kit"))
     assert releases.release_of(crates, release.program).functions == 2 * len(crates.lines)
     monkeypatch.setattr(proved, "kept", lambda name: None if name == "herd_pool" else proved.Proof(2, "a kit"))
-    with pytest.raises(Exception, match="it isn't kept what was proved of herd_pool"):
+    told = releases.release_of(crates, release.program).proved()
+    assert f"proved functions: {2 * len(crates.lines) - 2}, and those of herd_pool, which an earlier run proved\n" in told
+    monkeypatch.setattr(proved, "kept", lambda name: None)
+    with pytest.raises(Stop, match="nothing is kept of what was proved"):
         releases.release_of(crates, release.program)
 
 
