@@ -51,7 +51,7 @@ def test_as_it_is_now(site: Site) -> None:
         assert site.post(f"/file/{kind}", **fields).status_code == 302
     with site.desk.opened() as book:
         assert book
-        numbers = [book.known[id].number for id in (DAM, "NEW-1")]
+        numbers = [book.known[id].registration_number for id in (DAM, "NEW-1")]
         for some in [numbers[0]], [numbers[1]], numbers:
             assert lines_alone(BookProgram(), book, some) == [kept(book)[number] for number in some]
 
@@ -67,7 +67,7 @@ def test_refused(site: Site) -> None:
     """Where a birth is refused in such a register there is no answer of it."""
     with site.desk.opened() as book:
         assert book
-        known = book.known[DAM].number
+        known = book.known[DAM].registration_number
         assert lines_alone(BookProgram(), book, [known]) and not lines_alone(Refusing(), book, [known])
 
 
@@ -77,9 +77,9 @@ def test_last_expected(site: Site, monkeypatch: pytest.MonkeyPatch) -> None:
     expected = Expected()
     with site.desk.opened() as book:
         assert book
-        dams = [book.known[id].number for id in (DAM, "GK-16/433c")]
+        dams = [book.known[id].registration_number for id in (DAM, "GK-16/433c")]
         for dam in dams:
-            expected.ask(BookProgram(), book, book.known[SIRE].number, dam, datetime.date(2024, 3, 1))
+            expected.ask(BookProgram(), book, book.known[SIRE].registration_number, dam, datetime.date(2024, 3, 1))
         assert [dam for _, dam in expected.kept] == dams[1:]
 
 
@@ -116,7 +116,7 @@ def test_expected(site: Site, society_desk: Desk, monkeypatch: pytest.MonkeyPatc
     assert not asked and "17/512" in society_desk.good("show", "NEW-1").out
     with site.desk.opened() as book:
         assert book
-        both = [book.known[id].number for id in ("NEW-1", DAM)]
+        both = [book.known[id].registration_number for id in ("NEW-1", DAM)]
         assert site.desk.program.coefficients(both, book) == [kept(book)[number] for number in both]
     assert asked.pop() == "alone"
     expect = BookSession.expect

@@ -133,7 +133,7 @@ def test_closed(site: Site) -> None:
     site.desk.program.close()
     with site.desk.opened() as book, pytest.raises(Mistake, match="session ended"):
         assert book
-        site.desk.program.coefficients([book.known[DAM].number], book)
+        site.desk.program.coefficients([book.known[DAM].registration_number], book)
     assert site.desk.program.session is None
     site.desk.is_closing = True
     answer = site.post("/file/exit", id=SIRE, day="2024-05-01")

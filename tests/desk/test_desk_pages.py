@@ -148,7 +148,7 @@ def test_offered(site: Site, living: bool) -> None:
         site.post("/file/exit", **LEFT)
     with site.desk.opened() as book:
         assert book
-        number = book.known[DAM].number
+        number = book.known[DAM].registration_number
     said = shown(site.page(f"/animal/{number}"))
     for what in ("mates for it", "file exit", "file transfer"):
         assert (TEXTS[what][0] in said) is living

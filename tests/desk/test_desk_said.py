@@ -31,7 +31,7 @@ EMBRYO = AnimalRow(
     1, 5, "2003-04-05", None, "2009-07-01",
 )  # fmt: skip
 FACTS = {
-    "standing": "hat keine Zeile mehr", "number": EMBRYO.number, "name": "Else",
+    "standing": "hat keine Zeile mehr", "number": EMBRYO.registration_number, "name": "Else",
     "birth day": "15.02.2001 (erschlossen)", "sire": "V-1", "dam": "HOLGBRF000000000002", "owner": "Huber",
     "owner since": "05.04.2003", "exit": "01.07.2009 (erschlossen)", "stored embryo": "ja", "castrated": "",
     "basis of the birth day": "aus Monat oder Jahr: 2001-02", "basis of the sex": "da es Mutter ist",
@@ -116,7 +116,7 @@ def test_animal_of_a_command() -> None:
         connection.executescript(FIRST + SECOND)
         connection.execute("PRAGMA foreign_keys = OFF")
         command = "INSERT INTO command VALUES (1, ?, 'parents', ?, NULL, NULL, NULL, NULL, NULL, 0, 0)"
-        for place, number in enumerate(("HOLGBRF000000000009", EMBRYO.number, "HOLGBRF000000000008"), 2):
+        for place, number in enumerate(("HOLGBRF000000000009", EMBRYO.registration_number, "HOLGBRF000000000008"), 2):
             connection.execute(command, (place, number))
         for since, until, id in (1, 4, "earlier"), (4, None, "E-7"):
             values = (since, until, *EMBRYO._replace(id=id))

@@ -195,9 +195,9 @@ def test_hostile_names(site: Site) -> None:
         with site.desk.opened() as book:
             assert book
             known = book.known[one]
-        pages.append(site.page(f"/animal/{known.number}"))
+        pages.append(site.page(f"/animal/{known.registration_number}"))
         assert one in shown(pages[-1])
-        certificate = site.get(f"/animal/{known.number}/certificate").get_data(as_text=True)
+        certificate = site.get(f"/animal/{known.registration_number}/certificate").get_data(as_text=True)
         pages.append(certificate)
         found = site.client.get("/animals", query_string={"words": one, "owner": one}, headers={"Host": HOST})
         assert found.status_code == 200

@@ -105,8 +105,8 @@ def test_columns(empty_site: Site) -> None:
     site.take(address)
     with site.desk.opened() as book:
         assert book
-        record = book.records[book.known["c"].number]
-        assert (record.sire, record.dam) == (book.known["a"].number, book.known["b"].number)
+        record = book.records[book.known["c"].registration_number]
+        assert (record.sire, record.dam) == (book.known["a"].registration_number, book.known["b"].registration_number)
 
 
 def test_options(empty_site: Site) -> None:
@@ -124,8 +124,8 @@ def test_options(empty_site: Site) -> None:
     site.take(address)
     with site.desk.opened() as book:
         assert book
-        assert book.known["c"].number == "SKUDEUF000000000003"
-        assert book.records[book.known["c"].number].sire == ""
+        assert book.known["c"].registration_number == "SKUDEUF000000000003"
+        assert book.records[book.known["c"].registration_number].sire == ""
     for first in ("month_first", "day_first"):
         wishes = import_options_of(site.desk.folder, Chosen.of({}, {first: "1"}))
         assert (wishes.month_first, wishes.day_first) == (first == "month_first", first == "day_first")

@@ -108,7 +108,7 @@ def test_asked_again(site: Site, monkeypatch: pytest.MonkeyPatch) -> None:
         found = found_by(book, Asked(page=9))
         assert (found.total, found.page, found.pages, len(found.rows)) == (502, 2, 2, 251)
         ids = [one["id"] for one in site.get("/search?words=gk&sex=M").get_json() or []]
-        assert ids and {book.known[id].number[6] for id in ids} == {"M"}
+        assert ids and {book.known[id].registration_number[6] for id in ids} == {"M"}
 
 
 def test_levels() -> None:

@@ -42,7 +42,7 @@ def test_corrected_by_two(site: Site) -> None:
     assert TEXTS["refused"][0] in shown(page) and (third["sire"], third["dam"]) == ("GK-16/433c", "")
     assert site.post("/file/parents", **corrected(third, sire=SIRE)).headers["Location"] == "/answer/4"
     with site.desk.opened() as book:
-        assert book and book.records[book.known[DAM].number].dam == ""
+        assert book and book.records[book.known[DAM].registration_number].dam == ""
 
 
 @pytest.mark.parametrize("language", LANGUAGES)
@@ -83,4 +83,4 @@ def test_sent_without_parents(site: Site, language: str) -> None:
     assert site.post("/file/parents", **corrected(again)).headers["Location"] == "/answer/2"
     with site.desk.opened() as book:
         assert book and book.change and book.change.options == (Option("--sire", SIRE),)
-        assert book.by_number()[book.records[book.known[DAM].number].dam].id == now["dam"]
+        assert book.by_number()[book.records[book.known[DAM].registration_number].dam].id == now["dam"]

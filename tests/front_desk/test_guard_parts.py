@@ -34,7 +34,9 @@ def day(at: int) -> datetime.date:
 def guards(had: int, rows: Iterable[SheetAnimal], alike: SocietyRecord = SocietyRecord("", "")) -> Guards:
     """Of a sheet beside a book of so many animals, from `a0` on, each born a day after the one before; the rest is
     known alike."""
-    known = {f"a{at}": alike._replace(number=number(at), id=f"a{at}", name=f"name {at}") for at in range(had)}
+    known = {
+        f"a{at}": alike._replace(registration_number=number(at), id=f"a{at}", name=f"name {at}") for at in range(had)
+    }
     records = {number(at): record_after(None, birth(number(at), day(at), "", "", 1, False)) for at in range(had)}
     sheet = SimpleNamespace(titles=[])
     columns = SimpleNamespace(lacks_ids="", found={Role.SIRE: 1, Role.DAM: 2}, sheet=sheet)

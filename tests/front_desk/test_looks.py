@@ -48,16 +48,18 @@ def test_young_parents_by_hand() -> None:
     """They are told where they are younger than the book says, at least a day old, and no day of theirs is inferred."""
     sire, dam, calf = (SocietyRecord(f"SKUDEU{'F' if at else 'M'}{at:012}", id) for at, id in enumerate("sdc"))
     day, inferred = datetime.date(2001, 7, 29), BirthBasis(BirthSource.NEAREST)
-    born = {one.number: day - datetime.timedelta(days) for one, days in ((sire, 149), (dam, 150), (calf, 0))}
+    ages = ((sire, 149), (dam, 150), (calf, 0))
+    born = {one.registration_number: day - datetime.timedelta(days) for one, days in ages}
     records = replay(birth(number, one, "", "", 1, False) for number, one in born.items())
-    records[calf.number] = records[calf.number]._replace(sire=sire.number, dam=dam.number)
+    number = calf.registration_number
+    records[number] = records[number]._replace(sire=sire.registration_number, dam=dam.registration_number)
     remembered = [Meaning(Remembered.YOUNGEST, "150"), Meaning(Remembered.APART, "500")]
     book, other = (cast(Book, SimpleNamespace(records=records, remembered=its)) for its in (remembered, []))
     told = [YoungParent(Role.SIRE, "s", 0, 149, 150)]
     assert [*young_parents(book, day, sire, dam)] == [*with_parents(book, calf, sire, dam).findings] == told
     both = [YoungParent(Role.SIRE, "s", 0, 149, 180), YoungParent(Role.DAM, "d", 0, 150, 180)]
     assert [*young_parents(other, day, sire, dam)] == both and [*young_parents(other, day, None, dam)] == both[1:]
-    assert [*young_parents(other, born[sire.number], sire, dam._replace(birth=inferred))] == []
+    assert [*young_parents(other, born[sire.registration_number], sire, dam._replace(birth=inferred))] == []
     assert with_parents(book, calf._replace(birth=inferred), sire, dam).findings == ()
 
 

@@ -53,7 +53,7 @@ def test_as_the_rows(desk: Desk, role: Role, also_left: bool) -> None:
         read = MatesRead(book, role, also_left)
         wanted = of_rows(book, role, also_left)
         assert all_candidates(book, role, also_left) == wanted
-        assert [*zip(read.numbers, read.ids)] == [(book.known[id].number, id) for id in read.ids]
+        assert [*zip(read.numbers, read.ids)] == [(book.known[id].registration_number, id) for id in read.ids]
         by_id, named = {one.id: one for one in wanted.animals}, [book.known[id] for id in read.ids]
         assert [*map(birth_shown, read.births)] == [by_id[id].birth for id in read.ids]
         may = {id for id, number in selected(book, ("id", "number"), Condition(MAY_BE_MATED)) if number[6] == role.sex}
@@ -123,7 +123,7 @@ def test_advice_where_the_journal_can_not_be_read_beside(mrode_desk: Desk, monke
         book, program = Book(mrode_desk.room / "book", connection), BookProgram()
         with book.journal_read_beside():
             read, dam = MatesRead(book, Role.SIRE, False), book.known["2"]
-            begun = program.begin_matings(dam.number, read.numbers, book)
+            begun = program.begin_matings(dam.registration_number, read.numbers, book)
             assert advise_on_all(book, program, dam, read, begun, False).table.text(False) == wanted
             # also where that is only seen when the answers are asked for
             assert advise_on_all(book, program, dam, read, [Background(lost)], False).table.text(False) == wanted
@@ -138,7 +138,7 @@ def test_many_sires_are_asked_for_in_parts(mrode_desk: Desk, monkeypatch: pytest
     with reading(mrode_desk.room / "book") as connection:
         book, program = Book(mrode_desk.room / "book", connection), BookProgram()
         read, dam = MatesRead(book, Role.SIRE, False), book.known["2"]
-        begun = program.begin_matings(dam.number, read.numbers, book)
+        begun = program.begin_matings(dam.registration_number, read.numbers, book)
         assert read.ids == ["1", "4", "5", "0a"] and len(begun) == 2
         advice = advise_on_all(book, program, dam, read, begun, False)
     assert [row[0] for row in advice.table.rows] == ["0a", "1", "4", "5"] and advice.table.text(False) == wanted

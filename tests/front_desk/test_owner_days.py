@@ -49,7 +49,7 @@ def found(
     report = Report()
     days = OwnerDays(cast(Book, book), report, None)
     days.before = {NUMBER: first}, {NUMBER: [*before]}
-    animal = SheetAnimal("a", 2, number=NUMBER, owner=owner, since=since, born=BORN, left=left)
+    animal = SheetAnimal("a", 2, registration_number=NUMBER, owner=owner, since=since, born=BORN, left=left)
     owners_of = days.of(animal)
     told = [one.finding for one in report.entries]
     return Found(owners_of, days.other_days.get("a", ""), told, animal.owner_day)
@@ -107,7 +107,7 @@ def test_new_animal_before_its_birth() -> None:
         (year_of(BORN.year), []), (on(BORN), []), (None, []),
     ):  # fmt: skip
         report, book = Report(), SimpleNamespace(known={}, owners={"Nord": NORD})
-        animal = SheetAnimal("b", 2, number=NUMBER, owner="Nord", since=since, born=BORN)
+        animal = SheetAnimal("b", 2, registration_number=NUMBER, owner="Nord", since=since, born=BORN)
         assert OwnerDays(cast(Book, book), report, None).of(animal) == (NORD, [], 0, False)
         assert [one.finding for one in report.entries] == told
 

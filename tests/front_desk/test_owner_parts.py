@@ -56,7 +56,7 @@ def test_day_of_another_owner(today: datetime.date) -> None:
     book = cast(Book, SimpleNamespace(owners={"Nord": 5}))
 
     def changed(since: Span | None, day: datetime.date | None = None) -> tuple[datetime.date, OwnerDay]:
-        animal = SheetAnimal("a", 2, number=NUMBER, owner="Nord", since=since)
+        animal = SheetAnimal("a", 2, registration_number=NUMBER, owner="Nord", since=since)
         found = OwnerDays(book, Report(), day).change(animal, record)
         day = datetime.date.fromisoformat(found.day)
         assert found == transfer(NUMBER, day, 4, 5)
@@ -91,7 +91,7 @@ def test_owners_of_animals(today: datetime.date) -> None:
         )  # fmt: skip
         days = OwnerDays(cast(Book, book), report, None)
         days.before = {NUMBER: 4}, {NUMBER: [given]}
-        animal = SheetAnimal("a", 2, number=number, owner=owner, since=since, born=now)
+        animal = SheetAnimal("a", 2, registration_number=number, owner=owner, since=since, born=now)
         days.refused |= {"a"} if refused else set()
         return days.of(animal), animal.owner, animal.owner_day
 

@@ -134,7 +134,7 @@ def test_too_many_pairs() -> None:
     book, program = Book(pathlib.Path("none"), None), cast(BookProgram, None)
     with pytest.raises(Mistake, match="these are 2,000,001 pairs, and at most 2,000,000 are written"):
         relationships(book, program, ["one"] * 3, ["other"] * 666_667)
-    animals = cast(list[SocietyRecord], [types.SimpleNamespace(number="one")] * 2_000)
+    animals = cast(list[SocietyRecord], [types.SimpleNamespace(registration_number="one")] * 2_000)
     with pytest.raises(Mistake, match="these are 2,001,000 pairs"):
         related(book, program, animals, None)
 

@@ -37,7 +37,7 @@ def numbered(book: Book, *born: tuple[str, int], breed: str = "", country: str =
     """The numbers of animals, each with its id and its birth year, beside a book."""
     animals = {id: SheetAnimal(id, 2, sex="M", born=datetime.date(year, 1, 2)) for id, year in born}
     give_numbers(cast(NextBook, SimpleNamespace(book=book, animals=animals)), breed, country)
-    return {id: animal.number for id, animal in animals.items()}
+    return {id: animal.registration_number for id, animal in animals.items()}
 
 
 def test_numbers_of_a_taking() -> None:
@@ -47,7 +47,7 @@ def test_numbers_of_a_taking() -> None:
 
     def book(former: dict[str, str], *known: SocietyRecord, dropped: tuple[SocietyRecord, ...] = ()) -> Book:
         parts = ({one.id: one for one in some} for some in (known, dropped))
-        first = next(iter([*(one.number for one in known), *former.values()]), "")
+        first = next(iter([*(one.registration_number for one in known), *former.values()]), "")
         found = dict(zip(("known", "dropped"), parts), former_numbers=lambda: former, greatest_digits=lambda: 7)
         return cast(Book, SimpleNamespace(**found, connection=empty(), first_number=lambda: first))
 
@@ -104,7 +104,9 @@ def test_what_an_animal_is_after_a_taking() -> None:
         )
         row, none, left_out = (
             next_book(
-                SheetAnimal("a", line, number=NUMBER, owner_day=OwnerDay.GIVEN if line else OwnerDay.INFERRED), known
+                SheetAnimal(
+                    "a", line, registration_number=NUMBER, owner_day=OwnerDay.GIVEN if line else OwnerDay.INFERRED
+                ), known
             )
             for line in (2, 0, 0)
         )
@@ -196,7 +198,7 @@ def test_a_birth_day_that_changes_is_told_but_where_both_are_invented() -> None:
     record, later = record_after(None, birth(NUMBER, BORN, "", "", 4, False)), datetime.date(2002, 3, 4)
     invented, period = BirthBasis(BirthSource.INVENTED), BirthBasis(BirthSource.PERIOD, year_of(2002).period())
     for before, after in ((invented, invented), (invented, period), (period, invented)):
-        animal = SheetAnimal("a", 2, owner="4", born=later, number=NUMBER, birth_basis=after)
+        animal = SheetAnimal("a", 2, owner="4", born=later, registration_number=NUMBER, birth_basis=after)
         told = [one.name for one in filing().changes(animal, record, SocietyRecord(NUMBER, "a", birth=before))]
         assert told == ([] if before is after else ["birth day"])
 
@@ -208,12 +210,12 @@ def test_what_no_command_corrects() -> None:
     left = record._replace(left=datetime.date(2005, 1, 2))
 
     def animal(**more: Any) -> SheetAnimal:
-        return dataclasses.replace(SheetAnimal("a", 2, born=BORN, number=NUMBER), **more)
+        return dataclasses.replace(SheetAnimal("a", 2, born=BORN, registration_number=NUMBER), **more)
 
     assert not is_corrected(animal(), record) and not is_corrected(animal(left=left.left), record)
     assert not is_corrected(animal(left=left.left), left)
     assert is_corrected(animal(), left) and is_corrected(animal(left=BORN), left)
-    changed = {"born": left.left, "number": NUMBER.replace("F", "M"), "embryo": True}
+    changed = {"born": left.left, "registration_number": NUMBER.replace("F", "M"), "embryo": True}
     assert all(is_corrected(animal(**{name: value}), record) for name, value in changed.items())
 
 

@@ -15,7 +15,7 @@ NO_FIELDS: frozenset[Field] = frozenset()
 class SocietyRecord(NamedTuple):
     """What an animal's number stands for, and what was inferred of it."""
 
-    number: str
+    registration_number: str
     id: str
     name: str = ""
     standing: Standing = Standing.ROW
@@ -33,7 +33,7 @@ class SocietyRecord(NamedTuple):
 
     @property
     def is_male(self) -> bool:
-        return self.number[6] == "M"
+        return self.registration_number[6] == "M"
 
     def written(self, role: str) -> str:
         """What the sheet writes of its `sire` or `dam`, where that isn't the parent's id."""

@@ -60,7 +60,7 @@ class RegisterRecord(NamedTuple):
     """What the register has of an animal. `from_owner` is the herd from which its owner has it, 0 where that is the
     first one."""
 
-    number: str
+    registration_number: str
     born: datetime.date
     sire: str
     dam: str

@@ -41,7 +41,7 @@ class SheetAnimal:
     castrated: bool = False
     # what is found for it later: its birth day, its number, and what was inferred and from what
     born: datetime.date = ANY_DAY.first
-    number: str = ""
+    registration_number: str = ""
     birth_basis: BirthBasis = GIVEN_BIRTH
     exit_basis: ExitBasis = GIVEN_EXIT
     sex_source: SexSource = SexSource.GIVEN

@@ -29,13 +29,13 @@ from gudokeyi.store.book import Book
 
 def animals_of_book(book: Book, animals: dict[str, SheetAnimal]) -> dict[str, SheetAnimal]:
     """The animals of the book that have no row, each as the book has it."""
-    ids = {known.number: id for id, known in book.known.items()}
+    ids = {known.registration_number: id for id, known in book.known.items()}
     gone = {}
     for id, known in book.known.items():
         if id in animals:
             continue
-        record = book.records[known.number]
-        animal = SheetAnimal(id, 0, known.name, "" if known.sex.is_inferred else known.number[6])
+        record = book.records[known.registration_number]
+        animal = SheetAnimal(id, 0, known.name, "" if known.sex.is_inferred else known.registration_number[6])
         animal.birth = birth_in_book(known, record)
         animal.sire, animal.dam = ids.get(record.sire, ""), ids.get(record.dam, "")
         animal.owner, animal.embryo = book.owner_of(record.owner_code), record.embryo

@@ -27,7 +27,7 @@ def find_days(next_book: NextBook) -> None:
     book, animals, report = next_book.book, next_book.animals, next_book.report
     undated = cut_cycles(animals, report, next_book.has_in_book)
     inferred = [(id, known) for id, known in book.known.items() if known.birth.is_inferred]
-    kept = {id: (book.records[known.number].born.toordinal(), known.birth) for id, known in inferred}
+    kept = {id: (book.records[known.registration_number].born.toordinal(), known.birth) for id, known in inferred}
     Days(animals, undated, kept).infer(report)
 
 

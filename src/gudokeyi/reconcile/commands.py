@@ -52,7 +52,7 @@ class Filing:
         return None if self.refused_behind(program, text, len(more)) else Filed(accepted(more), text=text)
 
     def leave_out(self, commands: list[Command], refused: dict[int, Refusal]) -> None:
-        by_number = {animal.number: animal for animal in self.next_book.animals.values()}
+        by_number = {animal.registration_number: animal for animal in self.next_book.animals.values()}
         sentences = []
         for place, refusal in refused.items():
             kind, number, day = commands[place][:3]
@@ -89,7 +89,7 @@ class Filing:
             if record is None:
                 births.append(self.next_book.birth_of(animal, owners.first_herd))
                 transfers += owners.transfers
-                exits += [leave(animal.number, animal.left)] if animal.left else []
+                exits += [leave(animal.registration_number, animal.left)] if animal.left else []
                 continue
             if owners.is_corrected or is_corrected(animal, record):
                 return None
@@ -98,7 +98,7 @@ class Filing:
                 corrections.append(wanted)
             transfers += owners.new
             if animal.left and not record.left:
-                exits.append(leave(animal.number, animal.left))
+                exits.append(leave(animal.registration_number, animal.left))
         return births + corrections + transfers + exits
 
     def anew(self) -> list[Command]:
@@ -110,7 +110,7 @@ class Filing:
             owners = self.owners.of(animal)
             births.append(self.next_book.birth_of(animal, owners.first_herd))
             transfers += owners.transfers
-            exits += [leave(animal.number, animal.left)] if animal.left else []
+            exits += [leave(animal.registration_number, animal.left)] if animal.left else []
         return births + transfers + exits
 
     # -- what is told
@@ -123,7 +123,7 @@ class Filing:
                 for found in self.changes(animal, record, known):
                     report.add(animal.line, animal.id, found)
             elif animal.line:
-                report.add(animal.line, animal.id, NewAnimal(animal.number))
+                report.add(animal.line, animal.id, NewAnimal(animal.registration_number))
 
     def changes(self, animal: SheetAnimal, record: RegisterRecord, known: SocietyRecord) -> list[ValueChanged]:
         owner, exit = self.book.owner_of(record.owner_code), exit_words(record.left, known.exit)
@@ -131,7 +131,7 @@ class Filing:
         pairs: list[tuple[str, object, object]] = [
             ("name", known.name, animal.name),
             ("birth day", record.born, animal.born),
-            ("number", record.number, animal.number),
+            ("number", record.registration_number, animal.registration_number),
             ("sire", sire, animal.sire),
             ("dam", dam, animal.dam),
             ("owner", owner, animal.owner),
@@ -160,4 +160,5 @@ def exit_words(left: datetime.date | None, basis: ExitBasis) -> str:
 def is_corrected(animal: SheetAnimal, record: RegisterRecord) -> bool:
     """Is there a change that no command makes?"""
     left = record.left is not None and record.left != animal.left
-    return left or (record.born, record.number, record.embryo) != (animal.born, animal.number, animal.embryo)
+    before = record.born, record.registration_number, record.embryo
+    return left or before != (animal.born, animal.registration_number, animal.embryo)

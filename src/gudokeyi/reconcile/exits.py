@@ -93,7 +93,7 @@ def is_left_out_already(next_book: NextBook, animal: SheetAnimal) -> bool:
     known = next_book.book.known.get(animal.id)
     if known is None:
         return False
-    return (known.exit, next_book.book.records[known.number].born) == (animal.exit_basis, animal.born)
+    return (known.exit, next_book.book.records[known.registration_number].born) == (animal.exit_basis, animal.born)
 
 
 # Changes of many animals at once, which are taken, and told in a sentence: exits that are taken back, and what most

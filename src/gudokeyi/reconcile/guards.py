@@ -58,20 +58,22 @@ class OtherAnimals:
 
     def has_other_day(self, row: SheetAnimal, known: SocietyRecord) -> bool:
         """Do both say another day? One that was inferred says nothing."""
-        return row.has_day() and not known.birth.is_inferred and row.birth.first != self.book.records[known.number].born
+        born = self.book.records[known.registration_number].born
+        return row.has_day() and not known.birth.is_inferred and row.birth.first != born
 
     def other_sexes(self) -> Guard | None:
         pairs = [(row, known) for row, known in self.both if row.sex and not known.sex.is_inferred]
-        changed = [row for row, known in pairs if row.sex != known.number[6]]
+        changed = [row for row, known in pairs if row.sex != known.registration_number[6]]
         return self.of_many(Changed.SEXES, changed) if self.are_many(changed) else None
 
     def other_parents(self) -> Guard | None:
         """Animals that have another animal with a row as a parent than in the book, or none. A parent that is added or
         that had no row, and one whose cell can't be read, are ordinary."""
-        had_row = {known.number: known.id for known in self.book.known.values() if known.standing.had_row()}
+        with_row = (known for known in self.book.known.values() if known.standing.had_row())
+        had_row = {known.registration_number: known.id for known in with_row}
         changed = []
         for row, known in self.both:
-            record = self.book.records[known.number]
+            record = self.book.records[known.registration_number]
             read = [role for role in Role if role in self.given and role not in row.unread]
             pairs = [(had_row.get(record.parent(role)), row.parent(role)) for role in read]
             if any(before and before != now and (not now or now in self.rows) for before, now in pairs):
@@ -134,14 +136,15 @@ class Guards(OtherAnimals):
     def is_older(self) -> bool:
         """Are the animals that lack younger than those of the sheet?"""
         born = self.book.records
-        lacking = [born[self.book.known[id].number].born for id in self.had_row() if id not in self.rows]
-        here = [born[self.book.known[id].number].born for id in self.rows]
+        lacking = [born[self.book.known[id].registration_number].born for id in self.had_row() if id not in self.rows]
+        here = [born[self.book.known[id].registration_number].born for id in self.rows]
         return bool(lacking) and max(here) <= max(lacking)
 
     def are_same_animals(self) -> bool:
         """Have most rows the name and the birth day of an animal of the book?"""
         known = self.book.known.values()
-        days = {(one.name.casefold(), self.book.records[one.number].born) for one in known if not one.birth.is_inferred}
+        with_day = [one for one in known if not one.birth.is_inferred]
+        days = {(one.name.casefold(), self.book.records[one.registration_number].born) for one in with_day}
         here = [(row.name.casefold(), row.birth.first) for row in self.rows.values() if row.has_day()]
         return bool(here) and 2 * sum(one in days for one in here) > len(here)
 

@@ -86,12 +86,13 @@ def leave_out_used_tags(
     apart = [(animal, known) for animal, known in animals_of_book(animals, book) if are_years_apart(animal, known, book)]
     progeny = earliest_calves(book) if apart else {}
     for animal, known in apart:
-        id, born, offspring = animal.id, book.records[known.number].born, progeny.get(known.number)
+        id, number = animal.id, known.registration_number
+        born, offspring = book.records[number].born, progeny.get(number)
         if is_another(animal, known):
             lines = lines_that_name(animals, animal)
             report.add(animal.line, id, another(born, known.name, animal.birth.first, animal.name, lines))
         elif offspring and offspring.born <= animal.birth.first:
-            first = book.by_number()[offspring.number].id
+            first = book.by_number()[offspring.registration_number].id
             report.add(animal.line, id, after(born, animal.birth.first, first, offspring.born))
         else:
             continue
@@ -120,13 +121,13 @@ def are_years_apart(animal: SheetAnimal, known: SocietyRecord, book: Book) -> bo
     """Was it born years before or after the animal of the book? A day that was inferred tells nothing."""
     if not animal.has_day() or known.birth.is_inferred:
         return False
-    return abs((animal.birth.first - book.records[known.number].born).days) >= YEARS_LATER
+    return abs((animal.birth.first - book.records[known.registration_number].born).days) >= YEARS_LATER
 
 
 def is_another(animal: SheetAnimal, known: SocietyRecord) -> bool:
     """Has it another name or another sex than the animal of the book?"""
     has_other_name = animal.name and known.name and animal.name.casefold() != known.name.casefold()
-    has_other_sex = animal.sex and not known.sex.is_inferred and animal.sex != known.number[6]
+    has_other_sex = animal.sex and not known.sex.is_inferred and animal.sex != known.registration_number[6]
     return bool(has_other_name or has_other_sex)
 
 
@@ -138,7 +139,7 @@ def numbers_begin(next_book: NextBook, breed: str, country: str) -> str:
     them other letters than new ones have."""
     book, first = next_book.book, next(iter(next_book.animals.values()), None)
     settings = settings_of(book)
-    begin, is_set = first.number[:6] if first else "", settings[Setting.BREED] + settings[Setting.COUNTRY]
+    begin, is_set = first.registration_number[:6] if first else "", settings[Setting.BREED] + settings[Setting.COUNTRY]
     is_said = bool(breed and country) or begin == is_set
     return "" if book.records or next_book.is_pedigree or is_said else begin
 
@@ -148,14 +149,14 @@ def give_numbers(next_book: NextBook, breed: str, country: str) -> None:
     was, by birth day and id, so that no number is given to another animal. Breed and country stay as they are, or become
     those that are given; new ones have those that are set else, or those of the book."""
     book, animals = next_book.book, next_book.animals
-    former = book.former_numbers() | {id: known.number for id, known in book.dropped.items()}
-    numbers = {id: known.number for id, known in book.known.items()}
+    former = book.former_numbers() | {id: known.registration_number for id, known in book.dropped.items()}
+    numbers = {id: known.registration_number for id, known in book.known.items()}
     for id, number in (former | numbers).items():
         animal = animals.get(id)
         if animal:
-            animal.number = (breed or number[:3]) + (country or number[3:6]) + animal.sex + number[7:]
-    new = [animal for animal in animals.values() if not animal.number]
+            animal.registration_number = (breed or number[:3]) + (country or number[3:6]) + animal.sex + number[7:]
+    new = [animal for animal in animals.values() if not animal.registration_number]
     begin = letters_for(book, breed, country)
     new.sort(key=operator.attrgetter("born", "id"))
     for digits, animal in enumerate(new, book.greatest_digits() + 1):
-        animal.number = f"{begin}{animal.sex}{digits:012}"
+        animal.registration_number = f"{begin}{animal.sex}{digits:012}"

@@ -184,11 +184,11 @@ def leave_out_faulty_parents(next_book: NextBook, program: Herdbook) -> None:
     """Files all animals with their parents, the oldest first. Where anything is refused it files them without, and then
     asks for the parents of each until none is refused."""
     by_age = next_book.by_birth
-    exits = [leave(animal.number, animal.left) for animal in by_age if animal.left]
+    exits = [leave(animal.registration_number, animal.left) for animal in by_age if animal.left]
     births = HEADER + next_book.births_text(by_age) + lines_of(exits)
     if not program.file_text(births, len(by_age) + len(exits)):
         return
-    first = [birth(animal.number, animal.born, "", "", 1, animal.embryo) for animal in by_age] + exits
+    first = [birth(animal.registration_number, animal.born, "", "", 1, animal.embryo) for animal in by_age] + exits
     while True:
         progeny = [animal for animal in by_age if animal.sire or animal.dam]
         refused = program.file(first + [next_book.parents_of(animal) for animal in progeny])

@@ -28,7 +28,7 @@ def keep_values(next_book: NextBook) -> None:
     for id, animal in next_book.animals.items():
         known = book.known.get(id)
         if known is not None:
-            keeping.keep(animal, known, book.records[known.number])
+            keeping.keep(animal, known, book.records[known.registration_number])
     keeping.take_back_exits()
 
 
@@ -73,7 +73,7 @@ class Keeping:
         if Field.SEX not in self.given or not animal.cells.get(Field.SEX):
             animal.castrated = known.castrated
         if not animal.sex and not known.sex.is_inferred:
-            animal.sex = record.number[6]
+            animal.sex = record.registration_number[6]
             self.tell_kept(animal, Field.SEX, animal.sex)
 
     def keep_exit(self, animal: SheetAnimal, exit: Exit) -> None:

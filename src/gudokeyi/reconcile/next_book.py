@@ -113,7 +113,7 @@ class NextBook:
 
     def record(self, id: str) -> RegisterRecord | None:
         known = self.book.known.get(id)
-        return self.book.records[known.number] if known else None
+        return self.book.records[known.registration_number] if known else None
 
     def id_of(self, number: str) -> str:
         return self.names[number].id if number else ""
@@ -128,29 +128,30 @@ class NextBook:
     def birth_of(self, animal: SheetAnimal, owner_code: int) -> Command:
         """The birth in a herd, with the parents of today."""
         animals = self.animals
-        sire = animals[animal.sire].number if animal.sire else ""
-        dam = animals[animal.dam].number if animal.dam else ""
-        return birth(animal.number, animal.born, sire, dam, owner_code, animal.embryo)
+        sire = animals[animal.sire].registration_number if animal.sire else ""
+        dam = animals[animal.dam].registration_number if animal.dam else ""
+        return birth(animal.registration_number, animal.born, sire, dam, owner_code, animal.embryo)
 
     def births_text(self, animals: list[SheetAnimal]) -> bytes:
         """The births of animals in the first herd, as records of a command file."""
-        numbers = {"": "0", **{id: animal.number for id, animal in self.animals.items()}}
+        numbers = {"": "0", **{id: animal.registration_number for id, animal in self.animals.items()}}
         births = [
-            f"birth,{one.number},{day_text(one.born)},{numbers[one.sire]},{numbers[one.dam]},,1,{'1' * one.embryo}\n"
+            f"birth,{one.registration_number},{day_text(one.born)},{numbers[one.sire]},{numbers[one.dam]},,1,"
+            f"{'1' * one.embryo}\n"
             for one in animals
         ]
         return "".join(births).encode()
 
     def parents_of(self, animal: SheetAnimal) -> Command:
-        return parents(animal.number, self.number_of(animal.sire), self.number_of(animal.dam))
+        return parents(animal.registration_number, self.number_of(animal.sire), self.number_of(animal.dam))
 
     def number_of(self, id: str) -> str:
-        return self.animals[id].number if id else ""
+        return self.animals[id].registration_number if id else ""
 
     @functools.cached_property
     def by_birth(self) -> list[SheetAnimal]:
         """All animals, once they have their numbers: from then on neither these nor birth days change."""
-        return sorted(self.animals.values(), key=operator.attrgetter("born", "number"))
+        return sorted(self.animals.values(), key=operator.attrgetter("born", "registration_number"))
 
 
 # What is known of each animal after an import.
@@ -177,7 +178,7 @@ def known_animals(next_book: NextBook) -> dict[str, SocietyRecord]:
         by_hand = before.by_hand - next_book.overridden.get(id, NO_FIELDS) if before else NO_FIELDS
         sire, dam = written.get(id, NOTHING_WRITTEN)
         values = (
-            animal.number,
+            animal.registration_number,
             id,
             animal.name,
             Standing.ROW if animal.line else standing_of(next_book, animal, before),
@@ -209,7 +210,7 @@ def written_parents(next_book: NextBook) -> dict[str, tuple[str, str]]:
     found: dict[tuple[str, Role], str] = {}
     before = [(known, role) for known in book.known.values() for role in Role if known.written(role)]
     for known, role in before:
-        animal, record = animals.get(known.id), book.records[known.number]
+        animal, record = animals.get(known.id), book.records[known.registration_number]
         if animal and not (animal.line and role in next_book.given):
             if animal.parent(role) == next_book.id_of(record.parent(role)):
                 found[known.id, role] = known.written(role)

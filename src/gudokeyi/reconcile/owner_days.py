@@ -212,17 +212,18 @@ class OwnerDays:
         known = self.book.known.get(animal.id)
         if known is None:
             return self.of_new(animal)
-        record = self.book.records[known.number]
+        record = self.book.records[known.registration_number]
         first, before = record.owner_code, list[Command]()
         if record.from_owner:
-            first, before = self.before[0][record.number], self.before[1].get(record.number, [])
+            number = record.registration_number
+            first, before = self.before[0][number], self.before[1].get(number, [])
         animal.owner_day = known.owner_day
         has_other_owner = self.has_other_owner(animal, record)
         since = None if has_other_owner else self.other_days_of(animal, record)
         if not (before or has_other_owner or since):
             return Owners(first, [], 0, False)
         has_new_owner = has_other_owner and animal.id not in self.refused
-        before = [one._replace(animal=animal.number) for one in before]
+        before = [one._replace(animal=animal.registration_number) for one in before]
         transfers = given = self.as_given(animal, record, before, not has_new_owner)
         first_herd = first
         if has_new_owner:
@@ -233,7 +234,7 @@ class OwnerDays:
             if given:
                 transfers = [*given[:-1], given[-1]._replace(day=day.isoformat())]
             else:
-                first_herd, transfers = NO_OWNER, [transfer(animal.number, day, NO_OWNER, first)]
+                first_herd, transfers = NO_OWNER, [transfer(animal.registration_number, day, NO_OWNER, first)]
         transfers = self.in_order(animal, transfers, since, before)
         if not has_other_owner and transfers[-1].day != record.since.isoformat():
             # one that was moved is told by itself
@@ -265,7 +266,7 @@ class OwnerDays:
             if animal.since.last < animal.born:
                 self.tell(animal, OwnerDayMoved(animal.owner, animal.since.last, animal.born))
             return made(Owners, (owner_code, [], 0, False))
-        only = [transfer(animal.number, self.day_said(animal, animal.since), NO_OWNER, owner_code)]
+        only = [transfer(animal.registration_number, self.day_said(animal, animal.since), NO_OWNER, owner_code)]
         return Owners(NO_OWNER, self.in_order(animal, only, animal.since), 0, False)
 
     def has_other_owner(self, animal: SheetAnimal, record: RegisterRecord) -> bool:
@@ -307,7 +308,7 @@ class OwnerDays:
         day, animal.owner_day = self.day, self.source
         if animal.since:
             day = self.day_said(animal, animal.since)
-        return transfer(animal.number, day, record.owner_code, self.herd_of(animal.owner))
+        return transfer(animal.registration_number, day, record.owner_code, self.herd_of(animal.owner))
 
     def in_order(
         self, animal: SheetAnimal, transfers: list[Command], since: Span | None = None, before: Sequence[Command] = ()

@@ -50,7 +50,7 @@ class Names:
         """A parent that is no animal's id, but the name of one alone, is taken for that one where it can be it. What is
         the parent in the book stays it, whatever other animals have its name."""
         with_id = rows.keys() | ids_given(book)
-        ids = {known.number: id for id, known in book.known.items()}
+        ids = {known.registration_number: id for id, known in book.known.items()}
         links = links_outside(rows.values(), with_id)
         links = [(offspring, role, text) for offspring, role, text in links if text.casefold() in self.named]
         others = {
@@ -58,7 +58,7 @@ class Names:
         }
         for offspring, role, text in links:
             known = book.known.get(offspring.id)
-            in_book = ids.get(book.records[known.number].parent(role)) if known else None
+            in_book = ids.get(book.records[known.registration_number].parent(role)) if known else None
             possible = self.possible(offspring, role, text)
             meant = [one for one in possible if one.id == in_book]
             # where it can't be the parent of one offspring there is another animal of this name, which may be that of
@@ -169,7 +169,7 @@ def keep_parents_named(next_book: NextBook, animals: dict[str, SheetAnimal]) -> 
         known = book.known.get(offspring.id)
         if known is None or known.written(role) != text or is_id(book, text):
             continue
-        parent = animals.get(next_book.id_of(book.records[known.number].parent(role)))
+        parent = animals.get(next_book.id_of(book.records[known.registration_number].parent(role)))
         if parent and can_be(parent, role, offspring):
             offspring.set_parent(role, parent.id)
             next_book.report.add(offspring.line, offspring.id, found(parent, role, text))

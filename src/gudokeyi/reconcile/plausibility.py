@@ -56,7 +56,7 @@ class PlausibilityChecks:
         for animal in self.animals.values() if book.known else ():
             known = book.known.get(animal.id) if animal.line and animal.has_day() else None
             if known and not known.birth.is_inferred:
-                before = book.records[known.number].born
+                before = book.records[known.registration_number].born
                 if abs((animal.born - before).days) >= YEARS_LATER:
                     self.report.add(animal.line, animal.id, BirthMovedByYears(before, animal.born))
 
@@ -138,7 +138,7 @@ def young_parents(
     limit = youngest_of(book)
     for role, parent in ((Role.SIRE, sire), (Role.DAM, dam)):
         if parent and not parent.birth.is_inferred:
-            days = (born - book.records[parent.number].born).days
+            days = (born - book.records[parent.registration_number].born).days
             if 0 < days < limit:
                 yield YoungParent(role, parent.id, 0, days, limit)
 

@@ -49,13 +49,14 @@ def find_sexes(next_book: NextBook) -> None:
         if role:
             animal.sex, animal.sex_source = role.sex, SexSource(role.value)
         elif known and known.sex is not SexSource.NOTHING:
-            animal.sex, animal.sex_source = known.number[6], SexSource.BOOK
+            animal.sex, animal.sex_source = known.registration_number[6], SexSource.BOOK
         else:
             animal.sex, animal.sex_source = "F", SexSource.NOTHING
         if animal.line:
             found = SexInferred(animal.sex, animal.sex_source, "sex" in animal.unread)
             next_book.report.add(animal.line, id, found)
-        if known and known.sex is SexSource.INVENTED and known.number[6] == animal.sex and id not in parents_of_rows:
+        is_invented = known is not None and known.sex is SexSource.INVENTED
+        if known and is_invented and known.registration_number[6] == animal.sex and id not in parents_of_rows:
             animal.sex_source = SexSource.INVENTED
 
 

@@ -41,13 +41,13 @@ class AnimalView:
 
     def facts(self, relatives: Relatives) -> list[tuple[str, str]]:
         known, row = self.known, self.row
-        coefficient = self.coefficients[known.number]
+        coefficient = self.coefficients[known.registration_number]
         owner = self.book.owner_of(row.owner_code or 0)
         is_said = owner_day_known(self.book, known, row.from_owner, row.owned_since)
         since = f", since {row.owned_since}{known.owner_day.mark()}" if is_said else ""
         found = [
-            ("number", known.number),
-            ("sex", SEXES[known.number[6]] + known.sex.mark() + ", castrated" * known.castrated),
+            ("number", known.registration_number),
+            ("sex", SEXES[known.registration_number[6]] + known.sex.mark() + ", castrated" * known.castrated),
             ("born", f"{row.born}{basis(known.birth.words())}" + ", from a stored embryo" * bool(row.embryo)),
             ("exit", exit_of_row(row) or "none"),
             ("owner", f"{owner}{since}" if owner else "not known"),
@@ -65,8 +65,8 @@ class AnimalView:
 
     def animal(self, row: AnimalRow) -> str:
         """Another animal in a line."""
-        known, coefficient = known_of(row), self.coefficients[row.number]
-        facts = [f"born {row.born}{known.birth.mark()}", SEXES[row.number[6]]]
+        known, coefficient = known_of(row), self.coefficients[row.registration_number]
+        facts = [f"born {row.born}{known.birth.mark()}", SEXES[row.registration_number[6]]]
         facts += [f"F {coefficient.percent}%"] * coefficient.is_inbred
         facts += [f"exit {exit_of_row(row)}"] * bool(exit_of_row(row))
         return f"{f'{row.id}  {row.name}'.rstrip()}  ({', '.join(facts)})"

@@ -109,7 +109,7 @@ def animals_table(state: State, breed: Breed) -> Table:
         coefficient = Fraction(state.pedigree.coefficients[rank], 1 << COEFFICIENT_BITS)
         rows.append(
             (
-                known.id, known.name, known.number, known.number[6],
+                known.id, known.name, known.registration_number, known.registration_number[6],
                 f"{breed.born(rank)}{known.birth.mark()}", str(coefficient), decimal(kinship), str(kinship),
                 decimal(generations.equivalent(rank)), generations.full[rank], generations.greatest[rank],
                 decimal(indices[rank]),

@@ -98,9 +98,9 @@ class Certificate:
         self.book, self.known, self.coefficients = book, known, coefficients
         self.language, self.texts = language, language.texts
         self.names = book.by_number()
-        self.told = certificate_facts(book, known.number, coefficients)
+        self.told = certificate_facts(book, known.registration_number, coefficients)
         drawn = [self.told[letters] for letters in DRAWN if self.told[letters] != "0"]
-        self.common = common_ancestors(book, known.number, drawn)
+        self.common = common_ancestors(book, known.registration_number, drawn)
 
     def shown(self) -> CertificateView:
         fraction, percent = self.told["inbreeding"].split(" ")
@@ -135,7 +135,7 @@ class Certificate:
         return [(texts[what], fact) for what, fact in pairs.items()]
 
     def knows_owner_day(self) -> bool:
-        record = self.book.records[self.known.number]
+        record = self.book.records[self.known.registration_number]
         return owner_day_known(self.book, self.known, record.from_owner, record.since)
 
     def day(self, day: object, mark: Mark | None = None) -> str:

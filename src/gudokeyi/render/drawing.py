@@ -126,7 +126,7 @@ def shortened(text: str, most: int) -> str:
 
 def year_of(book: Book, known: SocietyRecord, language: Language) -> str:
     """The birth year, with a mark where the day was inferred."""
-    return language.marked(str(book.records[known.number].born.year), mark_of(known.birth))
+    return language.marked(str(book.records[known.registration_number].born.year), mark_of(known.birth))
 
 
 def file_name(kind: str, id: str, suffix: str) -> str:

@@ -108,7 +108,7 @@ def facts(row: AnimalRow, names: dict[str, str], owners: dict[int, str]) -> dict
     departed = row.departed or known.exit.words()
     return {
         "standing": STANDINGS[known.standing],
-        "number": row.number,
+        "number": row.registration_number,
         "name": row.name,
         "birth day": f"{row.born or ''}{known.birth.mark()}",
         "sire": names.get(row.sire or "", row.sire or ""),

@@ -172,9 +172,11 @@ class Box:
     def tip(self) -> str:
         """What is told of it where the pointer rests."""
         known, texts = self.drawn.known, self.language.texts
-        day = self.language.marked(self.language.day(self.book.records[known.number].born), mark_of(known.birth))
+        born = self.book.records[known.registration_number].born
+        day = self.language.marked(self.language.day(born), mark_of(known.birth))
         name = f"{known.id} {known.name}".strip()
-        return f"{name}, {known.number}, {texts['born on'].format(day)}, F {self.drawn.coefficient.fraction}"
+        born_on, coefficient = texts["born on"].format(day), self.drawn.coefficient.fraction
+        return f"{name}, {known.registration_number}, {born_on}, F {coefficient}"
 
     def badge(self) -> str:
         """The letter of a common ancestor, and behind it where its ancestors are drawn."""

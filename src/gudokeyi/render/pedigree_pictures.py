@@ -37,16 +37,16 @@ class Pedigree:
         ], generations: int, language: Language
     ) -> None:
         self.book, self.known, self.coefficients, self.language = book, known, coefficients, language
-        whole = grow(book, known.number, 0, generations, 0.0)[0]
+        whole = grow(book, known.registration_number, 0, generations, 0.0)[0]
         nodes = nodes_of(whole)
         self.times = collections.Counter(node.number for node in nodes)
         pages = math.ceil(min(generations, depth_of(whole)) / ON_A_PAGE)
         self.most = generations if pages < 2 else math.ceil(generations / pages)
         # the letters begin on the first page
         in_order = sorted(nodes[1:], key=lambda node: node.generation > self.most)
-        self.letters = common_ancestors(book, known.number, [node.number for node in in_order])
+        self.letters = common_ancestors(book, known.registration_number, [node.number for node in in_order])
         last = [node for node in nodes if node.generation == self.most and node.parents]
-        self.tops = list(dict.fromkeys([known.number, *(node.number for node in last)]))
+        self.tops = list(dict.fromkeys([known.registration_number, *(node.number for node in last)]))
         self.left = generations - self.most
 
     def text(self) -> str:
@@ -128,7 +128,7 @@ class Pedigree:
     @functools.cached_property
     def note(self) -> str:
         """How many ancestors are drawn, and how many aren't."""
-        hidden = len(ancestors_of(self.book, self.known.number) - set(self.times))
+        hidden = len(ancestors_of(self.book, self.known.registration_number) - set(self.times))
         more = self.language.counted("hidden", hidden) if hidden else ""
         return self.language.counted("ancestors", len(self.times) - 1) + more
 

@@ -26,7 +26,7 @@ def advise(
 
     with book.journal_read_beside():
         sires = MatesRead(book, Role.SIRE, also_left)
-        begun = program.begin_matings(dam.number, sires.numbers, book)
+        begun = program.begin_matings(dam.registration_number, sires.numbers, book)
         from gudokeyi.services.matings import advise_on_all
 
         return advise_on_all(book, program, dam, sires, begun, also_left)

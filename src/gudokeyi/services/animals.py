@@ -29,16 +29,16 @@ class Relatives:
 
 
 def relatives_of(book: Book, known: SocietyRecord) -> Relatives:
-    record = book.records[known.number]
+    record = book.records[known.registration_number]
     parents = {role: record.parent(role) for role in Role}
     rows = {role: book.row_of(number) for role, number in parents.items()}
     with_parent = {role: progeny_of(book, number, role) if number else [] for role, number in parents.items()}
-    sibs = [row for row in with_parent[Role.SIRE] if row.number != known.number]
+    sibs = [row for row in with_parent[Role.SIRE] if row.registration_number != known.registration_number]
     full = [row for row in sibs if row.dam and row.dam == record.dam]
-    are_full = {row.number for row in full} | {known.number}
-    halves = {role: [row for row in with_parent[role] if row.number not in are_full] for role in Role}
+    are_full = {row.registration_number for row in full} | {known.registration_number}
+    halves = {role: [row for row in with_parent[role] if row.registration_number not in are_full] for role in Role}
     own = Role.SIRE if known.is_male else Role.DAM
-    return Relatives(rows, by_partner(progeny_of(book, known.number, own), own), full, halves)
+    return Relatives(rows, by_partner(progeny_of(book, known.registration_number, own), own), full, halves)
 
 
 def progeny_of(book: Book, number: str, role: Role) -> list[AnimalRow]:

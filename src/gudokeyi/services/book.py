@@ -246,7 +246,7 @@ class Book:
             change, refusal = file(state, self.program, one)
             notes = (*state.notes, *export(self.folder))
         findings = (one.refused(refusal),) if refusal else one.findings
-        return Filed(change, one.known.id, one.known.number, refusal, findings, notes)
+        return Filed(change, one.known.id, one.known.registration_number, refusal, findings, notes)
 
     def import_sheet(
         self, path: str | os.PathLike[str], options: ImportOptions | None = None, preview: bool = False
@@ -310,7 +310,7 @@ def animals_of(state: State, rows: Sequence[AnimalRow]) -> tuple[Animal, ...]:
 
     check_coefficients(state)
     coefficients = kept_coefficients(state)
-    return tuple(animal_of(state, row, coefficients[row.number]) for row in rows)
+    return tuple(animal_of(state, row, coefficients[row.registration_number]) for row in rows)
 
 
 def animal_of(state: State, row: AnimalRow, coefficient: Coefficient) -> Animal:
@@ -319,9 +319,9 @@ def animal_of(state: State, row: AnimalRow, coefficient: Coefficient) -> Animal:
     left = day(row.departed) if row.departed else None
     return Animal(
         id=row.id,
-        registration_number=row.number,
+        registration_number=row.registration_number,
         name=row.name,
-        sex=row.number[6],
+        sex=row.registration_number[6],
         born=day(row.born or ""),
         sire=ids[row.sire] if row.sire else "",
         dam=ids[row.dam] if row.dam else "",

@@ -47,7 +47,7 @@ def day_of(row: AnimalRow) -> datetime.date:
 
 
 def breed_of(book: Book) -> Breed:
-    by_number = {row.number: row for row in book.all_rows}
+    by_number = {row.registration_number: row for row in book.all_rows}
     inbred = kept_coefficients(book)
     ranks = {number: rank for rank, number in enumerate(inbred)}
     rows = [by_number[number] for number in ranks]
@@ -62,7 +62,7 @@ def breed_of(book: Book) -> Breed:
             [ranks[row.dam] if row.dam else UNKNOWN for row in rows],
             [units_of(one.fraction) for one in inbred.values()],
             [day_of(row) if row.birth_source == given else None for row in rows],
-            [row.number[6] == "M" for row in rows],
+            [row.registration_number[6] == "M" for row in rows],
         ),
     )
 
@@ -96,7 +96,7 @@ def owned_by(breed: Breed, owner: str) -> list[int]:
 
 
 def among(breed: Breed, animals: Collection[SocietyRecord]) -> list[int]:
-    return sorted({breed.ranks[known.number] for known in animals})
+    return sorted({breed.ranks[known.registration_number] for known in animals})
 
 
 def mean_kinships_of(breed: Breed, population: Sequence[int]) -> dict[str, Fraction]:
@@ -104,7 +104,7 @@ def mean_kinships_of(breed: Breed, population: Sequence[int]) -> dict[str, Fract
     from gudokeyi.genetics.kinship import Kinship
 
     of_each = Kinship.of(breed.pedigree).mean_of_each(population)
-    return {row.number: of_each[at] for at, row in enumerate(breed.rows)}
+    return {row.registration_number: of_each[at] for at, row in enumerate(breed.rows)}
 
 
 def state_of_breed(breed: Breed, population: Sequence[int], tell: Callable[[str], None]) -> State:

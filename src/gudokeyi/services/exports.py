@@ -95,7 +95,7 @@ def condition_of(book: Book, kept: Iterable[SocietyRecord] | None) -> Condition:
     """What holds for all animals, or for those that are to be kept and their ancestors."""
     if kept is None:
         return ANY
-    numbers = {known.number for known in kept}
+    numbers = {known.registration_number for known in kept}
     wanted = sorted(ancestors(numbers, known_parents(book).__getitem__) | numbers)
     return among(wanted)
 

@@ -80,10 +80,10 @@ def born(book: Book, offspring: Offspring) -> FiledCommand:
         refuse_long(field, text)
     refuse_to_come(offspring.day)
     before = book.known.get(offspring.id)
-    number = before.number if before else number_for(book, offspring)
+    number = before.registration_number if before else number_for(book, offspring)
     owner = "" if names_no_owner(offspring.owner) else offspring.owner
     owner_code, new_owners = owner_code_of(book, owner)
-    sire, dam = (parent.number if parent else "" for parent in (offspring.sire, offspring.dam))
+    sire, dam = (parent.registration_number if parent else "" for parent in (offspring.sire, offspring.dam))
     said = {
         Field.SEX: True, Field.BIRTH: True, Field.NAME: offspring.name, Field.SIRE: sire, Field.DAM: dam,
         Field.OWNER: owner, Field.EMBRYO: offspring.embryo,
@@ -135,11 +135,11 @@ def with_parents(
     book: Book, known: SocietyRecord, sire: SocietyRecord | str | None, dam: SocietyRecord | str | None
 ) -> FiledCommand:
     """Other parents: an animal, an empty text for an unknown one, or none for the one that the book has."""
-    record = book.records[known.number]
+    record = book.records[known.registration_number]
     findings: list[Finding] = []
     numbers, by_hand = [], set(known.by_hand)
     for one, given, before in ((Field.SIRE, sire, record.sire), (Field.DAM, dam, record.dam)):
-        number = before if given is None else given.number if isinstance(given, SocietyRecord) else ""
+        number = before if given is None else given.registration_number if isinstance(given, SocietyRecord) else ""
         numbers.append(number)
         if given is not None:
             by_hand.add(one)
@@ -152,7 +152,7 @@ def with_parents(
         by_hand=frozenset(by_hand), written_sire=known.written_sire if sire is None else "",
         written_dam=known.written_dam if dam is None else "",
     )  # fmt: skip
-    return FiledCommand(ChangeKind.PARENTS, parents(known.number, *numbers), after, tuple(findings))
+    return FiledCommand(ChangeKind.PARENTS, parents(known.registration_number, *numbers), after, tuple(findings))
 
 
 def transferred(
@@ -164,14 +164,14 @@ def transferred(
         raise InvalidValue(NotSuch.NO_TAKER.said())
     refuse_long(Field.OWNER, to_owner)
     refuse_to_come(day)
-    record = book.records[known.number]
+    record = book.records[known.registration_number]
     owner_code, new_owners = owner_code_of(book, to_owner)
     if from_owner is not None and from_owner not in book.owners:
         raise OwnerNotFound(Naming.NO_OWNER.said(name=from_owner, hint=Naming.AS_IN_BOOK.said()))
     herd_before = record.owner_code if from_owner is None else book.owners[from_owner]
     found = ValueChanged("owner", to_owner, book.owner_of(record.owner_code))
     after = known._replace(by_hand=known.by_hand | {Field.OWNER}, owner_day=OwnerDay.GIVEN)
-    command = transfer(known.number, day, herd_before, owner_code)
+    command = transfer(known.registration_number, day, herd_before, owner_code)
     since = inferred_since(known, record, day)
     return FiledCommand(
         ChangeKind.TRANSFER, command, after, (found, *new_owner(book, to_owner)), new_owners, owner_since=since
@@ -181,11 +181,11 @@ def transferred(
 def departed(book: Book, known: SocietyRecord, day: datetime.date) -> FiledCommand:
     """An exit."""
     refuse_to_come(day)
-    record = book.records[known.number]
+    record = book.records[known.registration_number]
     after = known._replace(exit=GIVEN_EXIT, by_hand=known.by_hand | {Field.EXIT})
     found = ValueChanged("exit", day.isoformat(), str(record.left or ""))
     since = inferred_since(known, record, day)
-    return FiledCommand(ChangeKind.EXIT, leave(known.number, day), after, (found,), owner_since=since)
+    return FiledCommand(ChangeKind.EXIT, leave(known.registration_number, day), after, (found,), owner_since=since)
 
 
 def inferred_since(known: SocietyRecord, record: RegisterRecord, day: datetime.date) -> datetime.date | None:
@@ -203,7 +203,8 @@ def file(book: Book, program: BookProgram, one: FiledCommand) -> tuple[Change, R
     rows = Rows({}, {}) if refusal else rows_of(book, one)
     findings = (one.refused(refusal),) if refusal else one.findings
     keeps = bool(refusal) or one.kind in (ChangeKind.TRANSFER, ChangeKind.EXIT)
-    born, corrected = (one.known.number * (one.kind is kind) for kind in (ChangeKind.BIRTH, ChangeKind.PARENTS))
+    number = one.known.registration_number
+    born, corrected = (number * (one.kind is kind) for kind in (ChangeKind.BIRTH, ChangeKind.PARENTS))
     new_owners = {} if refusal else one.new_owners
     state = State(rows, new_owners=new_owners, keeps_coefficients=keeps, born=born, corrected=corrected)
     made = ChangeDetails(one.kind, options=one.options, told=told_by(one, findings), form=one.form)
@@ -218,6 +219,7 @@ def told_by(one: FiledCommand, findings: tuple[Finding, ...]) -> tuple[StoredFin
 def rows_of(book: Book, one: FiledCommand) -> Rows:
     """The animal's row before and after."""
     before = rows_with_id(book.connection, one.known.id)
-    record: RegisterRecord | None = None if one.kind is ChangeKind.BIRTH else book.records[one.known.number]
+    number = one.known.registration_number
+    record: RegisterRecord | None = None if one.kind is ChangeKind.BIRTH else book.records[number]
     after = row_of(one.known, record_after(record, one.command))
     return Rows({(row.id,): row for row in before}, {(after.id,): after})

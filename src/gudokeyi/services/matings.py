@@ -39,7 +39,7 @@ class Candidate(NamedTuple):
     """An animal that may be mated; `birth` is its birth day as lists show it, and `has_year` says whether at least its
     birth year is known."""
 
-    number: str
+    registration_number: str
     id: str
     name: str
     born: str
@@ -60,7 +60,7 @@ class Candidates:
 
     @property
     def numbers(self) -> list[str]:
-        return [one.number for one in self.animals]
+        return [one.registration_number for one in self.animals]
 
     def told(self) -> list[str]:
         """Who was passed over though it may have been meant; how many left is told where they can be asked for."""
@@ -86,7 +86,7 @@ class Candidates:
 
 def candidates_of(book: Book, role: Role, named: Sequence[SocietyRecord] | None) -> Candidates:
     """Those that are named, each of which has to have the sex; where none is, all that there are."""
-    wrong = [known.id for known in named or () if known.number[6] != role.sex]
+    wrong = [known.id for known in named or () if known.registration_number[6] != role.sex]
     if wrong:
         raise MatingImpossible(Mating.WRONG_SEX.said(animals=Some(wrong), role=role, sex=OTHERS[role]))
     found = all_candidates(book, role) if named is None else named_candidates(book, role, named)
@@ -95,7 +95,7 @@ def candidates_of(book: Book, role: Role, named: Sequence[SocietyRecord] | None)
 
 def named_candidates(book: Book, role: Role, named: Sequence[SocietyRecord]) -> Candidates:
     """In the order in which they are named, whatever they are."""
-    numbers = list(dict.fromkeys(known.number for known in named))
+    numbers = list(dict.fromkeys(known.registration_number for known in named))
     rows = selected(book, OF_CANDIDATE, among(numbers))
     by_number = {
         number: Candidate(number, id, name, born, birth_of(born, *basis), basis[0] in WITH_YEAR)
@@ -109,7 +109,7 @@ def all_candidates(book: Book, role: Role, also_left: bool = False) -> Candidate
     read = MatesRead(book, role, also_left)
     rows = zip(read.numbers, read.ids, read.names, read.births)
     animals = [candidate(*row) for row in rows]
-    animals.sort(key=lambda one: (one.born, one.number))
+    animals.sort(key=lambda one: (one.born, one.registration_number))
     return passed_over(read, role, animals)
 
 
@@ -144,7 +144,7 @@ def mates_table(dams: Candidates, sires: Candidates, pairs: Pairs) -> Table:
     """For each dam its sires, the least related first."""
     rows: list[Sequence[Cell]] = []
     for dam in dams.animals:
-        of_dam = [(sire.id, pairs.coefficients.get((dam.number, sire.number))) for sire in sires.animals]
+        of_dam = [(sire.id, pairs.of(dam, sire)) for sire in sires.animals]
         found = sorted((one.units, sire, one) for sire, one in of_dam if one)
         rows += [(dam.id, sire, one.fraction, one.decimal(), one.percent) for _, sire, one in found]
     return Table.of_rows(COLUMNS, rows)
@@ -154,7 +154,7 @@ def mates_matrix(dams: Candidates, sires: Candidates, pairs: Pairs) -> Table:
     """A row for each dam and a column for each sire, with percentages; nothing where a mating is refused."""
     rows: list[Sequence[Cell]] = []
     for dam in dams.animals:
-        values = [pairs.coefficients.get((dam.number, sire.number)) for sire in sires.animals]
+        values = [pairs.of(dam, sire) for sire in sires.animals]
         rows.append((dam.id, *(one.percent if one else "" for one in values)))
     return Table.of_rows([("percent", Kind.TEXT), *((sire.id, Kind.DECIMAL) for sire in sires.animals)], rows)
 
@@ -224,7 +224,7 @@ def advise_on_all(
         answers = answers_of(begun)
     except sqlite3.Error:
         # the journal couldn't be read beside
-        answers = answers_of(program.begin_matings(dam.number, read.numbers, book))
+        answers = answers_of(program.begin_matings(dam.registration_number, read.numbers, book))
     return told_of(dam, sires, answers, shown, read)
 
 
@@ -259,7 +259,7 @@ def told_of(
 
 def by_mating(book: Book, program: BookProgram, dam: SocietyRecord, sires: Candidates) -> Answers:
     """What the program says of a mating with each of the sires, in their order."""
-    return answers_of(program.begin_matings(dam.number, sires.numbers, book))
+    return answers_of(program.begin_matings(dam.registration_number, sires.numbers, book))
 
 
 def answers_of(begun: Sequence[Background[str]]) -> Answers:

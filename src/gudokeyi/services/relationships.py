@@ -21,6 +21,7 @@ from gudokeyi.store.queries import selected
 
 if TYPE_CHECKING:
     from gudokeyi.genetics.plans import Pair
+    from gudokeyi.services.matings import Candidate
 
 # What the program says of the offspring of all pairs: their coefficients, and which matings it refuses.
 
@@ -35,6 +36,10 @@ class Pairs:
 
     coefficients: dict[Pair, Coefficient]
     refused: list[Pair]
+
+    def of(self, dam: Candidate, sire: Candidate) -> Coefficient | None:
+        """That of two animals; none where the program refuses them."""
+        return self.coefficients.get((dam.registration_number, sire.registration_number))
 
 
 def pairs_of(book: Book, program: BookProgram, dams: Sequence[str], sires: Sequence[str]) -> Pairs:
@@ -119,9 +124,9 @@ def related(
     book: Book, program: BookProgram, animals: Sequence[SocietyRecord], others: Sequence[SocietyRecord] | None
 ) -> list[Related]:
     """All pairs of some animals, each with itself too; or else each of them with each of the others."""
-    numbers = [known.number for known in animals]
+    numbers = [known.registration_number for known in animals]
     if others is not None:
-        of_others = [known.number for known in others]
+        of_others = [known.registration_number for known in others]
         found = relationships(book, program, numbers, of_others)
         return [Related(one, other, found[one, other]) for one in numbers for other in of_others]
     count = len(animals) * (len(animals) + 1) // 2
@@ -150,11 +155,12 @@ def kinship_matrix(
     values = {(pair.one, pair.other): pair.kinship if kinships else pair.relationship for pair in pairs}
     if others is None:
         values |= {(other, one): value for (one, other), value in values.items()}
+    numbers = [other.registration_number for other in columns]
     rows: list[Sequence[Cell]] = [
-        (one.id, *(decimal_of_text(values[one.number, other.number]) for other in columns)) for one in animals
+        (one.id, *(decimal_of_text(values[one.registration_number, number]) for number in numbers)) for one in animals
     ]
     return Table.of_rows([("id", Kind.TEXT), *((known.id, Kind.DECIMAL) for known in columns)], rows)
 
 
 def each_once(animals: Sequence[SocietyRecord]) -> list[SocietyRecord]:
-    return list({known.number: known for known in animals}.values())
+    return list({known.registration_number: known for known in animals}.values())

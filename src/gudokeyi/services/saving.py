@@ -157,7 +157,8 @@ def changed_animals(book: Book, known: dict[str, SocietyRecord], records: dict[s
     changed = {
         id: one
         for id, one in known.items()
-        if known_before.get(id) != one or book.records.get(one.number) != records.get(one.number)
+        if known_before.get(id) != one
+        or book.records.get(one.registration_number) != records.get(one.registration_number)
     }
     before: dict[Values, Values] = {(row.id,): row for row in book.every_row if row.id in changed}
     return Rows(before, animal_rows(changed, records))

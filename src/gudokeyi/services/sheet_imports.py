@@ -207,7 +207,8 @@ def read_animals(file: GivenFile, import_options: ImportOptions, book: Book, wor
     columns = find_columns(sheet, now, {name: title for name, title in before.items() if name not in now}, unknown,
                            [known.id for known in book.known.values() if known.standing.had_row()])  # fmt: skip
     month_first = bool(words[Remembered.MONTH_FIRST])
-    born = {id: book.records[known.number].born for id, known in book.known.items() if not known.birth.is_inferred}
+    with_day = {id: known for id, known in book.known.items() if not known.birth.is_inferred}
+    born = {id: book.records[known.registration_number].born for id, known in with_day.items()}
     rows = Rows(
         sheet, columns.found, unknown, read_sexes(words[Remembered.SEXES]), report, month_first, born,
         words[Remembered.TOLD],

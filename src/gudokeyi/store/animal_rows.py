@@ -24,7 +24,7 @@ class AnimalRow(NamedTuple):
     """A row of the table, without the changes between which it holds."""
 
     id: str
-    number: str
+    registration_number: str
     name: str
     folded_id: str
     folded_name: str
@@ -78,7 +78,7 @@ def fields_of(words: str) -> frozenset[Field]:
 def known_of(row: AnimalRow) -> SocietyRecord:
     """What the society knows of it."""
     return SocietyRecord(
-        row.number,
+        row.registration_number,
         row.id,
         row.name,
         STANDINGS[row.standing],
@@ -97,7 +97,7 @@ def record_of(row: AnimalRow) -> RegisterRecord:
     """What the register has of it."""
     day = datetime.date.fromisoformat
     return RegisterRecord(
-        row.number,
+        row.registration_number,
         day(row.born or ""),
         row.sire or "",
         row.dam or "",

@@ -103,7 +103,7 @@ class Book:
 
     def row(self, known: SocietyRecord) -> AnimalRow:
         """That of an animal of the book."""
-        return self.rows(with_number(known.number))[0]
+        return self.rows(with_number(known.registration_number))[0]
 
     def row_of(self, number: str) -> AnimalRow | None:
         return next(iter(self.rows(with_number(number))), None)
@@ -141,10 +141,10 @@ class Book:
         return {row.id: known_of(row) for row in self.all_rows}
 
     def read_all_numbered(self) -> dict[str, SocietyRecord]:
-        return {known.number: known for known in self.known.values()}
+        return {known.registration_number: known for known in self.known.values()}
 
     def read_all_records(self) -> dict[str, RegisterRecord]:
-        return {row.number: record_of(row) for row in self.all_rows}
+        return {row.registration_number: record_of(row) for row in self.all_rows}
 
     @functools.cached_property
     def dropped(self) -> dict[str, SocietyRecord]:
@@ -184,7 +184,7 @@ class Book:
         return self.names
 
     def has_left(self, known: SocietyRecord) -> bool:
-        return self.records[known.number].left is not None or known.exit.day_is_unknown
+        return self.records[known.registration_number].left is not None or known.exit.day_is_unknown
 
     def without_row(self) -> list[str]:
         """The ids of the added parents, and of those that are gone."""

@@ -213,4 +213,4 @@ class State:
 
 def animal_rows(known: dict[str, SocietyRecord], records: dict[str, RegisterRecord]) -> dict[Values, Values]:
     """The rows of animals, by their ids; one that was dropped has no record."""
-    return {(id,): row_of(one, records.get(one.number)) for id, one in known.items()}
+    return {(id,): row_of(one, records.get(one.registration_number)) for id, one in known.items()}

@@ -133,7 +133,7 @@ def file_form(desk: ServedBook, form: Form) -> Change:
             form.named(before)
             sire, dam = (form.parent(before, role) for role in ("sire", "dam"))
             if form.kind is ChangeKind.BIRTH and sire and dam:
-                desk.program.expect(before, sire.number, dam.number, form.day())
+                desk.program.expect(before, sire.registration_number, dam.registration_number, form.day())
     change = change_once(desk, form.token, lambda book: file(book, desk.program, form.command(book))[0])
     assert change is not None
     return change

@@ -86,7 +86,7 @@ OF_ANIMAL, SHOWN = "shown-id", "shown-{}"
 
 def parents_of(book: Book, known: SocietyRecord) -> dict[str, str]:
     """The ids of an animal's parents, empty for an unknown one."""
-    record = book.records[known.number]
+    record = book.records[known.registration_number]
     named = {"sire": record.sire, "dam": record.dam}
     return {role: book.by_number()[number].id if number else "" for role, number in named.items()}
 

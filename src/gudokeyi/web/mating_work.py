@@ -132,7 +132,8 @@ def planned(folder: pathlib.Path, asked: Asked, tell: Tell) -> PlanMade:
 
 
 def made(book: Book, found: Planned, among: Prepared) -> PlanMade:
-    mates = {one.number: Mate(one.number, one.id, one.name) for one in (*among.dams.animals, *among.sires.animals)}
+    candidates = (*among.dams.animals, *among.sires.animals)
+    mates = {one.registration_number: Mate(one.registration_number, one.id, one.name) for one in candidates}
     plan = found.plan
     unmated: dict[Unmated, list[Mate]] = {}
     for dam, why in plan.unmated.items():
@@ -151,7 +152,7 @@ TRIES_FOR_ADVICE = 20
 
 def advice_for(desk: ServedBook, book: Book, dam: SocietyRecord, also_left: bool) -> Job:
     """The work on it for the book as it is now, which is begun where it wasn't."""
-    key = (ADVICE, mark_of(book), dam.number, also_left)
+    key = (ADVICE, mark_of(book), dam.registration_number, also_left)
     return desk.jobs.here(key, lambda: advice_of_now(desk, dam, also_left))
 
 

@@ -70,7 +70,7 @@ def does(wished: Wished) -> Callable[[argparse.Namespace], None]:
                 f"{one.known.id}: {what(one)} refused: {one.refused(refusal).why()}. The animals are as "
                 f"before; change {change.number} of the history tells of it"
             )
-        print(f"{one.known.id} ({one.known.number}): {what(one)} accepted: change {change.number}")
+        print(f"{one.known.id} ({one.known.registration_number}): {what(one)} accepted: change {change.number}")
         for finding in one.findings:
             if finding.what is What.WARNING:
                 tell(f"{one.known.id}: {finding.words()}")

@@ -82,7 +82,7 @@ def animals_asked_for(asked: argparse.Namespace, book: Book) -> list[SocietyReco
     animals = named or known_chosen(book, choice)
     if not animals:
         raise Mistake("there is no such animal: `list` with the same options shows which there are")
-    return list({known.number: known for known in animals}.values())
+    return list({known.registration_number: known for known in animals}.values())
 
 
 def do_pedigree(asked: argparse.Namespace, book: Book, program: BookProgram) -> None:

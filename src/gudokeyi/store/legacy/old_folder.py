@@ -92,13 +92,13 @@ def last_cells(
 ) -> dict[Values, Values]:
     """What the last sheet said of the animals that had a row, as far as the book shows it: such a folder has no cells, and
     what is filed by hand is compared with them."""
-    ids = {known.number: id for id, known in in_book.items()} | {"": ""}
+    ids = {known.registration_number: id for id, known in in_book.items()} | {"": ""}
     cells: dict[Values, Values] = {}
     for id, known in in_book.items():
-        _, born, sire, dam, embryo, owner_code, _, left, _ = records[known.number]
+        _, born, sire, dam, embryo, owner_code, _, left, _ = records[known.registration_number]
         exit = known.exit.text or (known.exit.period.text if known.exit.period else str(left or ""))
         said = {
-            Field.NAME: known.name, Field.SEX: known.number[6] * (not known.sex.is_inferred),
+            Field.NAME: known.name, Field.SEX: known.registration_number[6] * (not known.sex.is_inferred),
             Field.BIRTH: str(born) * (not known.birth.is_inferred), Field.SIRE: known.written_sire or ids[sire],
             Field.DAM: known.written_dam or ids[dam], Field.OWNER: "" if owner_code == NO_OWNER else owners.get(
                 owner_code, str(owner_code)
@@ -144,18 +144,20 @@ def read(folder: pathlib.Path, file: FileAll) -> OldBook:
 
 def read_known(folder: pathlib.Path, listed: list[SocietyRecord], numbers: set[str]) -> dict[str, SocietyRecord]:
     """The animals that are in the book, and those that were dropped."""
-    lost = next((one for one in listed if one.standing is not Standing.DROPPED and one.number not in numbers), None)
+    there = (one for one in listed if one.standing is not Standing.DROPPED)
+    lost = next((one for one in there if one.registration_number not in numbers), None)
     if lost:
         raise Mistake(
-            f"{folder / IDS} has {lost.id} ({lost.number}), whose birth isn't in {folder / COMMANDS}: restore both files, or "
-            "take the sheet into another folder"
+            f"{folder / IDS} has {lost.id} ({lost.registration_number}), whose birth isn't in {folder / COMMANDS}: restore "
+            "both files, or take the sheet into another folder"
         )
-    in_book = [known._replace(standing=in_book_as(known.standing)) for known in listed if known.number in numbers]
-    each_once(folder / IDS, [known.number for known in in_book])
+    named_in_both = (known for known in listed if known.registration_number in numbers)
+    in_book = [known._replace(standing=in_book_as(known.standing)) for known in named_in_both]
+    each_once(folder / IDS, [known.registration_number for known in in_book])
     each_once(folder / IDS, [known.id for known in in_book])
     found = {known.id: known for known in listed if known.standing is Standing.DROPPED}
     found |= {known.id: known for known in in_book}
-    named = {known.number for known in in_book}
+    named = {known.registration_number for known in in_book}
     found |= {number: SocietyRecord(number, number) for number in numbers - named}
     for id, role, text in read_table(folder, PARENTS, ["id", "role", "written"], needed=False):
         if id in found:

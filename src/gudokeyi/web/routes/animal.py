@@ -40,7 +40,8 @@ def animal(book: Book, number: str) -> Answer:
         pedigree=Markup(drawn_within(pedigree, words("pedigree of", known.id))), changes=own_changes(
             book, known.id, words
         ),
-        kinship=kinship_of(served_book(), book, known.number), generations=range(1, MOST_GENERATIONS + 1), drawn=DRAWN,
+        kinship=kinship_of(served_book(), book, known.registration_number),
+        generations=range(1, MOST_GENERATIONS + 1), drawn=DRAWN,
     )  # fmt: skip
 
 

@@ -31,7 +31,7 @@ def animals(book: Book) -> Answer:
         found = found_by(book, asked)
     except Mistake as mistake:
         faults = on_page(mistake.sentences)
-    coefficients = coefficients_among(book, [row.number for row in found.rows])
+    coefficients = coefficients_among(book, [row.registration_number for row in found.rows])
     sorts = {order.value: address("animals.page", fields_of(turned(asked, order))) for order in Order}
     pages = [address("animals.page", fields_of(asked) | {"page": str(found.page + step)}) for step in (-1, 1)]
     return render_template(

@@ -44,13 +44,14 @@ class AnimalLine(NamedTuple):
 
 
 def line_of(book: Book, row: AnimalRow, coefficients: Mapping[str, Coefficient], words: PageLanguage) -> AnimalLine:
-    coefficient = coefficients[row.number]
+    coefficient = coefficients[row.registration_number]
     sex = words.language.marked(
-        words("female" if row.number[6] == "F" else "male"), mark_of(SEX_SOURCES[row.sex_source])
+        words("female" if row.registration_number[6] == "F" else "male"), mark_of(SEX_SOURCES[row.sex_source])
     )
     percent = words.percent(coefficient.percent) if coefficient.is_inbred else ""
     owner = book.owner_of(row.owner_code or 0)
-    return AnimalLine(row.number, row.id, row.name, sex, born_of(row, words), owner, exit_of(row, words), percent)
+    number, born = row.registration_number, born_of(row, words)
+    return AnimalLine(number, row.id, row.name, sex, born, owner, exit_of(row, words), percent)
 
 
 def born_of(row: AnimalRow, words: PageLanguage) -> str:
@@ -88,7 +89,7 @@ class Offered(NamedTuple):
     @classmethod
     def of(cls, row: AnimalRow, known: SocietyRecord) -> Offered:
         may_be_there = not row.departed and row.exit_source != ExitSource.UNKNOWN_DAY.value
-        is_dam = row.number[6] == Role.DAM.sex and not known.castrated
+        is_dam = row.registration_number[6] == Role.DAM.sex and not known.castrated
         # the day of an exit that isn't known can still be filed
         return cls(is_dam and may_be_there, not row.departed, may_be_there)
 
@@ -120,7 +121,7 @@ class Shower:
         return [self.line(row) for row in rows]
 
     def shown(self, row: AnimalRow, relatives: Relatives) -> AnimalPageView:
-        known, coefficient = known_of(row), self.coefficients[row.number]
+        known, coefficient = known_of(row), self.coefficients[row.registration_number]
         return AnimalPageView(
             self.line(row),
             self.facts(row, known),
@@ -139,7 +140,7 @@ class Shower:
         is_said = owner_day_known(self.book, known, row.from_owner, row.owned_since)
         since = f" {words('since', owner_day_of(row, known, words))}" if is_said else ""
         found = [
-            (words("number"), row.number),
+            (words("number"), row.registration_number),
             (words("sex"), line.sex + castrated * known.castrated),
             (words("born"), line.born + embryo * bool(row.embryo)),
             (words("exit"), line.exit or words("no exit")),
@@ -168,7 +169,7 @@ def facts_said(
     known = known_of(row)
     return {
         "standing": words(f"standing {known.standing.value}"),
-        "number": row.number,
+        "number": row.registration_number,
         "name": row.name,
         "birth day": born_of(row, words),
         "sire": names.get(row.sire or "", row.sire or ""),
