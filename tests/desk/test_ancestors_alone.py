@@ -73,7 +73,7 @@ def test_refused(site: Site) -> None:
 
 def test_last_expected(site: Site, monkeypatch: pytest.MonkeyPatch) -> None:
     """Of more calves than are kept the first goes."""
-    monkeypatch.setattr("gudokeyi.services.book_session.MOST_CALVES", 1)
+    monkeypatch.setattr("gudokeyi.services.book_session.MOST_EXPECTED", 1)
     expected = Expected()
     with site.desk.opened() as book:
         assert book

@@ -99,9 +99,9 @@ def test_killed_while_a_sheet_is_taken(society_desk: Desk) -> None:
     server.process.wait()
     society_desk.good("verify")
     # what was dropped goes when a desk is opened again
-    assert [*society_desk.room.glob("society-desk-*/*/a.csv")]
+    assert [*society_desk.room.glob("gudokeyi-desk-*/*/a.csv")]
     again = Server(society_desk.room, society_desk.program)
-    assert not [*society_desk.room.glob("society-desk-*/*/a.csv")]
+    assert not [*society_desk.room.glob("gudokeyi-desk-*/*/a.csv")]
     again.end()
     # a change of one's own waits for a taking that goes on
     society_desk.good("exit", "GK-17/472c", "--day", "2024-05-01")

@@ -22,7 +22,7 @@ NOBODY = 65534
 @pytest.fixture
 def open_room() -> Iterator[pathlib.Path]:
     """A folder that nobody may go to."""
-    room = pathlib.Path(tempfile.mkdtemp(prefix="society-tests-"))
+    room = pathlib.Path(tempfile.mkdtemp(prefix="gudokeyi-tests-"))
     room.chmod(0o755)
     yield room
     shutil.rmtree(room)

@@ -69,8 +69,8 @@ def longest_paths(order: Iterable[str], further: Callable[[str], Iterable[str]])
 
 def round_from(id: str, parent: Callable[[str], str]) -> list[str]:
     """The animals of the cycle to which the way from an animal leads, each with the next as its parent."""
-    way: dict[str, int] = {}
-    while id not in way:
-        way[id] = len(way)
+    path: dict[str, int] = {}
+    while id not in path:
+        path[id] = len(path)
         id = parent(id)
-    return list(way)[way[id] :]
+    return list(path)[path[id] :]

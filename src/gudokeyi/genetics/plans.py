@@ -32,7 +32,7 @@ class Flow:
     whole."""
 
     senders: Sequence[str]
-    takers: Sequence[str]
+    receivers: Sequence[str]
     costs: Mapping[tuple[str, str], int]
     most: int
 
@@ -48,16 +48,16 @@ def cheapest_flow(flow: Flow) -> dict[str, str]:
     for sender in flow.senders:
         network.add_node(("sender", sender), demand=-1)
         network.add_edge(("sender", sender), SINK, weight=nothing)
-    for taker in flow.takers:
-        network.add_edge(("taker", taker), SINK, capacity=flow.most, weight=0)
-    for (sender, taker), cost in flow.costs.items():
-        network.add_edge(("sender", sender), ("taker", taker), weight=cost)
+    for receiver in flow.receivers:
+        network.add_edge(("receiver", receiver), SINK, capacity=flow.most, weight=0)
+    for (sender, receiver), cost in flow.costs.items():
+        network.add_edge(("sender", sender), ("receiver", receiver), weight=cost)
     _, sent = networkx.network_simplex(network)
     return {
-        sender: taker[1]
+        sender: receiver[1]
         for sender in flow.senders
-        for taker, amount in sent["sender", sender].items()
-        if amount and taker != SINK
+        for receiver, amount in sent["sender", sender].items()
+        if amount and receiver != SINK
     }
 
 

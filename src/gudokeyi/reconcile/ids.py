@@ -84,7 +84,7 @@ def leave_out_used_tags(
     `another`, or as `after` of one that would be younger than its offspring."""
     found = set()
     apart = [(animal, known) for animal, known in animals_of_book(animals, book) if are_years_apart(animal, known, book)]
-    progeny = earliest_calves(book) if apart else {}
+    progeny = earliest_offspring(book) if apart else {}
     for animal, known in apart:
         id, number = animal.id, known.registration_number
         born, offspring = book.records[number].born, progeny.get(number)
@@ -107,7 +107,7 @@ def animals_of_book(animals: dict[str, SheetAnimal], book: Book) -> list[tuple[S
     return [(animal, known[id]) for id, animal in animals.items() if id in known] if known else []
 
 
-def earliest_calves(book: Book) -> dict[str, RegisterRecord]:
+def earliest_offspring(book: Book) -> dict[str, RegisterRecord]:
     """The first offspring of each parent."""
     found: dict[str, RegisterRecord] = {}
     for record in book.records.values():

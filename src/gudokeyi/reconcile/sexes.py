@@ -158,17 +158,17 @@ class Sexes:
     def no_sexes_fit(self, animal: SheetAnimal) -> NoSexesFit:
         """With the couples that lead from the sire by mates to the dam, and with this animal's back: an odd number of
         them."""
-        up, down = self.way(animal.sire), self.way(animal.dam)
+        up, down = self.path(animal.sire), self.path(animal.dam)
         while len(up) > 1 and len(down) > 1 and up[-2] == down[-2]:
             del up[-1], down[-1]
-        way = up + down[-2::-1]
-        couples = [Couple(one, mate, self.mates[one][mate].line) for one, mate in zip(way, way[1:])]
+        path = up + down[-2::-1]
+        couples = [Couple(one, mate, self.mates[one][mate].line) for one, mate in zip(path, path[1:])]
         couples.append(Couple(animal.dam, animal.sire, animal.line))
         return NoSexesFit(animal.dam, tuple(couples[-MOST_COUPLES:]), max(0, len(couples) - MOST_COUPLES))
 
-    def way(self, id: str) -> list[str]:
+    def path(self, id: str) -> list[str]:
         """From an animal by mates to the first of those that are joined to it."""
-        way = [id]
-        while way[-1] in self.found_by:
-            way.append(self.found_by[way[-1]])
-        return way
+        path = [id]
+        while path[-1] in self.found_by:
+            path.append(self.found_by[path[-1]])
+        return path

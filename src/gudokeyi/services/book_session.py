@@ -32,7 +32,7 @@ LARGE = 5_000
 # of more animals it is quicker to ask for all
 MOST = 30_000
 # so many offspring are expected at once
-MOST_CALVES = 64
+MOST_EXPECTED = 64
 # the digits of an offspring that has no number yet
 NO_DIGITS = "999999999999"
 
@@ -70,7 +70,7 @@ class Expected:
         for line in lines_among(program, [*births_of(book, [sire, dam]), offspring], [number]):
             with self.lock:
                 self.kept[sire, dam] = book.change, line.partition(",")[2]
-                while len(self.kept) > MOST_CALVES:
+                while len(self.kept) > MOST_EXPECTED:
                     self.kept.popitem(last=False)
 
     def line_of(self, book: Book, number: str) -> str:

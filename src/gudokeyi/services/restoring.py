@@ -38,7 +38,7 @@ def restore(
         raise Mistake(f"{path} is the book itself: name a backup")
     if not has_file(folder) and not has_old_files(folder):
         check_new(folder)
-    with tempfile.TemporaryDirectory(prefix="society-") as room:
+    with tempfile.TemporaryDirectory(prefix="gudokeyi-") as room:
         copy = pathlib.Path(room) / "book.sqlite"
         change = prepare(path, copy, program)
 

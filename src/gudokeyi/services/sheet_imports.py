@@ -86,9 +86,9 @@ def file(next_book: NextBook, program: BookProgram, import_options: ImportOption
     if about.understood:
         tell_swapped_columns(next_book, about.understood)
     if not next_book.is_pedigree:
-        looks = PlausibilityChecks(next_book.animals, about.limits, report)
-        looks.tell_births(book)
-        looks.tell("exit" in next_book.given)
+        checks = PlausibilityChecks(next_book.animals, about.limits, report)
+        checks.tell_births(book)
+        checks.tell("exit" in next_book.given)
     filed = filed or filing.filed(program)
     tell_respelt_owners(next_book, owners_before)
     tell_owners_alike(next_book)

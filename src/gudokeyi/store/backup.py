@@ -28,7 +28,7 @@ from gudokeyi.store.transactions import (
 
 def read_once(path: pathlib.Path, copy: pathlib.Path) -> tuple[Source, int]:
     """Makes a copy of a backup; answers what is kept of what was read, and the version of its tables."""
-    with tempfile.TemporaryDirectory(prefix="society-") as room:
+    with tempfile.TemporaryDirectory(prefix="gudokeyi-") as room:
         read = taken_into(pathlib.Path(room), path)
         source = source_of(path, read.read_bytes())
         try:

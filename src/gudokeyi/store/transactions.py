@@ -70,7 +70,7 @@ def opened_to_read(path: pathlib.Path) -> Iterator[sqlite3.Connection]:
             # every call would wait for it, and hardly one needs it
             import tempfile
 
-            room = stack.enter_context(tempfile.TemporaryDirectory(prefix="society-"))
+            room = stack.enter_context(tempfile.TemporaryDirectory(prefix="gudokeyi-"))
             connection = stack.enter_context(contextlib.closing(connect(copy_of(path, pathlib.Path(room)), "rw")))
             begin_to_read(connection)
         yield connection
@@ -91,7 +91,7 @@ def file_of(connection: sqlite3.Connection) -> BinaryIO:
     """The same, which is there as long as it is open."""
     import tempfile
 
-    with tempfile.TemporaryDirectory(prefix="society-") as room:
+    with tempfile.TemporaryDirectory(prefix="gudokeyi-") as room:
         path = pathlib.Path(room) / "book.sqlite"
         with contextlib.closing(sqlite3.connect(path, isolation_level=None)) as copy:
             connection.backup(copy)

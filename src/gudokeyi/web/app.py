@@ -36,11 +36,11 @@ WITHOUT_BOOK = ("start.page", "sheet.page", "accounts.page")
 MOST_PLACES = 6
 
 
-def web_app(desk: ServedBook, logins: Logins) -> Flask:
+def web_app(served: ServedBook, logins: Logins) -> Flask:
     app = Flask("gudokeyi.web")
     app.request_class = BoundedRequest
     app.url_map.converters["change"] = ChangeNumber
-    app.extensions[EXTENSION] = desk
+    app.extensions[EXTENSION] = served
     app.jinja_options = {"trim_blocks": True, "lstrip_blocks": True, "finalize": finished}
     guard(app, logins)
     for page in PAGES:
@@ -62,8 +62,8 @@ class ChangeNumber(IntegerConverter):
 
 def said() -> dict[str, object]:
     """What each template can say."""
-    desk = served_book()
-    shown = MENU if desk.has_book() else WITHOUT_BOOK
+    served = served_book()
+    shown = MENU if served.has_book() else WITHOUT_BOOK
     menu = [(to, MENU[to]) for to in shown if may(to)]
     here = (request.endpoint or "").partition(".")[0]
     return {
@@ -73,7 +73,7 @@ def said() -> dict[str, object]:
         "languages": NAMES_OF_LANGUAGES,
         "may": may,
         "person": the_person(),
-        "read_only": desk.read_only,
+        "read_only": served.read_only,
         "not_whole": faults_of_book,
     }
 

@@ -40,9 +40,9 @@ class Measured:
     mean_kinships: dict[str, Fraction]
 
 
-def measures_of(desk: ServedBook, book: Book, whom: Whom) -> Job:
+def measures_of(served: ServedBook, book: Book, whom: Whom) -> Job:
     """The work on the measures of the book as it is now, which is begun where it wasn't."""
-    return desk.jobs.of((BREED, mark_of(book), whom), measured, (desk.folder, whom))
+    return served.jobs.of((BREED, mark_of(book), whom), measured, (served.folder, whom))
 
 
 def measured(folder: pathlib.Path, whom: Whom, tell: Tell) -> Measured:
@@ -74,9 +74,9 @@ def said_of(whom: Whom, words: BreedWords) -> str:
     return words.word("living")
 
 
-def kinship_of(desk: ServedBook, book: Book, number: str) -> Fraction | None:
+def kinship_of(served: ServedBook, book: Book, number: str) -> Fraction | None:
     """An animal's mean kinship with the living ones; none where that isn't computed yet."""
-    job = desk.jobs.found((BREED, mark_of(book), Whom()))
+    job = served.jobs.found((BREED, mark_of(book), Whom()))
     if job is None or job.stage is not Stage.DONE:
         return None
     assert isinstance(job.value, Measured)

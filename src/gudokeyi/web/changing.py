@@ -34,25 +34,25 @@ def seen_whole(folder: pathlib.Path, _: Tell) -> Mark:
 MOST_LOOKED_AT_HERE = 5_000
 
 
-def not_whole(desk: ServedBook, book: Book, may_wait: bool = False) -> tuple[str, ...]:
+def not_whole(served: ServedBook, book: Book, may_wait: bool = False) -> tuple[str, ...]:
     """What is wrong with the kept coefficients; nothing is where it isn't known yet and nobody waits for it. It is
     seen anew where somebody changed the book, or its file alone."""
     stamp = stamp_of(book)
-    if desk.trusted == stamp or (
-        book.journal.length > MOST_LOOKED_AT_HERE and not desk.is_seen.is_set() and not may_wait
+    if served.trusted == stamp or (
+        book.journal.length > MOST_LOOKED_AT_HERE and not served.is_seen.is_set() and not may_wait
     ):
         return ()
     try:
-        return desk.kept.of(book, ("coefficients", stamp), lambda: told_of_coefficients(book, desk.program))
+        return served.kept.of(book, ("coefficients", stamp), lambda: told_of_coefficients(book, served.program))
     except BookMoved:
         return ()
     except Mistake as mistake:
         return mistake.sentences
 
 
-def refuse_to_print(desk: ServedBook, book: Book) -> None:
+def refuse_to_print(served: ServedBook, book: Book) -> None:
     """A mistake where what is printed may have wrong coefficients."""
-    faults = not_whole(desk, book, may_wait=True)
+    faults = not_whole(served, book, may_wait=True)
     if faults:
         raise Mistake(*faults[:-1], NotWhole.NOT_PRINTED.said(called=CALLED))
 
@@ -61,73 +61,73 @@ def refuse_to_print(desk: ServedBook, book: Book) -> None:
 
 
 @contextlib.contextmanager
-def to_change(desk: ServedBook) -> Iterator[Book]:
+def to_change(served: ServedBook) -> Iterator[Book]:
     """The book, which nobody else changes until this ends. It is seen before whether it is whole, unless nobody changed
     it, or its file alone, since that was seen."""
     # where that is under way it isn't done twice
-    desk.is_seen.wait()
-    with desk.jobs.turn:
-        with alone_to_change(desk.folder) as book:
-            yield from whole(desk, book)
-        with desk.opened() as changed:
+    served.is_seen.wait()
+    with served.jobs.turn:
+        with alone_to_change(served.folder) as book:
+            yield from whole(served, book)
+        with served.opened() as changed:
             # it was whole before
-            desk.trusted = stamp_of(changed) if changed else ()
+            served.trusted = stamp_of(changed) if changed else ()
 
 
-def whole(desk: ServedBook, book: Book) -> Iterator[Book]:
-    if desk.is_closing:
+def whole(served: ServedBook, book: Book) -> Iterator[Book]:
+    if served.is_closing:
         raise Mistake(WebFault.CLOSING.said())
     if not book.is_there:
-        raise no_book(desk.folder)
-    if stamp_of(book) != desk.trusted:
-        verified(desk, book)
+        raise no_book(served.folder)
+    if stamp_of(book) != served.trusted:
+        verified(served, book)
     try:
         yield book
     except BaseException:
-        desk.program.keep_to(book.journal)
+        served.program.keep_to(book.journal)
         raise
 
 
-def verified(desk: ServedBook, book: Book) -> Mark:
+def verified(served: ServedBook, book: Book) -> Mark:
     """The mark of a book that is seen to be whole: of this one, unless somebody changes it meanwhile."""
     if book.journal.length <= MOST_LOOKED_AT_HERE:
-        verify(book, desk.program, quickly=True)
+        verify(book, served.program, quickly=True)
         return mark_of(book)
     job = Job(("whole",))
-    job.do(seen_whole, (desk.folder,))
+    job.do(seen_whole, (served.folder,))
     if job.stage is not Stage.DONE:
         raise Mistake(*job.failed.sentences)
     return cast(Mark, job.value)
 
 
-def begin_to_see(desk: ServedBook) -> None:
+def begin_to_see(served: ServedBook) -> None:
     """Sees whether the book is whole, and begins with its glance and with the session, before somebody waits for them.
     What is wrong is told where the book is changed."""
-    desk.is_seen.clear()
+    served.is_seen.clear()
     try:
-        threading.Thread(target=see_whole, args=(desk,), daemon=True).start()
+        threading.Thread(target=see_whole, args=(served,), daemon=True).start()
     except RuntimeError:
         # where no thread can be started nobody waits for one: it is seen where the book is changed
-        desk.is_seen.set()
+        served.is_seen.set()
 
 
-def see_whole(desk: ServedBook) -> None:
+def see_whole(served: ServedBook) -> None:
     try:
-        with contextlib.suppress(Mistake, BookMoved, SessionEnded), desk.opened() as book:
+        with contextlib.suppress(Mistake, BookMoved, SessionEnded), served.opened() as book:
             if book is not None and book.change is not None:
-                desk.overviews.of(book)
-                desk.program.at(book)
+                served.overviews.of(book)
+                served.program.at(book)
                 stamp = stamp_of(book)
-                is_due = desk.trusted != stamp and not desk.is_closing and not desk.read_only
-                if is_due and verified(desk, book) == mark_of(book):
-                    desk.trusted = stamp
+                is_due = served.trusted != stamp and not served.is_closing and not served.read_only
+                if is_due and verified(served, book) == mark_of(book):
+                    served.trusted = stamp
     finally:
-        desk.is_seen.set()
+        served.is_seen.set()
 
 
-def go_on(desk: ServedBook, whole: Stamp) -> None:
+def go_on(served: ServedBook, whole: Stamp) -> None:
     """The book is changed in a process beside: as it was then it is whole, and needn't be seen again. The session is
     brought to it before somebody waits for that."""
-    desk.trusted = whole
-    desk.exports.wish()
-    begin_to_see(desk)
+    served.trusted = whole
+    served.exports.wish()
+    begin_to_see(served)

@@ -125,15 +125,15 @@ def written_in(change: Change, id: str) -> dict[str, str]:
     return {"id": id} | given
 
 
-def file_form(desk: ServedBook, form: Form) -> Change:
+def file_form(served: ServedBook, form: Form) -> Change:
     """The change with which the command and its reply are stored."""
-    with desk.opened() as before:
+    with served.opened() as before:
         # which animals may be meant by a wrong word takes long to find, and so does a coefficient: nobody waits for that
         if before is not None and not made_by(before, form.token):
             form.named(before)
             sire, dam = (form.parent(before, role) for role in ("sire", "dam"))
             if form.kind is ChangeKind.BIRTH and sire and dam:
-                desk.program.expect(before, sire.registration_number, dam.registration_number, form.day())
-    change = change_once(desk, form.token, lambda book: file(book, desk.program, form.command(book))[0])
+                served.program.expect(before, sire.registration_number, dam.registration_number, form.day())
+    change = change_once(served, form.token, lambda book: file(book, served.program, form.command(book))[0])
     assert change is not None
     return change

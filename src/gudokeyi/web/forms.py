@@ -43,13 +43,13 @@ def token_with(token: str, written: Sequence[str]) -> str:
     return hashlib.sha256("\n".join([token, *written]).encode()).hexdigest()[:40]
 
 
-def change_once(desk: ServedBook, form: str, make: Callable[[Book], Change | None]) -> Change | None:
+def change_once(served: ServedBook, form: str, make: Callable[[Book], Change | None]) -> Change | None:
     """The change that is made where the form made none yet, else that one; none where nothing is to be changed."""
-    with to_change(desk) as book:
+    with to_change(served) as book:
         change = made_by(book, form) or make(book)
     if change is not None:
-        desk.program.stands_at(change)
-    desk.exports.wish()
+        served.program.stands_at(change)
+    served.exports.wish()
     return change
 
 

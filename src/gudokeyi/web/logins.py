@@ -141,14 +141,14 @@ MOST_LETTERS = 100
 @dataclass(frozen=True)
 class AccountLogins:
     accounts: Accounts
-    way: ServerAddress
+    address: ServerAddress
     throttle: Throttle
     log: AccessLog
 
     def set_up(self, app: Flask) -> None:
         from gudokeyi.web.routes import accounts, login
 
-        is_secret = bool(self.way.proxy)
+        is_secret = bool(self.address.proxy)
         app.config.update(
             SECRET_KEY=self.accounts.key(),
             # a link in a letter leads in
@@ -163,8 +163,8 @@ class AccountLogins:
         app.register_blueprint(accounts.page)
 
     def origin(self) -> str:
-        g.client = self.way.client()
-        return self.way.origin()
+        g.client = self.address.client()
+        return self.address.origin()
 
     def person(self) -> Person | None:
         token = session.get(LOGIN)

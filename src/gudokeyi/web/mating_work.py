@@ -69,56 +69,56 @@ class PlanMade:
     text: dict[bool, str]
 
 
-def usual_of(desk: ServedBook, book: Book) -> Bounds:
+def usual_of(served: ServedBook, book: Book) -> Bounds:
     """The bounds that are assumed where nothing is said."""
 
     def usual() -> Bounds:
         age, most = usual_bounds(book)
         return Bounds(most, age.days, ())
 
-    return desk.kept.of(book, ("usual bounds",), usual)
+    return served.kept.of(book, ("usual bounds",), usual)
 
 
 def bounds_of(among: Prepared) -> Bounds:
     return Bounds(among.rules.most_for_a_sire, among.minimum_age, among.assumed)
 
 
-def plan_for(desk: ServedBook, book: Book, asked: Asked) -> Job:
+def plan_for(served: ServedBook, book: Book, asked: Asked) -> Job:
     """The work on the plan for the book as it is now, which is begun where it wasn't."""
     key = (PLAN, mark_of(book), asked)
-    return desk.jobs.here(key, functools.partial(plan_of_now, desk, asked))
+    return served.jobs.here(key, functools.partial(plan_of_now, served, asked))
 
 
-def plan_of_now(desk: ServedBook, asked: Asked) -> PlanMade:
+def plan_of_now(served: ServedBook, asked: Asked) -> PlanMade:
     """That of the book as it is, also where somebody changes it meanwhile."""
     for _ in range(TRIES_FOR_PLAN):
-        with contextlib.suppress(BookMoved), desk.opened() as book:
+        with contextlib.suppress(BookMoved), served.opened() as book:
             if book is None:
-                raise Mistake(BookFault.NO_BOOK.said(folder=desk.folder, there="", hint=""))
-            job = desk.jobs.of((BESIDE, mark_of(book), asked), planned, (desk.folder, asked))
+                raise Mistake(BookFault.NO_BOOK.said(folder=served.folder, there="", hint=""))
+            job = served.jobs.of((BESIDE, mark_of(book), asked), planned, (served.folder, asked))
             job.is_over.wait()
-            desk.jobs.forget(job.key)
+            served.jobs.forget(job.key)
             if job.stage is not Stage.DONE:
                 raise Mistake(*job.failed.sentences)
             assert isinstance(job.value, PlanMade)
-            compare(desk, job.value)
+            compare(served, job.value)
             return job.value
-    raise Mistake(BookFault.ALWAYS_CHANGED.said(path=desk.folder))
+    raise Mistake(BookFault.ALWAYS_CHANGED.said(path=served.folder))
 
 
-def told_of(desk: ServedBook, book: Book, asked: Asked) -> str:
+def told_of(served: ServedBook, book: Book, asked: Asked) -> str:
     """How far the process is, empty where it is over."""
-    job = desk.jobs.found((BESIDE, mark_of(book), asked))
+    job = served.jobs.found((BESIDE, mark_of(book), asked))
     return job.told if job else ""
 
 
-def compare(desk: ServedBook, plan: PlanMade) -> None:
+def compare(served: ServedBook, plan: PlanMade) -> None:
     """Asks the session for each mating of a plan; a mistake where it says something else."""
-    with desk.opened() as book:
+    with served.opened() as book:
         if book is None or mark_of(book) != plan.mark:
             raise BookMoved
         for pair in plan.pairs:
-            said = desk.program.ask(["mating", "--dam", pair.dam.number, pair.sire.number], book)
+            said = served.program.ask(["mating", "--dam", pair.dam.number, pair.sire.number], book)
             if [line.split(",")[:2] for line in said] != [[pair.sire.number, pair.fraction]]:
                 raise Mistake(WebFault.PLAN_DIFFERS.said(dam=pair.dam.id, sire=pair.sire.id))
 
@@ -150,26 +150,26 @@ def made(book: Book, found: Planned, among: Prepared) -> PlanMade:
 TRIES_FOR_ADVICE = 20
 
 
-def advice_for(desk: ServedBook, book: Book, dam: SocietyRecord, also_left: bool) -> Job:
+def advice_for(served: ServedBook, book: Book, dam: SocietyRecord, also_left: bool) -> Job:
     """The work on it for the book as it is now, which is begun where it wasn't."""
     key = (ADVICE, mark_of(book), dam.registration_number, also_left)
-    return desk.jobs.here(key, lambda: advice_of_now(desk, dam, also_left))
+    return served.jobs.here(key, lambda: advice_of_now(served, dam, also_left))
 
 
-def advice_of_now(desk: ServedBook, dam: SocietyRecord, also_left: bool) -> Advice:
+def advice_of_now(served: ServedBook, dam: SocietyRecord, also_left: bool) -> Advice:
     """That of the book as it is, also where somebody changes it meanwhile."""
     for _ in range(TRIES_FOR_ADVICE):
         with contextlib.suppress(BookMoved):
-            return advice_now(desk, dam, also_left)
-    raise Mistake(BookFault.ALWAYS_CHANGED.said(path=desk.folder))
+            return advice_now(served, dam, also_left)
+    raise Mistake(BookFault.ALWAYS_CHANGED.said(path=served.folder))
 
 
-def advice_now(desk: ServedBook, dam: SocietyRecord, also_left: bool) -> Advice:
+def advice_now(served: ServedBook, dam: SocietyRecord, also_left: bool) -> Advice:
     """What the session says of a mating with each of the sires, which are those of the word `mating`."""
-    with desk.opened() as book:
+    with served.opened() as book:
         if book is None:
-            raise Mistake(BookFault.NO_BOOK.said(folder=desk.folder, there="", hint=""))
+            raise Mistake(BookFault.NO_BOOK.said(folder=served.folder, there="", hint=""))
         sires = all_candidates(book, Role.SIRE, also_left)
         if not also_left:
             sires.needed(Mating.ASK_FOR_LEFT.said())
-        return advice_of(dam, sires.needed(Mating.NAME_OTHERS.said()), by_mating(book, desk.program, dam, sires))
+        return advice_of(dam, sires.needed(Mating.NAME_OTHERS.said()), by_mating(book, served.program, dam, sires))

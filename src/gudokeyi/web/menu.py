@@ -45,15 +45,15 @@ def open_from_menu(port: int, opens_browser: bool) -> None:
         with bound(ADDRESS, port, "leave out --port") as listening:
             logins = LinkLogins(secrets.token_urlsafe(24), listening.getsockname()[1])
             link = f"http://{ADDRESS}:{logins.port}/enter/{logins.secret}"
-            desk = MenuDesk(logins)
-            desk.show_remembered()
+            served = MenuDesk(logins)
+            served.show_remembered()
 
             def begin() -> None:
                 told.write(link)
                 told.flush()
                 show(link, opens_browser)
 
-            answer(lambda: desk.shown.app, listening, THREADS, begin, desk)
+            answer(lambda: served.shown.app, listening, THREADS, begin, served)
 
 
 def show(link: str, opens_browser: bool) -> None:
@@ -105,12 +105,12 @@ class Shown:
     """What is open for a folder."""
 
     app: Flask
-    desk: ServedBook
+    served: ServedBook
     opened: contextlib.ExitStack
 
     def end(self) -> None:
-        self.desk.end_changes()
-        self.desk.close()
+        self.served.end_changes()
+        self.served.close()
         self.opened.close()
 
 
@@ -141,7 +141,7 @@ class MenuDesk:
         with self.lock:
             shown, before = self.opened(folder), self.shown
             self.shown, self.folder, self.faults = shown, folder, ()
-        begin_to_see(shown.desk)
+        begin_to_see(shown.served)
         threading.Thread(target=before.end, daemon=True).start()
 
     def opened(self, folder: pathlib.Path | None) -> Shown:
@@ -149,18 +149,18 @@ class MenuDesk:
         if folder is not None:
             program.look_for()
         opened = contextlib.ExitStack()
-        desk = opened.enter_context(served_book_of(folder or NOWHERE, program, read_only=False))
-        app = web_app(desk, self.logins)
+        served = opened.enter_context(served_book_of(folder or NOWHERE, program, read_only=False))
+        app = web_app(served, self.logins)
         asking.add_to(app, self)
-        return Shown(app, desk, opened)
+        return Shown(app, served, opened)
 
     def close_soon(self) -> None:
         """Ends the desk once the page that says so has come to the browser."""
         threading.Timer(SECONDS_TO_CLOSE, os.kill, (os.getpid(), signal.SIGTERM)).start()
 
     def end_changes(self) -> None:
-        self.shown.desk.end_changes()
+        self.shown.served.end_changes()
 
     def close(self) -> None:
-        self.shown.desk.close()
+        self.shown.served.close()
         self.shown.opened.close()

@@ -51,7 +51,7 @@ def open_in_browser(
 ) -> None:
     """The desk of one person, in a browser that comes by a secret link."""
     otherwise = "name another one, or leave out --port"
-    with bound(ADDRESS, port, otherwise) as listening, served_book_of(folder, program, read_only) as desk:
+    with bound(ADDRESS, port, otherwise) as listening, served_book_of(folder, program, read_only) as served:
         logins = LinkLogins(secrets.token_urlsafe(24), listening.getsockname()[1], read_only)
         link = f"http://{ADDRESS}:{logins.port}/enter/{logins.secret}"
 
@@ -60,9 +60,9 @@ def open_in_browser(
             if opens_browser and not webbrowser.open(link):
                 print("No browser could be opened here: open the link in one yourself.", flush=True)
 
-        app = web_app(desk, logins)
-        begin_to_see(desk)
-        answer(lambda: app, listening, THREADS, begin, desk)
+        app = web_app(served, logins)
+        begin_to_see(served)
+        answer(lambda: app, listening, THREADS, begin, served)
 
 
 @contextlib.contextmanager
@@ -71,11 +71,11 @@ def served_book_of(
 ) -> Iterator[ServedBook]:
     """The desk of a folder, whose book is brought up to date."""
     with room() as path:
-        desk = ServedBook(folder, program, read_only, Uploads(path), Jobs(), Exports(folder, pause))
+        served = ServedBook(folder, program, read_only, Uploads(path), Jobs(), Exports(folder, pause))
         if not read_only:
             take_over(folder, program)
             up_to_date(folder)
-        yield desk
+        yield served
 
 
 class Ends(Protocol):
@@ -89,7 +89,7 @@ class Ends(Protocol):
 
 
 def answer(
-    app: Callable[[], Flask], listening: socket.socket, threads: int, begin: Callable[[], None], desk: Ends
+    app: Callable[[], Flask], listening: socket.socket, threads: int, begin: Callable[[], None], served: Ends
 ) -> None:
     """Answers by the app of the moment until Ctrl-C or SIGTERM. What changes the book is done to its end then, and
     told."""
@@ -110,9 +110,9 @@ def answer(
         server.run()
     for one in signal.SIGINT, signal.SIGTERM:
         signal.signal(one, signal.SIG_IGN)
-    desk.end_changes()
+    served.end_changes()
     server.task_dispatcher.shutdown(cancel_pending=False, timeout=SECONDS_FOR_ANSWERS)
-    desk.close()
+    served.close()
     print("The desk is closed.", flush=True)
 
 
@@ -126,7 +126,7 @@ def bound(address: str, port: int, otherwise: str) -> socket.socket:
         raise Mistake(WebFault.NO_PORT.said(port=str(port), told=told, otherwise=otherwise)) from None
 
 
-PREFIX, LOCK = "society-desk-", "open"
+PREFIX, LOCK = "gudokeyi-desk-", "open"
 
 
 @contextlib.contextmanager
@@ -172,10 +172,10 @@ def serve(folder: pathlib.Path, program: BookSession, place: ListenAddress, name
     if not accounts.all():
         raise Mistake(f"nobody has an account yet: make one for a keeper, as {CALLED} account NAME --role keeper")
     with bound(place.address, place.port, "name another one by --listen") as listening:
-        with served_book_of(folder, program, read_only=False, pause=PAUSE_FOR_SEVERAL) as desk:
-            way = server_address(replace(place, port=listening.getsockname()[1]), names, proxy)
-            logins = AccountLogins(accounts, way, Throttle(), AccessLog(sys.stderr))
-            told = f"The desk answers at {way.scheme}://{way.hosts[0]}/; Ctrl-C or SIGTERM ends it."
-            app = web_app(desk, logins)
-            begin_to_see(desk)
-            answer(lambda: app, listening, THREADS_FOR_SEVERAL, lambda: print(told, flush=True), desk)
+        with served_book_of(folder, program, read_only=False, pause=PAUSE_FOR_SEVERAL) as served:
+            address = server_address(replace(place, port=listening.getsockname()[1]), names, proxy)
+            logins = AccountLogins(accounts, address, Throttle(), AccessLog(sys.stderr))
+            told = f"The desk answers at {address.scheme}://{address.hosts[0]}/; Ctrl-C or SIGTERM ends it."
+            app = web_app(served, logins)
+            begin_to_see(served)
+            answer(lambda: app, listening, THREADS_FOR_SEVERAL, lambda: print(told, flush=True), served)

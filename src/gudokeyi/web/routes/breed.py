@@ -23,21 +23,21 @@ page = Blueprint("breed", __name__)
 @with_book
 def breed(book: Book) -> Answer:
     """What is there is shown, of which change, and how far the work on the book of now is."""
-    desk, given = served_book(), request.args
+    served, given = served_book(), request.args
     try:
         born = born_between(given.get("from", "").strip(), given.get("to", "").strip())
         whom = Whom(as_known(given.get("owner", ""), book.owners), born)
-        job = measures_of(desk, book, whom)
+        job = measures_of(served, book, whom)
     except Mistake as mistake:
         return page_with(book, None, on_page(mistake.sentences)), 400
     if job.stage is Stage.FAILED:
-        desk.jobs.forget(job.key)
+        served.jobs.forget(job.key)
         return page_with(book, None, on_page(job.failed.sentences)), 400
     if job.stage is Stage.DONE:
         assert isinstance(job.value, Measured)
         return page_with(book, job.value, [])
     # an earlier state of the same animals is shown meanwhile
-    before = desk.jobs.latest(BREED)
+    before = served.jobs.latest(BREED)
     value = before.value if before and before.key[2] == whom else None
     earlier = value if isinstance(value, Measured) and has_had(book, value.mark) else None
     return page_with(book, earlier, [], (job.told, job.seconds))

@@ -59,9 +59,9 @@ def file(kind: str) -> Answer:
     """Files it; where a field can't be read, or the book changed meanwhile, the form comes back with what was written."""
     if kind not in KINDS:
         abort(404)
-    desk, form = served_book(), Form(KINDS[kind], request.form, sent_form())
+    served, form = served_book(), Form(KINDS[kind], request.form, sent_form())
     try:
-        change = file_form(desk, form)
+        change = file_form(served, form)
     except Mistake as mistake:
         return form_again(kind, on_page(mistake.sentences))
     except BookMoved:
@@ -91,6 +91,7 @@ def answer(book: Book, number: int) -> Answer:
         given = to_correct(book, kind, written_in(change, line.id), book.known.get(line.id))
         return shown(book, kind, given, [], line)
     groups = told_of_change(book, number, page_language())
-    looks = [one for group in groups if group.what is What.WARNING for one in group.lines]
+    warnings = [one for group in groups if group.what is What.WARNING for one in group.lines]
     by = taken_back_by(book, number)
-    return render_template("answer.html", kind=kind, change=line, known=book.known.get(line.id), looks=looks, by=by)
+    known = book.known.get(line.id)
+    return render_template("answer.html", kind=kind, change=line, known=known, warnings=warnings, by=by)

@@ -30,17 +30,17 @@ class FolderDesk(Protocol):
     def close_soon(self) -> None: ...
 
 
-def add_to(app: Flask, desk: FolderDesk) -> None:
+def add_to(app: Flask, served: FolderDesk) -> None:
     """Has the pages of an application tell the folder, and ask for it before all else where there is none."""
-    app.extensions[EXTENSION] = desk
+    app.extensions[EXTENSION] = served
     app.register_blueprint(page)
     app.before_request(ask_first)
-    app.context_processor(lambda: {"own_folder": desk.folder if the_person() else None})
+    app.context_processor(lambda: {"own_folder": served.folder if the_person() else None})
 
 
 def the_desk() -> FolderDesk:
-    desk: FolderDesk = current_app.extensions[EXTENSION]
-    return desk
+    served: FolderDesk = current_app.extensions[EXTENSION]
+    return served
 
 
 def ask_first() -> Response | None:

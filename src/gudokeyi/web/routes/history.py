@@ -85,14 +85,14 @@ def ask_undo(book: Book, number: int) -> Answer:
 @page.post("/history/<change:number>/undo")
 def bring_back(number: int) -> Answer:
     """Brings it back, if the book is the one of which it was asked."""
-    desk, looked, form = served_book(), sent_mark(), sent_form()
+    served, looked, form = served_book(), sent_mark(), sent_form()
 
     def make(book: Book) -> Change | None:
         assert book.change is not None
         is_as_asked = mark_of(book) == looked and number < book.change.number
-        return undo(book, desk.program, number, form) if is_as_asked else None
+        return undo(book, served.program, number, form) if is_as_asked else None
 
-    made = change_once(desk, form, make)
+    made = change_once(served, form, make)
     if made is None:
         flash(page_language()("book changed"), "look")
         return redirect(url_for("history.page"))

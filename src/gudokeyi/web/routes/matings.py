@@ -106,19 +106,19 @@ def asked_of(given: dict[str, str]) -> Asked:
 @page.get("/matings/plan")
 @with_book
 def plan(book: Book) -> Answer:
-    desk, given = served_book(), dict(request.args)
+    served, given = served_book(), dict(request.args)
     if not given.get("made"):
-        return plan_page(given, usual_of(desk, book))
+        return plan_page(given, usual_of(served, book))
     try:
         asked = asked_of(given)
-        job = plan_for(desk, book, asked)
+        job = plan_for(served, book, asked)
     except Mistake as mistake:
-        return plan_page(given, usual_of(desk, book), on_page(mistake.sentences))
+        return plan_page(given, usual_of(served, book), on_page(mistake.sentences))
     if job.stage is Stage.UNDER_WAY:
-        return render_template("waiting.html", what="planning", told=told_of(desk, book, asked), seconds=job.seconds)
+        return render_template("waiting.html", what="planning", told=told_of(served, book, asked), seconds=job.seconds)
     if job.stage is Stage.FAILED:
-        desk.jobs.forget(job.key)
-        return plan_page(given, usual_of(desk, book), on_page(job.failed.sentences))
+        served.jobs.forget(job.key)
+        return plan_page(given, usual_of(served, book), on_page(job.failed.sentences))
     assert isinstance(job.value, PlanMade)
     return plan_page(given, job.value.bounds, [], job.value)
 

@@ -47,11 +47,11 @@ def upload_of(token: str) -> Upload:
 
 @page.get("/restore/<token>")
 def look(token: str) -> Answer:
-    upload, desk = upload_of(token), served_book()
-    job = desk.jobs.of((LOOKING, token), looked_into, (upload.path,))
+    upload, served = upload_of(token), served_book()
+    job = served.jobs.of((LOOKING, token), looked_into, (upload.path,))
     if job.stage is Stage.DONE:
         assert isinstance(job.value, Backup)
-        now = mark_now(desk.folder) or NO_MARK
+        now = mark_now(served.folder) or NO_MARK
         return render_template(
             "backup.html", upload=upload, backup=job.value, is_there=now != NO_MARK, looked=mark_text(now)
         )
@@ -62,8 +62,8 @@ def not_done(job: Job) -> Answer:
     """A page that asks again by itself, or why it came to nothing."""
     if job.stage is Stage.UNDER_WAY:
         return render_template("waiting.html", what="restoring", told=job.told, seconds=job.seconds)
-    desk = served_book()
-    desk.jobs.forget(job.key)
+    served = served_book()
+    served.jobs.forget(job.key)
     return render_template("restore.html", faults=on_page(job.failed.sentences)), 400
 
 
@@ -71,27 +71,27 @@ def not_done(job: Job) -> Answer:
 def bring_back(token: str) -> Answer:
     """Restores it, if the book has the change that was looked at; who files meanwhile waits. The session sees by
     itself that the book is another one."""
-    upload, desk = upload_of(token), served_book()
-    values = (desk.folder, upload.path, sent_mark())
-    desk.jobs.in_turn((TAKING, token), restored, values, lambda value: is_taken(desk, value))
+    upload, served = upload_of(token), served_book()
+    values = (served.folder, upload.path, sent_mark())
+    served.jobs.in_turn((TAKING, token), restored, values, lambda value: is_taken(served, value))
     return redirect(url_for("restoring.under_way", token=token))
 
 
 @page.get("/restore/<token>/under-way")
 def under_way(token: str) -> Answer:
     """Waits for the end of a restoring."""
-    upload, desk = upload_of(token), served_book()
-    job = desk.jobs.found((TAKING, token))
+    upload, served = upload_of(token), served_book()
+    job = served.jobs.found((TAKING, token))
     if job is None:
         return to_look(upload)
     if job.stage is not Stage.DONE:
         return not_done(job)
-    desk.jobs.forget(job.key)
+    served.jobs.forget(job.key)
     assert isinstance(job.value, Imported)
     if job.value.book_changed:
         flash(page_language()("book changed"), "look")
         return to_look(upload)
-    desk.uploads.drop(token)
+    served.uploads.drop(token)
     words = page_language()
     flash(words("backup restored", upload.path.name), "done")
     if job.value.meanwhile:

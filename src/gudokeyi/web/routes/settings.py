@@ -40,16 +40,16 @@ def as_shown(book: Book) -> dict[Setting, str]:
 @page.post("/settings")
 def change() -> Answer:
     """Keeps what somebody wrote otherwise than the page had it; where that was set otherwise meanwhile it is told."""
-    desk = served_book()
-    with desk.jobs.turn:
-        with desk.opened() as book:
-            now = as_shown(book or Book(desk.folder, None))
+    served = served_book()
+    with served.jobs.turn:
+        with served.opened() as book:
+            now = as_shown(book or Book(served.folder, None))
         said = {one: request.form.get(one.value, "")[:MOST_LETTERS] for one in Setting if is_written(one)}
         wrong = {setting.value: told for setting, text in said.items() if (told := wrong_setting(setting, text))}
         faults = [*wrong.values(), *(set_meanwhile(one, now[one]) for one in said if is_other(one, now[one]))]
         try:
             if not faults:
-                change_settings(desk.folder, said)
+                change_settings(served.folder, said)
         except Mistake as mistake:
             faults = on_page(mistake.sentences)
     if faults:

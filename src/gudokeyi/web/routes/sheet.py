@@ -78,10 +78,10 @@ def wrong_in(upload: Upload) -> dict[str, str]:
 
 def job_of(upload: Upload, wrong: Collection[str]) -> Job:
     """The look at a file for the book as it is now, without the fields that can't be read."""
-    desk, chosen = served_book(), Chosen.of(upload.columns, upload.options, wrong)
-    with desk.opened() as book:
-        seen = seen_of(book or Book(desk.folder, None), chosen)
-    return desk.jobs.of((LOOKING, upload.token, seen), looked_at, (desk.folder, upload.path, chosen))
+    served, chosen = served_book(), Chosen.of(upload.columns, upload.options, wrong)
+    with served.opened() as book:
+        seen = seen_of(book or Book(served.folder, None), chosen)
+    return served.jobs.of((LOOKING, upload.token, seen), looked_at, (served.folder, upload.path, chosen))
 
 
 @page.get("/sheet/<token>")
@@ -161,23 +161,23 @@ def take_suggestion(token: str) -> Answer:
 @page.post("/sheet/<token>/take")
 def take(token: str) -> Answer:
     """Takes it, if it would change what was looked at. Of a form that took it before that is shown."""
-    desk, form, looked = served_book(), sent_form(), Seen(sent_mark(), request.form.get("reading", ""))
+    served, form, looked = served_book(), sent_form(), Seen(sent_mark(), request.form.get("reading", ""))
     to = url_for("sheet.taking", token=token, form=form)
     if not taken_by(form):
         upload = upload_of(token)
         if wrong_in(upload):
             return to_look(upload)
         chosen = Chosen.of(upload.columns, upload.options)
-        values = (desk.folder, upload.path, chosen, looked, form)
-        job = desk.jobs.of((TAKING, form), imported, values, lambda value: is_taken(desk, value))
+        values = (served.folder, upload.path, chosen, looked, form)
+        job = served.jobs.of((TAKING, form), imported, values, lambda value: is_taken(served, value))
         job.address = to
     return redirect(to)
 
 
-def is_taken(desk: ServedBook, value: object) -> None:
+def is_taken(served: ServedBook, value: object) -> None:
     """What an import made is gone on with, before its page asks for it."""
     if isinstance(value, Imported) and value.mark != NO_MARK:
-        go_on(desk, value.whole)
+        go_on(served, value.whole)
 
 
 def taken_by(form: str) -> int:
@@ -190,8 +190,8 @@ def taken_by(form: str) -> int:
 @page.get("/sheet/<token>/taking/<form>")
 def taking(token: str, form: str) -> Answer:
     """Waits for the end of an import, and goes to what it changed."""
-    desk = served_book()
-    job = desk.jobs.found((TAKING, form))
+    served = served_book()
+    job = served.jobs.found((TAKING, form))
     if job and job.stage is Stage.UNDER_WAY:
         return waiting("taking", job)
     number = taken_by(form)
@@ -200,7 +200,7 @@ def taking(token: str, form: str) -> Answer:
     upload = upload_of(token)
     if job is None:
         return to_look(upload)
-    desk.jobs.forget(job.key)
+    served.jobs.forget(job.key)
     if job.stage is Stage.FAILED:
         return render_template("look.html", upload=upload, look=None, faults=on_page(job.failed.sentences)), 400
     otherwise = isinstance(job.value, Imported) and job.value.read_otherwise

@@ -23,12 +23,12 @@ LAST_CHANGES = 5
 
 @page.get("/", endpoint="page")
 def start() -> Answer:
-    desk = served_book()
-    with desk.opened() as book:
+    served = served_book()
+    with served.opened() as book:
         if book is None or book.change is None:
-            taking, is_old = desk.jobs.under_way(TAKING), has_old_files(desk.folder)
+            taking, is_old = served.jobs.under_way(TAKING), has_old_files(served.folder)
             return render_template("begin.html", has_example=EXAMPLE.exists(), taking=taking, is_old=is_old)
-        overview = desk.kept.of(book, ("glance",), functools.partial(desk.overviews.of, book))
+        overview = served.kept.of(book, ("glance",), functools.partial(served.overviews.of, book))
         last = lines_of(book, last_changes(book, LAST_CHANGES), page_language())
         return render_template("start.html", overview=overview, changes=last)
 

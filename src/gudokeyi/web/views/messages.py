@@ -345,11 +345,11 @@ def on_page(sentences: Iterable[str]) -> list[MessageView]:
 
 def without_paths(sentences: Iterable[MessageView]) -> list[MessageView]:
     """The sentences with files by their names alone."""
-    desk = served_book()
-    folders = [*desk.uploads.folders()]
-    folders += [desk.uploads.room, desk.folder, desk.folder.absolute(), desk.folder.absolute().parent]
+    served = served_book()
+    folders = [*served.uploads.folders()]
+    folders += [served.uploads.room, served.folder, served.folder.absolute(), served.folder.absolute().parent]
     with contextlib.suppress(Mistake):
-        folders.append(desk.program.path.parent)
+        folders.append(served.program.path.parent)
     found = list(sentences)
     for folder in folders:
         if str(folder) not in (".", "/"):
