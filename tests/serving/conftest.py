@@ -6,8 +6,8 @@ from collections.abc import Iterator
 
 import pytest
 
-from desk.server import none_left
-from desk.site import HOST
+from web.server import none_left
+from web.site import HOST
 from front_desk.conftest import desk, new_desk, society_desk, taken_society
 from front_desk.desk import Desk
 from gudokeyi.store import accounts as passwords

@@ -12,7 +12,7 @@ from collections.abc import Callable
 from dataclasses import dataclass, field
 from urllib.parse import quote
 
-from desk.site import shown
+from web.site import shown
 from gudokeyi.locale import TEXTS
 from serving.server import Browser, Server
 

@@ -8,7 +8,7 @@ import signal
 import tempfile
 import urllib.parse
 
-from desk.server import SECONDS, Running
+from web.server import SECONDS, Running
 from front_desk.desk import TOP
 from gudokeyi.web.forms import new_form
 from serving.visitor import WORD

@@ -12,8 +12,8 @@ from typing import NoReturn
 
 import pytest
 
-from desk.server import SECONDS, free_port
-from desk.site import shown
+from web.server import SECONDS, free_port
+from web.site import shown
 from front_desk.desk import TOP, Desk
 from gudokeyi.domain.messages import Mistake
 from gudokeyi.domain.people import AccountRole

@@ -11,7 +11,7 @@ import threading
 
 import pytest
 
-from desk.site import HOST, looked_in, shown
+from web.site import HOST, looked_in, shown
 from front_desk.desk import Desk
 from gudokeyi.locale import SENTENCES, TEXTS
 from gudokeyi.store.accounts import A_DAY

@@ -11,8 +11,8 @@ import pytest
 from werkzeug import formparser
 from werkzeug.test import TestResponse
 
-from desk.server import SECONDS
-from desk.site import HOST, shown
+from web.server import SECONDS
+from web.site import HOST, shown
 from front_desk.desk import Desk
 from gudokeyi.domain.people import AccountRole
 from gudokeyi.domain.requests import NotSuch

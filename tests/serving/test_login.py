@@ -9,7 +9,7 @@ from email.utils import parsedate_to_datetime
 
 import pytest
 
-from desk.site import HOST, shown
+from web.site import HOST, shown
 from gudokeyi.locale import TEXTS
 from gudokeyi.store import accounts as passwords
 from gudokeyi.store.accounts import A_DAY

@@ -7,8 +7,8 @@ import re
 import pytest
 from selenium import webdriver
 
-from desk.screen import PHONE, Screen, chromium
-from desk.test_access import Outline
+from web.screen import PHONE, Screen, chromium
+from web.test_access import Outline
 from front_desk.desk import Desk
 from gudokeyi.locale import TEXTS
 from gudokeyi.store.accounts import Accounts

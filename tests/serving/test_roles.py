@@ -6,8 +6,8 @@ import re
 import pytest
 from werkzeug.routing import Rule
 
-from desk.site import HOST, shown
-from desk.test_desk_security import address_of
+from web.site import HOST, shown
+from web.test_desk_security import address_of
 from gudokeyi.domain.people import AccountRole
 from gudokeyi.locale import TEXTS
 from gudokeyi.web.access import LEAST, OPEN_TO_ALL

@@ -10,7 +10,7 @@ import subprocess
 
 import pytest
 
-from desk.server import SECONDS, Running, free_port
+from web.server import SECONDS, Running, free_port
 from front_desk.desk import TOP, Desk
 from gudokeyi.domain.people import AccountRole
 from gudokeyi.store.accounts import Accounts

@@ -12,8 +12,8 @@ import pytest
 from werkzeug.routing import Rule
 from werkzeug.test import TestResponse
 
-from desk.site import HOST, shown
-from desk.test_desk_security import Marks, address_of
+from web.site import HOST, shown
+from web.test_desk_security import Marks, address_of
 from front_desk.desk import TOP
 from gudokeyi.web.forms import new_form
 from serving.visitor import WORD, Served, Visitor

@@ -3,7 +3,7 @@ from __future__ import annotations
 
 import pytest
 
-from desk.site import HOST
+from web.site import HOST
 from gudokeyi.domain.people import AccountRole
 from serving.visitor import WORD, Served, Visitor
 

@@ -3,8 +3,8 @@ from __future__ import annotations
 
 import pytest
 
-from desk.site import HOST, PORT, shown
-from desk.test_desk_security import writing
+from web.site import HOST, PORT, shown
+from web.test_desk_security import writing
 from gudokeyi.domain.messages import Mistake
 from gudokeyi.locale import TEXTS
 from gudokeyi.web.addresses import ListenAddress, ServerAddress, listen_address, server_address

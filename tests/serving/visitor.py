@@ -11,7 +11,7 @@ from dataclasses import dataclass
 from flask import Flask
 from werkzeug.test import TestResponse
 
-from desk.site import HOST, Site
+from web.site import HOST, Site
 from gudokeyi.domain.people import AccountRole
 from gudokeyi.services.book_session import BookSession
 from gudokeyi.store.accounts import Accounts

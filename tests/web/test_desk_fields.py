@@ -9,9 +9,9 @@ import re
 import openpyxl
 import pytest
 
-from desk.looks import PAIR, TITLES, Says, calves, look_at
-from desk.site import Site, shown
-from desk.test_desk_sheets import EXAMPLE
+from web.looks import PAIR, TITLES, Says, calves, look_at
+from web.site import Site, shown
+from web.test_desk_sheets import EXAMPLE
 from front_desk.desk import Desk
 from gudokeyi.domain.settings import LANGUAGES
 

@@ -3,7 +3,7 @@ from __future__ import annotations
 
 import re
 
-from desk.site import Site, shown
+from web.site import Site, shown
 from gudokeyi.web.language import PageLanguage
 
 TITLES = "Ohrmarke;Name;Geschlecht;geb;Vater;Mutter;Besitzer\n"

@@ -6,8 +6,8 @@ from collections.abc import Iterator
 
 import pytest
 
-from desk.server import Server
-from desk.site import HOST, PORT, SECRET, Site, form_in, shown, site_of
+from web.server import Server
+from web.site import HOST, PORT, SECRET, Site, form_in, shown, site_of
 from front_desk.desk import Desk
 from gudokeyi.locale import TEXTS
 

@@ -3,9 +3,9 @@ from __future__ import annotations
 
 import pytest
 
-from desk.sent_forms import corrected, written_in
-from desk.site import Site, shown
-from desk.test_desk_filing import DAM, SIRE
+from web.sent_forms import corrected, written_in
+from web.site import Site, shown
+from web.test_desk_filing import DAM, SIRE
 from gudokeyi.domain.changes import Option
 from gudokeyi.domain.kinds import Field
 from gudokeyi.domain.requests import WebFault

@@ -13,8 +13,8 @@ import textwrap
 
 import pytest
 
-from desk.site import Site, shown, site_of
-from desk.test_desk_filing import BIRTH, DAM, SIRE
+from web.site import Site, shown, site_of
+from web.test_desk_filing import BIRTH, DAM, SIRE
 from front_desk.desk import TOP, Desk
 from gudokeyi.domain.messages import Mistake
 from gudokeyi.domain.requests import WebFault
@@ -93,7 +93,7 @@ def test_killed_before_storing(society_desk: Desk, tmp_path: pathlib.Path) -> No
         import os, signal, sys
         sys.path[:0] = sys.argv[1:3]
         import pathlib
-        from desk.site import site_of
+        from web.site import site_of
         import gudokeyi.services.writing
         gudokeyi.services.writing.commit = lambda *_: os.kill(os.getpid(), signal.SIGKILL)
         with site_of(pathlib.Path(sys.argv[3]), sys.argv[4], pathlib.Path(sys.argv[5])) as site:

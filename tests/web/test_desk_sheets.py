@@ -8,7 +8,7 @@ import zipfile
 
 import pytest
 
-from desk.site import HOST, Site, form_in, looked_in, shown
+from web.site import HOST, Site, form_in, looked_in, shown
 from front_desk.desk import TOP, Desk
 from gudokeyi.locale import TEXTS
 from gudokeyi.services.folder_files import refresh

@@ -13,7 +13,7 @@ from typing import Any
 
 import pytest
 
-from desk.site import Site, shown
+from web.site import Site, shown
 from front_desk.desk import Desk
 from gudokeyi.services.found_animals import Asked, found_by
 from gudokeyi.store.sorted_animals import Order

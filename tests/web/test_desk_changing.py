@@ -14,9 +14,9 @@ from collections.abc import Iterator
 
 import pytest
 
-from desk.site import HOST, SECONDS, Site, form_in, looked_in, shown
-from desk.test_desk_filing import BIRTH, DAM
-from desk.test_desk_sheets import EXAMPLE
+from web.site import HOST, SECONDS, Site, form_in, looked_in, shown
+from web.test_desk_filing import BIRTH, DAM
+from web.test_desk_sheets import EXAMPLE
 from front_desk.desk import Desk
 from gudokeyi.domain.messages import Mistake
 from gudokeyi.domain.settings import LANGUAGES

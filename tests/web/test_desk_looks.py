@@ -6,8 +6,8 @@ import re
 
 import pytest
 
-from desk.looks import PAIR, TITLES, Says, buttons_of, calves, look_at, part, press
-from desk.site import Site, shown
+from web.looks import PAIR, TITLES, Says, buttons_of, calves, look_at, part, press
+from web.site import Site, shown
 from gudokeyi.domain.settings import LANGUAGES
 from gudokeyi.locale import TEXTS
 

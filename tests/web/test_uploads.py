@@ -8,7 +8,7 @@ import time
 import pytest
 from werkzeug.datastructures import FileStorage
 
-from desk.site import HOST, Site, shown
+from web.site import HOST, Site, shown
 from gudokeyi.locale import TEXTS
 from gudokeyi.web import files
 

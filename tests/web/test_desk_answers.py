@@ -9,9 +9,9 @@ from collections.abc import Iterator
 
 import pytest
 
-from desk.site import Site, shown
-from desk.test_desk_filing import BIRTH, DAM
-from desk.test_desk_sheets import EXAMPLE
+from web.site import Site, shown
+from web.test_desk_filing import BIRTH, DAM
+from web.test_desk_sheets import EXAMPLE
 from front_desk.desk import Desk
 from gudokeyi.domain.requests import WebFault
 from gudokeyi.engine.session import Answer, Session

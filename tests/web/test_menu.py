@@ -11,9 +11,9 @@ import urllib.request
 
 import pytest
 
-from desk.server import SECONDS, Running
-from desk.site import shown
-from desk.test_open import Browser
+from web.server import SECONDS, Running
+from web.site import shown
+from web.test_open import Browser
 from front_desk.desk import TOP, Desk
 from gudokeyi.domain.messages import Mistake
 from gudokeyi.web import folders

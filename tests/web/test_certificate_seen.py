@@ -6,7 +6,7 @@ import re
 
 from selenium import webdriver
 
-from desk.screen import PHONE, Screen, chromium
+from web.screen import PHONE, Screen, chromium
 from front_desk.desk import Desk
 from gudokeyi.domain.settings import LANGUAGES
 

@@ -9,7 +9,7 @@ import sqlite3
 import pytest
 from werkzeug.routing import Rule
 
-from desk.site import HOST, PORT, SECRET, Site, shown
+from web.site import HOST, PORT, SECRET, Site, shown
 from gudokeyi.locale import TEXTS
 from gudokeyi.web.access import OPEN_TO_ALL
 from gudokeyi.web.addresses import is_safe_redirect

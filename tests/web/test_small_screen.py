@@ -4,8 +4,8 @@ from __future__ import annotations
 import pytest
 from selenium import webdriver
 
-from desk.screen import PHONE, Screen, chromium
-from desk.server import Server
+from web.screen import PHONE, Screen, chromium
+from web.server import Server
 from front_desk.desk import Desk
 from gudokeyi.locale import TEXTS
 

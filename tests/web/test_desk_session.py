@@ -8,8 +8,8 @@ from collections.abc import Callable
 
 import pytest
 
-from desk.site import Site, shown
-from desk.test_desk_filing import BIRTH, DAM, SIRE
+from web.site import Site, shown
+from web.test_desk_filing import BIRTH, DAM, SIRE
 from front_desk.desk import Desk
 from gudokeyi.engine.session import Answer
 from gudokeyi.locale import TEXTS

@@ -8,9 +8,9 @@ import re
 
 import pytest
 
-from desk.sent_forms import corrected, written_in
-from desk.site import Site, form_in, shown
-from desk.test_desk_filing import BIRTH, DAM, SIRE
+from web.sent_forms import corrected, written_in
+from web.site import Site, form_in, shown
+from web.test_desk_filing import BIRTH, DAM, SIRE
 from front_desk.desk import Desk
 from front_desk.old_folder import write_old
 from gudokeyi.domain.changes import Change, Option

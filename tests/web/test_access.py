@@ -7,7 +7,7 @@ import re
 
 import pytest
 
-from desk.site import Site
+from web.site import Site
 from front_desk.desk import TOP
 from gudokeyi.render.drawing import DAM, GREY, INBRED, INBRED_INK, INK, PAPER, SIRE
 

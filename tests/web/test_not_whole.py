@@ -8,7 +8,7 @@ import sqlite3
 
 import pytest
 
-from desk.site import Site, shown
+from web.site import Site, shown
 from front_desk.desk import Desk
 from gudokeyi.domain.settings import LANGUAGES
 from gudokeyi.locale import SENTENCES

@@ -10,8 +10,8 @@ from selenium import webdriver
 from selenium.webdriver.common.keys import Keys
 from selenium.webdriver.support.ui import Select
 
-from desk.screen import PHONE, Screen, chromium
-from desk.server import Server
+from web.screen import PHONE, Screen, chromium
+from web.server import Server
 from front_desk.desk import TOP, Desk
 from gudokeyi.locale import TEXTS
 

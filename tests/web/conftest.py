@@ -6,8 +6,8 @@ from collections.abc import Iterator
 
 import pytest
 
-from desk.server import none_left
-from desk.site import Site, site_of
+from web.server import none_left
+from web.site import Site, site_of
 from front_desk.conftest import desk, new_desk, society_desk, taken_society, today
 from front_desk.desk import Desk
 

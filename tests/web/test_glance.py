@@ -3,7 +3,7 @@ from __future__ import annotations
 
 import pytest
 
-from desk.site import Site
+from web.site import Site
 from gudokeyi.services import overview
 from gudokeyi.services.overview import later
 from gudokeyi.store.book import Book

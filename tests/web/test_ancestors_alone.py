@@ -7,7 +7,7 @@ from collections.abc import Sequence
 
 import pytest
 
-from desk.site import Site
+from web.site import Site
 from front_desk.desk import Desk
 from gudokeyi.services.book_program import BookProgram
 from gudokeyi.services.book_session import BookSession, Expected, lines_alone

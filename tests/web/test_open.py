@@ -15,8 +15,8 @@ from typing import Any, cast
 
 import pytest
 
-from desk.server import SECONDS, Server, free_port
-from desk.site import looked_in
+from web.server import SECONDS, Server, free_port
+from web.site import looked_in
 from front_desk.desk import Desk
 from gudokeyi.web.forms import new_form
 from gudokeyi.web.server import ADDRESS, bound, room

@@ -9,7 +9,7 @@ import time
 
 import pytest
 
-from desk.site import SECONDS, Site, form_in, looked_in, shown
+from web.site import SECONDS, Site, form_in, looked_in, shown
 from front_desk.desk import Desk
 from gudokeyi.domain.refusals import Refusal
 from gudokeyi.locale import TEXTS
