@@ -52,6 +52,20 @@ def test_import(empty: Book, sheet: pathlib.Path) -> None:
     assert len(empty.history()) == 2
 
 
+def test_pedigree(empty: Book, tmp_path: pathlib.Path) -> None:
+    """`id sire dam`, with sexes and days that are invented."""
+    path = tmp_path / "triples.txt"
+    path.write_text("id sire dam\na 0 0\nb 0 0\nc a b\nd c b\n", encoding="utf-8")
+    assert empty.import_pedigree(path, preview=True).new == 4 and empty.is_empty
+    made = empty.import_pedigree(path)
+    assert (made.change, made.animals) == (1, 4) and empty.coefficient("d").value == Fraction(1, 4)
+    assert empty.animal("a").birth_basis.is_invented and empty.animal("a").sex == "M"
+    assert empty.history()[0].kind.value == "pedigree"
+    path.write_text("id sire dam\na b 0\nb a 0\n", encoding="utf-8")
+    with pytest.raises(gudokeyi.Mistake):
+        empty.import_pedigree(path)
+
+
 def test_options(empty: Book, sheet: pathlib.Path) -> None:
     """The options are those of the word `import`; the folder is the book's."""
     empty.import_sheet(sheet, ImportOptions(breed="SKU", country="DEU"))

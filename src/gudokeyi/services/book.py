@@ -256,10 +256,23 @@ class Book:
 
         Raises `ImportRefused` with what keeps the sheet from being taken.
         """
+        return self.imported(path, options, preview, is_pedigree=False)
+
+    def import_pedigree(
+        self, path: str | os.PathLike[str], options: ImportOptions | None = None, preview: bool = False
+    ) -> Imported:
+        """The same of a geneticist's pedigree: a text with `id sire dam` in each line, or with these among its titles.
+        Days and sexes that it doesn't give are invented so that parents are older than their offspring."""
+        return self.imported(path, options, preview, is_pedigree=True)
+
+    def imported(
+        self, path: str | os.PathLike[str], options: ImportOptions | None, preview: bool, is_pedigree: bool
+    ) -> Imported:
+        """What an import of either kind makes."""
         from gudokeyi.services.imports import Import, ImportOptions
 
         wished = replace(options or ImportOptions(), book=self.folder, preview=preview)
-        outcome, notes = Import(pathlib.Path(path), wished).made(self.program)
+        outcome, notes = Import(pathlib.Path(path), wished, is_pedigree).made(self.program)
         after = outcome.after
         return Imported(
             outcome.call.change, after.animals if after else 0, after.new if after else 0,
