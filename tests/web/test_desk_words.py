@@ -189,7 +189,7 @@ def test_breed(site: Site, society_desk: Desk, language: str) -> None:
     assert re.search(f"<b>{decimal}.?%</b>", site.page(f"/animal/{NUMBER}"))
 
 
-def test_glance(site: Site, society_desk: Desk) -> None:
+def test_overview(site: Site, society_desk: Desk) -> None:
     """The start page's figures are those of `breed` and `list`."""
     said = shown(site.page("/"))
     assert f"Animals {len(society_desk.listed('list'))} Living {len(society_desk.listed('list', '--living'))}" in said

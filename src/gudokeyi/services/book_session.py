@@ -81,7 +81,7 @@ class Expected:
         return f"{number},{found[1]}" if found and changed_one_by_one(book.connection, found[0]) else ""
 
 
-# The office of a book: a session of the program that has filed the book's journal, and is asked in its place.
+# The session of a book: one of the program that has filed the book's journal, and is asked in its place.
 
 # so often a session that ends is begun anew
 TRIES = 2

@@ -1,4 +1,4 @@
-"""The book at a glance, kept as long as little is filed: what was filed since is counted alone."""
+"""The overview of a book, kept as long as little is filed: what was filed since is counted alone."""
 from __future__ import annotations
 
 import collections

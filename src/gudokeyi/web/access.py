@@ -230,7 +230,7 @@ def guard(app: Flask, logins: Logins) -> None:
         # the origin is looked at here
         WTF_CSRF_SSL_STRICT=False,
     )
-    app.extensions["gate"] = logins
+    app.extensions["logins"] = logins
     logins.set_up(app)
     app.before_request(look_at_request)
     tokens.init_app(app)
@@ -266,7 +266,7 @@ def is_of_another_site(origin: str) -> bool:
 
 
 def the_logins() -> Logins:
-    logins: Logins = current_app.extensions["gate"]
+    logins: Logins = current_app.extensions["logins"]
     return logins
 
 

@@ -101,7 +101,7 @@ def verified(served: ServedBook, book: Book) -> Mark:
 
 
 def begin_to_see(served: ServedBook) -> None:
-    """Sees whether the book is whole, and begins with its glance and with the session, before somebody waits for them.
+    """Sees whether the book is whole, and begins with its overview and with the session, before somebody waits for them.
     What is wrong is told where the book is changed."""
     served.is_seen.clear()
     try:

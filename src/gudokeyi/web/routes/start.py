@@ -28,7 +28,7 @@ def start() -> Answer:
         if book is None or book.change is None:
             taking, is_old = served.jobs.under_way(TAKING), has_old_files(served.folder)
             return render_template("begin.html", has_example=EXAMPLE.exists(), taking=taking, is_old=is_old)
-        overview = served.kept.of(book, ("glance",), functools.partial(served.overviews.of, book))
+        overview = served.kept.of(book, ("overview",), functools.partial(served.overviews.of, book))
         last = lines_of(book, last_changes(book, LAST_CHANGES), page_language())
         return render_template("start.html", overview=overview, changes=last)
 

@@ -1,4 +1,4 @@
-"""The glance of a book comes from an earlier one where little was changed, and is the same as that of the whole book."""
+"""The overview of a book comes from an earlier one where little was changed, and is the same as that of the whole book."""
 from __future__ import annotations
 
 import pytest
@@ -18,7 +18,7 @@ FORMS = [
 ]  # fmt: skip
 
 
-def glance_now(site: Site) -> tuple[Overview, Overview]:
+def overview_now(site: Site) -> tuple[Overview, Overview]:
     """As the desk has it, and that of the whole book."""
     with site.desk.opened() as book:
         assert book
@@ -27,7 +27,7 @@ def glance_now(site: Site) -> tuple[Overview, Overview]:
 
 def test_commands(site: Site, monkeypatch: pytest.MonkeyPatch) -> None:
     """Behind a command the whole book isn't looked at."""
-    found = {glance_now(site)[1]}
+    found = {overview_now(site)[1]}
     whole = list[bool]()
 
     def looked_at(book: Book) -> Overview:
@@ -37,7 +37,7 @@ def test_commands(site: Site, monkeypatch: pytest.MonkeyPatch) -> None:
     monkeypatch.setattr(overview, "overview_of", looked_at)
     for kind, fields in FORMS:
         assert site.post(f"/file/{kind}", **fields).status_code == 302
-        here, all_of_it = glance_now(site)
+        here, all_of_it = overview_now(site)
         assert here == all_of_it
         found.add(here)
     assert not whole and len(found) == 4
@@ -48,11 +48,11 @@ def test_other_changes(site: Site) -> None:
     with site.desk.opened() as book:
         assert book and book.change
         first, before = book.change, overview_of(book)
-    glance_now(site)
+    overview_now(site)
     site.post("/file/parents", id=DAM, sire="0", dam="0")
     site.post("/history/1/undo", looked=site.looked())
     for _ in range(2):
-        here, all_of_it = glance_now(site)
+        here, all_of_it = overview_now(site)
         assert here == all_of_it
         site.post("/file/exit", id=DAM, day="2024-05-01")
     with site.desk.opened() as book:
