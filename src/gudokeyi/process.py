@@ -65,7 +65,7 @@ SECONDS_IN_TURN = 0.0005
 
 def with_short_turns() -> None:
     """What writes a book or reads its journal waits for Python between two statements, while something else is done
-    beside. With Python's own turns of five milliseconds an import of 60,000 rows takes a second longer."""
+    beside: of Python's own turns each is ten times as long."""
     sys.setswitchinterval(SECONDS_IN_TURN)
 
 
