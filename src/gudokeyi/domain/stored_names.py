@@ -83,6 +83,7 @@ KIND_NAMES: dict[str, str] = {
     "ParentRefused": "parent refused",
     "ParentsAlike": "parents alike",
     "ParentsInColumn": "parents in column",
+    "ParentsCut": "parents cut",
     "ParentsInPart": "parents in part",
     "ParentsLack": "parents lack",
     "ParentsNamed": "parents named",

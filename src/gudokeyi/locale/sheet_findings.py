@@ -204,6 +204,12 @@ FINDINGS: dict[str, tuple[str, str]] = {
         "aucun des {parents} parents n'a de ligne, et {meant} ont les chiffres d'un numéro : {told}. Écrivez des numéros entiers, "
         "car des fondateurs à leur place changent des coefficients",
     ),
+    "parents cut": (
+        "{parents} Eltern haben keine Zeile und sind Kennungen ohne das, womit viele Kennungen beginnen oder enden: {told}. "
+        "Schreiben Sie ganze Kennungen, denn Gründer an ihrer Stelle ändern Koeffizienten",
+        "{parents} parents n'ont pas de ligne et sont des numéros sans ce par quoi beaucoup de numéros commencent ou "
+        "finissent : {told}. Écrivez des numéros entiers, car des fondateurs à leur place changent des coefficients",
+    ),
     "ids used again": (
         "{lines} Zeilen haben Ohrmarken, die im Herdbuch andere Tiere haben: eines für das andere zu nehmen ändert "
         "Koeffizienten",

@@ -27,6 +27,14 @@ OF_ONE: dict[str, tuple[str, str, str, str]] = {
         "es ist kastriert[ („{word}“)] und Vater von {first}[ (Zeile {line})]",
         "il est castré[ (« {word} »)] et père de {first}[ (ligne {line})]",
     ),
+    "parents cut": (
+        "parents",
+        "",
+        "{parents} Elternteil hat keine Zeile und ist eine Kennung ohne das, womit viele Kennungen beginnen oder enden: "
+        "{told}. Schreiben Sie ganze Kennungen, denn Gründer an seiner Stelle ändern Koeffizienten",
+        "{parents} parent n'a pas de ligne et est un numéro sans ce par quoi beaucoup de numéros commencent ou finissent : "
+        "{told}. Écrivez des numéros entiers, car des fondateurs à sa place changent des coefficients",
+    ),
     "owner respelt": (
         "animals",
         "",
