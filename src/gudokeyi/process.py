@@ -90,3 +90,22 @@ def without_statistics() -> None:
         # the module's own library, or that which it is linked with
         library = ctypes.CDLL(spec.origin if spec and spec.has_location else None)
         library.sqlite3_config(STATISTICS, 0)
+
+
+# A process that goes on, as a desk does, gives back what an answer took. By itself the C library has a pool of memory for
+# each of many threads, and of each pool what lies before a piece that is in use stays: so after some large answers each
+# thread keeps as much as the largest of its answers took. Another library than glibc has nothing to set here.
+
+# mallopt's names of what is set, from malloc.h
+TRIM_THRESHOLD, MMAP_THRESHOLD, ARENA_MAX = -1, -3, -8
+# so many pools there are, and a piece of so many bytes, which is in none of them, goes back at once
+POOLS, LARGE_PIECE = 2, 128 << 10
+
+
+def give_memory_back() -> None:
+    """From here on memory that isn't used goes back to the system. It is asked for before threads are started."""
+    with contextlib.suppress(OSError, AttributeError):
+        library = ctypes.CDLL(None)
+        # what counts as large would grow with what is given back, unless it is set
+        for name, value in (ARENA_MAX, POOLS), (MMAP_THRESHOLD, LARGE_PIECE), (TRIM_THRESHOLD, LARGE_PIECE):
+            library.mallopt(name, value)

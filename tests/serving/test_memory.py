@@ -5,11 +5,13 @@ import contextlib
 import gc
 import pathlib
 import sqlite3
+import subprocess
+import sys
 import tracemalloc
 
 import pytest
 
-from front_desk.desk import Desk
+from front_desk.desk import TOP, Desk
 from gudokeyi.domain.people import AccountRole
 from gudokeyi.store.accounts import Accounts
 from gudokeyi.web import server as serving
@@ -21,6 +23,28 @@ PAGES = ("/", "/animals", "/animal/HOLGBRM000000000402", "/animals?words=a&order
 TIMES, MOST_KEPT = 4, 50_000
 # so many requests the server answers in so many parts, in a test that is run by hand
 REQUESTS, PARTS = 6_600, 12
+# with 10 MB of names, of which a page shows a fifth, a server has so many megabytes at most
+MOST_MEGABYTES = 200
+# one thread after the other takes 20 MB in small pieces and keeps one piece behind them; what the process has then
+IN_TURNS = """
+import pathlib, threading
+from gudokeyi.process import give_memory_back
+give_memory_back()
+kept, turn, is_over = [], threading.Semaphore(1), threading.Event()
+def take():
+    with turn:
+        pieces = [b"x" * 20_000 for _ in range(1_000)]
+        kept.append(b"y" * 20_000)
+        del pieces
+    is_over.wait()
+threads = [threading.Thread(target=take) for _ in range(16)]
+for one in threads:
+    one.start()
+while len(kept) < len(threads):
+    pass
+print(pathlib.Path("/proc/self/status").read_text().partition("VmRSS:")[2].split()[0])
+is_over.set()
+"""
 
 
 def lengthen(folder: pathlib.Path, letters: int) -> None:
@@ -76,8 +100,17 @@ def test_levels_off(society_desk: Desk, cheap: None, letters: int) -> None:
     server.end()
     # what a part adds is far less than a page of it
     assert max(found[PARTS // 2 :]) <= 1.1 * max(found[: PARTS // 2]) + 10, found
+    assert max(found) < MOST_MEGABYTES, found
 
 
 def test_looked_for() -> None:
     """What goes round is looked for in a server as Python does by itself, and not as rarely as in a call that ends."""
     assert serving.LOOKED_FOR[0] <= 2_000 and gc.isenabled()
+
+
+def test_given_back() -> None:
+    """What one thread gave back the next one takes: by itself the C library would have some 20 MB for each of them."""
+    done = subprocess.run(
+        [sys.executable, "-c", IN_TURNS], env={"PYTHONPATH": str(TOP / "src")}, capture_output=True, text=True, check=True
+    )
+    assert int(done.stdout) >> 10 < 90, done.stdout

@@ -160,9 +160,9 @@ def transferred(
 ) -> FiledCommand:
     """Another owner; the from_owner is the owner that the book has where none is named."""
     to_owner, from_owner = clean(to_owner), None if from_owner is None else clean(from_owner)
+    refuse_long(Field.OWNER, to_owner)
     if names_no_owner(to_owner):
         raise InvalidValue(NotSuch.NO_TAKER.said())
-    refuse_long(Field.OWNER, to_owner)
     refuse_to_come(day)
     record = book.records[known.registration_number]
     owner_code, new_owners = owner_code_of(book, to_owner)

@@ -23,7 +23,7 @@ from waitress import create_server
 
 from gudokeyi.domain.messages import CALLED, Mistake
 from gudokeyi.domain.requests import WebFault
-from gudokeyi.process import with_cells_of_any_length, with_short_turns
+from gudokeyi.process import give_memory_back, with_cells_of_any_length, with_short_turns
 from gudokeyi.services.accounts import Accounts
 from gudokeyi.services.book_session import BookSession
 from gudokeyi.services.opening import take_over, up_to_date
@@ -93,6 +93,8 @@ def answer(
 ) -> None:
     """Answers by the app of the moment until Ctrl-C or SIGTERM. What changes the book is done to its end then, and
     told."""
+    # before the threads are there that answer
+    give_memory_back()
     # what waitress tells of a fault would have a trace
     logging.getLogger("waitress").addHandler(logging.NullHandler())
     logging.getLogger("waitress").propagate = False
