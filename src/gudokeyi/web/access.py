@@ -18,11 +18,13 @@ from flask.wrappers import Response
 from flask_wtf.csrf import CSRFProtect
 from waitress.channel import HTTPChannel
 from waitress.parser import HTTPRequestParser
+from waitress.task import WSGITask
 from werkzeug.wrappers import Response as AnyResponse
 
 from gudokeyi.domain.messages import Mistake
 from gudokeyi.domain.people import WORKER, AccountRole, Person
 from gudokeyi.services.imports import MOST_BACKUP_BYTES, MOST_BYTES
+from gudokeyi.web.files import CONNECTION
 
 # Who asks the desk, and what each may do at the book.
 
@@ -161,13 +163,15 @@ def bound_of(app: Flask, headers: dict[str, str], address: str) -> int:
         return MOST_TOLD + most_of_file(request.endpoint or "")
 
 
+# what counts only once it arrived
+SENT_TO_END = ("/book.sqlite",)
 # what WSGI wants to be told beside of a request
 SOMEWHERE = {"SERVER_NAME": "localhost", "SERVER_PORT": "80", "wsgi.url_scheme": "http"}
 
 
 def bounded_channel(app: Callable[[], Flask]) -> Any:
     """The class of the connections of the app of the moment. Of a body no more is received than whoever sends it may
-    send."""
+    send; a request for a file ends its connection, which it has, so that it is seen whether that arrived."""
 
     def parse_header(self: Any, header: bytes) -> None:
         HTTPRequestParser.parse_header(self, header)
@@ -175,10 +179,19 @@ def bounded_channel(app: Callable[[], Flask]) -> Any:
             # others have these bounds too; waitress refuses what is as long as its bound
             self.adj = copy.copy(self.adj)
             self.adj.max_request_body_size = bound_of(app(), self.headers, self.path) + 1
+        if self.path in SENT_TO_END:
+            self.headers["CONNECTION"] = "close"
+
+    def get_environment(self: Any) -> dict[str, Any]:
+        environ: dict[str, Any] = WSGITask.get_environment(self)
+        if environ["PATH_INFO"] in SENT_TO_END:
+            environ[CONNECTION] = self.channel.socket
+        return environ
 
     # waitress has no types from which a class may be made
     parser: Any = type("BoundedParser", (HTTPRequestParser,), {"parse_header": parse_header})
-    return type("BoundedChannel", (HTTPChannel,), {"parser_class": parser})
+    task: Any = type("ConnectedTask", (WSGITask,), {"get_environment": get_environment})
+    return type("BoundedChannel", (HTTPChannel,), {"parser_class": parser, "task_class": task})
 
 
 # What each request is looked at for before it is answered: whether this server is meant, who asks, and whether that is

@@ -3,11 +3,13 @@ which a new user may play; and files that a browser is sent."""
 from __future__ import annotations
 
 import collections
+import contextlib
 import io
 import os
 import pathlib
 import secrets
 import shutil
+import socket
 import threading
 import time
 from collections.abc import Callable
@@ -126,27 +128,56 @@ def harmless(name: str) -> str:
     return shown or NAMELESS
 
 
-# A file that a browser is sent, and what is done once it has the whole of it.
+# A file that a browser is sent, and what is done once it has the whole of it. That all was handed on says little: the
+# system takes megabytes, and a browser may go away before they arrive. So the server says that nothing follows, and waits
+# for how the other side ends: one that didn't read all that came is told otherwise by the system than one that did. What
+# isn't known is what became of it behind a proxy, which reads for somebody else, and whether it was kept.
+
+# where the server has the connection of a request
+CONNECTION = "gudokeyi.connection"
+# so long it is waited for the end
+SECONDS_TO_ARRIVE = 600
 
 
 class Download(io.BufferedReader):
-    """The file, whose end is told where all of it was handed on. A browser that goes away before hasn't got it."""
+    """The file, whose end is told where all of it arrived. A browser that goes away before hasn't got it."""
 
-    def __init__(self, file: BinaryIO, then: Callable[[], None]) -> None:
+    def __init__(self, file: BinaryIO, then: Callable[[], None], channel: socket.socket | None) -> None:
         super().__init__(io.FileIO(os.dup(file.fileno())))
-        self.size, self.then, self.is_told = os.fstat(file.fileno()).st_size, then, False
+        self.size, self.then, self.channel, self.is_told = os.fstat(file.fileno()).st_size, then, channel, False
 
     def close(self) -> None:
-        is_whole = not self.closed and not self.is_told and self.tell() == self.size
+        is_handed_on = not self.closed and not self.is_told and self.tell() == self.size
         super().close()
-        if is_whole:
+        if is_handed_on:
             self.is_told = True
+            self.tell_end()
+
+    def tell_end(self) -> None:
+        if self.channel is None:
             self.then()
+            return
+        # a copy, since the server closes its own
+        with contextlib.suppress(OSError, RuntimeError):
+            threading.Thread(target=self.tell_arrived, args=(self.channel.dup(),), daemon=True).start()
+
+    def tell_arrived(self, connection: socket.socket) -> None:
+        if is_received(connection):
+            self.then()
+
+
+def is_received(connection: socket.socket) -> bool:
+    """Did the other side read all that it was sent, and then end? One that drops some of it resets the connection."""
+    with connection, contextlib.suppress(OSError):
+        connection.settimeout(SECONDS_TO_ARRIVE)
+        connection.shutdown(socket.SHUT_WR)
+        return not connection.recv(1)
+    return False
 
 
 def download(file: BinaryIO, then: Callable[[], None], mimetype: str, name: str) -> Response:
     """The answer that has a file, of which nothing is kept in memory."""
-    sent = Download(file, then)
+    sent = Download(file, then, request.environ.get(CONNECTION))
     response = Response(wrap_file(request.environ, sent), mimetype=mimetype, direct_passthrough=True)
     response.content_length = sent.size
     response.headers["Content-Disposition"] = f"attachment; filename={name}"
