@@ -3,7 +3,7 @@ from __future__ import annotations
 
 from fractions import Fraction
 
-from reference_book import MOST_DEPTH, Book, Relationship, filed, first_of
+from reference_book import MOST_DEPTH, Animal, Book, Relationship, filed, first_of
 
 __all__ = ["Book", "Relationship", "filed"]
 
@@ -28,8 +28,12 @@ def inbreeding_of(book: Book) -> str:
     return "".join(f"{number},{value},{percentage(value)}\n" for number, value in values)
 
 
-def certificate(text: str, number: str) -> str:
-    return certificate_of(filed(text)[0], number)
+def certificates(text: str, numbers: list[str]) -> str:
+    return certificates_of(filed(text)[0], numbers)
+
+
+def certificates_of(book: Book, numbers: list[str]) -> str:
+    return "".join(certificate_of(book, number) for number in numbers)
 
 
 def certificate_of(book: Book, number: str) -> str:
@@ -88,6 +92,21 @@ def relationships_of(book: Book, numbers: list[str], others: list[str] | None = 
         partners = firsts[place:] if others is None else [it for it in others if it in book.animals]
         lines += [f"{one},{it},{entry(one, it)}\n" for it in partners]
     return "".join(lines)
+
+
+def records(text: str, numbers: list[str]) -> str:
+    return records_of(filed(text)[0], numbers)
+
+
+def records_of(book: Book, numbers: list[str]) -> str:
+    """Of the numbers as they are given, or where there are none of all, the oldest first."""
+    return "".join(record_line(number, book.animals[number]) for number in numbers or book.by_age())
+
+
+def record_line(number: str, animal: Animal) -> str:
+    parents = [animal.sire or "0", animal.dam or "0"]
+    days = [str(animal.since), str(animal.left or "-")]
+    return ",".join([number, str(animal.birth), *parents, animal.herd, *days, "1" if animal.embryo else ""]) + "\n"
 
 
 def inverse(text: str) -> str:

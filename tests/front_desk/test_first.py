@@ -86,7 +86,7 @@ def test_her_certificate(her: Secretary, secretary_desk: Desk, whose: str) -> No
     done = desk.good("certificate", id)
     page = desk.page(done.out.split(" is written")[0])
     words = " ".join(page.itertext())
-    certificate = reference.certificate(desk.text("book/commands.csv"), numbers[id])
+    certificate = reference.certificates(desk.text("book/commands.csv"), [numbers[id]])
     told = dict(line.split(" ", 1) for line in certificate.splitlines())
     for value in id, numbers[id], told["sex"], told["born"], told["inbreeding"].split(" ")[0]:
         assert value in words

@@ -13,11 +13,13 @@ def each_order() -> list[list[str]]:
         ["file"],
         ["inbreeding"],
         ["inbreeding", "--workers", "3", "--block", "1"],
-        ["certificate", animal("M", 7)],
+        ["certificate", animal("M", 7), animal("F", 8)],
         ["mating", "--dam", animal("F", 6), animal("M", 5), animal("F", 8), animal("M", 7)],
         ["inverse"],
         ["relationships", animal("M", 7), animal("F", 8), animal("M", 999)],
         ["relationships", animal("M", 7), animal("F", 6), "--with", animal("M", 21), animal("F", 8), animal("F", 999)],
+        ["records"],
+        ["records", animal("M", 7), animal("M", 1), animal("M", 7)],
         ONE_CLERK,
         ["clerks", "--desks", "3", "--base", "44"],
     ]
@@ -26,7 +28,7 @@ def each_order() -> list[list[str]]:
 def long_orders(dam: str, sires: list[str]) -> list[list[str]]:
     """The orders whose texts have a line for each command, animal, sire or pair."""
     pairs = ["relationships", dam, "--with", *sires]
-    return [["file"], ["inbreeding"], ["inverse"], ["mating", "--dam", dam, *sires], pairs]
+    return [["file"], ["inbreeding"], ["inverse"], ["mating", "--dam", dam, *sires], pairs, ["records"]]
 
 
 def order_names() -> list[str]:

@@ -62,9 +62,10 @@ class JournalChecks:
 
     def faults(self) -> None:
         """Each wrong request has its fault, and no other has one, unless it asks about an animal that isn't there."""
+        of_animals = (("certificate",), ("coefficient",), ("record",))
         for request, answer in self.pairs():
             told = answer.lines[0].removeprefix("fault,") if answer.lines[0].startswith("fault,") else None
-            absent = told == "NotRegistered" and request.question()[:1] in (("certificate",), ("coefficient",))
+            absent = told == "NotRegistered" and request.question()[:1] in of_animals
             if told != request.fault and not absent:
                 self.mistakes.append(f"{request}: the fault {told}")
 
@@ -115,8 +116,8 @@ class JournalChecks:
     def compare(self, request: Request, answer: Answer) -> None:
         question = request.question()
         if answer.steps() is None:
-            if question[1] in self.book.animals:
-                self.mistakes.append(f"{request}: {answer.lines}, though the animal is there")
+            if all(number in self.book.animals for number in question[1:]):
+                self.mistakes.append(f"{request}: {answer.lines}, though the animals are there")
             return
         if question not in self.texts:
             self.texts[question] = self.text(*question)
@@ -131,17 +132,17 @@ class JournalChecks:
             return reference.inbreeding_of(self.book)
         if word == "inverse":
             return reference.inverse_of(self.book)
-        if word == "certificate":
-            return reference.certificate_of(self.book, numbers[0])
         if word == "mating":
             return reference.mating_of(self.book, numbers[0], list(numbers[1:]))
         if word == "relationships":
             return reference.relationships_of(self.book, list(numbers))
-        return self.line_of(numbers[0])
+        if any(number not in self.book.animals for number in numbers):
+            return "an animal isn't there\n"
+        if word == "certificate":
+            return reference.certificates_of(self.book, list(numbers))
+        return self.line_of(numbers[0]) if word == "coefficient" else reference.records_of(self.book, list(numbers))
 
     def line_of(self, number: str) -> str:
-        if number not in self.book.animals:
-            return "the animal isn't there\n"
         animal = self.book.animals[number]
         value = self.book.relationships()(animal.sire, animal.dam) / 2
         return f"{number},{value},{reference.percentage(value)}\n"

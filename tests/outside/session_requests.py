@@ -89,13 +89,15 @@ class Requests:
         asked = [
             ("seen",),
             ("coefficient", self.number()),
-            ("certificate", self.number()),
+            ("record", self.number()),
+            ("certificate", *(self.number() for _ in range(self.draw.randint(1, 2)))),
             ("mating", self.number(), *(self.number() for _ in range(self.draw.randint(1, 4)))),
             ("relationships", *(self.number() for _ in range(self.draw.randint(1, 4)))),
             ("inbreeding",),
             ("inverse",),
+            ("records",),
         ]
-        fields = self.draw.choices(asked, [8, 8, 4, 4, 4, 1, 1])[0]
+        fields = self.draw.choices(asked, [8, 8, 4, 4, 4, 4, 1, 1, 1])[0]
         return Request(tag, ("inspector", str(inspector), *fields), inspector=inspector)
 
     def wrong(self, tag: str) -> Request:
@@ -123,9 +125,13 @@ class Requests:
             ("Fields", ("coefficient", NOBODY, NOBODY)),
             ("Fields", ("mating", NOBODY)),
             ("Fields", ("mating", "x")),
-            ("Fields", ("certificate", "x", NOBODY)),
+            ("Fields", ("records", "")),
+            ("Fields", ("record",)),
+            ("Fields", ("record", "x", NOBODY)),
             ("Fields", ("relationships",)),
+            ("Animal", ("record", "x")),
             ("Animal", ("certificate", "x")),
+            ("Animal", ("certificate", NOBODY, "x")),
             ("Animal", ("relationships", NOBODY, "x")),
             ("Dam", ("mating", "x", "y")),
             ("Sire", ("mating", NOBODY, NOBODY, "y")),
@@ -148,3 +154,10 @@ class Requests:
             return Request(tag, ("inspector", str(inspector), *fields), inspector=inspector, fault=fault)
         fault, fields = self.draw.choice(to_nobody)
         return Request(tag, fields, fault=fault)
+
+
+def drawn_commands(seed: int, count: int) -> str:
+    """A command file of so many of a desk's commands."""
+    requests = Requests(seed, 1, 1)
+    lines = [",".join(COLUMNS), *(",".join(requests.command("").question()) for _ in range(count))]
+    return "\n".join(lines) + "\n"

@@ -6,7 +6,8 @@ from fractions import Fraction
 
 import reference
 from outside.books import HEADER, SAMPLES, animal, drawn, full_sibs
-from outside.runs import Checks, wrote
+from outside.runs import Checks, fault, wrote
+from outside.session_requests import drawn_commands
 
 MOST_COMMANDS = 1_000_000
 
@@ -27,7 +28,8 @@ class TestOrders(Checks):
             self.expect(name, wrote(reference.inbreeding(text)), ["inbreeding", *words.split()], text)
         self.expect(name, wrote(reference.inverse(text)), ["inverse"], text)
         for number in numbers:
-            self.expect(name, wrote(reference.certificate(text, number)), ["certificate", number], text)
+            self.expect(name, wrote(reference.certificates(text, [number])), ["certificate", number], text)
+        self.records_of(name, text, numbers)
         self.matings_of(name, text, numbers)
         self.relationships_of(name, text, numbers)
         everything = ["--base", str(MOST_COMMANDS)]
@@ -49,6 +51,24 @@ class TestOrders(Checks):
             text = drawn(seed)
             numbers = sorted(reference.filed(text)[0].animals)
             self.relationships_of(f"drawn by {seed}", text, numbers)
+
+    def test_records_in_drawn_books(self) -> None:
+        """Of animals that were sold or left, and from stored embryos."""
+        for seed in range(20):
+            text = drawn_commands(seed, 200)
+            numbers = sorted(reference.filed(text)[0].animals)
+            self.records_of(f"drawn by {seed}", text, numbers)
+
+    def records_of(self, name: str, text: str, numbers: list[str]) -> None:
+        """Of all, and the records and certificates of some, each in its place, one of them twice."""
+        self.expect(name, wrote(reference.records(text, [])), ["records"], text)
+        some = [*numbers[-1:], *numbers[:: max(1, len(numbers) // 8)], *numbers[-1:]]
+        if some:
+            self.expect(name, wrote(reference.records(text, some)), ["records", *some], text)
+            self.expect(name, wrote(reference.certificates(text, some)), ["certificate", *some], text)
+        # the others are there: nothing is written of them
+        for word in "records", "certificate":
+            self.expect(name, fault("not registered"), [word, *some, animal("M", 999), *some], text)
 
     def relationships_of(self, name: str, text: str, numbers: list[str]) -> None:
         """Some of the animals with one another and with all, one that isn't there too, and one of them twice."""

@@ -63,8 +63,10 @@ class TestSessions(Checks):
             self.as_word(client, text, "inverse", ["inverse"])
             self.as_word(client, text, f"mating,{','.join(numbers)}", ["mating", "--dam", *numbers])
             self.as_word(client, text, f"relationships,{','.join(numbers)}", ["relationships", *numbers])
-            there = reference.filed(text)[0].by_age()[-1]
-            self.as_word(client, text, f"certificate,{there}", ["certificate", there])
+            there = reference.filed(text)[0].by_age()[-2:]
+            self.as_word(client, text, f"certificate,{','.join(there)}", ["certificate", *there])
+            self.as_word(client, text, "records", ["records"])
+            self.as_word(client, text, f"record,{there[0]}", ["records", there[0]])
             self.count(client.end() == 0, f"session as other words: {seed}")
 
     def as_word(self, client: Client, text: str, question: str, words: Words) -> None:

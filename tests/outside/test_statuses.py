@@ -18,6 +18,7 @@ NO_COMMAND_LINES: list[tuple[list[str], str]] = [
     (["inbreeding", "--block", "16000001"], "'16000001'"),
     (["inbreeding", "--workers", "many"], "'many'"),
     (["certificate"], "<NUMBER>"),
+    (["records", "--desks", "1"], "'--desks'"),
     (["mating", "--dam", animal("F", 1)], "<SIRE>"),
     (["mating", animal("M", 1)], "--dam <NUMBER>"),
     (["inverse", "--desks", "1"], "'--desks'"),
@@ -82,7 +83,9 @@ class TestStatuses(Checks):
         right = animal("F", 2)
         for number, told in NO_NUMBERS:
             wanted = fault(f"animal number fault {told}", status=2)
-            self.expect("number", wanted, ["certificate", number], "not read")
+            for word in "certificate", "records":
+                self.expect("number", wanted, [word, number], "not read")
+                self.expect("number", wanted, [word, right, number, "HOLGBRX000000000001"], "not read")
             self.expect("number", wanted, ["mating", "--dam", right, animal("M", 1), number, "HOLGBRX000000000001"])
             self.expect("number", wanted, ["mating", "--dam", number, "HOLGBRM1"])
             self.expect("number", wanted, ["relationships", right, number, "--with", "HOLGBRX000000000001"])
@@ -101,7 +104,8 @@ class TestStatuses(Checks):
 
     def test_other_statuses(self) -> None:
         text = SAMPLES[1].read_text()
-        self.expect("absent", fault("not registered"), ["certificate", animal("M", 9)], text)
+        for word in "certificate", "records":
+            self.expect("absent", fault("not registered"), [word, animal("M", 9)], text)
         # what can't be read at all
         unread = fault("record 0: fault 11 Read")
         for words in ["file"], ["clerks"]:

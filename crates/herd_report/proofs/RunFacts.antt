@@ -1,5 +1,5 @@
 -- What a run files and writes, and how it ends.
-use Rattle.std.proofs.Common.{◌≡◌, inl, inr, ℕ, ◌+◌, ◌<◌, arith, true, false, MatchBool, Option, Some, None, Result, List, [], ◌∷◌, ◌++◌, refl, ap, sym, subst, ◌∙◌, ⊎_elim, append_assoc, append-nil, length, length-append}
+use Rattle.std.proofs.Common.{◌&&◌, ap₂, ◌≡◌, inl, inr, ℕ, ◌+◌, ◌<◌, arith, true, false, MatchBool, Option, Some, None, Result, List, [], ◌∷◌, ◌++◌, refl, ap, sym, subst, ◌∙◌, ⊎_elim, append_assoc, append-nil, length, length-append}
 use Rattle.std.proofs.lemmas.List.Sorted.{IsPermutation-sym}
 use Rattle.std.proofs.lemmas.Result.{IfErr-weaker}
 use Rattle.std.specs.Prelude.{IfErr, is_some}
@@ -18,14 +18,15 @@ use Rattle.herd_register.specs.declared.step.Step.{Step}
 use Rattle.herd_report.specs.reading.CommandFile.{CommandFile, IsRead, IsReadBefore, commands_from}
 use Rattle.herd_report.specs.reading.LineCause.{is_interruption}
 use Rattle.herd_report.specs.writing.Text.{AppendsFront}
+use Rattle.herd_report.specs.writing.Registered.{are_there}
 use Rattle.herd_report.specs.writing.Replies.{reply_line, reply_lines_from, replies_text}
-use Rattle.herd_report.specs.Run.{CanEndBy, EndsBy, EndsReplying, EndsReporting, HasFiled, IsAbsent, IsAnswered, IsFrozenFile, IsReport, IsReported, IsThere, filed_from, replies_to, wanted}
+use Rattle.herd_report.specs.Run.{CanEndBy, EndsBy, EndsReplying, EndsReporting, HasFiled, IsOneAbsent, IsAnswered, IsFrozenFile, IsReport, IsReported, AreThere, filed_from, replies_to, wanted}
 use Rattle.herd_report.specs.RunFault.{run_fault_of}
 use Rattle.herd_report.specs.declared.reading.line_fault.LineFault.{LineFault}
 use Rattle.herd_report.specs.declared.writing.report_fault.ReportFault.{ReportFault}
 use Rattle.herd_report.specs.declared.writing.report_fault.ReportFault.TheVariants as report
 use Rattle.herd_report.specs.declared.orders.Order.{Order}
-use Rattle.herd_report.specs.declared.orders.Order.TheVariants.{Inbreeding, Certificate, Mating, Inverse, Relationships}
+use Rattle.herd_report.specs.declared.orders.Order.TheVariants.{Inbreeding, Certificates, Mating, Inverse, Relationships, Records}
 use Rattle.herd_report.specs.declared.run_fault.RunFault.{RunFault}
 use Rattle.herd_report.specs.declared.run_fault.RunFault.TheVariants.{Line, NotRegistered, NoThread, Memory, Write}
 use Rattle.herd_report.proofs.lemmas.writing.TextFacts.{passes_before, some_before}
@@ -150,10 +151,16 @@ stops_replying limits file list line old new report.Memory read front =
 
 -- ---- how a run ends, whose report is of a file's frozen book
 
--- only a certificate is of an animal that isn't in the book
+-- there is a number where one isn't in the book
+some_named : (book : Book) (numbers : List (List ℕ)) → are_there book numbers ≡ false → 0 < length numbers
+some_named book [] absent = absurd (cc)
+some_named book (number ∷ numbers) absent = omega arith
+
+-- only certificates and records are of animals that must be in the book
 can_end_reporting : (order : Order) (rows : List Row) (old new : Option (List ℕ)) (fault : RunFault) → EndsReporting order rows old new fault → CanEndBy order fault
 can_end_reporting order rows old new (Line fault) ends = absurd ends
-can_end_reporting (Certificate number) rows old new NotRegistered ends = tt
+can_end_reporting (Certificates numbers) rows old new NotRegistered ends = some_named (book_of rows) numbers.now ends.0
+can_end_reporting (Records numbers) rows old new NotRegistered ends = some_named (book_of rows) numbers.now ends.0
 can_end_reporting (Inbreeding plan) rows old new NotRegistered ends = absurd ends.0
 can_end_reporting (Mating dam sires) rows old new NotRegistered ends = absurd ends.0
 can_end_reporting Inverse rows old new NotRegistered ends = absurd ends.0
@@ -168,15 +175,23 @@ there-frozen : (book : Book) (rows : List Row) (number : List ℕ) → IsFrozenF
 there-frozen book rows number frozen =
     sym (ap is_some (record_of-permuted (book_of rows) book frozen.frozen.lawful.once (IsPermutation-sym book (book_of rows) frozen.same) number))
 
-there_too : (order : Order) (book : Book) (rows : List Row) → IsFrozenFrom DEPTH_LIMIT MOST_ANIMALS book rows → IsThere order (book_of rows) → IsThere order book
-there_too (Certificate number) book rows frozen there = sym (there-frozen book rows number frozen) ∙ there
+are_there-frozen : (book : Book) (rows : List Row) (numbers : List (List ℕ)) → IsFrozenFrom DEPTH_LIMIT MOST_ANIMALS book rows →
+    are_there (book_of rows) numbers ≡ are_there book numbers
+are_there-frozen book rows [] frozen = refl
+are_there-frozen book rows (number ∷ numbers) frozen =
+    ap₂ (λ a b. a && b) (there-frozen book rows number frozen) (are_there-frozen book rows numbers frozen)
+
+there_too : (order : Order) (book : Book) (rows : List Row) → IsFrozenFrom DEPTH_LIMIT MOST_ANIMALS book rows → AreThere order (book_of rows) → AreThere order book
+there_too (Certificates numbers) book rows frozen there = sym (are_there-frozen book rows numbers.now frozen) ∙ there
+there_too (Records numbers) book rows frozen there = sym (are_there-frozen book rows numbers.now frozen) ∙ there
 there_too (Inbreeding plan) book rows frozen there = tt
 there_too (Mating dam sires) book rows frozen there = tt
 there_too Inverse book rows frozen there = tt
 there_too (Relationships numbers others) book rows frozen there = tt
 
-absent_too : (order : Order) (book : Book) (rows : List Row) → IsFrozenFrom DEPTH_LIMIT MOST_ANIMALS book rows → IsAbsent order (book_of rows) → IsAbsent order book
-absent_too (Certificate number) book rows frozen absent = sym (there-frozen book rows number frozen) ∙ absent
+absent_too : (order : Order) (book : Book) (rows : List Row) → IsFrozenFrom DEPTH_LIMIT MOST_ANIMALS book rows → IsOneAbsent order (book_of rows) → IsOneAbsent order book
+absent_too (Certificates numbers) book rows frozen absent = sym (are_there-frozen book rows numbers.now frozen) ∙ absent
+absent_too (Records numbers) book rows frozen absent = sym (are_there-frozen book rows numbers.now frozen) ∙ absent
 absent_too (Inbreeding plan) book rows frozen absent = absurd absent
 absent_too (Mating dam sires) book rows frozen absent = absurd absent
 absent_too Inverse book rows frozen absent = absurd absent

@@ -1,7 +1,7 @@
 -- What is written of a command file, and how that may end.
 use Rattle.std.specs.Prelude.{◌≡◌, ◌⊎◌, ◌<◌, ℕ, List, [], ◌∷◌, ⊤, IfSome, Option, Some, None, true, false, length}
 use Rattle.std.specs.Io.KnownBytes.{Appends}
-use Rattle.herd_frozen.specs.rules.Book.{Book, is_there}
+use Rattle.herd_frozen.specs.rules.Book.{Book}
 use Rattle.herd_frozen.specs.freezing.Frozen.{IsFrozenFrom, book_of}
 use Rattle.herd_frozen.specs.declared.TheConstants.{DEPTH_LIMIT, MOST_ANIMALS}
 use Rattle.herd_frozen.specs.declared.freezing.frozen.Row.{Row}
@@ -12,17 +12,19 @@ use Rattle.herd_register.specs.Limits.{Limits}
 use Rattle.herd_register.specs.declared.step.Step.{Step}
 use Rattle.herd_advice.specs.FrozenAncestry.{ancestry_of}
 use Rattle.herd_kinship.specs.Table.{coefficient}
-use Rattle.herd_report.specs.writing.Certificate.{certificate_of}
+use Rattle.herd_report.specs.writing.Certificate.{certificates_of}
 use Rattle.herd_report.specs.reading.CommandFile.{CommandFile, IsRead, IsReadUpTo, commands}
 use Rattle.herd_report.specs.writing.InbreedingList.{inbreeding_text}
 use Rattle.herd_report.specs.writing.InverseList.{inverse_text}
 use Rattle.herd_report.specs.writing.MatingList.{mating_text}
+use Rattle.herd_report.specs.writing.RecordList.{records_text}
+use Rattle.herd_report.specs.writing.Registered.{are_there}
 use Rattle.herd_report.specs.writing.RelationshipList.{relationships_text}
 use Rattle.herd_report.specs.writing.Text.{AppendsFront}
 use Rattle.herd_report.specs.writing.Replies.{replies_text}
 use Rattle.herd_report.specs.declared.reading.line_fault.LineFault.{LineFault}
 use Rattle.herd_report.specs.declared.orders.Order.{Order}
-use Rattle.herd_report.specs.declared.orders.Order.TheVariants.{Inbreeding, Certificate, Mating, Inverse, Relationships}
+use Rattle.herd_report.specs.declared.orders.Order.TheVariants.{Inbreeding, Certificates, Mating, Inverse, Relationships, Records}
 use Rattle.herd_report.specs.declared.run_fault.RunFault.{RunFault}
 use Rattle.herd_report.specs.declared.run_fault.RunFault.TheVariants.{Line, NotRegistered, NoThread, Memory, Write}
 
@@ -80,25 +82,29 @@ CanEndReplying Write = ⊤
 -- the text that an order wants of the frozen rows of a book
 abbrev pub wanted : Order → List Row → List ℕ
 wanted (Inbreeding plan) rows = inbreeding_text (coefficient (ancestry_of rows) DEPTH_LIMIT) rows
-wanted (Certificate number) rows = certificate_of rows number
+wanted (Certificates numbers) rows = certificates_of rows numbers.now
 wanted (Mating dam sires) rows = mating_text (book_of rows) dam sires.now
 wanted Inverse rows = inverse_text rows
 wanted (Relationships numbers others) rows = relationships_text (book_of rows) numbers.now others.now
+wanted (Records numbers) rows = records_text rows numbers.now
 
--- the animal of a certificate is in the book
-abbrev pub IsThere : Order → Book → Type 0
-IsThere (Certificate number) book = is_there book number ≡ true
-IsThere order book = ⊤
+-- each animal that certificates or records are asked of is in the book
+abbrev pub AreThere : Order → Book → Type 0
+AreThere (Certificates numbers) book = are_there book numbers.now ≡ true
+AreThere (Records numbers) book = are_there book numbers.now ≡ true
+AreThere order book = ⊤
 
--- it is not
-abbrev pub IsAbsent : Order → Book → Type 0
-IsAbsent (Certificate number) book = is_there book number ≡ false
-IsAbsent order book = ⊥
+-- one of them is not
+abbrev pub IsOneAbsent : Order → Book → Type 0
+IsOneAbsent (Certificates numbers) book = are_there book numbers.now ≡ false
+IsOneAbsent (Records numbers) book = are_there book numbers.now ≡ false
+IsOneAbsent order book = ⊥
 
--- the order is for a certificate
-abbrev pub IsCertificate : Order → Type 0
-IsCertificate (Certificate number) = ⊤
-IsCertificate order = ⊥
+-- certificates or records are asked of an animal at least
+abbrev pub NamesSome : Order → Type 0
+NamesSome (Certificates numbers) = 0 < length numbers.now
+NamesSome (Records numbers) = 0 < length numbers.now
+NamesSome order = ⊥
 
 -- the order is for work that more than one worker share
 abbrev pub IsShared : Order → Type 0
@@ -108,25 +114,25 @@ IsShared order = ⊥
 -- a fault that an order can end by, whatever is read
 abbrev pub CanEndBy : Order → RunFault → Type 0
 CanEndBy order (Line fault) = ⊤
-CanEndBy order NotRegistered = IsCertificate order
+CanEndBy order NotRegistered = NamesSome order
 CanEndBy order NoThread = IsShared order
 CanEndBy order Memory = ⊤
 CanEndBy order Write = ⊤
 
--- the animal of a certificate is in the frozen book, and what the order wants of it was written
+-- the animals that must be there are in the frozen book, and what the order wants of it was written
 pub record IsReported (order : Order) (rows : List Row) (old new : Option (List ℕ)) : Type 0 where
-  pub there : IsThere order (book_of rows)
+  pub there : AreThere order (book_of rows)
   pub written : Appends old new (wanted order rows)
 
 -- how that may end early: `NotRegistered` comes first, then `NoThread` or `Memory` while coefficients are computed,
 -- then `Memory` or `Write` while the text is written
 abbrev pub EndsReporting : Order → List Row → Option (List ℕ) → Option (List ℕ) → RunFault → Type 0
 EndsReporting order rows old new (Line fault) = ⊥
-EndsReporting order rows old new NotRegistered = IsAbsent order (book_of rows) × (new ≡ old)
+EndsReporting order rows old new NotRegistered = IsOneAbsent order (book_of rows) × (new ≡ old)
 EndsReporting order rows old new NoThread = IsShared order × (new ≡ old)
 EndsReporting order rows old new Memory =
-    IsThere order (book_of rows) × ((new ≡ old) ⊎ AppendsFront old new (wanted order rows))
-EndsReporting order rows old new Write = IsThere order (book_of rows) × AppendsFront old new (wanted order rows)
+    AreThere order (book_of rows) × ((new ≡ old) ⊎ AppendsFront old new (wanted order rows))
+EndsReporting order rows old new Write = AreThere order (book_of rows) × AppendsFront old new (wanted order rows)
 
 -- ---- what is ordered of the book of a command file
 
@@ -142,16 +148,16 @@ pub record IsReport (limits : Limits) (order : Order) (commands : List Command)
   pub frozen : IsFrozenFrom DEPTH_LIMIT MOST_ANIMALS (run_book limits commands) rows
   pub passes : Passes (wanted order rows)
 
--- the file has no fault, the animal of a certificate is in the book, and what the order wants was written
+-- the file has no fault, the animals that must be there are in the book, and what the order wants was written
 pub record IsAnswered (limits : Limits) (order : Order) (file : CommandFile) (old new : Option (List ℕ)) : Type 0 where
   pub faultless : file.fault ≡ None
-  pub there : IsThere order (run_book limits file.commands)
+  pub there : AreThere order (run_book limits file.commands)
   pub written : IsReport limits order file.commands (Appends old new)
 
 -- what the order wants was written, but for some of its end
 pub record StopsWriting (limits : Limits) (order : Order) (file : CommandFile)
     (old new : Option (List ℕ)) : Type 0 where
-  pub there : IsThere order (run_book limits file.commands)
+  pub there : AreThere order (run_book limits file.commands)
   pub front : IsReport limits order file.commands (AppendsFront old new)
 
 -- how a run may end early. The faults come in this order: `Line`; `Memory` while the commands are filed or the book is
@@ -160,7 +166,7 @@ pub record StopsWriting (limits : Limits) (order : Order) (file : CommandFile)
 abbrev pub EndsBy : Limits → Order → CommandFile → Option (List ℕ) → Option (List ℕ) → RunFault → Type 0
 EndsBy limits order file old new (Line fault) = IsReadUpTo limits.steps file (Some fault) × (new ≡ old)
 EndsBy limits order file old new NotRegistered =
-    (file.fault ≡ None) × IsAbsent order (run_book limits file.commands) × (new ≡ old)
+    (file.fault ≡ None) × IsOneAbsent order (run_book limits file.commands) × (new ≡ old)
 EndsBy limits order file old new NoThread = IsShared order × (file.fault ≡ None) × (new ≡ old)
 EndsBy limits order file old new Memory =
     (file.fault ≡ None) × ((new ≡ old) ⊎ StopsWriting limits order file old new)

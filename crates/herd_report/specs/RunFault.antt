@@ -3,8 +3,8 @@ use Rattle.std.specs.Prelude.{◌≡◌, ◌⊎◌, ℕ, List, Option}
 use Rattle.herd_pool.specs.declared.pool_fault.PoolFault.{PoolFault}
 use Rattle.herd_pool.specs.declared.pool_fault.PoolFault.TheVariants as pool
 use Rattle.herd_report.specs.writing.Text.{AppendsFront}
-use Rattle.herd_report.specs.declared.writing.certificate_fault.CertificateFault.{CertificateFault}
-use Rattle.herd_report.specs.declared.writing.certificate_fault.CertificateFault.TheVariants as certificate
+use Rattle.herd_report.specs.declared.writing.named_animals_fault.NamedAnimalsFault.{NamedAnimalsFault}
+use Rattle.herd_report.specs.declared.writing.named_animals_fault.NamedAnimalsFault.TheVariants as named
 use Rattle.herd_report.specs.declared.writing.report_fault.ReportFault.{ReportFault}
 use Rattle.herd_report.specs.declared.writing.report_fault.ReportFault.TheVariants as report
 use Rattle.herd_report.specs.declared.run_fault.RunFault.{RunFault}
@@ -14,9 +14,9 @@ abbrev pub run_fault_of : ReportFault → RunFault
 run_fault_of report.Write = Write
 run_fault_of report.Memory = Memory
 
-abbrev pub run_fault_of_certificate : CertificateFault → RunFault
-run_fault_of_certificate certificate.NotRegistered = NotRegistered
-run_fault_of_certificate (certificate.Report fault) = run_fault_of fault
+abbrev pub run_fault_of_named : NamedAnimalsFault → RunFault
+run_fault_of_named named.NotRegistered = NotRegistered
+run_fault_of_named (named.Report fault) = run_fault_of fault
 
 abbrev pub run_fault_of_pool : PoolFault → RunFault
 run_fault_of_pool pool.NoThread = NoThread

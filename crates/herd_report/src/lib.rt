@@ -34,12 +34,12 @@
 //! | the line of one animal | `CoefficientLine` | `coefficient_line` | `CoefficientFacts` |
 //! | the record of an animal as a line | `RecordLine` | `record_line` | `RecordFacts` |
 //! | records, of some numbers or of all animals | `RecordList`, `Registered` | `record_list`, `registered` | `RecordFacts` |
-//! | certificates | `Certificate`, `Ancestors` | `certificate`, `ancestors` | `CertificateFacts`, `AncestorFacts` |
+//! | certificates | `Certificate`, `Registered`, `Ancestors` | `certificate`, `ancestors` | `CertificateFacts`, `AncestorFacts` |
 //! | mating advice | `MatingList` | `mating_list` | `MatingFacts` |
 //! | the inverse of A | `InverseList` | `inverse_list` | `ContributionFacts` |
 //! | entries of A | `RelationshipList` | `relationship_list` | `RelationshipFacts` |
 //! | what a run writes, and how it may end | `Run`, `RunFault` | `orders`, `work_plan`, `run_fault` | `RunFacts` |
-//! | how a text of its own may end | | `report_fault`, `certificate_fault` | `Exits` |
+//! | how a text of its own may end | | `report_fault`, `named_animals_fault` | `Exits` |
 #![tactic(auto)]
 
 mod command_filing;
@@ -58,12 +58,12 @@ pub use reading::line_fault::{LineCause, LineFault};
 pub use reading::records::{open_records, read_record};
 pub use run_fault::RunFault;
 pub use work_plan::WorkPlan;
-pub use writing::certificate::write_certificate;
-pub use writing::certificate_fault::CertificateFault;
+pub use writing::certificate::write_certificates;
 pub use writing::coefficient_line::write_coefficient;
 pub use writing::inbreeding_list::write_inbreeding;
 pub use writing::inverse_list::write_inverse;
 pub use writing::mating_list::write_mating;
+pub use writing::named_animals_fault::NamedAnimalsFault;
 pub use writing::record_list::write_records;
 pub use writing::relationship_list::write_relationships;
 pub use writing::replies::write_replies;

@@ -14,6 +14,7 @@ use crate::writing::certificate::certify;
 use crate::writing::inbreeding_list::write_inbreeding;
 use crate::writing::inverse_list::write_inverse;
 use crate::writing::mating_list::write_mating;
+use crate::writing::record_list::write_records;
 use crate::writing::relationship_list::write_relationships;
 use crate::writing::replies::write_replies;
 use herd_advice::{Coefficients, coefficients_plain};
@@ -31,8 +32,8 @@ use std::thread::Threads;
 pub enum Order<'a> {
     /// The coefficient of inbreeding of each animal.
     Inbreeding(WorkPlan),
-    /// The certificate of an animal.
-    Certificate(AnimalNumber),
+    /// The certificates of some animals, each of which must be in the book.
+    Certificates(&'a [AnimalNumber]),
     /// For each sire the coefficient that a calf of it and the dam would have.
     Mating {
         dam: AnimalNumber,
@@ -45,6 +46,8 @@ pub enum Order<'a> {
         numbers: &'a [AnimalNumber],
         others: &'a [AnimalNumber],
     },
+    /// The records of some animals, each of which must be in the book, and where none are named of all.
+    Records(&'a [AnimalNumber]),
 }
 
 /// Files a command file, and writes the reply to each command.
@@ -138,10 +141,7 @@ pub fn write_report<H: Threads + Wait + Sync, W: Write>(
             let coefficients = shared_coefficients(rt, alloc, frozen, plan)?;
             Ok(write_inbreeding(alloc, frozen, &coefficients, writer)?)
         }
-        Order::Certificate(number) => {
-            let none_given = None::<&Coefficients<Global>>;
-            Ok(certify(alloc, frozen, none_given, number, writer)?)
-        }
+        Order::Certificates(numbers) => Ok(certify(alloc, frozen, numbers, writer)?),
         Order::Mating { dam, sires } => {
             let coefficients = coefficients_plain(alloc, frozen)?;
             Ok(write_mating(alloc, frozen, &coefficients, dam, sires, writer)?)
@@ -154,6 +154,7 @@ pub fn write_report<H: Threads + Wait + Sync, W: Write>(
             let coefficients = coefficients_plain(alloc, frozen)?;
             Ok(write_relationships(alloc, frozen, &coefficients, numbers, others, writer)?)
         }
+        Order::Records(numbers) => Ok(write_records(alloc, frozen, numbers, writer)?),
     }
 }
 

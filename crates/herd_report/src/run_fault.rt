@@ -1,7 +1,7 @@
 ghost use Rattle.std.specs.Prelude.{◌≡◌};
 
 use crate::reading::line_fault::LineFault;
-use crate::writing::certificate_fault::CertificateFault;
+use crate::writing::named_animals_fault::NamedAnimalsFault;
 use crate::writing::report_fault::ReportFault;
 use herd_pool::PoolFault;
 use std::alloc::AllocError;
@@ -14,7 +14,7 @@ pub enum RunFault {
     /// nothing else; of an order nothing was.
     #[error("{0}")]
     Line(LineFault),
-    /// The animal that a certificate was asked for isn't in the book. Nothing was written.
+    /// One of the animals that certificates or records were asked of isn't in the book. Nothing was written.
     #[error("not registered")]
     NotRegistered,
     /// A thread couldn't be started. Nothing was written.
@@ -61,15 +61,15 @@ impl From<ReportFault> for RunFault {
     }
 }
 
-impl From<CertificateFault> for RunFault {
-    ghost use Rattle.herd_report.specs.RunFault.{run_fault_of_certificate};
+impl From<NamedAnimalsFault> for RunFault {
+    ghost use Rattle.herd_report.specs.RunFault.{run_fault_of_named};
 
-    ghost from_gives = { λ fault told. told ≡ run_fault_of_certificate fault };
+    ghost from_gives = { λ fault told. told ≡ run_fault_of_named fault };
 
-    fn from(fault: CertificateFault) -> RunFault {
+    fn from(fault: NamedAnimalsFault) -> RunFault {
         match fault {
-            CertificateFault::NotRegistered => RunFault::NotRegistered,
-            CertificateFault::Report(fault) => RunFault::from(fault),
+            NamedAnimalsFault::NotRegistered => RunFault::NotRegistered,
+            NamedAnimalsFault::Report(fault) => RunFault::from(fault),
         }
     }
 }

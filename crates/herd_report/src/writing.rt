@@ -2,13 +2,13 @@
 
 pub(crate) mod ancestors;
 pub(crate) mod certificate;
-pub(crate) mod certificate_fault;
 pub(crate) mod coefficient_line;
 pub(crate) mod coefficient_text;
 pub(crate) mod inbreeding_list;
 pub(crate) mod inverse_list;
 pub(crate) mod line_end;
 pub(crate) mod mating_list;
+pub(crate) mod named_animals_fault;
 pub(crate) mod record_line;
 pub(crate) mod record_list;
 pub(crate) mod refused_text;

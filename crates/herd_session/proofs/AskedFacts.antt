@@ -15,7 +15,7 @@ use Rattle.herd_session.specs.Answers.{IsAnswer, IsAnswered, IsReport, fault_tex
 use Rattle.herd_session.specs.Requests.{IsAskedOfDesk, IsAskedOfInspector, IsTagThere}
 use Rattle.herd_session.specs.declared.fault.Fault.{Fault as WhyNot}
 use Rattle.herd_session.specs.declared.question.Question.{Question}
-use Rattle.herd_session.specs.declared.question.Question.TheVariants.{Inbreeding, Inverse, Certificate, Mating, Relationships, Coefficient, Seen}
+use Rattle.herd_session.specs.declared.question.Question.TheVariants.{Inbreeding, Inverse, Certificates, Mating, Relationships, Coefficient, Records, Record, Seen}
 
 -- a reply to a desk's command is an answer
 pub reply_answers : (limits : Limits) (records : Option (List Fields)) (before desk : ℕ) (tag : List ℕ) (wanted : Result Command WhyNot)
@@ -44,10 +44,12 @@ pub answered_by_report : (limits : Limits) (history : List Step) (tag : List ℕ
     → question ≢ Seen → IsReport limits history tag question text → IsAnswered limits history tag question text
 answered_by_report limits history tag Inbreeding text other report = report
 answered_by_report limits history tag Inverse text other report = report
-answered_by_report limits history tag (Certificate number) text other report = report
+answered_by_report limits history tag (Certificates numbers) text other report = report
 answered_by_report limits history tag (Mating dam sires) text other report = report
 answered_by_report limits history tag (Relationships numbers) text other report = report
 answered_by_report limits history tag (Coefficient number) text other report = report
+answered_by_report limits history tag Records text other report = report
+answered_by_report limits history tag (Record number) text other report = report
 answered_by_report limits history tag Seen text other report = absurd (other refl)
 
 -- what answers an inspector's question is an answer

@@ -1,5 +1,5 @@
 -- What an inspector is asked, and the text that answers it.
-use Rattle.std.specs.Prelude.{◌≡◌, ◌≢◌, ◌⊎◌, ◌<◌, ◌≤◌, ℕ, List, [], codes, drop, length, if◌then◌else◌, Option, Some, None, false}
+use Rattle.std.specs.Prelude.{◌≡◌, ◌≢◌, ◌⊎◌, ◌<◌, ◌≤◌, ℕ, List, [], ◌∷◌, codes, drop, length, if◌then◌else◌, Option, Some, None, false}
 use Rattle.std.specs.Str.{bytes_eq}
 use Rattle.herd_animal.specs.AnimalNumber.{IsAnimalNumber}
 use Rattle.herd_frozen.specs.rules.Book.{is_there}
@@ -9,23 +9,25 @@ use Rattle.herd_frozen.specs.declared.freezing.frozen.Row.{Row}
 use Rattle.herd_advice.specs.FrozenAncestry.{ancestry_of}
 use Rattle.herd_kinship.specs.Table.{coefficient}
 use Rattle.herd_report.specs.reading.Grammar.{Fields, field}
-use Rattle.herd_report.specs.writing.Certificate.{certificate_of}
+use Rattle.herd_report.specs.writing.Certificate.{certificates_of}
 use Rattle.herd_report.specs.writing.CoefficientLine.{coefficient_of}
 use Rattle.herd_report.specs.writing.InbreedingList.{inbreeding_text}
 use Rattle.herd_report.specs.writing.InverseList.{inverse_text}
 use Rattle.herd_report.specs.writing.MatingList.{mating_text}
+use Rattle.herd_report.specs.writing.RecordList.{records_text}
+use Rattle.herd_report.specs.writing.Registered.{are_there}
 use Rattle.herd_report.specs.writing.RelationshipList.{relationships_text}
 use Rattle.herd_report.specs.writing.Text.{AppendsFront}
 use Rattle.herd_report.specs.declared.reading.line_fault.LineCause.{LineCause}
 use Rattle.herd_report.specs.declared.reading.line_fault.LineCause.TheVariants as cause
-use Rattle.herd_report.specs.declared.writing.certificate_fault.CertificateFault.{CertificateFault}
-use Rattle.herd_report.specs.declared.writing.certificate_fault.CertificateFault.TheVariants as ending
+use Rattle.herd_report.specs.declared.writing.named_animals_fault.NamedAnimalsFault.{NamedAnimalsFault}
+use Rattle.herd_report.specs.declared.writing.named_animals_fault.NamedAnimalsFault.TheVariants as ending
 use Rattle.herd_report.specs.declared.writing.report_fault.ReportFault.TheVariants as report
 use Rattle.herd_session.specs.declared.fault.Fault.{Fault as WhyNot}
 use Rattle.herd_session.specs.declared.fault.Fault.TheVariants as fault
 use Rattle.herd_session.specs.declared.question.Question.{Question}
 use Rattle.herd_session.specs.declared.report_text.TheConstants.{LONGEST_REPORT}
-use Rattle.herd_session.specs.declared.question.Question.TheVariants.{Inbreeding, Inverse, Certificate, Mating, Relationships, Coefficient, Seen}
+use Rattle.herd_session.specs.declared.question.Question.TheVariants.{Inbreeding, Inverse, Certificates, Mating, Relationships, Coefficient, Records, Record, Seen}
 use Rattle.herd_session.specs.declared.word.Word.{Word}
 use Rattle.herd_session.specs.declared.word.Word.TheVariants as word
 
@@ -38,6 +40,8 @@ word_of text =
     else if bytes_eq text (codes "mating") then Some word.Mating
     else if bytes_eq text (codes "relationships") then Some word.Relationships
     else if bytes_eq text (codes "coefficient") then Some word.Coefficient
+    else if bytes_eq text (codes "records") then Some word.Records
+    else if bytes_eq text (codes "record") then Some word.Record
     else if bytes_eq text (codes "seen") then Some word.Seen
     else None
 
@@ -49,24 +53,29 @@ word_in fields = word_of (field 3 fields)
 abbrev pub IsAskedIn : Fields → Question → Type 0
 IsAskedIn fields Inbreeding = (word_in fields ≡ Some word.Inbreeding) × (length fields ≡ 4)
 IsAskedIn fields Inverse = (word_in fields ≡ Some word.Inverse) × (length fields ≡ 4)
-IsAskedIn fields (Certificate number) =
-    (word_in fields ≡ Some word.Certificate) × (length fields ≡ 5) × (field 4 fields ≡ number)
+IsAskedIn fields (Certificates numbers) =
+    (word_in fields ≡ Some word.Certificate) × (5 ≤ length fields) × (drop 4 fields ≡ numbers.items)
 IsAskedIn fields (Mating dam sires) =
     (word_in fields ≡ Some word.Mating) × (6 ≤ length fields) × (field 4 fields ≡ dam) × (drop 5 fields ≡ sires.items)
 IsAskedIn fields (Relationships numbers) =
     (word_in fields ≡ Some word.Relationships) × (5 ≤ length fields) × (drop 4 fields ≡ numbers.items)
 IsAskedIn fields (Coefficient number) =
     (word_in fields ≡ Some word.Coefficient) × (length fields ≡ 5) × (field 4 fields ≡ number)
+IsAskedIn fields Records = (word_in fields ≡ Some word.Records) × (length fields ≡ 4)
+IsAskedIn fields (Record number) =
+    (word_in fields ≡ Some word.Record) × (length fields ≡ 5) × (field 4 fields ≡ number)
 IsAskedIn fields Seen = (word_in fields ≡ Some word.Seen) × (length fields ≡ 4)
 
 -- a question of this kind has another number of fields
 abbrev pub IsMiscounted : Option Word → ℕ → Type 0
 IsMiscounted (Some word.Inbreeding) count = count ≢ 4
 IsMiscounted (Some word.Inverse) count = count ≢ 4
-IsMiscounted (Some word.Certificate) count = count ≢ 5
+IsMiscounted (Some word.Certificate) count = count < 5
 IsMiscounted (Some word.Mating) count = count < 6
 IsMiscounted (Some word.Relationships) count = count < 5
 IsMiscounted (Some word.Coefficient) count = count ≢ 5
+IsMiscounted (Some word.Records) count = count ≢ 4
+IsMiscounted (Some word.Record) count = count ≢ 5
 IsMiscounted (Some word.Seen) count = count ≢ 4
 IsMiscounted None count = ⊥
 
@@ -80,6 +89,7 @@ abbrev pub IsMisnumbered : Option Word → Fields → Type 0
 IsMisnumbered (Some word.Certificate) fields = HasNoNumber fields 4
 IsMisnumbered (Some word.Coefficient) fields = HasNoNumber fields 4
 IsMisnumbered (Some word.Relationships) fields = HasNoNumber fields 4
+IsMisnumbered (Some word.Record) fields = HasNoNumber fields 4
 IsMisnumbered other fields = ⊥
 
 -- why the question in a record can't be read
@@ -105,28 +115,31 @@ IsNumberFault at fields place Miscounted other = ⊥
 abbrev pub text_of : Question → List Row → List ℕ
 text_of Inbreeding rows = inbreeding_text (coefficient (ancestry_of rows) DEPTH_LIMIT) rows
 text_of Inverse rows = inverse_text rows
-text_of (Certificate number) rows = certificate_of rows number
+text_of (Certificates numbers) rows = certificates_of rows numbers.items
 text_of (Mating dam sires) rows = mating_text (book_of rows) dam sires.items
 text_of (Relationships numbers) rows = relationships_text (book_of rows) numbers.items []
 text_of (Coefficient number) rows = coefficient_of rows number
+text_of Records rows = records_text rows []
+text_of (Record number) rows = records_text rows (number ∷ [])
 text_of Seen rows = []
 
--- a question is for one animal, which isn't in the book
-abbrev pub IsOfNobody : Question → List Row → Type 0
-IsOfNobody (Certificate number) rows = is_there (book_of rows) number ≡ false
-IsOfNobody (Coefficient number) rows = is_there (book_of rows) number ≡ false
-IsOfNobody other rows = ⊥
+-- a question is for animals that must be in the book, and one isn't
+abbrev pub IsOfAbsent : Question → List Row → Type 0
+IsOfAbsent (Certificates numbers) rows = are_there (book_of rows) numbers.items ≡ false
+IsOfAbsent (Coefficient number) rows = is_there (book_of rows) number ≡ false
+IsOfAbsent (Record number) rows = is_there (book_of rows) number ≡ false
+IsOfAbsent other rows = ⊥
 
--- how the writing of a question's answer may end early: the animal isn't there, a write failed before the text's end, or
+-- how the writing of a question's answer may end early: an animal isn't there, a write failed before the text's end, or
 -- memory was refused
-abbrev pub EndsText : Question → List Row → Option (List ℕ) → Option (List ℕ) → CertificateFault → Type 0
-EndsText question rows old new ending.NotRegistered = IsOfNobody question rows
+abbrev pub EndsText : Question → List Row → Option (List ℕ) → Option (List ℕ) → NamedAnimalsFault → Type 0
+EndsText question rows old new ending.NotRegistered = IsOfAbsent question rows
 EndsText question rows old new (ending.Report report.Write) = AppendsFront old new (text_of question rows)
 EndsText question rows old new (ending.Report report.Memory) = Unit {0}
 
--- why a question isn't answered from frozen rows: the animal isn't there, the text is too long, or memory was refused
+-- why a question isn't answered from frozen rows: an animal isn't there, the text is too long, or memory was refused
 abbrev pub CanBeUnanswered : Question → List Row → WhyNot → Type 0
-CanBeUnanswered question rows fault.NotRegistered = IsOfNobody question rows
+CanBeUnanswered question rows fault.NotRegistered = IsOfAbsent question rows
 CanBeUnanswered question rows fault.TooLong = LONGEST_REPORT < length (text_of question rows)
 CanBeUnanswered question rows fault.Memory = Unit {0}
 CanBeUnanswered question rows other = ⊥

@@ -23,7 +23,7 @@ pub enum Fault {
     Fields(LineCause),
     /// There is no such question.
     Question,
-    /// The animal of a certificate or a coefficient isn't in the book.
+    /// An animal of a certificate, a coefficient or a record isn't in the book.
     NotRegistered,
     /// The report has more than `LONGEST_REPORT` bytes, without tags.
     TooLong,

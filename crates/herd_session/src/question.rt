@@ -20,8 +20,8 @@ pub enum Question {
     Inbreeding,
     /// What each animal adds to the inverse relationship matrix.
     Inverse,
-    /// The certificate of an animal.
-    Certificate(AnimalNumber),
+    /// The certificates of some animals.
+    Certificates(Vec<AnimalNumber>),
     /// For each sire the coefficient of a calf of his and the dam's.
     Mating {
         dam: AnimalNumber,
@@ -31,6 +31,10 @@ pub enum Question {
     Relationships(Vec<AnimalNumber>),
     /// The coefficient of one animal.
     Coefficient(AnimalNumber),
+    /// What the book keeps of each animal.
+    Records,
+    /// What the book keeps of one animal.
+    Record(AnimalNumber),
     /// How many steps the inspector has seen.
     Seen,
 }
@@ -43,9 +47,14 @@ pub(crate) fn question_in(alloc: Global, row: &ByteRecord) -> Result<Question, F
     match Word::parse(field(row, 3)) {
         Some(Word::Inbreeding) => bare(row, Question::Inbreeding),
         Some(Word::Inverse) => bare(row, Question::Inverse),
+        Some(Word::Records) => bare(row, Question::Records),
         Some(Word::Seen) => bare(row, Question::Seen),
-        Some(Word::Certificate) => Ok(Question::Certificate(only_number(row)?)),
         Some(Word::Coefficient) => Ok(Question::Coefficient(only_number(row)?)),
+        Some(Word::Record) => Ok(Question::Record(only_number(row)?)),
+        Some(Word::Certificate) => {
+            let numbers = numbers_from(alloc, row, 4, LineCause::Animal)?;
+            Ok(Question::Certificates(numbers))
+        }
         Some(Word::Mating) => mating(alloc, row),
         Some(Word::Relationships) => {
             let numbers = numbers_from(alloc, row, 4, LineCause::Animal)?;

@@ -15,8 +15,8 @@ use herd_advice::{Coefficients, coefficients_plain};
 use herd_frozen::Frozen;
 use herd_office::{Inspector, OfficeName, Slip};
 use herd_report::{
-    CertificateFault, ReportFault, write_certificate, write_coefficient, write_inbreeding,
-    write_inverse, write_mating, write_relationships,
+    NamedAnimalsFault, ReportFault, write_certificates, write_coefficient, write_inbreeding,
+    write_inverse, write_mating, write_records, write_relationships,
 };
 use std::alloc::Global;
 use std::io::Write;
@@ -41,11 +41,11 @@ impl<N: OfficeName> Reading<N> {
         let mut text = ReportText::new(alloc);
         match self.write(alloc, question, &mut text) {
             Ok(()) => Ok(text.bytes),
-            Err(CertificateFault::NotRegistered) => Err(Fault::NotRegistered),
-            Err(CertificateFault::Report(ReportFault::Write)) if text.is_full() => {
+            Err(NamedAnimalsFault::NotRegistered) => Err(Fault::NotRegistered),
+            Err(NamedAnimalsFault::Report(ReportFault::Write)) if text.is_full() => {
                 Err(Fault::TooLong)
             }
-            Err(CertificateFault::Report(_)) => Err(Fault::Memory),
+            Err(NamedAnimalsFault::Report(_)) => Err(Fault::Memory),
         }
     }
 
@@ -55,7 +55,7 @@ impl<N: OfficeName> Reading<N> {
         alloc: Global,
         question: &Question,
         writer: &mut W,
-    ) -> Result<(), CertificateFault>
+    ) -> Result<(), NamedAnimalsFault>
         ensures ok { OnOk result
             (Appends (W.contents writer.old) (W.contents writer.new) (text_of question.now self.now.frozen)) }
         ensures err { IfErr result
@@ -65,8 +65,8 @@ impl<N: OfficeName> Reading<N> {
         match question {
             Question::Inbreeding => write_inbreeding(alloc, frozen, coefficients, writer)?,
             Question::Inverse => write_inverse(alloc, frozen, coefficients, writer)?,
-            Question::Certificate(number) => {
-                write_certificate(alloc, frozen, coefficients, *number, writer)?
+            Question::Certificates(numbers) => {
+                write_certificates(alloc, frozen, coefficients, numbers.as_slice(), writer)?
             }
             Question::Mating { dam, sires } => {
                 let sires = sires.as_slice();
@@ -79,6 +79,8 @@ impl<N: OfficeName> Reading<N> {
             Question::Coefficient(number) => {
                 write_coefficient(alloc, frozen, coefficients, *number, writer)?
             }
+            Question::Records => write_records(alloc, frozen, &[], writer)?,
+            Question::Record(number) => write_records(alloc, frozen, &[*number], writer)?,
             Question::Seen => {}
         }
         Ok(())

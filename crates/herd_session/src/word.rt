@@ -9,6 +9,8 @@ pub(crate) enum Word {
     Mating,
     Relationships,
     Coefficient,
+    Records,
+    Record,
     Seen,
 }
 
@@ -32,6 +34,10 @@ impl Word {
             Some(Word::Relationships)
         } else if text == b"coefficient".as_slice() {
             Some(Word::Coefficient)
+        } else if text == b"records".as_slice() {
+            Some(Word::Records)
+        } else if text == b"record".as_slice() {
+            Some(Word::Record)
         } else if text == b"seen".as_slice() {
             Some(Word::Seen)
         } else {

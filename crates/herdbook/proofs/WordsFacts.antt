@@ -14,7 +14,7 @@ use Rattle.herd_animal.specs.declared.number.NumberFault.{NumberFault}
 use Rattle.herdbook.specs.declared.arguments.WordsFault.{WordsFault}
 use Rattle.herdbook.specs.declared.arguments.WordsFault.TheVariants.{Words, Number}
 use Rattle.herdbook.specs.Words.{Found, IsNumberOr, IsRefused, IsUnread, IsWrongNumber, text_of, texts_of}
-use Rattle.herdbook.specs.CommandLine.{certificate_line, clerks_line, command_line, file_line, inbreeding_line, inverse_line, mating_line, relationships_line, runs_line, session_line}
+use Rattle.herdbook.specs.CommandLine.{certificate_line, clerks_line, command_line, file_line, inbreeding_line, inverse_line, mating_line, records_line, relationships_line, runs_line, session_line}
 
 text_or : (found : Option (Bor Text)) (other : Bor Text) → other.now ≡ [] → unwrap_or (option_map (λ text. text.now) found) [] ≡ (unwrap_or found other).now
 text_or None other none = sym none
@@ -90,12 +90,12 @@ IsRefused-unread words found (Number cause) same unread = subst (λ f. IsWrongNu
 
 -- the matches of the command line are exact
 pub is_simple-command_line : is_simple command_line ≡ true
-unfolding digits command_line runs_line file_line inverse_line inbreeding_line certificate_line mating_line relationships_line clerks_line session_line
+unfolding digits command_line runs_line file_line inverse_line inbreeding_line certificate_line mating_line relationships_line records_line clerks_line session_line
 is_simple-command_line = refl
 
 -- and so are its faults
 pub is_free-command_line : is_simple_and_free command_line ≡ true
-unfolding digits command_line runs_line file_line inverse_line inbreeding_line certificate_line mating_line relationships_line clerks_line session_line
+unfolding digits command_line runs_line file_line inverse_line inbreeding_line certificate_line mating_line relationships_line records_line clerks_line session_line
 is_free-command_line = refl
 
 pub IfOk-all : {T E : Type 0} (result : Result T E) (P : Type 0) → P → IfOk result (λ _. P)

@@ -51,12 +51,6 @@ block_rule = number_option (codes "block") 1 MOST_ANIMALS DEFAULT_BLOCK
 unfoldable pub inbreeding_line : App
 inbreeding_line = limited (with_rule (with_rule (new_app (codes "inbreeding")) workers_rule) block_rule)
 
-abbrev pub number_rule : Rule
-number_rule = record (new_rule (codes "NUMBER")) { required = true }
-
-unfoldable pub certificate_line : App
-certificate_line = limited (with_rule (new_app (codes "certificate")) number_rule)
-
 abbrev pub dam_rule : Rule
 dam_rule = record (new_rule (codes "dam")) {
   long = Some (codes "dam");
@@ -64,13 +58,16 @@ dam_rule = record (new_rule (codes "dam")) {
   required = true;
 }
 
--- an argument of at least one number
-abbrev pub several_rule : Text → Rule
-several_rule name = record (new_rule name) {
+-- an argument of some numbers or none
+abbrev pub any_rule : Text → Rule
+any_rule name = record (new_rule name) {
   action = Some Append;
   range = Some (record { start_inclusive = 1; end_inclusive = usize_max });
-  required = true;
 }
+
+-- an argument of at least one number
+abbrev pub several_rule : Text → Rule
+several_rule name = record (any_rule name) { required = true }
 
 abbrev pub sires_rule : Rule
 sires_rule = several_rule (codes "SIRE")
@@ -80,6 +77,9 @@ mating_line = limited (with_rule (with_rule (new_app (codes "mating")) dam_rule)
 
 abbrev pub numbers_rule : Rule
 numbers_rule = several_rule (codes "NUMBER")
+
+unfoldable pub certificate_line : App
+certificate_line = limited (with_rule (new_app (codes "certificate")) numbers_rule)
 
 abbrev pub partners_rule : Rule
 partners_rule = record (new_rule (codes "with")) {
@@ -91,6 +91,9 @@ partners_rule = record (new_rule (codes "with")) {
 
 unfoldable pub relationships_line : App
 relationships_line = limited (with_rule (with_rule (new_app (codes "relationships")) numbers_rule) partners_rule)
+
+unfoldable pub records_line : App
+records_line = limited (with_rule (new_app (codes "records")) (any_rule (codes "NUMBER")))
 
 abbrev pub desks_rule : Rule
 desks_rule = number_option (codes "desks") 1 MOST_DESKS 2
@@ -124,9 +127,11 @@ unfoldable pub runs_line : App
 runs_line =
     line_with
     (line_with
+    (line_with
     (line_with (line_with (line_with (line_with program file_line) inbreeding_line) certificate_line) mating_line)
     inverse_line)
-    relationships_line
+    relationships_line)
+    records_line
 
 abbrev pub session_desks_rule : Rule
 session_desks_rule = number_option (codes "desks") 1 MOST_DESKS 4

@@ -5,5 +5,6 @@ pub mod Ending
 pub mod FaultText
 pub mod Program
 pub mod Sessions
+pub mod Subcommand
 pub mod Summary
 pub mod Words

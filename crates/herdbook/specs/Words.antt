@@ -1,5 +1,6 @@
 -- What the words of the command line ask for, or why they ask for nothing.
-use Rattle.std.specs.Prelude.{◌≡◌, ◌≢◌, ℕ, ◌<◌, ◌≤◌, ◌⊎◌, All, List, [], Option, Some, None, unwrap_or, option_map, codes, slice_get}
+use Rattle.std.specs.Prelude.{◌≡◌, ℕ, ◌<◌, ◌≤◌, ◌⊎◌, All, List, [], Option, Some, None, unwrap_or, option_map, codes, slice_get}
+use Rattle.std.specs.Option.{option_map_or}
 use Rattle.std.specs.Str.Parse.{IsNumeral, digits_value, without_leading_plus}
 use Rattle.clap.specs.Words.{HasKind, Row, Text, all_of, fault_of, first_of, kind_of, one_of, subcommand_of}
 use Rattle.clap.specs.declared.error.kind.ErrorKind.TheVariants.{OutOfMemory}
@@ -10,18 +11,21 @@ use Rattle.herd_office.specs.declared.limits.TheConstants.{MOST_DESKS, MOST_INSP
 use Rattle.herd_frozen.specs.declared.TheConstants.{MOST_ANIMALS}
 use Rattle.herd_pool.specs.declared.limits.TheConstants.{DEFAULT_BLOCK, MOST_WORKERS}
 use Rattle.herd_report.specs.declared.orders.Order.{Order}
-use Rattle.herd_report.specs.declared.orders.Order.TheVariants.{Inbreeding, Certificate, Mating, Inverse, Relationships}
+use Rattle.herd_report.specs.declared.orders.Order.TheVariants.{Inbreeding, Certificates, Mating, Inverse, Relationships, Records}
 use Rattle.herd_report.specs.declared.work_plan.WorkPlan.{WorkPlan}
 use Rattle.herd_register.specs.declared.limits.TheConstants.{MOST_STEPS}
 use Rattle.herd_register.specs.Limits.{Limits}
 use Rattle.herd_session.specs.declared.plan.SessionPlan.{SessionPlan}
 use Rattle.herdbook.specs.CommandLine.{command_line}
+use Rattle.herdbook.specs.Subcommand.{subcommand_named}
 use Rattle.herdbook.specs.declared.arguments.Request.{Request}
 use Rattle.herdbook.specs.declared.arguments.Request.TheVariants.{File, Report, Clerks, Session}
 use Rattle.herdbook.specs.declared.arguments.WordsFault.{WordsFault}
 use Rattle.herdbook.specs.declared.arguments.WordsFault.TheVariants.{Words, Number}
 use Rattle.herdbook.specs.declared.deal.DeskPlan.{DeskPlan}
 use Rattle.herdbook.specs.declared.limits.TheConstants.{DEFAULT_ANIMALS, DEFAULT_STEPS}
+use Rattle.herdbook.specs.declared.subcommand.Subcommand.{Subcommand}
+use Rattle.herdbook.specs.declared.subcommand.Subcommand.TheVariants as sub
 
 -- a subcommand's name, and what was found of its arguments
 abbrev pub Found : Type 0
@@ -29,6 +33,10 @@ Found = Option (Text × List Row)
 
 abbrev pub name_in : Found → Option Text
 name_in found = option_map (λ part. part.0) found
+
+-- that subcommand, and `file` where none was found
+abbrev pub subcommand_in : Found → Subcommand
+subcommand_in found = option_map_or subcommand_named (name_in found) sub.File
 
 abbrev pub rows_in : Found → List Row
 rows_in found = unwrap_or (option_map (λ part. part.1) found) []
@@ -81,30 +89,27 @@ IsSessionPlanOf rows plan =
 -- what is asked of the book
 abbrev pub IsOrdered : Found → Order → Type 0
 IsOrdered found (Inbreeding plan) =
-    (name_in found ≡ Some (codes "inbreeding")) × IsWorkPlanOf (rows_in found) plan
-IsOrdered found (Certificate number) =
-    (name_in found ≡ Some (codes "certificate")) × (text_of (codes "NUMBER") (rows_in found) ≡ number)
+    (subcommand_in found ≡ sub.Inbreeding) × IsWorkPlanOf (rows_in found) plan
+IsOrdered found (Certificates numbers) =
+    (subcommand_in found ≡ sub.Certificate) × (texts_of (codes "NUMBER") (rows_in found) ≡ numbers.now)
 IsOrdered found (Mating dam sires) =
-    (name_in found ≡ Some (codes "mating"))
+    (subcommand_in found ≡ sub.Mating)
     × (text_of (codes "dam") (rows_in found) ≡ dam)
     × (texts_of (codes "SIRE") (rows_in found) ≡ sires.now)
-IsOrdered found Inverse = name_in found ≡ Some (codes "inverse")
+IsOrdered found Inverse = subcommand_in found ≡ sub.Inverse
 IsOrdered found (Relationships numbers others) =
-    (name_in found ≡ Some (codes "relationships"))
+    (subcommand_in found ≡ sub.Relationships)
     × (texts_of (codes "NUMBER") (rows_in found) ≡ numbers.now)
     × (texts_of (codes "with") (rows_in found) ≡ others.now)
+IsOrdered found (Records numbers) =
+    (subcommand_in found ≡ sub.Records) × (texts_of (codes "NUMBER") (rows_in found) ≡ numbers.now)
 
 abbrev pub IsAsked : Found → Request → Type 0
-IsAsked found (File book) =
-    AreLimitsOf (rows_in found) book.limits
-    × (name_in found ≢ Some (codes "inbreeding")) × (name_in found ≢ Some (codes "certificate"))
-    × (name_in found ≢ Some (codes "mating")) × (name_in found ≢ Some (codes "inverse"))
-    × (name_in found ≢ Some (codes "relationships")) × (name_in found ≢ Some (codes "clerks"))
-    × (name_in found ≢ Some (codes "session"))
-IsAsked found (Report book order) = AreLimitsOf (rows_in found) book.limits × IsOrdered found order
+IsAsked found (File book) = (subcommand_in found ≡ sub.File) × AreLimitsOf (rows_in found) book.limits
+IsAsked found (Report book order) = IsOrdered found order × AreLimitsOf (rows_in found) book.limits
 IsAsked found (Clerks book plan) =
-    AreLimitsOf (rows_in found) book.limits × (name_in found ≡ Some (codes "clerks")) × IsDeskPlanOf (rows_in found) plan
-IsAsked found (Session plan) = (name_in found ≡ Some (codes "session")) × IsSessionPlanOf (rows_in found) plan
+    (subcommand_in found ≡ sub.Clerks) × IsDeskPlanOf (rows_in found) plan × AreLimitsOf (rows_in found) book.limits
+IsAsked found (Session plan) = (subcommand_in found ≡ sub.Session) × IsSessionPlanOf (rows_in found) plan
 
 -- the fault is that of the first text that is no animal number
 pub record IsFirstFault (texts : List Text) (fault : NumberFault) : Type 0 where
@@ -129,9 +134,10 @@ IsPairsFault rows fault =
 
 abbrev pub IsWrongNumber : Found → NumberFault → Type 0
 IsWrongNumber found fault =
-    ((name_in found ≡ Some (codes "certificate")) × IsNumberFault (text_of (codes "NUMBER") (rows_in found)) fault)
-    ⊎ ((name_in found ≡ Some (codes "mating")) × IsMatingFault (rows_in found) fault)
-    ⊎ ((name_in found ≡ Some (codes "relationships")) × IsPairsFault (rows_in found) fault)
+    ((subcommand_in found ≡ sub.Certificate) × IsFirstFault (texts_of (codes "NUMBER") (rows_in found)) fault)
+    ⊎ ((subcommand_in found ≡ sub.Mating) × IsMatingFault (rows_in found) fault)
+    ⊎ ((subcommand_in found ≡ sub.Relationships) × IsPairsFault (rows_in found) fault)
+    ⊎ ((subcommand_in found ≡ sub.Records) × IsFirstFault (texts_of (codes "NUMBER") (rows_in found)) fault)
 
 -- memory ran out, or a number is none
 abbrev pub IsUnread : (NumberFault → Type 0) → WordsFault → Type 0

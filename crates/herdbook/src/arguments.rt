@@ -4,12 +4,13 @@ ghost use Rattle.std.specs.Prelude.{◌≡◌, ℕ, ◌≤◌, ◌++◌, [], All
 ghost use Rattle.clap.specs.Words.{App, Rule, app_of, fault_of, found_of, new_app, one_of, rows_of, subcommand_of, subcommand_rows_of, with_rule};
 ghost use Rattle.herd_animal.specs.AnimalNumber.{IsAnimalNumber};
 ghost use Rattle.herd_animal.specs.NumberFault.{IsNumberFault};
-ghost use Rattle.herdbook.specs.CommandLine.{IsArgumentOf, IsCommandOf, certificate_line, clerks_line, command_line, dam_rule, file_line, inbreeding_line, inverse_line, limited, line_with, mating_line, number_option, partners_rule, program, relationships_line, runs_line, session_line, several_rule};
+ghost use Rattle.herdbook.specs.CommandLine.{IsArgumentOf, IsCommandOf, any_rule, certificate_line, clerks_line, command_line, dam_rule, file_line, inbreeding_line, inverse_line, limited, line_with, mating_line, number_option, partners_rule, program, records_line, relationships_line, runs_line, session_line, several_rule};
 ghost use Rattle.herdbook.specs.Words.{AreLimitsOf, IsAsked, IsDeskPlanOf, IsFirstFault, IsNumberOr, IsRefused, IsSessionPlanOf, IsUnread, IsWorkPlanOf, IsWrongNumber, rows_in, text_of, texts_of};
 
 use crate::deal::DeskPlan;
 use crate::help;
 use crate::limits::{BookPlan, DEFAULT_ANIMALS, DEFAULT_STEPS};
+use crate::subcommand::Subcommand;
 use clap::{Arg, ArgAction, ArgMatches, Command};
 use herd_animal::{AnimalNumber, NumberFault};
 use herd_frozen::MOST_ANIMALS;
@@ -98,31 +99,38 @@ fn request_of<'a>(
 {
     list.clear();
     let book = book_plan_in(matches);
-    match matches.subcommand() {
-        Some(("inbreeding", given)) => {
+    let Some((name, given)) = matches.subcommand() else {
+        return Ok(Request::File(book));
+    };
+    match Subcommand::named(name) {
+        Subcommand::File => Ok(Request::File(book)),
+        Subcommand::Inbreeding => {
             Ok(Request::Report(book, Order::Inbreeding(work_plan_of(given))))
         }
-        Some(("certificate", given)) => {
-            let number = number_argument(given, "NUMBER")?;
-            Ok(Request::Report(book, Order::Certificate(number)))
+        Subcommand::Certificate => {
+            add_numbers(given, "NUMBER", list)?;
+            Ok(Request::Report(book, Order::Certificates(list.as_slice())))
         }
-        Some(("mating", given)) => {
+        Subcommand::Mating => {
             let dam = number_argument(given, "dam")?;
             add_numbers(given, "SIRE", list)?;
             let sires = list.as_slice();
             Ok(Request::Report(book, Order::Mating { dam, sires }))
         }
-        Some(("inverse", _)) => Ok(Request::Report(book, Order::Inverse)),
-        Some(("relationships", given)) => {
+        Subcommand::Inverse => Ok(Request::Report(book, Order::Inverse)),
+        Subcommand::Relationships => {
             add_numbers(given, "NUMBER", list)?;
             let count = list.len();
             add_numbers(given, "with", list)?;
             let (numbers, others) = list.as_slice().split_at(count);
             Ok(Request::Report(book, Order::Relationships { numbers, others }))
         }
-        Some(("clerks", given)) => Ok(Request::Clerks(book, desk_plan_of(given))),
-        Some(("session", given)) => Ok(Request::Session(session_plan_of(given))),
-        _ => Ok(Request::File(book)),
+        Subcommand::Records => {
+            add_numbers(given, "NUMBER", list)?;
+            Ok(Request::Report(book, Order::Records(list.as_slice())))
+        }
+        Subcommand::Clerks => Ok(Request::Clerks(book, desk_plan_of(given))),
+        Subcommand::Session => Ok(Request::Session(session_plan_of(given))),
     }
 }
 
@@ -238,7 +246,8 @@ fn runs<'a>(alloc: Global) -> Result<Command<'a>, AllocError>
     let certificates = with_subcommand(lists, certificate(alloc));
     let advice = with_subcommand(certificates, mating(alloc));
     let inverses = with_subcommand(advice, inverse(alloc));
-    with_subcommand(inverses, relationships(alloc))
+    let pairs = with_subcommand(inverses, relationships(alloc));
+    with_subcommand(pairs, records(alloc))
 }
 
 // A command with one subcommand more. Memory that was refused for either is refused.
@@ -352,16 +361,17 @@ fn inbreeding<'a>(alloc: Global) -> Result<Command<'a>, AllocError>
 fn certificate<'a>(alloc: Global) -> Result<Command<'a>, AllocError>
     ensures { IfOk result (IsCommandOf certificate_line) }
 {
-    let number = Arg::new(alloc, "NUMBER")
-        .required(true)
-        .help("The animal's number");
     let bare = named(
         alloc,
         "certificate",
-        "Writes an animal's certificate with its ancestors",
+        "Writes certificates of animals with their ancestors",
         help::CERTIFICATE,
     );
-    with_limits(alloc, with_argument(Ok(bare), number))
+    let given = with_argument(
+        Ok(bare),
+        several_argument(alloc, "NUMBER", "The numbers of the animals"),
+    );
+    with_limits(alloc, given)
 }
 
 fn mating<'a>(alloc: Global) -> Result<Command<'a>, AllocError>
@@ -394,8 +404,14 @@ fn dam_option<'a>(alloc: Global) -> Arg<'a>
 fn several_argument<'a>(alloc: Global, name: &'a str, help: &'a str) -> Arg<'a>
     ensures { IsArgumentOf (several_rule name.entry.now) result }
 {
+    any_argument(alloc, name, help).required(true)
+}
+
+// An argument of some numbers or none: its name, and its help.
+fn any_argument<'a>(alloc: Global, name: &'a str, help: &'a str) -> Arg<'a>
+    ensures { IsArgumentOf (any_rule name.entry.now) result }
+{
     Arg::new(alloc, name)
-        .required(true)
         .action(ArgAction::Append)
         .num_args(1..)
         .help(help)
@@ -429,6 +445,22 @@ fn with_option<'a>(alloc: Global) -> Arg<'a>
         .action(ArgAction::Append)
         .num_args(1..)
         .help("Pairs each with these, not with one another")
+}
+
+fn records<'a>(alloc: Global) -> Result<Command<'a>, AllocError>
+    ensures { IfOk result (IsCommandOf records_line) }
+{
+    let bare = named(
+        alloc,
+        "records",
+        "Writes what the book keeps of some animals, or of all",
+        help::RECORDS,
+    );
+    let given = with_argument(
+        Ok(bare),
+        any_argument(alloc, "NUMBER", "The numbers of the animals; all if none"),
+    );
+    with_limits(alloc, given)
 }
 
 fn clerks<'a>(alloc: Global) -> Result<Command<'a>, AllocError>

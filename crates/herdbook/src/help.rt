@@ -51,18 +51,19 @@ Status:
 
 /// The end of the help of `certificate`.
 pub const CERTIFICATE: &str = "\
-Reads a command file from standard input. Writes the animal's number, sex, birth
-day, herd, the day since which it is there, the day on which it left, its
-coefficient, and fourteen ancestors: SD is the sire's dam, 0 an unknown one.
+Reads a command file from standard input. Writes for each NUMBER, as they are
+given, the animal's number, sex, birth day, herd, the day since which it is
+there, the day on which it left, its coefficient, and fourteen ancestors: SD is
+the sire's dam, 0 an unknown one.
 
 Example:
   herdbook certificate HOLGBRM000000000001 < book.csv
 
 Status:
-  0  the certificate is written
-  1  the animal isn't in the book or a record is faulty (nothing is written), or
+  0  the certificates are written
+  1  an animal isn't in the book or a record is faulty (nothing is written), or
      memory or a write was refused
-  2  the words aren't a command line, or NUMBER is no animal number";
+  2  the words aren't a command line, or one is no animal number";
 
 /// The end of the help of `mating`.
 pub const MATING: &str = "\
@@ -109,6 +110,23 @@ Status:
   1  a record is faulty (nothing is written), or memory or a write was refused
   2  the words aren't a command line, or one is no animal number";
 
+/// The end of the help of `records`.
+pub const RECORDS: &str = "\
+Reads a command file from standard input. Writes a line for each NUMBER, as they
+are given, or for each animal by birth day and number:
+  ANIMAL,BIRTH,SIRE,DAM,HERD,SINCE,LEFT,EMBRYO
+with 0 for an unknown parent, - where it hasn't left, and at the end 1 for a
+calf from a stored embryo, else nothing.
+
+Example:
+  herdbook records HOLGBRM000000000001 < book.csv
+
+Status:
+  0  the records are written
+  1  an animal isn't in the book or a record is faulty (nothing is written), or
+     memory or a write was refused
+  2  the words aren't a command line, or one is no animal number";
+
 /// The end of the help of `clerks`. Its K and M stand for the numbers of `--desks` and `--base`.
 pub const CLERKS: &str = "\
 Reads a command file from standard input. The first M commands are filed at desk
@@ -129,8 +147,8 @@ Status:
 pub const SESSION: &str = "\
 Reads requests from standard input, one a line, and answers each at once:
   TAG,desk,K,birth,ANIMAL,DAY,SIRE,DAM,,HERD,EMBRYO (and the other commands)
-  TAG,inspector,J,inbreeding (or inverse, certificate, mating, relationships,
-  coefficient, each with its numbers behind commas, or seen)
+  TAG,inspector,J,inbreeding (or inverse, records, seen, or with numbers behind
+  commas certificate, coefficient, mating, record, relationships)
 The answers are TAG,SERIAL,accepted or TAG,SERIAL,refused,NUMBER, a report's
 lines behind TAG and then TAG,end,STEPS, or TAG,fault,NAME. A question sees each
 command that was answered before it. The last line is closed,STEPS,ANIMALS.

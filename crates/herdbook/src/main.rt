@@ -7,7 +7,7 @@
 //!
 //! | | definition (`specs/`) | code (`src/`) | proof (`proofs/`) |
 //! |---|---|---|---|
-//! | the words, what they ask for | `CommandLine`, `Words` | `arguments` | `CommandFacts`, `WordsFacts` |
+//! | the words, what they ask for | `CommandLine`, `Subcommand`, `Words` | `arguments`, `subcommand` | `CommandFacts`, `WordsFacts` |
 //! | the limits where the words don't say them | | `limits` | |
 //! | the texts of help and of the version | | `help` | |
 //! | what the program does for its words | `Program` | `program` | `ProgramFacts` |
@@ -31,6 +31,7 @@ mod help;
 mod limits;
 mod program;
 mod request_fault;
+mod subcommand;
 mod summary;
 
 use ending::Ending;

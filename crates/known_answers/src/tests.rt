@@ -7,6 +7,7 @@ mod deep_books;
 mod inverse;
 mod line_faults;
 mod mating;
+mod records;
 mod relationships;
 mod replies;
 mod support;

@@ -1,6 +1,5 @@
 -- The certificate of an animal as text.
-use Rattle.std.specs.Prelude.{◌≡◌, ℕ, List, [], ◌++◌, map, Option, codes, decimal, false, true}
-use Rattle.std.specs.Io.KnownBytes.{Appends}
+use Rattle.std.specs.Prelude.{ℕ, List, [], ◌++◌, map, codes, decimal}
 use Rattle.std.specs.List.{flat_map}
 use Rattle.std.specs.Option.{option_map_or}
 use Rattle.herd_animal.specs.declared.number.Sex.{Sex}
@@ -10,7 +9,7 @@ use Rattle.herd_animal.specs.Sex.{sex_of}
 use Rattle.herd_frozen.specs.declared.rules.animal.Animal.{Animal}
 use Rattle.herd_frozen.specs.declared.TheConstants.{DEPTH_LIMIT}
 use Rattle.herd_frozen.specs.declared.freezing.frozen.Row.{Row}
-use Rattle.herd_frozen.specs.rules.Book.{Book, is_there, record_of}
+use Rattle.herd_frozen.specs.rules.Book.{Book, record_of}
 use Rattle.herd_frozen.specs.freezing.Frozen.{book_of}
 use Rattle.herd_advice.specs.FrozenAncestry.{ancestry_of}
 use Rattle.herd_kinship.specs.Table.{coefficient}
@@ -18,9 +17,6 @@ use Rattle.herd_report.specs.declared.writing.ancestors.Parent.{Parent}
 use Rattle.herd_report.specs.writing.Ancestors.{ancestor_of, letter_of, three_generations}
 use Rattle.herd_report.specs.writing.CoefficientText.{coefficient_text}
 use Rattle.herd_report.specs.writing.RecordLine.{known_text, left_text}
-use Rattle.herd_report.specs.writing.Text.{AppendsFront}
-use Rattle.herd_report.specs.declared.writing.certificate_fault.CertificateFault.{CertificateFault}
-use Rattle.herd_report.specs.declared.writing.certificate_fault.CertificateFault.TheVariants.{NotRegistered, Report}
 
 -- a line of a name and a value
 unfoldable pub labelled_line : List ℕ → List ℕ → List ℕ
@@ -59,13 +55,6 @@ certificate_text book numerator number =
 abbrev pub certificate_of : List Row → List ℕ → List ℕ
 certificate_of rows number = certificate_text (book_of rows) (coefficient (ancestry_of rows) DEPTH_LIMIT number) number
 
--- the animal of a number is in the book, and its certificate was written
-abbrev pub IsCertified : List Row → List ℕ → Option (List ℕ) → Option (List ℕ) → Type 0
-IsCertified rows number old new = (is_there (book_of rows) number ≡ true) × Appends old new (certificate_of rows number)
-
--- how a certificate may end early: the animal isn't in the book, and nothing was written; or it is, and some of the
--- certificate's end wasn't
-abbrev pub EndsCertificate : List Row → List ℕ → Option (List ℕ) → Option (List ℕ) → CertificateFault → Type 0
-EndsCertificate rows number old new NotRegistered = (is_there (book_of rows) number ≡ false) × (new ≡ old)
-EndsCertificate rows number old new (Report fault) =
-    (is_there (book_of rows) number ≡ true) × AppendsFront old new (certificate_of rows number)
+-- the certificates of some numbers of a frozen book, one behind the other
+abbrev pub certificates_of : List Row → List (List ℕ) → List ℕ
+certificates_of rows numbers = flat_map (certificate_of rows) numbers

@@ -9,8 +9,8 @@ use Rattle.herd_advice.specs.FrozenAncestry.{ancestry_of}
 use Rattle.herd_kinship.specs.Table.{coefficient}
 use Rattle.herd_report.specs.writing.CoefficientText.{coefficient_line}
 use Rattle.herd_report.specs.writing.Text.{AppendsFront}
-use Rattle.herd_report.specs.declared.writing.certificate_fault.CertificateFault.{CertificateFault}
-use Rattle.herd_report.specs.declared.writing.certificate_fault.CertificateFault.TheVariants.{NotRegistered, Report}
+use Rattle.herd_report.specs.declared.writing.named_animals_fault.NamedAnimalsFault.{NamedAnimalsFault}
+use Rattle.herd_report.specs.declared.writing.named_animals_fault.NamedAnimalsFault.TheVariants.{NotRegistered, Report}
 
 -- the line of a number of a frozen book
 abbrev pub coefficient_of : List Row → List ℕ → List ℕ
@@ -23,7 +23,7 @@ IsCoefficientTold rows number old new =
 
 -- how the line may end early: the animal isn't in the book, and nothing was written; or it is, and some of the line's
 -- end wasn't
-abbrev pub EndsCoefficient : List Row → List ℕ → Option (List ℕ) → Option (List ℕ) → CertificateFault → Type 0
+abbrev pub EndsCoefficient : List Row → List ℕ → Option (List ℕ) → Option (List ℕ) → NamedAnimalsFault → Type 0
 EndsCoefficient rows number old new NotRegistered = (is_there (book_of rows) number ≡ false) × (new ≡ old)
 EndsCoefficient rows number old new (Report fault) =
     (is_there (book_of rows) number ≡ true) × AppendsFront old new (coefficient_of rows number)

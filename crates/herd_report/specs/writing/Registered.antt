@@ -4,8 +4,8 @@ use Rattle.std.specs.Io.KnownBytes.{Appends}
 use Rattle.std.specs.List.{list_all}
 use Rattle.herd_frozen.specs.rules.Book.{Book, is_there}
 use Rattle.herd_report.specs.RunFault.{EndsReport}
-use Rattle.herd_report.specs.declared.writing.certificate_fault.CertificateFault.{CertificateFault}
-use Rattle.herd_report.specs.declared.writing.certificate_fault.CertificateFault.TheVariants.{NotRegistered, Report}
+use Rattle.herd_report.specs.declared.writing.named_animals_fault.NamedAnimalsFault.{NamedAnimalsFault}
+use Rattle.herd_report.specs.declared.writing.named_animals_fault.NamedAnimalsFault.TheVariants.{NotRegistered, Report}
 
 -- each of some numbers is in the book
 abbrev pub are_there : Book → List (List ℕ) → Bool
@@ -16,7 +16,7 @@ abbrev pub IsWrittenOf : Book → List (List ℕ) → List ℕ → Option (List 
 IsWrittenOf book numbers text old new = (are_there book numbers ≡ true) × Appends old new text
 
 -- how that may end early: one isn't in the book, and nothing was written; or each is, and the report ended early
-abbrev pub EndsWritingOf : Book → List (List ℕ) → List ℕ → Option (List ℕ) → Option (List ℕ) → CertificateFault → Type 0
+abbrev pub EndsWritingOf : Book → List (List ℕ) → List ℕ → Option (List ℕ) → Option (List ℕ) → NamedAnimalsFault → Type 0
 EndsWritingOf book numbers text old new NotRegistered = (are_there book numbers ≡ false) × (new ≡ old)
 EndsWritingOf book numbers text old new (Report fault) =
     (are_there book numbers ≡ true) × EndsReport old new text fault

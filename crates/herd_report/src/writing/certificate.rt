@@ -1,18 +1,21 @@
-ghost use Rattle.std.specs.Prelude.{◌≡◌, ◌<◌, ◌++◌, false, codes, length, IfErr, IfOk, IfSome, OnOk};
-ghost use Rattle.herd_frozen.specs.rules.Book.{is_there};
+ghost use Rattle.std.specs.Prelude.{◌≡◌, ◌<◌, ◌++◌, false, codes, length, IfErr, OnErr, OnOk};
+ghost use Rattle.std.specs.Io.KnownBytes.{Appends};
 ghost use Rattle.herd_frozen.specs.freezing.Frozen.{book_of};
 ghost use Rattle.herd_frozen.specs.declared.TheConstants.{DEPTH_LIMIT};
 ghost use Rattle.herd_advice.specs.BookCoefficients.{AreBookCoefficients};
 ghost use Rattle.herd_advice.specs.FrozenAncestry.{ancestry_of, number_of_row};
 ghost use Rattle.herd_kinship.specs.Table.{coefficient};
-ghost use Rattle.herd_report.specs.writing.Certificate.{EndsCertificate, IsCertified};
-ghost use Rattle.herd_report.specs.writing.Certificate.{animal_text, certificate_of, labelled_line, sex_text};
+ghost use Rattle.herd_report.specs.writing.Certificate.{animal_text, certificate_of, certificates_of, labelled_line, sex_text};
 ghost use Rattle.herd_report.specs.writing.CoefficientText.{coefficient_text};
 ghost use Rattle.herd_report.specs.writing.RecordLine.{left_text};
+ghost use Rattle.herd_report.specs.writing.Registered.{EndsWritingOf, IsWrittenOf, are_there};
+ghost use Rattle.herd_report.specs.writing.Text.{AppendsFront};
 
 use crate::writing::ancestors::push_ancestors;
-use crate::writing::certificate_fault::CertificateFault;
 use crate::writing::coefficient_text::{Coefficient, push_coefficient};
+use crate::writing::named_animals_fault::NamedAnimalsFault;
+use crate::writing::registered::are_registered;
+use crate::writing::report_fault::ReportFault;
 use crate::writing::text::Text;
 use herd_advice::{Coefficients, coefficients_plain};
 use herd_animal::{AnimalNumber, Day, Sex};
@@ -21,64 +24,88 @@ use itoa::Buffer;
 use std::alloc::{AllocError, Allocator};
 use std::io::Write;
 
-/// Writes the certificate of an animal: its record, its coefficient, and its ancestors up to three parents away.
-pub fn write_certificate<W: Write, A: Allocator, F: Allocator, C: Allocator>(
+/// Writes the certificates of some animals as they are given: of each its record, its coefficient, and its ancestors up
+/// to three parents away.
+pub fn write_certificates<W: Write, A: Allocator, F: Allocator, C: Allocator>(
     alloc: A,
     frozen: &Frozen<F>,
     coefficients: &Coefficients<C>,
-    number: AnimalNumber,
+    numbers: &[AnimalNumber],
     writer: &mut W,
-) -> Result<(), CertificateFault>
+) -> Result<(), NamedAnimalsFault>
     requires { AreBookCoefficients DEPTH_LIMIT frozen.now coefficients.now }
-    ensures ok { OnOk result (IsCertified frozen.now number (W.contents writer.old) (W.contents writer.new)) }
-    ensures err { IfErr result (EndsCertificate frozen.now number (W.contents writer.old) (W.contents writer.new)) }
-    ensures untouched { is_there (book_of frozen.now) number ≡ false → writer.new ≡ writer.old }
+    ensures ok { OnOk result (IsWrittenOf (book_of frozen.now) numbers.now (certificates_of frozen.now numbers.now)
+        (W.contents writer.old) (W.contents writer.new)) }
+    ensures err { IfErr result (EndsWritingOf (book_of frozen.now) numbers.now (certificates_of frozen.now numbers.now)
+        (W.contents writer.old) (W.contents writer.new)) }
+    ensures untouched { are_there (book_of frozen.now) numbers.now ≡ false → writer.new ≡ writer.old }
 {
-    certify(alloc, frozen, Some(coefficients), number, writer)
+    if !are_registered(frozen, numbers) {
+        return Err(NamedAnimalsFault::NotRegistered);
+    }
+    Ok(write_each(alloc, frozen, coefficients, numbers, writer)?)
 }
 
-/// The same with coefficients that are computed once the animal is found, where none are given.
-pub(crate) fn certify<W: Write, A: Allocator, F: Allocator, C: Allocator>(
+/// The same with coefficients that are computed once the animals are found.
+pub(crate) fn certify<W: Write, A: Allocator, F: Allocator>(
     alloc: A,
     frozen: &Frozen<F>,
-    given: Option<&Coefficients<C>>,
-    number: AnimalNumber,
+    numbers: &[AnimalNumber],
     writer: &mut W,
-) -> Result<(), CertificateFault>
-    requires { IfSome given (λ list. AreBookCoefficients DEPTH_LIMIT frozen.now list.now) }
-    ensures ok { OnOk result (IsCertified frozen.now number (W.contents writer.old) (W.contents writer.new)) }
-    ensures err { IfErr result (EndsCertificate frozen.now number (W.contents writer.old) (W.contents writer.new)) }
-    ensures untouched { is_there (book_of frozen.now) number ≡ false → writer.new ≡ writer.old }
+) -> Result<(), NamedAnimalsFault>
+    ensures ok { OnOk result (IsWrittenOf (book_of frozen.now) numbers.now (certificates_of frozen.now numbers.now)
+        (W.contents writer.old) (W.contents writer.new)) }
+    ensures err { IfErr result (EndsWritingOf (book_of frozen.now) numbers.now (certificates_of frozen.now numbers.now)
+        (W.contents writer.old) (W.contents writer.new)) }
+    ensures untouched { are_there (book_of frozen.now) numbers.now ≡ false → writer.new ≡ writer.old }
 {
-    let Some(rank) = frozen.rank(&number) else {
-        return Err(CertificateFault::NotRegistered);
-    };
-    let own = coefficient_at(&alloc, frozen, given, rank)?;
-    let mut text = Text::new(alloc);
-    push_certificate(&mut text, frozen, own, rank)?;
-    Ok(text.finish(writer)?)
+    if !are_registered(frozen, numbers) {
+        return Err(NamedAnimalsFault::NotRegistered);
+    }
+    let coefficients = coefficients_plain(&alloc, frozen)?;
+    Ok(write_each(&alloc, frozen, &coefficients, numbers, writer)?)
 }
 
-// The coefficient of the animal at a rank.
-fn coefficient_at<A: Allocator, F: Allocator, C: Allocator>(
-    alloc: &A,
+// Writes the certificates of some numbers of the book.
+fn write_each<W: Write, A: Allocator, F: Allocator, C: Allocator>(
+    alloc: A,
     frozen: &Frozen<F>,
-    given: Option<&Coefficients<C>>,
-    rank: u32,
-) -> Result<Coefficient, AllocError>
-    requires rank { rank < length frozen.now }
-    requires given { IfSome given (λ list. AreBookCoefficients DEPTH_LIMIT frozen.now list.now) }
-    ensures { IfOk result
-        (λ own. own.numerator ≡ coefficient (ancestry_of frozen.now) DEPTH_LIMIT (number_of_row frozen.now rank)) }
+    coefficients: &Coefficients<C>,
+    numbers: &[AnimalNumber],
+    writer: &mut W,
+) -> Result<(), ReportFault>
+    requires { AreBookCoefficients DEPTH_LIMIT frozen.now coefficients.now }
+    ensures ok { OnOk result
+        (Appends (W.contents writer.old) (W.contents writer.new) (certificates_of frozen.now numbers.now)) }
+    ensures err { OnErr result
+        (AppendsFront (W.contents writer.old) (W.contents writer.new) (certificates_of frozen.now numbers.now)) }
 {
-    match given {
-        Some(list) => Ok(Coefficient {
-            numerator: list.numerator(rank),
-        }),
-        None => Ok(Coefficient {
-            numerator: coefficients_plain(alloc, frozen)?.numerator(rank),
-        }),
+    let mut text = Text::new(alloc);
+    for number in numbers {
+        text.pass_on(writer)?;
+        push_certificate_under(&mut text, frozen, coefficients, *number)?;
     }
+    text.finish(writer)
+}
+
+// Adds the certificate of a number, where it is in the book.
+fn push_certificate_under<A: Allocator, F: Allocator, C: Allocator>(
+    text: &mut Text<A>,
+    frozen: &Frozen<F>,
+    coefficients: &Coefficients<C>,
+    number: AnimalNumber,
+) -> Result<(), AllocError>
+    requires { AreBookCoefficients DEPTH_LIMIT frozen.now coefficients.now }
+    ensures made { OnOk result (text.new ≡ text.old ++ certificate_of frozen.now number) }
+    ensures some { OnErr result (0 < length (certificate_of frozen.now number)) }
+{
+    let Some(rank) = frozen.rank(&number) else {
+        return Ok(());
+    };
+    let own = Coefficient {
+        numerator: coefficients.numerator(rank),
+    };
+    push_certificate(text, frozen, own, rank)
 }
 
 // Adds the certificate of the animal at a rank.

@@ -5,8 +5,8 @@ ghost use Rattle.herd_frozen.specs.declared.TheConstants.{DEPTH_LIMIT};
 ghost use Rattle.herd_advice.specs.BookCoefficients.{AreBookCoefficients};
 ghost use Rattle.herd_report.specs.writing.CoefficientLine.{EndsCoefficient, IsCoefficientTold};
 
-use crate::writing::certificate_fault::CertificateFault;
 use crate::writing::coefficient_text::{Coefficient, push_coefficient_line};
+use crate::writing::named_animals_fault::NamedAnimalsFault;
 use crate::writing::text::Text;
 use herd_advice::Coefficients;
 use herd_animal::AnimalNumber;
@@ -21,14 +21,14 @@ pub fn write_coefficient<W: Write, A: Allocator, F: Allocator, C: Allocator>(
     coefficients: &Coefficients<C>,
     number: AnimalNumber,
     writer: &mut W,
-) -> Result<(), CertificateFault>
+) -> Result<(), NamedAnimalsFault>
     requires { AreBookCoefficients DEPTH_LIMIT frozen.now coefficients.now }
     ensures ok { OnOk result (IsCoefficientTold frozen.now number (W.contents writer.old) (W.contents writer.new)) }
     ensures err { IfErr result (EndsCoefficient frozen.now number (W.contents writer.old) (W.contents writer.new)) }
     ensures untouched { is_there (book_of frozen.now) number ≡ false → writer.new ≡ writer.old }
 {
     let Some(rank) = frozen.rank(&number) else {
-        return Err(CertificateFault::NotRegistered);
+        return Err(NamedAnimalsFault::NotRegistered);
     };
     let coefficient = Coefficient {
         numerator: coefficients.numerator(rank),

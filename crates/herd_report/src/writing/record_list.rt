@@ -6,7 +6,7 @@ ghost use Rattle.herd_report.specs.writing.RecordList.{every_record, line_under,
 ghost use Rattle.herd_report.specs.writing.Registered.{EndsWritingOf, IsWrittenOf, are_there};
 ghost use Rattle.herd_report.specs.writing.Text.{AppendsFront};
 
-use crate::writing::certificate_fault::CertificateFault;
+use crate::writing::named_animals_fault::NamedAnimalsFault;
 use crate::writing::record_line::push_record_line;
 use crate::writing::registered::are_registered;
 use crate::writing::report_fault::ReportFault;
@@ -22,7 +22,7 @@ pub fn write_records<W: Write, A: Allocator, F: Allocator>(
     frozen: &Frozen<F>,
     numbers: &[AnimalNumber],
     writer: &mut W,
-) -> Result<(), CertificateFault>
+) -> Result<(), NamedAnimalsFault>
     ensures ok { OnOk result (IsWrittenOf (book_of frozen.now) numbers.now (records_text frozen.now numbers.now)
         (W.contents writer.old) (W.contents writer.new)) }
     ensures err { IfErr result (EndsWritingOf (book_of frozen.now) numbers.now (records_text frozen.now numbers.now)
@@ -30,7 +30,7 @@ pub fn write_records<W: Write, A: Allocator, F: Allocator>(
     ensures untouched { are_there (book_of frozen.now) numbers.now ≡ false → writer.new ≡ writer.old }
 {
     if !are_registered(frozen, numbers) {
-        return Err(CertificateFault::NotRegistered);
+        return Err(NamedAnimalsFault::NotRegistered);
     }
     if numbers.is_empty() {
         Ok(write_every_record(alloc, frozen, writer)?)

@@ -130,10 +130,14 @@ fn stops_where_the_writer_does(rt: HostRuntime) -> Result<(), Fail> {
         };
         run_order!(rt, Order::Inbreeding(plan), writer)
     })?;
-    expect_stops(
-        &rt,
-        |writer| run_order!(rt, Order::Certificate(number), writer),
-    )?;
+    expect_stops(&rt, |writer| {
+        let numbers = [number, dam];
+        run_order!(rt, Order::Certificates(&numbers), writer)
+    })?;
+    expect_stops(&rt, |writer| {
+        let numbers = [number, dam];
+        run_order!(rt, Order::Records(&numbers), writer)
+    })?;
     expect_stops(&rt, |writer| {
         let order = Order::Mating { dam, sires: &sires };
         run_order!(rt, order, writer)
@@ -150,12 +154,12 @@ fn stops_where_the_writer_does(rt: HostRuntime) -> Result<(), Fail> {
     expect_stops(&rt, |writer| run_order!(rt, Order::Inverse, writer))
 }
 
-// Where the animal isn't registered, nothing is written.
+// Where one of the animals isn't registered, nothing is written.
 #[test]
 fn writes_nothing_of_an_unknown_animal(rt: HostRuntime) {
-    let number = Bull(9).number();
+    let numbers = [Bull(5).number(), Bull(9).number()];
     let mut writer = StopsAfter::new(rt.alloc(), 1, Then::Fails);
-    let outcome = run_order!(rt, Order::Certificate(number), &mut writer);
+    let outcome = run_order!(rt, Order::Certificates(&numbers), &mut writer);
     assert_eq!(rt; outcome, Err(RunFault::NotRegistered));
     assert!(rt; writer.taken.is_empty());
 }

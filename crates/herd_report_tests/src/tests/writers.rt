@@ -7,7 +7,7 @@ use herd_fixtures::Name::{Bull, Cow};
 use herd_fixtures::{founders, frozen_of, full_sibs};
 use herd_register::{Command, Refusal, Reply, Step};
 use herd_report::{
-    CertificateFault, ReportFault, write_certificate, write_inbreeding, write_inverse,
+    NamedAnimalsFault, ReportFault, write_certificates, write_inbreeding, write_inverse,
     write_mating, write_records, write_relationships, write_replies,
 };
 use linked_list_allocator::LocalHeap;
@@ -72,7 +72,7 @@ const CONTRIBUTION: &[u8] = b"HOLGBRM000000000001,HOLGBRM000000000001,HOLGBRM000
 fn expect_memory_or_text<R, F>(rt: &R, text: &[u8], write: F) -> Result<(), Fail>
 where
     R: Abort + AllocGlobal,
-    F: Fn(&LocalHeap, &mut Vec<u8>) -> Result<(), CertificateFault>,
+    F: Fn(&LocalHeap, &mut Vec<u8>) -> Result<(), NamedAnimalsFault>,
     requires { F.IsAlwaysCallable write }
 {
     let mut refused = 0u32;
@@ -121,12 +121,12 @@ fn writes_the_list_of_coefficients(rt: HostRuntime) -> Result<(), Fail> {
 fn writes_a_certificate(rt: HostRuntime) -> Result<(), Fail> {
     let frozen = frozen_of(rt.alloc(), &full_sibs())?;
     let coefficients = coefficients_plain(rt.alloc(), &frozen)?;
-    let number = Bull(5).number();
+    let numbers = [Bull(5).number()];
     let mut broken = StopsAfter::new(rt.alloc(), 0, Then::Fails);
-    let outcome = write_certificate(rt.alloc(), &frozen, &coefficients, number, &mut broken);
+    let outcome = write_certificates(rt.alloc(), &frozen, &coefficients, &numbers, &mut broken);
     assert_eq!(rt; outcome, Err(ReportFault::Write.into()));
     expect_memory_or_text(&rt, CERTIFICATE, |alloc, writer| {
-        write_certificate(alloc, &frozen, &coefficients, number, writer)
+        write_certificates(alloc, &frozen, &coefficients, &numbers, writer)
     })
 }
 

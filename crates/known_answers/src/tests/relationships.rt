@@ -1,11 +1,9 @@
 //! Relationships of named animals.
 
 use super::books::{SIX, pairs_and};
-use super::support::{Header, expect, file, relationships};
-use herd_animal::AnimalNumber;
+use super::support::{Header, expect, file, numbers_of, relationships};
 use herd_fixtures::Name;
 use herd_fixtures::Name::{Bull, Cow};
-use std::alloc::{AllocError, Global};
 use std::test::Fail;
 
 // The six animals of Mrode (2014), of which the fourth has one known parent.
@@ -81,14 +79,6 @@ const ASKED: [(&[Name], &[Name], &[&str]); 6] = [
     (&[Cow(99)], &[], &["F99,refused,1"]),
     (&[Bull(5)], &[], &["M5,M5,5/4"]),
 ];
-
-fn numbers_of(alloc: Global, names: &[Name]) -> Result<Vec<AnimalNumber>, AllocError> {
-    let mut numbers = Vec::new(alloc);
-    for name in names {
-        numbers.push(name.number())?;
-    }
-    Ok(numbers)
-}
 
 #[test]
 fn the_published_matrix(rt: HostRuntime) -> Result<(), Fail> {

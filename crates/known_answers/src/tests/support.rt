@@ -66,6 +66,15 @@ fn push_field(text: &mut String, field: &str) -> Result<(), AllocError> {
     }
 }
 
+/// The numbers of some animals.
+pub(super) fn numbers_of(alloc: Global, names: &[Name]) -> Result<Vec<AnimalNumber>, AllocError> {
+    let mut numbers = Vec::new(alloc);
+    for name in names {
+        numbers.push(name.number())?;
+    }
+    Ok(numbers)
+}
+
 /// What a run, or the filing for replies, came to: its outcome, and what it wrote.
 pub type Ran = (Result<(), RunFault>, Vec<u8>);
 
@@ -118,7 +127,16 @@ pub(super) fn certificate<R: AllocGlobal + Threads + Wait + Sync>(
     number: AnimalNumber,
     bytes: &[u8],
 ) -> Ran {
-    ran!(rt, Order::Certificate(number), bytes)
+    ran!(rt, Order::Certificates(&[number]), bytes)
+}
+
+/// Runs a command file for the records of some animals, or of all.
+pub(super) fn records<R: AllocGlobal + Threads + Wait + Sync>(
+    rt: &R,
+    numbers: &[AnimalNumber],
+    bytes: &[u8],
+) -> Ran {
+    ran!(rt, Order::Records(numbers), bytes)
 }
 
 /// Runs a command file for mating advice.

@@ -1,5 +1,5 @@
 -- The certificate of an animal that stands at a rank of a frozen book.
-use Rattle.std.proofs.Common.{◌≡◌, ◌∙◌, ℕ, ◌<◌, List, [], ◌++◌, length, slice_get, Option, Some, None, true, Contains, ap, sym, arith}
+use Rattle.std.proofs.Common.{append-nil, ◌≡◌, ◌∙◌, ℕ, ◌<◌, List, [], ◌++◌, length, slice_get, Option, Some, None, true, false, Contains, refl, ap, sym, arith}
 use Rattle.std.proofs.lemmas.Bool.{false≢true}
 use Rattle.std.specs.Map.{keys_of}
 use Rattle.std.specs.Option.{is_some, option_map_or}
@@ -65,3 +65,14 @@ some_text book numerator number (Some animal) there = omega arith
 pub some_certificate : (rows : List Row) (number : List ℕ) → is_there (book_of rows) number ≡ true → 0 < length (certificate_of rows number)
 some_certificate rows number there =
     some_text (book_of rows) (coefficient (ancestry_of rows) DEPTH_LIMIT number) number (record_of (book_of rows) number) there
+
+-- what isn't there has no text
+pub nothing_without : {A B : Type 0} (text : A → List B) (found : Option A) → is_some found ≡ false → option_map_or text found [] ≡ []
+nothing_without text None absent = refl
+nothing_without text (Some animal) absent = absurd (cc)
+
+-- a number that isn't in the book has no certificate
+pub no_certificate : (rows : List Row) (number text : List ℕ) → is_there (book_of rows) number ≡ false → text ≡ text ++ certificate_of rows number
+no_certificate rows number text absent =
+    let own = λ (animal : Animal). animal_text number animal (coefficient (ancestry_of rows) DEPTH_LIMIT number) ++ ancestors_text (book_of rows) number in
+    sym (ap (λ lines. text ++ lines) (nothing_without own (record_of (book_of rows) number) absent) ∙ append-nil text)

@@ -1,13 +1,12 @@
 -- The lines of records.
 use Rattle.std.proofs.Common.{append-nil, ◌≡◌, ◌∙◌, ℕ, ◌<◌, false, List, [], ◌++◌, codes, length, slice_get, Option, Some, None, refl, ap, sym, arith}
-use Rattle.std.specs.Option.{is_some, option_map_or}
 use Rattle.herd_frozen.specs.declared.rules.animal.Animal.{Animal}
 use Rattle.herd_frozen.specs.declared.freezing.frozen.Row.{Row}
 use Rattle.herd_frozen.specs.declared.TheConstants.{DEPTH_LIMIT, MOST_ANIMALS}
 use Rattle.herd_frozen.specs.freezing.Frozen.{IsFrozen, book_of, numbers_of}
 use Rattle.herd_frozen.specs.rules.Book.{Book, is_there, record_of}
 use Rattle.herd_advice.proofs.lemmas.FrozenFacts.{record_at-row}
-use Rattle.herd_report.proofs.lemmas.writing.CertificateFacts.{row_at_rank}
+use Rattle.herd_report.proofs.lemmas.writing.CertificateFacts.{nothing_without, row_at_rank}
 use Rattle.herd_report.proofs.lemmas.writing.TextFacts.{some_after}
 use Rattle.herd_report.specs.writing.RecordLine.{record_line, record_text}
 use Rattle.herd_report.specs.writing.RecordList.{line_under}
@@ -26,10 +25,6 @@ line_at_rank rows frozen rank row number there stands =
     let same : at.0 ≡ row = cc in
     let name : number ≡ row.number = at.2 ∙ ap (λ (r : Row). r.number) same in
     rw (name, record_at-row DEPTH_LIMIT MOST_ANIMALS rows frozen rank row there) refl
-
-nothing_without : {B : Type 0} (text : Animal → List B) (found : Option Animal) → is_some found ≡ false → option_map_or text found [] ≡ []
-nothing_without text None absent = refl
-nothing_without text (Some animal) absent = absurd (cc)
 
 -- a number that isn't in the book has no line
 pub no_line : (book : Book) (number text : List ℕ) → is_there book number ≡ false → text ≡ text ++ line_under book number

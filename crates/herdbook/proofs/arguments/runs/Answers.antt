@@ -1,6 +1,6 @@
 -- Each subcommand is added with its line.
 use Rattle.clap.specs.Words.{App}
-use Rattle.herdbook.specs.CommandLine.{certificate_line, file_line, inbreeding_line, inverse_line, line_with, mating_line, program, relationships_line, runs_line}
+use Rattle.herdbook.specs.CommandLine.{certificate_line, file_line, inbreeding_line, inverse_line, line_with, mating_line, program, records_line, relationships_line, runs_line}
 use Rattle.herdbook.proofs.arguments.runs.Goals as goal
 
 abbrev of_replies : App
@@ -18,6 +18,9 @@ of_advice = line_with of_certificates mating_line
 abbrev of_inverses : App
 of_inverses = line_with of_advice inverse_line
 
+abbrev of_pairs : App
+of_pairs = line_with of_inverses relationships_line
+
 pub returns : goal.returns
 unfolding runs_line
 returns c =
@@ -26,4 +29,5 @@ returns c =
     let certificates = c.with_subcommand-certificates.ensures of_lists certificate_line lists c.certificate.ensures in
     let advice = c.with_subcommand-advice.ensures of_certificates mating_line certificates c.mating.ensures in
     let inverses = c.with_subcommand-inverses.ensures of_advice inverse_line advice c.inverse.ensures in
-    c.with_subcommand.ensures of_inverses relationships_line inverses c.relationships.ensures
+    let pairs = c.with_subcommand-pairs.ensures of_inverses relationships_line inverses c.relationships.ensures in
+    c.with_subcommand.ensures of_pairs records_line pairs c.records.ensures

@@ -1,0 +1,18 @@
+-- The certificate at the rank of a number is that of the number, and isn't empty; a number that isn't there has none.
+use Rattle.std.proofs.Common.{List, ℕ, subst}
+use Rattle.herd_report.proofs.lemmas.Exits.{on_err}
+use Rattle.herd_report.proofs.lemmas.writing.CertificateFacts.{no_certificate, number_at_rank, number_is_there, some_certificate}
+use Rattle.herd_report.proofs.writing.certificate.push_certificate_under.Goals as goal
+
+pub returns-clause-made : goal.returns-clause-made
+returns-clause-made g c =
+    let own = number_at_rank c.args.frozen.now c.in-Some.rank c.args.number c.in-Some.ensures.rank in
+    rw own at c.push_certificate.ensures
+
+pub returns-clause-some : goal.returns-clause-some
+returns-clause-some g c =
+    let there = number_is_there c.args.frozen.now c.in-Some.rank c.args.number c.in-Some.ensures.rank in
+    on_err c.push_certificate.result (some_certificate c.args.frozen.now c.args.number there)
+
+pub returns-in_default-clause-made : goal.returns-in_default-clause-made
+returns-in_default-clause-made g c = no_certificate c.args.frozen.now c.args.number c.args.text.now c.in_default.ensures.absent
