@@ -33,4 +33,5 @@ def long_orders(dam: str, sires: list[str]) -> list[list[str]]:
 
 def order_names() -> list[str]:
     """The orders, as help lists them."""
-    return [*dict.fromkeys(words[0] for words in each_order()), "session"]
+    of_books = [*dict.fromkeys(words[0] for words in each_order())]
+    return [*of_books[:-1], "pedigree", of_books[-1], "session"]

@@ -7,6 +7,7 @@ import shlex
 from outside.books import full_sibs
 from outside.orders import order_names
 from outside.runs import TOP, Checks, wrote
+from reference_pedigree import mrode
 
 
 class TestHelp(Checks):
@@ -34,8 +35,9 @@ class TestHelp(Checks):
         self.expect("help", asked, ["help", *order])
         statuses = re.findall(r"(?m)^  (\d)  ", text.partition("Status:")[2])
         self.count(statuses == ["0", "1", "2"], f"help: {order}: the statuses {statuses}")
-        example = re.search(r"(?m)^Example:\n  herdbook (.*) < (?:book|requests).csv$", text)
+        example = re.search(r"(?m)^Example:\n  herdbook (.*) < (\w+).csv$", text)
         words = shlex.split(example[1]) if example else [""]
         self.count(words[0] == shown, f"help: {order}: the example of another: {words}")
-        done = self.run(words, "a1,inspector,1,seen\n" if shown == "session" else full_sibs(3))
+        given = {"book": full_sibs(3), "pedigree": mrode().text(), "requests": "a1,inspector,1,seen\n"}
+        done = self.run(words, given[example[2] if example else "book"])
         self.count(done.status == 0 and done.out, f"help: {order}: its example: {done}")

@@ -1,7 +1,10 @@
 -- What the program did for its words.
-use Rattle.std.proofs.Common.{◌≡◌, ℕ, List, [], inl, Option, Some, None, Result, Ok, Err}
+use Rattle.std.proofs.Common.{◌≡◌, ℕ, List, [], inl, inr, Option, Some, None, Result, Ok, Err, refl}
 use Rattle.std.specs.Prelude.{IfErr, IfSome, OnOk}
 use Rattle.clap.specs.Words.{fault_of, subcommand_of}
+use Rattle.herd_pedigree_report.specs.PedigreeReport.{CanEndBy, EndsBy, IsAnswered}
+use Rattle.herd_pedigree_report.specs.declared.pedigree_order.PedigreeOrder.{PedigreeOrder}
+use Rattle.herd_pedigree_report.specs.declared.pedigree_report_fault.PedigreeReportFault.{PedigreeReportFault}
 use Rattle.herd_report.specs.declared.run_fault.RunFault.{RunFault}
 use Rattle.herd_session.specs.Closing.{Ends}
 use Rattle.herd_session.specs.Requests.{records_in}
@@ -9,12 +12,17 @@ use Rattle.herd_session.specs.declared.plan.SessionPlan.{SessionPlan}
 use Rattle.herd_session.specs.declared.session_fault.SessionFault.{SessionFault}
 use Rattle.herd_session.specs.declared.session_fault.SessionFault.TheVariants.{Line, NoThread, Memory, Write, NoPlace}
 use Rattle.herdbook.specs.CommandLine.{command_line}
-use Rattle.herdbook.specs.Ending.{end_of_run, end_of_session}
+use Rattle.herdbook.specs.Ending.{Explains, end_of_pedigree, end_of_run, end_of_session}
 use Rattle.herdbook.specs.Program.{CanEnd, CanEndServing, EndsServing, IsEnded, IsServed}
 use Rattle.herdbook.specs.Sessions.{CanEndSession, told_of}
-use Rattle.herdbook.specs.Words.{IsAsked}
+use Rattle.herdbook.specs.Words.{IsAsked, IsRefused}
+use Rattle.herdbook.specs.declared.arguments.WordsFault.{WordsFault}
+use Rattle.herdbook.specs.declared.arguments.WordsFault.TheVariants as words_fault
+use Rattle.herdbook.specs.declared.ending.Ending.{Ending}
+use Rattle.herdbook.specs.declared.ending.Ending.TheVariants.{Done, Shown, Usage, NotText, Number, Misplaced, Early}
 use Rattle.herdbook.specs.declared.arguments.Request.{Request}
-use Rattle.herdbook.specs.declared.arguments.Request.TheVariants.{Session}
+use Rattle.herdbook.specs.declared.arguments.Request.TheVariants.{Pedigree, Session}
+use Rattle.herdbook.specs.declared.limits.PedigreePlan.{PedigreePlan}
 use Rattle.herdbook.specs.declared.request_fault.RequestFault.TheVariants.{Run}
 
 -- a run that was begun for a request ends the program
@@ -36,6 +44,40 @@ pub possible-run : {T : Type 0} (words : List (List ℕ)) (request : Request) (r
 possible-run words request (Ok done) taken asked possible = record { request = request; taken = taken; asked = asked; holds = tt }
 possible-run words request (Err fault) taken asked possible =
     inl (record { request = request; taken = taken; asked = asked; holds = possible })
+
+-- words that ask for nothing end the program
+pub ended-words : (known : Option (List ℕ)) (words : List (List ℕ)) (old new : Option (List ℕ)) (fault : WordsFault) (ending : Ending)
+    → IsRefused words fault → Explains fault ending → IfSome known (λ bytes. IsEnded words bytes old new ending)
+ended-words None words old new fault ending refused explained = tt
+ended-words (Some bytes) words old new (words_fault.Words error) Done refused explained = absurd explained
+ended-words (Some bytes) words old new (words_fault.Number cause) Done refused explained = absurd (cc explained)
+ended-words (Some bytes) words old new words_fault.Misplaced Done refused explained = absurd (cc explained)
+ended-words (Some bytes) words old new fault (Early told) refused explained = inr (record { fault = fault; refused = refused; explained = explained })
+ended-words (Some bytes) words old new fault (Shown text) refused explained = record { fault = fault; refused = refused; explained = explained }
+ended-words (Some bytes) words old new fault (Usage text) refused explained = record { fault = fault; refused = refused; explained = explained }
+ended-words (Some bytes) words old new fault NotText refused explained = record { fault = fault; refused = refused; explained = explained }
+ended-words (Some bytes) words old new fault (Number cause) refused explained = record { fault = fault; refused = refused; explained = explained }
+ended-words (Some bytes) words old new fault Misplaced refused explained = record { fault = fault; refused = refused; explained = explained }
+
+-- an order of a pedigree that was carried out ends the program
+pub ended-pedigree : {T : Type 0} (known : Option (List ℕ)) (words : List (List ℕ)) (old new : Option (List ℕ)) (plan : PedigreePlan) (order : PedigreeOrder) (result : Result T PedigreeReportFault)
+    → fault_of command_line words ≡ [] → IsAsked (subcommand_of command_line words) (Pedigree plan order)
+    → OnOk result (IfSome known (λ bytes. IsAnswered plan.animals order bytes old new))
+    → IfErr result (λ fault. IfSome known (λ bytes. EndsBy plan.animals order bytes old new fault))
+    → IfSome known (λ bytes. IsEnded words bytes old new (end_of_pedigree result))
+ended-pedigree None words old new plan order result taken asked ok err = tt
+ended-pedigree (Some bytes) words old new plan order (Ok done) taken asked ok err =
+    record { request = Pedigree plan order; taken = taken; asked = asked; holds = ok }
+ended-pedigree (Some bytes) words old new plan order (Err fault) taken asked ok err =
+    inl (record { request = Pedigree plan order; taken = taken; asked = asked; holds = record { fault = fault; is = refl; holds = err } })
+
+-- and whatever is read, that end is one that the words leave open
+pub possible-pedigree : {T : Type 0} (words : List (List ℕ)) (plan : PedigreePlan) (order : PedigreeOrder) (result : Result T PedigreeReportFault)
+    → fault_of command_line words ≡ [] → IsAsked (subcommand_of command_line words) (Pedigree plan order)
+    → IfErr result (CanEndBy order) → CanEnd words (end_of_pedigree result)
+possible-pedigree words plan order (Ok done) taken asked possible = record { request = Pedigree plan order; taken = taken; asked = asked; holds = tt }
+possible-pedigree words plan order (Err fault) taken asked possible =
+    inl (record { request = Pedigree plan order; taken = taken; asked = asked; holds = record { fault = fault; is = refl; holds = possible } })
 
 -- a session that was held ends the program
 pub ended-session : {T : Type 0} (known : Option (List ℕ)) (words : List (List ℕ)) (old new : Option (List ℕ)) (plan : SessionPlan) (result : Result T SessionFault)

@@ -15,7 +15,7 @@ use Rattle.herdbook.specs.Summary.{TellsOf}
 use Rattle.herdbook.specs.declared.clerk_fault.ClerkFault.{ClerkFault}
 use Rattle.herdbook.specs.declared.clerk_fault.ClerkFault.TheVariants as clerk
 use Rattle.herdbook.specs.declared.request_fault.RequestFault.{RequestFault}
-use Rattle.herdbook.specs.declared.request_fault.RequestFault.TheVariants.{Run, NoPlace}
+use Rattle.herdbook.specs.declared.request_fault.RequestFault.TheVariants.{Run, Pedigree, NoPlace}
 
 -- the fault of clerks for one of opening an office
 abbrev pub fault_of_opening : OpenFault → ClerkFault
@@ -70,6 +70,7 @@ EndsClerks limits desks base file old new (Run NotRegistered) = ⊥
 EndsClerks limits desks base file old new (Run NoThread) = (file.fault ≡ None) × (new ≡ old)
 EndsClerks limits desks base file old new (Run Memory) = (file.fault ≡ None) × (new ≡ old)
 EndsClerks limits desks base file old new (Run Write) = IsTold limits desks base file (AppendsFront old new)
+EndsClerks limits desks base file old new (Pedigree fault) = ⊥
 EndsClerks limits desks base file old new NoPlace = (file.fault ≡ None) × (new ≡ old)
 
 -- the faults that clerks can end by, whatever is read
@@ -79,4 +80,5 @@ CanEndClerks (Run NotRegistered) = ⊥
 CanEndClerks (Run NoThread) = ⊤
 CanEndClerks (Run Memory) = ⊤
 CanEndClerks (Run Write) = ⊤
+CanEndClerks (Pedigree fault) = ⊥
 CanEndClerks NoPlace = ⊤

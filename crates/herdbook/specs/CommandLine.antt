@@ -2,7 +2,7 @@
 use Rattle.std.specs.Prelude.{◌≡◌, ℕ, true, false, [], ◌∷◌, codes, decimal, Some, pos}
 use Rattle.clap.specs.Lexer.{usize_max}
 use Rattle.clap.specs.Words.{App, Rule, Text, app_of, new_app, new_rule, rule_of, with_rule, with_subcommand}
-use Rattle.clap.specs.declared.builder.action.ArgAction.TheVariants.{Append}
+use Rattle.clap.specs.declared.builder.action.ArgAction.TheVariants.{Append, SetTrue}
 use Rattle.clap.specs.declared.builder.arg.Arg.{Arg}
 use Rattle.clap.specs.declared.builder.command.Command.{Command}
 use Rattle.clap.specs.declared.builder.command.Command.TheViews.{out-Command}
@@ -23,14 +23,17 @@ pub record IsArgumentOf (rule : Rule) (argument : Arg) : Type 0 where
   pub rule_is : rule_of argument ≡ rule
   pub local : argument.global ≡ false
 
--- an option of a number from `least` to `most`, which is `default` where it isn't given
-abbrev pub number_option : Text → ℕ → ℕ → ℕ → Rule
-number_option name least most default = record (new_rule name) {
+-- an option of a number from `least` to `most`
+abbrev pub given_option : Text → ℕ → ℕ → Rule
+given_option name least most = record (new_rule name) {
   long = Some name;
   value_names = 1;
-  defaults = decimal default ∷ [];
   parser = Some (Signed (pos least) (pos most));
 }
+
+-- the same, which is `default` where it isn't given
+abbrev pub number_option : Text → ℕ → ℕ → ℕ → Rule
+number_option name least most default = record (given_option name least most) { defaults = decimal default ∷ [] }
 
 abbrev pub animals_rule : Rule
 animals_rule = number_option (codes "limit-animals") 1 MOST_ANIMALS DEFAULT_ANIMALS
@@ -95,6 +98,27 @@ relationships_line = limited (with_rule (with_rule (new_app (codes "relationship
 unfoldable pub records_line : App
 records_line = limited (with_rule (new_app (codes "records")) (any_rule (codes "NUMBER")))
 
+-- which report of a pedigree is asked for
+abbrev pub report_rule : Rule
+report_rule = record (new_rule (codes "REPORT")) { required = true }
+
+abbrev pub units_rule : Rule
+units_rule = record (new_rule (codes "units")) { long = Some (codes "units"); action = Some SetTrue }
+
+unfoldable pub pedigree_line : App
+pedigree_line =
+    with_rule
+    (with_rule
+    (with_rule
+    (with_rule
+    (with_rule
+    (with_rule (with_rule (new_app (codes "pedigree")) report_rule) (any_rule (codes "ANIMAL")))
+    partners_rule)
+    (given_option (codes "workers") 1 MOST_WORKERS))
+    (given_option (codes "block") 1 MOST_ANIMALS))
+    units_rule)
+    animals_rule
+
 abbrev pub desks_rule : Rule
 desks_rule = number_option (codes "desks") 1 MOST_DESKS 2
 
@@ -143,4 +167,4 @@ unfoldable pub session_line : App
 session_line = limited (with_rule (with_rule (new_app (codes "session")) session_desks_rule) inspectors_rule)
 
 unfoldable pub command_line : App
-command_line = line_with (line_with runs_line clerks_line) session_line
+command_line = line_with (line_with (line_with runs_line pedigree_line) clerks_line) session_line

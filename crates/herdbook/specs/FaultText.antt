@@ -2,11 +2,12 @@
 use Rattle.std.specs.Prelude.{ℕ, List, ◌++◌, codes, decimal}
 use Rattle.herd_animal.specs.declared.number.NumberFault.{NumberFault}
 use Rattle.herd_animal.specs.declared.number.NumberFault.TheVariants.{Length, Letter, SexLetter, NumberCharacter}
+use Rattle.herd_pedigree_file.specs.PedigreeCause.{cause_name as pedigree_cause_name, cause_number as pedigree_cause_number}
 use Rattle.herd_report.specs.reading.LineCause.{cause_name, cause_number}
 use Rattle.herd_report.specs.declared.run_fault.RunFault.{RunFault}
 use Rattle.herd_report.specs.declared.run_fault.RunFault.TheVariants.{Line, NotRegistered, NoThread, Memory, Write}
 use Rattle.herdbook.specs.declared.request_fault.RequestFault.{RequestFault}
-use Rattle.herdbook.specs.declared.request_fault.RequestFault.TheVariants.{Run, NoPlace}
+use Rattle.herdbook.specs.declared.request_fault.RequestFault.TheVariants.{Run, Pedigree, NoPlace}
 
 abbrev pub run_fault_text : RunFault → List ℕ
 run_fault_text (Line fault) =
@@ -19,6 +20,9 @@ run_fault_text Write = codes "write fault"
 
 abbrev pub request_fault_text : RequestFault → List ℕ
 request_fault_text (Run fault) = run_fault_text fault
+request_fault_text (Pedigree fault) =
+    codes "record " ++ decimal fault.record_number ++ codes ": fault "
+    ++ decimal (pedigree_cause_number fault.cause) ++ codes " " ++ pedigree_cause_name fault.cause
 request_fault_text NoPlace = codes "no reader's place"
 
 abbrev pub number_fault_code : NumberFault → ℕ

@@ -3,8 +3,11 @@ pub mod CommandLine
 pub mod Deal
 pub mod Ending
 pub mod FaultText
+pub mod Pedigrees
+pub mod PedigreeWords
 pub mod Program
 pub mod Sessions
 pub mod Subcommand
 pub mod Summary
+pub mod Texts
 pub mod Words

@@ -3,11 +3,13 @@ use Rattle.std.specs.Prelude.{◌≡◌, ◌⊎◌, ℕ, List, [], Option, Some}
 use Rattle.clap.specs.Words.{fault_of, subcommand_of}
 use Rattle.herd_report.specs.reading.CommandFile.{commands}
 use Rattle.herd_report.specs.Run.{CanEndBy, CanEndReplying, EndsBy, EndsReplying, IsAnswered, IsReplied}
+use Rattle.herd_pedigree_report.specs.PedigreeReport.{CanEndBy as CanEndPedigreeBy, EndsBy as EndsPedigreeBy, IsAnswered as IsPedigreeAnswered}
 use Rattle.herd_session.specs.Closing.{EndsEarly, IsClosedSession}
 use Rattle.herd_session.specs.Requests.{records_in}
 use Rattle.herdbook.specs.Clerks.{CanEndClerks, EndsClerks, IsFiledBy}
 use Rattle.herdbook.specs.CommandLine.{command_line}
 use Rattle.herdbook.specs.Ending.{Explains}
+use Rattle.herdbook.specs.Pedigrees.{TellsOf}
 use Rattle.herdbook.specs.Sessions.{CanEndSession}
 use Rattle.herdbook.specs.Words.{IsAsked, IsRefused}
 use Rattle.herdbook.specs.declared.arguments.Request.{Request}
@@ -16,12 +18,13 @@ use Rattle.herdbook.specs.declared.arguments.WordsFault.{WordsFault}
 use Rattle.herdbook.specs.declared.ending.Ending.{Ending}
 use Rattle.herdbook.specs.declared.ending.Ending.TheVariants.{Done, Early}
 use Rattle.herdbook.specs.declared.request_fault.RequestFault.{RequestFault}
-use Rattle.herdbook.specs.declared.request_fault.RequestFault.TheVariants.{Run, NoPlace}
+use Rattle.herdbook.specs.declared.request_fault.RequestFault.TheVariants.{Run, Pedigree, NoPlace}
 
--- what a request asks for was carried out on the bytes of a command file, or of requests
+-- what a request asks for was carried out on the bytes of a command file, of a pedigree file, or of requests
 abbrev pub IsServed : Request → List ℕ → Option (List ℕ) → Option (List ℕ) → Type 0
 IsServed (request.File book) bytes old new = IsReplied book.limits (commands bytes book.limits.steps) old new
 IsServed (request.Report book order) bytes old new = IsAnswered book.limits order (commands bytes book.limits.steps) old new
+IsServed (request.Pedigree plan order) bytes old new = IsPedigreeAnswered plan.animals order bytes old new
 IsServed (request.Clerks book plan) bytes old new =
     IsFiledBy book.limits plan.desks plan.base (commands bytes book.limits.steps) old new
 IsServed (request.Session plan) bytes old new =
@@ -31,10 +34,14 @@ IsServed (request.Session plan) bytes old new =
 abbrev pub EndsServing : Request → List ℕ → Option (List ℕ) → Option (List ℕ) → RequestFault → Type 0
 EndsServing (request.File book) bytes old new (Run fault) =
     EndsReplying book.limits (commands bytes book.limits.steps) old new fault
+EndsServing (request.File book) bytes old new (Pedigree fault) = ⊥
 EndsServing (request.File book) bytes old new NoPlace = ⊥
 EndsServing (request.Report book order) bytes old new (Run fault) =
     EndsBy book.limits order (commands bytes book.limits.steps) old new fault
+EndsServing (request.Report book order) bytes old new (Pedigree fault) = ⊥
 EndsServing (request.Report book order) bytes old new NoPlace = ⊥
+EndsServing (request.Pedigree plan order) bytes old new fault =
+    TellsOf (EndsPedigreeBy plan.animals order bytes old new) fault
 EndsServing (request.Clerks book plan) bytes old new fault =
     EndsClerks book.limits plan.desks plan.base (commands bytes book.limits.steps) old new fault
 EndsServing (request.Session plan) bytes old new fault =
@@ -43,9 +50,12 @@ EndsServing (request.Session plan) bytes old new fault =
 -- the faults that it can end by, whatever is read
 abbrev pub CanEndServing : Request → RequestFault → Type 0
 CanEndServing (request.File book) (Run fault) = CanEndReplying fault
+CanEndServing (request.File book) (Pedigree fault) = ⊥
 CanEndServing (request.File book) NoPlace = ⊥
 CanEndServing (request.Report book order) (Run fault) = CanEndBy order fault
+CanEndServing (request.Report book order) (Pedigree fault) = ⊥
 CanEndServing (request.Report book order) NoPlace = ⊥
+CanEndServing (request.Pedigree plan order) fault = TellsOf (CanEndPedigreeBy order) fault
 CanEndServing (request.Clerks book plan) fault = CanEndClerks fault
 CanEndServing (request.Session plan) fault = CanEndSession fault
 

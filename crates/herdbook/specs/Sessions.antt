@@ -4,7 +4,7 @@ use Rattle.herd_report.specs.declared.run_fault.RunFault.TheVariants as run
 use Rattle.herd_session.specs.declared.session_fault.SessionFault.{SessionFault}
 use Rattle.herd_session.specs.declared.session_fault.SessionFault.TheVariants.{Line, NoThread, Memory, Write, NoPlace as Unclosed}
 use Rattle.herdbook.specs.declared.request_fault.RequestFault.{RequestFault}
-use Rattle.herdbook.specs.declared.request_fault.RequestFault.TheVariants.{Run, NoPlace}
+use Rattle.herdbook.specs.declared.request_fault.RequestFault.TheVariants.{Run, Pedigree, NoPlace}
 
 -- the fault of a request for one of a session
 abbrev pub told_of : SessionFault → RequestFault
@@ -21,4 +21,5 @@ CanEndSession (Run run.NotRegistered) = ⊥
 CanEndSession (Run run.NoThread) = ⊤
 CanEndSession (Run run.Memory) = ⊤
 CanEndSession (Run run.Write) = ⊤
+CanEndSession (Pedigree fault) = ⊥
 CanEndSession NoPlace = ⊤

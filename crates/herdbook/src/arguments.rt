@@ -4,17 +4,19 @@ ghost use Rattle.std.specs.Prelude.{◌≡◌, ℕ, ◌≤◌, ◌++◌, [], All
 ghost use Rattle.clap.specs.Words.{App, Rule, app_of, fault_of, found_of, new_app, one_of, rows_of, subcommand_of, subcommand_rows_of, with_rule};
 ghost use Rattle.herd_animal.specs.AnimalNumber.{IsAnimalNumber};
 ghost use Rattle.herd_animal.specs.NumberFault.{IsNumberFault};
-ghost use Rattle.herdbook.specs.CommandLine.{IsArgumentOf, IsCommandOf, any_rule, certificate_line, clerks_line, command_line, dam_rule, file_line, inbreeding_line, inverse_line, limited, line_with, mating_line, number_option, partners_rule, program, records_line, relationships_line, runs_line, session_line, several_rule};
-ghost use Rattle.herdbook.specs.Words.{AreLimitsOf, IsAsked, IsDeskPlanOf, IsFirstFault, IsNumberOr, IsRefused, IsSessionPlanOf, IsUnread, IsWorkPlanOf, IsWrongNumber, rows_in, text_of, texts_of};
+ghost use Rattle.herdbook.specs.CommandLine.{IsArgumentOf, IsCommandOf, animals_rule, any_rule, certificate_line, clerks_line, command_line, dam_rule, file_line, given_option, inbreeding_line, inverse_line, limited, line_with, mating_line, number_option, partners_rule, program, records_line, relationships_line, runs_line, session_line, several_rule};
+ghost use Rattle.herdbook.specs.Words.{AreLimitsOf, IsAsked, IsDeskPlanOf, IsFirstFault, IsNumberOr, IsRefused, IsSessionPlanOf, IsUnread, IsUnreadOf, IsWorkPlanOf, IsWrongNumber, rows_in, text_of, texts_of};
 
 use crate::deal::DeskPlan;
 use crate::help;
-use crate::limits::{BookPlan, DEFAULT_ANIMALS, DEFAULT_STEPS};
+use crate::limits::{BookPlan, DEFAULT_ANIMALS, DEFAULT_STEPS, PedigreePlan};
+use crate::pedigree_words::{pedigree, pedigree_order_of, pedigree_plan_of};
 use crate::subcommand::Subcommand;
 use clap::{Arg, ArgAction, ArgMatches, Command};
 use herd_animal::{AnimalNumber, NumberFault};
 use herd_frozen::MOST_ANIMALS;
 use herd_office::{MOST_DESKS, MOST_INSPECTORS};
+use herd_pedigree_report::PedigreeOrder;
 use herd_pool::{DEFAULT_BLOCK, MOST_WORKERS};
 use herd_register::{Limits, MOST_STEPS};
 use herd_report::{Order, WorkPlan};
@@ -28,6 +30,8 @@ pub enum Request<'a> {
     File(BookPlan),
     /// What is ordered of the book.
     Report(BookPlan, Order<'a>),
+    /// What is ordered of a pedigree.
+    Pedigree(PedigreePlan, PedigreeOrder<'a>),
     /// The commands are filed at several desks, each with a clerk in a thread of its own.
     Clerks(BookPlan, DeskPlan),
     /// Requests are answered until the input ends.
@@ -41,6 +45,8 @@ pub enum WordsFault {
     Words(clap::Error),
     /// The first of the numbers that is none: of the dam, then of the sires as given.
     Number(NumberFault),
+    /// The words behind `pedigree` ask for no report, or have some that don't belong to it.
+    Misplaced,
 }
 
 impl From<clap::Error> for WordsFault {
@@ -81,21 +87,25 @@ pub fn read_words<'a>(
     alloc: Global,
     words: &[String],
     list: &'a mut Vec<AnimalNumber>,
+    animals: &'a mut Vec<Option<u32>>,
+    others: &'a mut Vec<Option<u32>>,
 ) -> Result<Request<'a>, WordsFault>
     ensures asked { IfOk result (IsAsked (subcommand_of command_line (map string_bytes words.now))) }
     ensures taken { IfOk result (λ _. fault_of command_line (map string_bytes words.now) ≡ []) }
     ensures refused { IfErr result (IsRefused (map string_bytes words.now)) }
 {
     let matches = command(alloc)?.try_get_matches_from(words)?;
-    request_of(&matches, list)
+    request_of(&matches, list, animals, others)
 }
 
 fn request_of<'a>(
     matches: &ArgMatches<'_>,
     list: &'a mut Vec<AnimalNumber>,
+    animals: &'a mut Vec<Option<u32>>,
+    others: &'a mut Vec<Option<u32>>,
 ) -> Result<Request<'a>, WordsFault>
     ensures asked { IfOk result (IsAsked (subcommand_rows_of matches.now)) }
-    ensures unread { IfErr result (IsUnread (IsWrongNumber (subcommand_rows_of matches.now))) }
+    ensures unread { IfErr result (IsUnreadOf (subcommand_rows_of matches.now)) }
 {
     list.clear();
     let book = book_plan_in(matches);
@@ -128,6 +138,10 @@ fn request_of<'a>(
         Subcommand::Records => {
             add_numbers(given, "NUMBER", list)?;
             Ok(Request::Report(book, Order::Records(list.as_slice())))
+        }
+        Subcommand::Pedigree => {
+            let order = pedigree_order_of(given, animals, others)?;
+            Ok(Request::Pedigree(pedigree_plan_of(given), order))
         }
         Subcommand::Clerks => Ok(Request::Clerks(book, desk_plan_of(given))),
         Subcommand::Session => Ok(Request::Session(session_plan_of(given))),
@@ -185,8 +199,8 @@ fn limits_of(given: &ArgMatches<'_>) -> Limits
     }
 }
 
-// The number of an option from `least` to `most`, and another where the words give none.
-fn option_or(given: &ArgMatches<'_>, id: &str, least: u32, most: u32, other: u32) -> u32
+/// The number of an option from `least` to `most`, and another where the words give none.
+pub(crate) fn option_or(given: &ArgMatches<'_>, id: &str, least: u32, most: u32, other: u32) -> u32
     requires { (least ≤ other) × (other ≤ most) }
     ensures given { IsNumberOr least most other (one_of id.now (rows_of (found_of given.now))) result }
     ensures within { (least ≤ result) × (result ≤ most) }
@@ -234,7 +248,8 @@ fn number_argument(given: &ArgMatches<'_>, id: &str) -> Result<AnimalNumber, Num
 fn command<'a>(alloc: Global) -> Result<Command<'a>, AllocError>
     ensures { IfOk result (λ command. app_of command ≡ command_line) }
 {
-    with_subcommand(with_subcommand(runs(alloc), clerks(alloc)), session(alloc))
+    let lines = with_subcommand(runs(alloc), pedigree(alloc));
+    with_subcommand(with_subcommand(lines, clerks(alloc)), session(alloc))
 }
 
 // The program with the subcommands of one thread that files.
@@ -261,8 +276,8 @@ fn with_subcommand<'a>(
     command?.subcommand(subcommand?)
 }
 
-// A command with one argument more. Memory that was refused for the command is refused.
-fn with_argument<'a>(
+/// A command with one argument more. Memory that was refused for the command is refused.
+pub(crate) fn with_argument<'a>(
     command: Result<Command<'a>, AllocError>,
     argument: Arg<'a>,
 ) -> Result<Command<'a>, AllocError>
@@ -310,15 +325,30 @@ fn inverse<'a>(alloc: Global) -> Result<Command<'a>, AllocError>
     with_limits(alloc, Ok(bare))
 }
 
-// A command with no arguments yet: its name, what it does in a line, and the end of its help.
-fn named<'a>(alloc: Global, name: &'a str, about: &'a str, more: &'a str) -> Command<'a>
+/// A command with no arguments yet: its name, what it does in a line, and the end of its help.
+pub(crate) fn named<'a>(alloc: Global, name: &'a str, about: &'a str, more: &'a str) -> Command<'a>
     ensures { IsCommandOf (new_app name.entry.now) result }
 {
     Command::new(alloc, name).about(about).after_help(more)
 }
 
-// An option of a number from `least` to `most`, with no help yet: its name, what help calls its number, and the text of
-// the number where it isn't given.
+/// An option of a number from `least` to `most`, with no help yet: its name, and what help calls its number.
+pub(crate) fn given_option<'a>(
+    alloc: Global,
+    name: &'a str,
+    value: &'a str,
+    least: u32,
+    most: u32,
+) -> Arg<'a>
+    ensures { IsArgumentOf (given_option name.entry.now least most) result }
+{
+    Arg::new(alloc, name)
+        .long(name)
+        .value_name(value)
+        .value_parser(clap::value_parser!(u32).range(least as i64..=most as i64))
+}
+
+// The same with the text of the number where it isn't given.
 fn number_option<'a>(
     alloc: Global,
     name: &'a str,
@@ -330,11 +360,7 @@ fn number_option<'a>(
     ensures { (number : ℕ) → default.entry.now ≡ decimal number
         → IsArgumentOf (number_option name.entry.now least most number) result }
 {
-    Arg::new(alloc, name)
-        .long(name)
-        .value_name(value)
-        .value_parser(clap::value_parser!(u32).range(least as i64..=most as i64))
-        .default_value(default)
+    given_option(alloc, name, value, least, most).default_value(default)
 }
 
 fn inbreeding<'a>(alloc: Global) -> Result<Command<'a>, AllocError>
@@ -407,8 +433,8 @@ fn several_argument<'a>(alloc: Global, name: &'a str, help: &'a str) -> Arg<'a>
     any_argument(alloc, name, help).required(true)
 }
 
-// An argument of some numbers or none: its name, and its help.
-fn any_argument<'a>(alloc: Global, name: &'a str, help: &'a str) -> Arg<'a>
+/// An argument of some numbers or none: its name, and its help.
+pub(crate) fn any_argument<'a>(alloc: Global, name: &'a str, help: &'a str) -> Arg<'a>
     ensures { IsArgumentOf (any_rule name.entry.now) result }
 {
     Arg::new(alloc, name)
@@ -431,17 +457,18 @@ fn relationships<'a>(alloc: Global) -> Result<Command<'a>, AllocError>
             Ok(bare),
             several_argument(alloc, "NUMBER", "The numbers of the animals"),
         ),
-        with_option(alloc),
+        with_option(alloc, "NUMBER"),
     );
     with_limits(alloc, given)
 }
 
-fn with_option<'a>(alloc: Global) -> Arg<'a>
+/// The option of partners: what help calls one of them.
+pub(crate) fn with_option<'a>(alloc: Global, value: &'a str) -> Arg<'a>
     ensures { IsArgumentOf partners_rule result }
 {
     Arg::new(alloc, "with")
         .long("with")
-        .value_name("NUMBER")
+        .value_name(value)
         .action(ArgAction::Append)
         .num_args(1..)
         .help("Pairs each with these, not with one another")
@@ -508,11 +535,17 @@ fn with_limits<'a>(
     ensures { (line : App) → IfOk command.entry (IsCommandOf line)
         → IfOk result (IsCommandOf (limited line)) }
 {
-    let animals = number_option(alloc, "limit-animals", "N", 1, MOST_ANIMALS, "60000").help(
-        "The most animals, 1 to 16,000,000",
-    );
     let steps = number_option(alloc, "limit-steps", "N", 1, MOST_STEPS, "1000000").help(
         "The most steps, 1 to 200,000,000",
     );
-    with_argument(with_argument(command, animals), steps)
+    with_argument(with_argument(command, animals_option(alloc)), steps)
+}
+
+/// The option that limits how many animals there may be.
+pub(crate) fn animals_option<'a>(alloc: Global) -> Arg<'a>
+    ensures { IsArgumentOf animals_rule result }
+{
+    number_option(alloc, "limit-animals", "N", 1, MOST_ANIMALS, "60000").help(
+        "The most animals, 1 to 16,000,000",
+    )
 }

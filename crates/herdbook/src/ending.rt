@@ -1,16 +1,23 @@
 //! How the program ends: with which status, and what it tells on standard error.
 
 ghost use Rattle.std.specs.Prelude.{◌≡◌};
-ghost use Rattle.herdbook.specs.Ending.{Explains, end_of_clerks, end_of_run, end_of_session, end_of_shown, end_of_unread, status_of};
+ghost use Rattle.herdbook.specs.Ending.{Explains, end_of_clerks, end_of_pedigree, end_of_run, end_of_session, end_of_shown, end_of_unread, status_of};
 
 use crate::arguments::WordsFault;
 use crate::fault_text::{NumberFaultText, RequestFaultText};
 use crate::request_fault::RequestFault;
 use clap::error::ErrorKind;
 use herd_animal::NumberFault;
+use herd_pedigree_report::PedigreeReportFault;
 use herd_report::RunFault;
 use herd_session::SessionFault;
 use std::fmt;
+
+// What is told of words that no report of a pedigree takes.
+const MISPLACED: &str = "\
+herdbook: pedigree takes `inbreeding [--workers N] [--block N] [--units]`, `inverse`, or
+`relationships ANIMAL.. [--with ANIMAL..] [--units]`, each with [--limit-animals N]
+";
 
 /// How the program ends, once it has written what it writes to standard output.
 #[derive(Drop)]
@@ -25,6 +32,8 @@ pub enum Ending {
     NotText,
     /// A word is no animal number.
     Number(NumberFault),
+    /// The words behind `pedigree` ask for no report, or have some that don't belong to it.
+    Misplaced,
     /// What was asked for ended early, or the words couldn't be read or answered for want of memory or a failed write.
     Early(RequestFault),
 }
@@ -52,6 +61,7 @@ impl Ending {
                 _ => Ending::Usage(error),
             },
             WordsFault::Number(fault) => Ending::Number(fault),
+            WordsFault::Misplaced => Ending::Misplaced,
         }
     }
 
@@ -62,6 +72,16 @@ impl Ending {
         match ended {
             Ok(()) => Ending::Done,
             Err(fault) => Ending::Early(RequestFault::Run(fault)),
+        }
+    }
+
+    /// The end of an order of a pedigree.
+    pub fn of_pedigree(ended: Result<(), PedigreeReportFault>) -> Ending
+        ensures { result ≡ end_of_pedigree ended }
+    {
+        match ended {
+            Ok(()) => Ending::Done,
+            Err(fault) => Ending::Early(RequestFault::from(fault)),
         }
     }
 
@@ -103,7 +123,7 @@ impl Ending {
         match self {
             Ending::Done | Ending::Shown(_) => 0,
             Ending::Early(_) => 1,
-            Ending::Usage(_) | Ending::NotText | Ending::Number(_) => 2,
+            Ending::Usage(_) | Ending::NotText | Ending::Number(_) | Ending::Misplaced => 2,
         }
     }
 }
@@ -123,6 +143,7 @@ impl fmt::Display for Ending {
                 let text = NumberFaultText(*fault);
                 write!(f, "herdbook: {text}\n")
             }
+            Ending::Misplaced => f.write_str(MISPLACED),
             Ending::Early(fault) => {
                 let text = RequestFaultText(*fault);
                 write!(f, "herdbook: {text}\n")

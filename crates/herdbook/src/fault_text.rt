@@ -5,6 +5,7 @@ ghost use Rattle.herdbook.specs.FaultText.{number_fault_code, number_fault_name}
 
 use crate::request_fault::RequestFault;
 use herd_animal::NumberFault;
+use herd_pedigree_file::PedigreeFault;
 use herd_report::{LineFault, RunFault};
 use std::fmt;
 
@@ -27,6 +28,15 @@ impl fmt::Display for RequestFaultText {
                         cause,
                     },
                 ),
+            ) => {
+                let (code, name) = (cause.number(), cause.name());
+                write!(f, "record {record_number}: fault {code} {name}")
+            }
+            RequestFault::Pedigree(
+                PedigreeFault {
+                    record_number,
+                    cause,
+                },
             ) => {
                 let (code, name) = (cause.number(), cause.name());
                 write!(f, "record {record_number}: fault {code} {name}")

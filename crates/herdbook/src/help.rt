@@ -127,6 +127,28 @@ Status:
      memory or a write was refused
   2  the words aren't a command line, or one is no animal number";
 
+/// The end of the help of `pedigree`.
+pub const PEDIGREE: &str = "\
+Reads a pedigree from standard input: CSV with the header sire,dam, in which the
+n-th record is animal n, and a parent is the number of an earlier record, or 0
+or nothing. REPORT is one of
+  inbreeding     [--workers N] [--block N] [--units]: a line for each animal,
+                 ANIMAL,COEFFICIENT,PERCENT, or ANIMAL,UNITS
+  inverse        what each animal adds to the inverse of the numerator
+                 relationship matrix: ANIMAL,ROW,COLUMN,VALUE
+  relationships  ANIMAL.. [--with ANIMAL..] [--units]: a line for each pair,
+                 ANIMAL,ANIMAL,VALUE, or ANIMAL,ANIMAL,UNITS
+One animal may be sire and dam, of others and of one. Units are whole.
+
+Example:
+  herdbook pedigree inbreeding < pedigree.csv
+
+Status:
+  0  the report is written
+  1  a record is faulty or an animal isn't there (nothing is written), or
+     memory, a thread or a write was refused
+  2  the words aren't a command line, or don't belong to the report";
+
 /// The end of the help of `clerks`. Its K and M stand for the numbers of `--desks` and `--base`.
 pub const CLERKS: &str = "\
 Reads a command file from standard input. The first M commands are filed at desk

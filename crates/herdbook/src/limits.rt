@@ -1,5 +1,8 @@
 //! How large a book and its journal may grow.
 
+ghost use Rattle.std.specs.Prelude.{◌≤◌};
+ghost use Rattle.herd_frozen.specs.declared.TheConstants.{MOST_ANIMALS};
+
 use herd_register::Limits;
 
 /// How many animals a book may have where the words don't say. They may allow as many as `MOST_ANIMALS`.
@@ -12,4 +15,11 @@ pub const DEFAULT_STEPS: u32 = 1_000_000;
 #[derive(Clone, Copy)]
 pub struct BookPlan {
     pub limits: Limits,
+}
+
+/// What the words say of a pedigree.
+#[derive(Clone, Copy)]
+pub struct PedigreePlan {
+    pub animals: u32,
+    pub ghost few: { animals ≤ MOST_ANIMALS },
 }

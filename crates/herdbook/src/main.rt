@@ -1,17 +1,19 @@
 //! The herd book of a breed society, as a program over standard input and output.
 //!
 //! The words of the command line are read first. They ask for help or the version, for the replies to a command file or
-//! an order of its book, which `herd_report` carries out; for `clerks`: the commands of a file, filed at the desks of
+//! an order of its book, which `herd_report` carries out; for a report of a pedigree, which `herd_pedigree_report`
+//! writes; for `clerks`: the commands of a file, filed at the desks of
 //! an office by clerks side by side; or for a session, which `herd_session` holds. How the program ends is a value,
 //! made from what was asked and what came of it (`Ending`); only `main` prints it, or tells it on standard error.
 //!
 //! | | definition (`specs/`) | code (`src/`) | proof (`proofs/`) |
 //! |---|---|---|---|
-//! | the words, what they ask for | `CommandLine`, `Subcommand`, `Words` | `arguments`, `subcommand` | `CommandFacts`, `WordsFacts` |
+//! | the words, what they ask for | `CommandLine`, `Subcommand`, `Texts`, `Words` | `arguments`, `subcommand` | `CommandFacts`, `WordsFacts` |
 //! | the limits where the words don't say them | | `limits` | |
 //! | the texts of help and of the version | | `help` | |
 //! | what the program does for its words | `Program` | `program` | `ProgramFacts` |
 //! | how it ends, what is told on standard error | `Ending`, `FaultText` | `ending`, `request_fault`, `fault_text` | |
+//! | the words behind `pedigree`, how its reports end | `PedigreeWords`, `Pedigrees` | `pedigree_words` | `PedigreeFacts` |
 //! | clerks, their threads, one at a desk | `Clerks`, `Deal` | `desks`, `crew`, `clerk` | `DealFacts`, `SummaryFacts` |
 //! | the desk of each command, a desk's turn | `Deal` | `deal` | `DealFacts`, `Lists` |
 //! | how clerks end early | `Clerks` | `clerk_fault` | `ClerksFacts` |
@@ -29,6 +31,7 @@ mod ending;
 mod fault_text;
 mod help;
 mod limits;
+mod pedigree_words;
 mod program;
 mod request_fault;
 mod subcommand;

@@ -6,6 +6,7 @@ ghost use Rattle.herdbook.specs.Program.{CanEnd, IsEnded, IsUntouchedUnlessAsked
 use crate::arguments::{Request, read_words};
 use crate::desks::clerks;
 use crate::ending::Ending;
+use herd_pedigree_report::answer_pedigree;
 use herd_report::{answer_file, run};
 use herd_session::session;
 use std::alloc::Global;
@@ -29,10 +30,15 @@ pub fn carry_out<H: Threads + Wait + Sync, R: Read + Drop, W: Write + Send + Dro
     ensures unasked { IsUntouchedUnlessAsked (writer.new ≡ writer.old) result }
 {
     let mut list = Vec::new(alloc);
-    match read_words(alloc, words, &mut list) {
+    let mut animals = Vec::new(alloc);
+    let mut others = Vec::new(alloc);
+    match read_words(alloc, words, &mut list, &mut animals, &mut others) {
         Ok(Request::File(book)) => Ending::of_run(answer_file(alloc, book.limits, reader, writer)),
         Ok(Request::Report(book, order)) => {
             Ending::of_run(run(rt, alloc, book.limits, &order, reader, writer))
+        }
+        Ok(Request::Pedigree(plan, order)) => {
+            Ending::of_pedigree(answer_pedigree(rt, alloc, plan.animals, &order, reader, writer))
         }
         Ok(Request::Clerks(book, plan)) => {
             Ending::of_clerks(clerks(rt, alloc, book.limits, plan, reader, writer))

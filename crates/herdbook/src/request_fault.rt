@@ -2,6 +2,8 @@
 ghost use Rattle.std.specs.Prelude.{◌≡◌};
 ghost use Rattle.herdbook.specs.declared.request_fault.RequestFault.TheVariants.{Run};
 
+use herd_pedigree_file::PedigreeFault;
+use herd_pedigree_report::PedigreeReportFault;
 use herd_report::{LineFault, ReportFault, RunFault};
 use herd_session::SessionFault;
 
@@ -10,6 +12,8 @@ use herd_session::SessionFault;
 pub enum RequestFault {
     /// As a run may end.
     Run(RunFault),
+    /// A pedigree file has a fault. Nothing was written.
+    Pedigree(PedigreeFault),
     /// The office of clerks or of a session lacked a seat for a reader or room for a step, gave no reading, or wasn't
     /// closed. Clerks wrote nothing.
     NoPlace,
@@ -32,6 +36,22 @@ impl From<ReportFault> for RequestFault {
 
     fn from(fault: ReportFault) -> RequestFault {
         RequestFault::Run(RunFault::from(fault))
+    }
+}
+
+impl From<PedigreeReportFault> for RequestFault {
+    ghost use Rattle.herdbook.specs.Pedigrees.{told_of_pedigree};
+
+    ghost from_gives = { λ fault told. told ≡ told_of_pedigree fault };
+
+    fn from(fault: PedigreeReportFault) -> RequestFault {
+        match fault {
+            PedigreeReportFault::Record(fault) => RequestFault::Pedigree(fault),
+            PedigreeReportFault::NotRegistered => RequestFault::Run(RunFault::NotRegistered),
+            PedigreeReportFault::NoThread => RequestFault::Run(RunFault::NoThread),
+            PedigreeReportFault::Memory => RequestFault::Run(RunFault::Memory),
+            PedigreeReportFault::Write => RequestFault::Run(RunFault::Write),
+        }
     }
 }
 

@@ -10,6 +10,7 @@ pub enum Subcommand {
     Inverse,
     Relationships,
     Records,
+    Pedigree,
     Clerks,
     Session,
 }
@@ -35,6 +36,8 @@ impl Subcommand {
             Subcommand::Relationships
         } else if name == b"records".as_slice() {
             Subcommand::Records
+        } else if name == b"pedigree".as_slice() {
+            Subcommand::Pedigree
         } else if name == b"clerks".as_slice() {
             Subcommand::Clerks
         } else if name == b"session".as_slice() {
