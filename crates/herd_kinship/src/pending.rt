@@ -9,8 +9,12 @@ pub struct Pending<A: Allocator> {
     pub chunks: Vec<u64, A>,
     /// No chunk before it has a bit set.
     pub first: usize,
+    /// Neither has this one, nor any behind it.
+    end: usize,
     ghost few_chunks: { length chunks.items ≤ 2 ^ 32 },
+    ghost end_within: { end ≤ length chunks.items },
     ghost none_before: { (distance : ℕ) → distance < 64 * first → mark chunks.items distance ≡ 0 },
+    ghost none_behind: { (distance : ℕ) → 64 * end ≤ distance → mark chunks.items distance ≡ 0 },
 }
 
 impl<A: Allocator> Pending<A> {
@@ -20,7 +24,12 @@ impl<A: Allocator> Pending<A> {
         ensures empty { IfOk result (λ pending. (distance : ℕ) → mark pending.chunks.items distance ≡ 0) }
     {
         let chunks = vec![in alloc; 0u64; distances.div_ceil(64) as usize]?;
-        Ok(Pending { chunks, first: 0 })
+        let first = chunks.len();
+        Ok(Pending {
+            chunks,
+            first,
+            end: 0,
+        })
     }
 
     /// Puts a distance in.
@@ -39,13 +48,13 @@ impl<A: Allocator> Pending<A> {
         ensures first { self.new.first ≡ self.old.first }
         ensures put { Marks self.old.chunks.items self.new.chunks.items distance 1 }
     {
-        self.chunks[distance / 64] |= 1 << (distance % 64);
+        let chunk = distance / 64;
+        self.end = self.end.max(chunk + 1);
+        self.chunks[chunk] |= 1 << (distance % 64);
     }
 
-    /// Takes the nearest distance out. None is farther than this one, and no chunk behind its own is looked at.
-    pub fn take_nearest(&mut self, farthest: u32) -> Option<usize>
-        requires room { farthest < 64 * length self.old.chunks.items }
-        requires near { (distance : ℕ) → mark self.old.chunks.items distance ≡ 1 → distance ≤ farthest }
+    /// Takes the nearest distance out. No chunk behind the farthest one's is looked at.
+    pub fn take_nearest(&mut self) -> Option<usize>
         ensures found { IfSome result (λ distance. mark self.old.chunks.items distance ≡ 1) }
         ensures nearest { IfSome result
             (λ distance. (nearer : ℕ) → nearer < distance → mark self.old.chunks.items nearer ≡ 0) }
@@ -54,8 +63,7 @@ impl<A: Allocator> Pending<A> {
         ensures empty { IfNone result ((distance : ℕ) → mark self.old.chunks.items distance ≡ 0) }
         ensures same { IfNone result (self.new.chunks.items ≡ self.old.chunks.items) }
     {
-        let last = farthest as usize / 64;
-        while self.first <= last {
+        while self.first < self.end {
             let chunk = self.chunks[self.first];
             if chunk > 0 {
                 let (lowest, rest) = without_lowest(chunk);
@@ -64,6 +72,8 @@ impl<A: Allocator> Pending<A> {
             }
             self.first += 1;
         }
+        self.first = self.chunks.len();
+        self.end = 0;
         None
     }
 }

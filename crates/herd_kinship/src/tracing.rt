@@ -86,7 +86,7 @@ impl<A: Allocator> Tracing<A> {
         ensures all { IfNone result
             ((j : ℕ) → j < self.old.border → share (ranked lineage.now) DEPTH_LIMIT (Some self.old.rank) j ≡ 0) }
     {
-        let Some(distance) = self.pending.take_nearest(self.rank) else {
+        let Some(distance) = self.pending.take_nearest() else {
             self.border = 0;
             return None;
         };

@@ -18,7 +18,7 @@ nearest g c =
     let first : ℕ = c.loop-self.self.first in
     let rest : ℕ = c.without_lowest-lowest.result.1 in
     let k : ℕ = c.without_lowest-lowest.result.0 in
-    let within : first < length chunks = (let test = c.loop-self-test.true in let same = ap length c.loop-self.invariant in let room = c.requires.room in omega arith) in
+    let within : first < length chunks = (let test = c.loop-self-test.true in let same = ap length c.loop-self.invariant in let room = c.loop-self.self.end_within in omega arith) in
     subst (λ old. IsNearest old (set chunks first rest) (64 * first + k)) c.loop-self.invariant
     (nearest-cleared chunks first c.index-chunk.result.now rest k within (get_or_read chunks first c.index-chunk.result.now within c.index-chunk.ensures 0)
     c.without_lowest-lowest.ensures c.loop-self.self.none_before)
@@ -32,15 +32,12 @@ returns-then-chunk-gt0-clause-nearest g c = (nearest g (goal.at.returns-then-chu
 pub returns-then-chunk-gt0-clause-taken : goal.returns-then-chunk-gt0-clause-taken
 returns-then-chunk-gt0-clause-taken g c = (nearest g (goal.at.returns-then-chunk-gt0-clause-taken g c).After-without_lowest-lowest).taken
 
--- behind the chunk of the farthest distance there is no bit
+-- no bit is before the first chunk, or from the end on
 pub returns-clause-empty : goal.returns-clause-empty
 returns-clause-empty g c = λ distance.
-    let chunks = c.args.self.now.chunks.items in
     let end = c.loop-self-test.false in
-    ⊎_elim
-    (λ (before : distance < 64 * c.loop-self.self.first). subst (λ xs. mark xs distance ≡ 0) c.loop-self.invariant (c.loop-self.self.none_before distance before))
-    (λ (behind : 64 * c.loop-self.self.first ≤ distance).
-    let bit = bit_at-lt (get_or chunks (distance / 64) 0) (distance % 64) in
-    ⊎_elim (λ (none : mark chunks distance < 1). omega (arith, none)) (λ (one : 1 ≤ mark chunks distance). let far = c.requires.near distance (omega (arith, one, bit)) in absurd (omega (arith, far, behind, end)))
-    (cases_lt (mark chunks distance) 1))
-    (cases_lt distance (64 * c.loop-self.self.first))
+    subst (λ xs. mark xs distance ≡ 0) c.loop-self.invariant
+    (⊎_elim
+    (λ (before : distance < 64 * c.loop-self.self.first). c.loop-self.self.none_before distance before)
+    (λ (behind : 64 * c.loop-self.self.first ≤ distance). c.loop-self.self.none_behind distance (omega (arith, behind, end)))
+    (cases_lt distance (64 * c.loop-self.self.first)))
