@@ -6,7 +6,7 @@ ghost use Rattle.herd_frozen.specs.declared.TheConstants.{DEPTH_LIMIT};
 ghost use Rattle.herd_frozen.specs.freezing.Frozen.{book_of, parents_of};
 ghost use Rattle.herd_frozen.specs.rules.Book.{IsDepthOf};
 ghost use Rattle.herd_kinship.specs.Columns.{IsColumn};
-ghost use Rattle.herd_kinship.specs.Laws.{KeepsHalves, IsBounded, IsDecomposed, IsDiagonalised};
+ghost use Rattle.herd_kinship.specs.Laws.{KeepsHalves, IsSymmetric, IsBounded, IsDecomposed, IsDiagonalised};
 ghost use Rattle.herd_advice.specs.FrozenAncestry.{ancestry_of, number_of_row};
 
 use herd_frozen::Frozen;
@@ -19,6 +19,15 @@ pub fn unit<A: Allocator>(frozen: &Frozen<A>, x: u32, y: u32)
     ensures { (g e : ℕ) → IsDepthOf (book_of frozen.now) (number_of_row frozen.now x) g
         → IsDepthOf (book_of frozen.now) (number_of_row frozen.now y) e
         → KeepsHalves (ancestry_of frozen.now) (g + e) (number_of_row frozen.now x) (number_of_row frozen.now y) }
+{
+    prove!(x < frozen.len());
+}
+
+/// A is symmetric, in every unit.
+pub fn symmetry<A: Allocator>(frozen: &Frozen<A>, x: u32, y: u32)
+    requires first { x < length frozen.now }
+    requires second { y < length frozen.now }
+    ensures { IsSymmetric (ancestry_of frozen.now) (number_of_row frozen.now x) (number_of_row frozen.now y) }
 {
     prove!(x < frozen.len());
 }

@@ -10,6 +10,10 @@ abbrev pub KeepsHalves : {A : Type 0} → Ancestry A → ℕ → A → A → Typ
 KeepsHalves kin from x y =
     (k : ℕ) → from ≤ k → entry kin (k + 1) (Some x) (Some y) ≡ 2 * entry kin k (Some x) (Some y)
 
+-- A is symmetric, in every unit
+abbrev pub IsSymmetric : {A : Type 0} → Ancestry A → A → A → Type 0
+IsSymmetric kin x y = (k : ℕ) → entry kin k (Some x) (Some y) ≡ entry kin k (Some y) (Some x)
+
 -- an entry is below 2 in every unit, a coefficient below 1, and a Mendelian sampling variance above 0 and at most 1
 pub record IsBounded {A : Type 0} (kin : Ancestry A) (l : ℕ) (x y : A) : Type 0 where
   pub entries : (k : ℕ) → entry kin k (Some x) (Some y) < 2 ^ (k + 1)

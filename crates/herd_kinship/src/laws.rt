@@ -5,7 +5,7 @@ ghost use Rattle.std.specs.Prelude.{◌+◌, ◌<◌, Some, length};
 ghost use Rattle.herd_lineage.specs.declared.TheConstants.{DEPTH_LIMIT};
 ghost use Rattle.herd_lineage.specs.Lineage.{depth_at};
 ghost use Rattle.herd_kinship.specs.Columns.{IsColumn};
-ghost use Rattle.herd_kinship.specs.Laws.{KeepsHalves, IsBounded, IsDecomposed, IsDiagonalised};
+ghost use Rattle.herd_kinship.specs.Laws.{KeepsHalves, IsSymmetric, IsBounded, IsDecomposed, IsDiagonalised};
 ghost use Rattle.herd_kinship.specs.Ranks.{ranked};
 
 use herd_lineage::Lineage;
@@ -16,6 +16,15 @@ pub fn unit<A: Allocator>(lineage: &Lineage<A>, x: u32, y: u32)
     requires first { x < length lineage.now }
     requires second { y < length lineage.now }
     ensures { KeepsHalves (ranked lineage.now) (depth_at lineage.now x + depth_at lineage.now y) x y }
+{
+    prove!(x < lineage.len());
+}
+
+/// A is symmetric, in every unit.
+pub fn symmetry<A: Allocator>(lineage: &Lineage<A>, x: u32, y: u32)
+    requires first { x < length lineage.now }
+    requires second { y < length lineage.now }
+    ensures { IsSymmetric (ranked lineage.now) x y }
 {
     prove!(x < lineage.len());
 }

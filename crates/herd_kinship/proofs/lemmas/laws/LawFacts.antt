@@ -1,12 +1,12 @@
 -- The laws of the numerator relationship matrix hold in each lawful, shallow ancestry.
 use Rattle.std.proofs.Common.{ℕ, suc, ◌+◌, ◌≡◌, Contains, Some, arith}
 use Rattle.herd_kinship.specs.Ancestry.{Ancestry}
-use Rattle.herd_kinship.specs.Laws.{KeepsHalves, IsBounded, IsDecomposed, IsDiagonalised}
+use Rattle.herd_kinship.specs.Laws.{KeepsHalves, IsSymmetric, IsBounded, IsDecomposed, IsDiagonalised}
 use Rattle.herd_kinship.proofs.lemmas.ancestry.Bounds.{coefficient-bound, mendelian-positive, mendelian-at_most}
 use Rattle.herd_kinship.proofs.lemmas.ancestry.Depth.{Below, Below-shallow, unit, known_some}
 use Rattle.herd_kinship.proofs.lemmas.ancestry.LawfulAncestry.{IsLawful, IsShallow}
 use Rattle.herd_kinship.proofs.lemmas.ancestry.Table.{entry-bound}
-use Rattle.herd_kinship.proofs.lemmas.laws.Decompose.{decomposition}
+use Rattle.herd_kinship.proofs.lemmas.laws.Decompose.{decomposition, entry-swap}
 use Rattle.herd_kinship.proofs.lemmas.laws.RowProducts.{inverse_rows}
 
 module _ {A : Type 0} (kin : Ancestry A) (w : IsLawful kin) where
@@ -25,6 +25,9 @@ module _ {A : Type 0} (kin : Ancestry A) (w : IsLawful kin) where
           positive = mendelian-positive kin w l x b;
           at_most = mendelian-at_most kin l x;
         }
+
+    pub symmetric : IsSymmetric kin x y
+    symmetric = λ k. entry-swap kin w k (Some x) (Some y) (known_some kin x cx) (known_some kin y cy)
 
     pub decomposed : IsDecomposed kin l (Some x) (Some y)
     decomposed = decomposition kin w l shallow (Some x) (Some y) (known_some kin x cx) (known_some kin y cy)
