@@ -49,11 +49,14 @@ impl<A: Allocator> Pending<A> {
         ensures put { Marks self.old.chunks.items self.new.chunks.items distance 1 }
     {
         let chunk = distance / 64;
-        self.end = self.end.max(chunk + 1);
+        if self.end <= chunk {
+            self.end = chunk + 1;
+        }
         self.chunks[chunk] |= 1 << (distance % 64);
     }
 
     /// Takes the nearest distance out. No chunk behind the farthest one's is looked at.
+    #[inline(always)]
     pub fn take_nearest(&mut self) -> Option<usize>
         ensures found { IfSome result (λ distance. mark self.old.chunks.items distance ≡ 1) }
         ensures nearest { IfSome result
