@@ -1,4 +1,5 @@
--- What a lawful ancestry is, its paths and depths, and ancestries that differ in the names of the animals alone.
+-- What a lawful ancestry is, its paths and depths, ancestries that have all animals of another one, and those that differ
+-- from it in the names of the animals alone.
 use Rattle.std.proofs.Common.{ℕ, zero, suc, ◌+◌, ◌≤◌, ◌≡◌, ◌⊎◌, ◌↔◌, IsTrue, Contains, map}
 use Rattle.std.specs.List.{count_by}
 use Rattle.std.specs.List.Sorted.{IsPermutation}
@@ -28,6 +29,13 @@ IsDepth kin x n = Path kin n x × ((m : ℕ) → Path kin m x → m ≤ n)
 -- no path is longer than l
 abbrev pub IsShallow : {A : Type 0} → Ancestry A → ℕ → Type 0
 IsShallow {A} kin l = (x : A) → ¬ (Path kin (l + 1) x)
+
+-- the animals of kin are among those of kin', where x is named φ x, with the same parents and in the same order
+pub record IsIncluded {A B : Type 0} (kin : Ancestry A) (kin' : Ancestry B) (φ : A → B) : Type 0 where
+  pub same : (x y : A) → Contains kin.animals x → Contains kin.animals y → kin'.same (φ x) (φ y) ≡ kin.same x y
+  pub before : (x y : A) → Contains kin.animals x → Contains kin.animals y → kin'.before (φ x) (φ y) ≡ kin.before x y
+  pub sire : (x : A) → Contains kin.animals x → kin'.sire (φ x) ≡ option_map φ (kin.sire x)
+  pub dam : (x : A) → Contains kin.animals x → kin'.dam (φ x) ≡ option_map φ (kin.dam x)
 
 -- kin' is the ancestry kin with each animal x named φ x
 pub record IsRenamed {A B : Type 0} (kin : Ancestry A) (kin' : Ancestry B) (φ : A → B) : Type 0 where

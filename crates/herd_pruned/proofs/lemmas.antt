@@ -1,0 +1,3 @@
+pub mod MarkedFacts
+pub mod PruningFacts
+pub mod EntryFacts

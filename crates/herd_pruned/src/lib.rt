@@ -1,0 +1,21 @@
+//! A lineage that is pruned to some animals and all their ancestors, and what it tells of them.
+//!
+//! The tabular method asks of two animals for nothing but their ancestors. So relationships and coefficients of the
+//! animals that are kept are those of the whole lineage (`laws::entries`), and one animal's coefficient costs its
+//! ancestors, however many animals there are beside them.
+//!
+//! | | definition (`specs/`) | code (`src/`) | proof (`proofs/lemmas/`) |
+//! |---|---|---|---|
+//! | some animals and all their ancestors | `Marked` | `marked` | `MarkedFacts` |
+//! | the lineage of these | `Pruned` | `pruned_lineage` | `PruningFacts` |
+//! | the entries are the same | `Pruned` | `laws` | `EntryFacts` |
+//! | one animal's coefficient | those of `herd_kinship` | `coefficient` | `EntryFacts` |
+#![tactic(auto)]
+
+mod coefficient;
+pub mod laws;
+mod marked;
+mod pruned_lineage;
+
+pub use coefficient::coefficient_of;
+pub use pruned_lineage::PrunedLineage;
