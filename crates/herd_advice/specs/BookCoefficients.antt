@@ -1,5 +1,5 @@
 -- Coefficients of inbreeding and relationships of a frozen book's animals, in unit 2^-2l, by ranks.
-use Rattle.std.specs.Prelude.{◌≡◌, ℕ, ◌*◌, ◌<◌, List, length, slice_index, Some}
+use Rattle.std.specs.Prelude.{◌≡◌, ℕ, ◌*◌, ◌<◌, Contains, List, length, slice_index, Some}
 use Rattle.herd_frozen.specs.declared.freezing.frozen.Row.{Row}
 use Rattle.herd_kinship.specs.Ancestry.{IsAncestor}
 use Rattle.herd_kinship.specs.Table.{coefficient, entry}
@@ -9,6 +9,12 @@ use Rattle.herd_advice.specs.FrozenAncestry.{ancestry_of, number_of_row}
 pub record AreBookCoefficients (l : ℕ) (rows : List Row) (numerators : List ℕ) : Type 0 where
   pub each : length numerators ≡ length rows
   pub right : (rank : ℕ) → rank < length rows
+      → slice_index numerators rank ≡ coefficient (ancestry_of rows) l (number_of_row rows rank)
+
+-- there is a numerator for each animal, and at these ranks it is their coefficient
+pub record AreBookCoefficientsOf (l : ℕ) (rows : List Row) (ranks numerators : List ℕ) : Type 0 where
+  pub each : length numerators ≡ length rows
+  pub right : (rank : ℕ) → Contains ranks rank
       → slice_index numerators rank ≡ coefficient (ancestry_of rows) l (number_of_row rows rank)
 
 -- there is a numerator for each animal, and at the ancestors of the animal at a rank it is their coefficient

@@ -1,10 +1,10 @@
 //! Coefficients of inbreeding of a frozen book's animals.
-ghost use Rattle.std.specs.Prelude.{◌≡◌, ◌*◌, ◌^◌, ◌<◌, ◌≤◌, Some, length, map, IfOk};
+ghost use Rattle.std.specs.Prelude.{◌≡◌, ◌*◌, ◌^◌, ◌<◌, ◌≤◌, All, Some, length, map, IfOk};
 ghost use Rattle.herd_frozen.specs.declared.TheConstants.{DEPTH_LIMIT};
 ghost use Rattle.herd_frozen.specs.freezing.Frozen.{parents_of};
 ghost use Rattle.herd_kinship.specs.Ranks.{HasUnknownParent};
 ghost use Rattle.herd_kinship.specs.Table.{entry, mendelian as mendelian_variance};
-ghost use Rattle.herd_advice.specs.BookCoefficients.{AreBookCoefficients, KnowsBookAncestors};
+ghost use Rattle.herd_advice.specs.BookCoefficients.{AreBookCoefficients, AreBookCoefficientsOf, KnowsBookAncestors};
 ghost use Rattle.herd_advice.specs.FrozenAncestry.{ancestry_of, number_of_row};
 
 use herd_frozen::Frozen;
@@ -22,6 +22,19 @@ pub fn coefficients_plain<F: Allocator, A: Allocator + Clone>(
     ensures { IfOk result (AreBookCoefficients DEPTH_LIMIT frozen.now) }
 {
     herd_kinship::coefficients_plain(alloc, frozen.lineage())
+}
+
+/// A list with the coefficients of inbreeding of some animals, at their ranks, by their ancestors alone. What it has of
+/// others doesn't count. The only error is a growth of memory that is refused.
+pub fn coefficients_of<F: Allocator, A: Allocator + Clone>(
+    alloc: A,
+    frozen: &Frozen<F>,
+    ranks: &[u32],
+) -> Result<Coefficients<A>, AllocError>
+    requires { All (λ rank. rank < length frozen.now) ranks.now }
+    ensures { IfOk result (AreBookCoefficientsOf DEPTH_LIMIT frozen.now ranks.now) }
+{
+    herd_pruned::coefficients_of(alloc, frozen.lineage(), ranks)
 }
 
 /// The Mendelian sampling variance of the animal at a rank, by the coefficients of its parents.

@@ -19,7 +19,7 @@ pub mod laws;
 mod mating_advice;
 mod workers;
 
-pub use book_coefficients::{coefficients_plain, mendelian, trace};
+pub use book_coefficients::{coefficients_of, coefficients_plain, mendelian, trace};
 pub use book_contributions::contributions;
 pub use book_relationships::relationships;
 pub use dam_matings::DamMatings;

@@ -1,2 +1,3 @@
 pub mod Pruned
 pub mod Marked
+pub mod Known

@@ -9,7 +9,7 @@
 //! | some animals and all their ancestors | `Marked` | `marked` | `MarkedFacts` |
 //! | the lineage of these | `Pruned` | `pruned_lineage` | `PruningFacts` |
 //! | the entries are the same | `Pruned` | `laws` | `EntryFacts` |
-//! | one animal's coefficient | those of `herd_kinship` | `coefficient` | `EntryFacts` |
+//! | coefficients of some animals | `Known` | `coefficient` | `EntryFacts` |
 #![tactic(auto)]
 
 mod coefficient;
@@ -17,5 +17,5 @@ pub mod laws;
 mod marked;
 mod pruned_lineage;
 
-pub use coefficient::coefficient_of;
+pub use coefficient::{coefficient_of, coefficients_of};
 pub use pruned_lineage::PrunedLineage;

@@ -1,17 +1,20 @@
 -- The entries of the animals that are kept.
-use Rattle.std.proofs.Common.{ℕ, ◌<◌, ◌≡◌, ⊎_elim, List, length, get_or, slice_get, Some, arith, refl, sym, ap, ◌∙◌}
+use Rattle.std.proofs.Common.{Contains, ℕ, ◌<◌, ◌≡◌, ⊎_elim, List, length, get_or, slice_get, Some, arith, refl, sym, ap, ◌∙◌}
 use Rattle.std.proofs.lemmas.Bool.{cases_order, eq-eqb, ne_eqb, lt-ltb, le-ltb}
+use Rattle.std.proofs.lemmas.Grind.{get_or_default_zero}
+use Rattle.std.proofs.lemmas.Option.{slice_get-get_or, slice_get_within}
 use Rattle.herd_lineage.specs.declared.lineage.Parents.{Parents}
 use Rattle.herd_lineage.specs.Lineage.{IsLineage}
 use Rattle.herd_lineage.proofs.lemmas.ListFacts.{there}
 use Rattle.herd_kinship.specs.Ranks.{ranked}
-use Rattle.herd_kinship.specs.Coefficients.{coefficient_at}
+use Rattle.herd_kinship.specs.Coefficients.{AreCoefficients, coefficient_at}
 use Rattle.herd_kinship.proofs.lemmas.ancestry.LawfulAncestry.{IsIncluded}
 use Rattle.herd_kinship.proofs.lemmas.ancestry.Depth.{known_some}
 use Rattle.herd_kinship.proofs.lemmas.ancestry.Renamed.{coefficient-included, entry-included}
 use Rattle.herd_kinship.proofs.lemmas.lineages.LineageFacts.{ranked-lawful}
 use Rattle.herd_kinship.proofs.lemmas.lineages.Ranks.{rank-below, rank-in}
-use Rattle.herd_pruned.specs.Pruned.{HaveSameEntries, IsPrunedOf, Pruned, renamed_parents}
+use Rattle.herd_pruned.specs.Pruned.{HaveSameEntries, IsPrunedOf, KeepsAncestorsOf, Pruned, renamed_parents}
+use Rattle.herd_pruned.specs.Known.{AreCoefficientsOf}
 
 module _ (l most : ℕ) (whole : List Parents) (pruned : Pruned) (g : IsLineage l most pruned.lineage) (w : IsPrunedOf whole pruned) where
   in_order : (x y : ℕ) → x < y → y < length pruned.lineage → get_or pruned.ranks x 0 < get_or pruned.ranks y 0
@@ -59,3 +62,25 @@ module _ (l most : ℕ) (whole : List Parents) (pruned : Pruned) (g : IsLineage 
   coefficient-kept x rank at lx is =
       sym (coefficient-included (ranked pruned.lineage) (ranked whole) (λ p. get_or pruned.ranks p 0) (ranked-lawful l most pruned.lineage g) pruned-included l x (rank-in (length pruned.lineage) x lx))
       ∙ ap (λ r. coefficient_at l whole r) is
+
+  -- each has a rank in the whole
+  pub kept-within : (i d : ℕ) → i < length pruned.ranks → get_or pruned.ranks i d < length whole
+  kept-within i d low =
+      let each = w.each in
+      let at = row i (omega (arith, low, each)) in
+      rw (get_or_default_zero pruned.ranks i d low) (slice_get_within whole (get_or pruned.ranks i 0) (renamed_parents (λ p. get_or pruned.ranks p 0) at.0) at.2)
+
+  -- coefficients that are written at their ranks
+  pub coefficients-spread : (animals numerators known : List ℕ) → KeepsAncestorsOf whole animals pruned → AreCoefficients l pruned.lineage numerators → length known ≡ length whole
+      → ((i : ℕ) → i < length pruned.ranks → get_or known (get_or pruned.ranks i 0) 0 ≡ get_or numerators i 0) → AreCoefficientsOf l whole (Contains animals) known
+  coefficients-spread animals numerators known k are long written = record {
+    each = long;
+    right = λ rank comes.
+        let c : Contains pruned.ranks rank = k.ancestors rank comes in
+        let at : get_or pruned.ranks c.0 0 ≡ rank = sym (get_or_default_zero pruned.ranks c.0 rank c.1) ∙ c.2 in
+        let each = w.each in
+        let low = c.1 in
+        let within : c.0 < length pruned.lineage = omega (arith, low, each) in
+        let here : slice_get pruned.ranks c.0 ≡ Some rank = slice_get-get_or pruned.ranks c.0 rank c.1 ∙ ap Some c.2 in
+        ap (λ r. get_or known r 0) (sym at) ∙ written c.0 c.1 ∙ are.right c.0 within ∙ coefficient-kept c.0 rank here within at;
+  }

@@ -163,3 +163,8 @@ module _ (l most : ℕ) (lineage : List Parents) (f : IsLineage l most lineage) 
             (at.0, at.1, at.2 + 1, path_to-joined (ranked lineage) at.2 1 at.0 border rank at.3 (one_step lineage rank border p)))
             (from rank is);
       }
+
+-- each of some animals comes from itself
+pub comes_itself : (lineage : List Parents) (animals : ℕ → Type 0) (rank : ℕ) → animals rank → ComesFrom lineage animals rank
+unfolding PathTo
+comes_itself lineage animals rank is = (rank, is, 0, refl)

@@ -1,5 +1,5 @@
 -- A lineage is pruned animal by animal, from the oldest on.
-use Rattle.std.proofs.Common.{ℕ, ◌+◌, ◌<◌, ◌≤◌, ◌≡◌, ◌≢◌, inl, inr, ⊎_elim, Bool, true, false, Contains, List, [], ◌∷◌, ◌++◌, length, max, get_or, set, slice_get, Option, Some, None, arith, refl, sym, ap, subst, ◌∙◌}
+use Rattle.std.proofs.Common.{ℕ, zero, suc, ◌+◌, ◌<◌, ◌≤◌, ◌≡◌, ◌≢◌, inl, inr, ⊎_elim, Bool, true, false, Contains, List, [], ◌∷◌, ◌++◌, length, max, get_or, set, slice_get, Option, Some, None, arith, refl, sym, ap, subst, ◌∙◌}
 use Rattle.std.specs.Option.{option_map}
 use Rattle.std.proofs.lemmas.List.{get_or-set_other, get_or-set_same, get_or_append_left, get_or_push, length_push, length-set}
 use Rattle.std.proofs.lemmas.Bool.{cases_eq, cases_lt}
@@ -7,7 +7,7 @@ use Rattle.std.proofs.lemmas.Option.{same_Some, get_or_from_slice_get, slice_get
 use Rattle.herd_lineage.specs.declared.lineage.Parents.{Parents}
 use Rattle.herd_lineage.specs.Lineage.{IsLineage, IsNextOf, depth_above, depth_at, depth_from, dam_rank, sire_rank}
 use Rattle.herd_lineage.proofs.lemmas.ListFacts.{push_cases, push_keeps, push_last, there}
-use Rattle.herd_kinship.specs.Ancestry.{IsParentIn}
+use Rattle.herd_kinship.specs.Ancestry.{IsParentIn, PathTo}
 use Rattle.herd_kinship.specs.Ranks.{ranked}
 use Rattle.herd_kinship.proofs.lemmas.lineages.LineageFacts.{depth_at-row}
 use Rattle.herd_pruned.specs.Marked.{IsMarked, MarksAncestors}
@@ -208,12 +208,19 @@ module _ (l most : ℕ) (whole : List Parents) (f : IsLineage l most whole) (ani
               (push_cases ranks border rank place e);
         }
 
--- all that come from some animals are kept
+-- all that come from some animals are marked
+came : (whole : List Parents) (animals : ℕ → Type 0) (marks : List Bool) → MarksAncestors whole animals marks → (n animal rank : ℕ) → IsMarked marks animal → PathTo (ranked whole) n animal rank → IsMarked marks rank
+unfolding PathTo
+came whole animals marks m zero animal rank is path = subst (λ r. IsMarked marks r) path is
+came whole animals marks m (suc n) animal rank is path =
+    came whole animals marks m n path.0 rank (m.parents animal path.0 is path.1) path.2
+
+-- and so they are kept
 pub pruning-end : (whole : List Parents) (animals : List ℕ) (marks : List Bool) (border : ℕ) (kept : List Parents) (ranks places : List ℕ) → border ≡ length whole → MarksAncestors whole (Contains animals) marks
     → IsPruning whole marks border kept ranks places → KeepsAncestorsOf whole animals (record { lineage = kept; ranks = ranks })
 pruning-end whole animals marks border kept ranks places end m w = record {
-  themselves = λ rank c.
-      let is = m.themselves rank c in
+  ancestors = λ rank c.
+      let is = came whole (Contains animals) marks m c.2 c.0 rank (m.themselves c.0 c.1) c.3 in
       let each = m.each in
       let low : rank < border = let low = slice_get_within marks rank true is in omega (arith, low, each, end) in
       let at = w.there rank low is in
