@@ -1,5 +1,5 @@
 //! How much memory the requests take that wait.
-ghost use Rattle.std.specs.Prelude.{◌≤◌};
+ghost use Rattle.std.specs.Prelude.{◌≡◌, ◌+◌, ◌-◌, ◌<◌, ◌≤◌, ◌↔◌, false, if◌then◌else◌, IsTrue};
 ghost use Rattle.herd_session.specs.declared.backlog.TheConstants.{MOST_WAITING};
 
 use csv::ByteRecord;
@@ -8,7 +8,7 @@ use std::sync::{Condvar, Mutex, Wait};
 /// Requests that wait count so many bytes together at most.
 pub const MOST_WAITING: u64 = 268_435_456;
 
-// What a request counts beside its fields: it takes no more in a queue.
+// What a request counts beside its fields: about what its task takes in a queue.
 const REQUEST: u64 = 256;
 
 /// The room for requests that wait. It is closed once a write has failed: then none is answered any more.
@@ -70,12 +70,18 @@ impl Backlog {
 
 impl Count {
     // Whether so many bytes have no room yet.
-    fn has_to_wait(&self, bytes: u64) -> bool {
+    fn has_to_wait(&self, bytes: u64) -> bool
+        ensures { IsTrue result ↔ (self.now.is_closed ≡ false) × (MOST_WAITING < self.now.bytes + bytes) }
+    {
         !self.is_closed && MOST_WAITING - self.bytes < bytes
     }
 
     // Counts bytes for which there is room.
-    fn add(&mut self, bytes: u64) -> bool {
+    fn add(&mut self, bytes: u64) -> bool
+        ensures room { IsTrue result ↔ (self.old.is_closed ≡ false) × (self.old.bytes + bytes ≤ MOST_WAITING) }
+        ensures added { self.new.bytes ≡ (if result then self.old.bytes + bytes else self.old.bytes) }
+        ensures closed { self.new.is_closed ≡ self.old.is_closed }
+    {
         if self.is_closed || MOST_WAITING - self.bytes < bytes {
             return false;
         }
@@ -83,7 +89,10 @@ impl Count {
         true
     }
 
-    fn take_away(&mut self, bytes: u64) {
+    fn take_away(&mut self, bytes: u64)
+        ensures taken { self.new.bytes ≡ self.old.bytes - bytes }
+        ensures closed { self.new.is_closed ≡ self.old.is_closed }
+    {
         self.bytes = self.bytes.saturating_sub(bytes);
     }
 }

@@ -1,4 +1,6 @@
 //! A queue of tasks, from which all that wait are taken at once.
+ghost use Rattle.std.specs.Prelude.{◌≡◌, ◌+◌, ◌-◌, ◌≤◌, ◌^◌, ◌++◌, ◌∷◌, [], length, min, vec_capacity, IfErr, IfOk, OnErr, OnOk};
+ghost use Rattle.herd_session.specs.declared.queue.TheConstants.{MANY};
 
 use core::mem;
 use crossbeam_channel::{Receiver, Sender, bounded};
@@ -79,7 +81,10 @@ pub(crate) fn queue<T: Drop>(alloc: Global) -> Result<(Inlet<T>, Outlet<T>), All
 
 impl<T: Drop> Batch<T> {
     /// No tasks.
-    pub(crate) fn new(alloc: Global) -> Batch<T> {
+    pub(crate) fn new(alloc: Global) -> Batch<T>
+        ensures tasks { result.tasks.items ≡ [] }
+        ensures bytes { result.bytes ≡ 0 }
+    {
         Batch {
             tasks: Vec::new(alloc),
             bytes: 0,
@@ -87,12 +92,19 @@ impl<T: Drop> Batch<T> {
     }
 
     /// The tasks, the oldest first.
-    pub(crate) fn tasks(&self) -> &[T] {
+    pub(crate) fn tasks(&self) -> &[T]
+        ensures { result.now ≡ self.now.tasks.items }
+    {
         self.tasks.as_slice()
     }
 
     /// Lets the tasks go, and tells what they count. Room that many took is given back.
-    pub(crate) fn empty(&mut self) -> u64 {
+    pub(crate) fn empty(&mut self) -> u64
+        ensures told { result ≡ self.old.bytes }
+        ensures bytes { self.new.bytes ≡ 0 }
+        ensures tasks { self.new.tasks.items ≡ [] }
+        ensures room { vec_capacity self.new.tasks ≤ MANY }
+    {
         if self.tasks.capacity() > MANY {
             self.tasks = Vec::new(*self.tasks.allocator());
         } else {
@@ -102,7 +114,14 @@ impl<T: Drop> Batch<T> {
     }
 
     // Adds a task, or gives it back where a growth of memory is refused.
-    fn add(&mut self, task: T, bytes: u64) -> Result<usize, T> {
+    fn add(&mut self, task: T, bytes: u64) -> Result<usize, T>
+        ensures added { OnOk result (self.new.tasks.items ≡ self.old.tasks.items ++ task ∷ []) }
+        ensures count { IfOk result (λ count. count ≡ length self.new.tasks.items) }
+        ensures counted { OnOk result (self.new.bytes ≡ min (self.old.bytes + bytes) (2 ^ 64 - 1)) }
+        ensures given_back { IfErr result (λ back. back ≡ task) }
+        ensures unchanged { OnErr result ((self.new.tasks.items ≡ self.old.tasks.items)
+            × (self.new.bytes ≡ self.old.bytes)) }
+    {
         match self.tasks.push(task) {
             Ok(()) => {
                 self.bytes = self.bytes.saturating_add(bytes);

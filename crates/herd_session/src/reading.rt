@@ -1,5 +1,5 @@
 //! A frozen book that is kept for the questions to come.
-ghost use Rattle.std.specs.Prelude.{◌≡◌, IfErr, IfOk, IsTrue, OnOk};
+ghost use Rattle.std.specs.Prelude.{◌≡◌, ◌↔◌, IfErr, IfOk, IsTrue, OnOk};
 ghost use Rattle.std.specs.Io.KnownBytes.{Appends};
 ghost use mathlib.Core.List.{IsPrefix};
 ghost use Rattle.herd_frozen.specs.freezing.Frozen.{IsFrozenFrom};
@@ -88,7 +88,7 @@ impl<N: OfficeName> Reading<N> {
 
     // Whether it is of the history that an inspector holds.
     fn is_of(&self, inspector: &Inspector<N>) -> bool
-        ensures { IsTrue result → self.now.of.history ≡ inspector.now.history }
+        ensures { IsTrue result ↔ (self.now.of.history ≡ inspector.now.history) }
     {
         let mut both = inspector.slip();
         both.learn(&self.of);
