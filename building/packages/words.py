@@ -90,7 +90,7 @@ def takes(action: argparse.Action, metavar: str) -> str:
 # The program's words, of the texts of its help.
 
 OPTION = re.compile(r"  (?:(-\w), |    )(--[\w-]+)(?: (<\w+>(?:\.\.\.)?))?  +(.*)")
-POSITIONAL = re.compile(r"  (<\w+>(?:\.\.\.)?)  +(.*)")
+POSITIONAL = re.compile(r"  ((?:<\w+>|\[\w+\])(?:\.\.\.)?)  +(.*)")
 COMMAND = re.compile(r"  (\w+)  +(.*)")
 
 

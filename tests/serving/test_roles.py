@@ -18,6 +18,7 @@ KEEPERS = {
     "history.ask_undo", "history.bring_back", "settings.change", "accounts.page", "accounts.add", "accounts.change",
     "accounts.remove",
     "restoring.page", "restoring.drop", "restoring.look", "restoring.bring_back", "restoring.under_way",
+    "folder.page", "folder.choose", "folder.close",
 }  # fmt: skip
 # what nobody does who only reads
 CLERKS = {

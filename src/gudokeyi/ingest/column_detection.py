@@ -61,6 +61,8 @@ class IdColumn:
     ) -> None:
         self.columns, self.wanted, self.unknown = columns, wanted, unknown
         self.ids, self.before = ids, before
+        # a sheet may have very many columns
+        self.titled = {name: columns.titled(KNOWN_TITLES[name]) for name in wanted}
 
     def find(self) -> None:
         at = self.columns.found.get(Field.ID)
@@ -126,7 +128,7 @@ class IdColumn:
         ids = Ids(self.columns.cells(at))
         parents, found = {}, 0
         for name in self.wanted:
-            counts = {one: self.count(one, ids) for one in self.columns.titled(KNOWN_TITLES[name]) if one != at}
+            counts = {one: self.count(one, ids) for one in self.titled[name] if one != at}
             if counts:
                 parents[str(name)] = max(counts, key=lambda one: counts[one])
                 found += counts[parents[name]]
@@ -162,6 +164,8 @@ class IdColumn:
 
 # shorter titles stand in others by chance
 LEAST_LETTERS = 4
+# how many columns are compared with each other
+MOST_COMPARED = 200
 
 
 class LikelyColumns:
@@ -170,7 +174,8 @@ class LikelyColumns:
     def __init__(self, columns: Columns, unknown: Container[str]) -> None:
         self.columns, self.unknown = columns, unknown
         titles = columns.sheet.titles
-        self.free = [at for at in range(len(titles)) if titles[at] and columns.is_free(at)]
+        free = [at for at in range(len(titles)) if titles[at] and columns.is_free(at)]
+        self.free = free[:MOST_COMPARED]
 
     def said(self, at: int) -> list[str]:
         return [cell for cell in self.columns.cells(at) if cell and cell not in self.unknown]
