@@ -1,6 +1,8 @@
 //! What no clause says: that memory is enough, and how faults read.
 
+use herd_kinship::coefficients_plain;
 use herd_lineage::{Lineage, LineageBuilder, LineageFault};
+use herd_pruned::{PrunedLineage, coefficient_of};
 use linked_list_allocator::LocalHeap;
 use std::alloc::Global;
 use std::test::Fail;
@@ -73,5 +75,23 @@ fn makes_room_for_as_many_as_it_is_told(rt: HostRuntime) -> Result<(), Fail> {
     let heap = LocalHeap::new(rt.alloc(), 8_192)?;
     assert!(rt; Lineage::with_capacity(&heap, 0).is_ok());
     assert!(rt; Lineage::with_capacity(&heap, 1_000).is_err());
+    Ok(())
+}
+
+#[test]
+fn has_a_coefficient_by_the_ancestors_alone(rt: HostRuntime) -> Result<(), Fail> {
+    let mut builder = Lineage::builder(rt.alloc())?;
+    for (sire, dam) in PARENTS {
+        assert!(rt; builder.push(sire, dam).is_ok());
+    }
+    let lineage = builder.build();
+    assert!(rt; 4 < lineage.len());
+    let whole = coefficients_plain(rt.alloc(), &lineage)?;
+    let own = coefficient_of(rt.alloc(), &lineage, 4)?;
+    assert!(rt; 0 < own);
+    assert_eq!(rt; own, whole.numerator(4));
+    let pruned = PrunedLineage::of(rt.alloc(), &lineage, &[1])?;
+    assert_eq!(rt; pruned.ranks().len(), 2);
+    assert_eq!(rt; pruned.lineage().len(), 2);
     Ok(())
 }
