@@ -20,10 +20,10 @@ from gudokeyi.reconcile.commands import Filing, is_corrected
 from gudokeyi.reconcile.findings.animals import CommandRefused, KeptByHand, OwnerRenamed, SexInferred, ValueChanged
 from gudokeyi.reconcile.findings.rows import CommandLeftOut
 from gudokeyi.reconcile.ids import give_numbers
-from gudokeyi.reconcile.kept_values import keep_values
 from gudokeyi.reconcile.next_book import NextBook, known_after, written_parents
 from gudokeyi.reconcile.owner_days import OwnerDays
 from gudokeyi.reconcile.sexes import find_sexes
+from gudokeyi.reconcile.values_from_book import keep_values
 from gudokeyi.services.book_program import BookProgram
 from gudokeyi.services.saving import cell_rows
 from gudokeyi.store.book import Book

@@ -17,11 +17,11 @@ from gudokeyi.reconcile.findings.animals import RowIsGone
 from gudokeyi.reconcile.guards import Guards
 from gudokeyi.reconcile.ids import NearIds, leave_out_used_tags
 from gudokeyi.reconcile.import_options import ImportOptions
-from gudokeyi.reconcile.kept_values import keep_values
 from gudokeyi.reconcile.messages import ImportFault
 from gudokeyi.reconcile.next_book import NextBook
 from gudokeyi.reconcile.parents import Names, keep_parents_named, try_parents_again
 from gudokeyi.reconcile.sexes import find_sexes, leave_out_unread_sexes
+from gudokeyi.reconcile.values_from_book import keep_values
 from gudokeyi.store.book import Book
 
 # Animals of the book that have no row in the sheet: they stay, or are dropped.

@@ -17,8 +17,8 @@ from gudokeyi.ingest.days import Span, month_of, year_of
 from gudokeyi.ingest.findings.cells import ExitInferred
 from gudokeyi.ingest.unknown_parents import UnknownParents
 from gudokeyi.reconcile.findings.animals import KeptByHand, KeptFromBook, SexInferred
-from gudokeyi.reconcile.kept_values import keep_values
 from gudokeyi.reconcile.next_book import NextBook
+from gudokeyi.reconcile.values_from_book import keep_values
 from gudokeyi.store.book import Book
 from gudokeyi.store.database import empty
 
