@@ -14,11 +14,10 @@ PROGRAM is the executable of the crate herdbook, as `rt run` leaves it; nothing 
     correction   of the parents of an early sire, to older animals and back, each of which may change the depth of
                  all its descendants: the processor time of one
 
-`cpu` is the least processor time of the runs, and `MB` the most memory, never less than this script's. A ratio stands before the greatest that it is to
-be: of processor time by the native program's, of `workers` by the clock to `list`, of `certificate` to `file`, and of
-`coefficient` to the session without the question; and the bytes of memory for each animal. The status is 1 where the
-native program writes other bytes, or a ratio is greater than it is to be.
-"""
+`cpu` is the least processor time of the runs, and `MB` the most memory, never less than this script's. A ratio stands
+before the greatest that it is to be: of processor time by the native program's, of `workers` by the clock to `list`, of
+`certificate` to `file`, and of `coefficient` to the session without the question; and the bytes of memory for each
+animal. The status is 1 where the native program writes other bytes, or a ratio is greater than it is to be. """
 
 from __future__ import annotations
 
@@ -38,7 +37,8 @@ ABSENT = "HOLGBRM999999999999"
 
 
 class Least(NamedTuple):
-    """The least seconds of several runs, of the processor and of the clock, the most memory, and a sum of the output."""
+    """The least seconds of several runs, of the processor and of the clock, the most memory, and a sum of the
+    output."""
 
     processor: float
     wall: float

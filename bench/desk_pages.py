@@ -4,12 +4,11 @@
     desk_pages.py PROGRAM [SCRIPT] [--animals 60000] [--runs 5] [--work FOLDER]
 
 PROGRAM is the built herdbook, SCRIPT the script `gudokeyi` of a clone, that of this one where none is named. The sheet
-of `front_desk.py` is taken once into the folder FOLDER/desk-pages, and the desk opens a copy. Each page is asked for
-by a request of its own, as often as runs are asked for, once all of them were asked for. For each stands there the
-median of the seconds by the clock and the most, and what the server and its session took of the processor for one; at
-the end the most memory of the server, and of the session. The breed's measures and the plan are asked for while they are made, and when
-they are there.
-"""
+of `front_desk.py` is taken once into the folder FOLDER/desk-pages, and the desk opens a copy. Each page is asked for by
+a request of its own, as often as runs are asked for, once all of them were asked for. For each stands there the median
+of the seconds by the clock and the most, and what the server and its session took of the processor for one; at the end
+the most memory of the server, and of the session. The breed's measures and the plan are asked for while they are made,
+and when they are there. """
 
 from __future__ import annotations
 
@@ -154,8 +153,8 @@ def book_in(work: str, script: str, program: str, animals: int) -> tuple[pathlib
     if not (taken / "book/book.sqlite").exists():
         taken.mkdir(exist_ok=True)
         subprocess.run(
-            [script, "import", str(path.absolute())], cwd=taken, env=os.environ | {"HERDBOOK": program}, check=True,
-            stdout=subprocess.DEVNULL,
+            [script, "import", str(path.absolute()), "--breed", "HOL", "--country", "GBR"], cwd=taken,
+            env=os.environ | {"HERDBOOK": program}, check=True, stdout=subprocess.DEVNULL,
         )  # fmt: skip
     room = pathlib.Path(work) / "desk-pages"
     shutil.rmtree(room, ignore_errors=True)

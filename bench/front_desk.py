@@ -3,13 +3,12 @@
 
     front_desk.py PROGRAM [SCRIPT..] [--animals 60000] [--runs 3] [--words take,list,..] [--work FOLDER]
 
-PROGRAM is the built herdbook. SCRIPT is the script `gudokeyi` of a clone, or `society/society` of version 0.12, that of this one where none is named: of
-several each takes the same sheet into a book of its own, and they are asked in turn, so that two versions are compared
-on a machine that others use too. The sheet has ids, names, sexes, days, parents and owners, none of its days after
-today. For each word and clone the seconds of the processor (user and system) stand there of the run with the least: of
-the front desk itself, behind a + of the program that it runs, and the most memory of either, which
-is never less than this script's. `take` is one run.
-"""
+PROGRAM is the built herdbook. SCRIPT is the script `gudokeyi` of a clone, or `society/society` of version 0.12, that of
+this one where none is named: of several each takes the same sheet into a book of its own, and they are asked in turn,
+so that two versions are compared on a machine that others use too. The sheet has ids, names, sexes, days, parents and
+owners, none of its days after today. For each word and clone the seconds of the processor (user and system) stand there
+of the run with the least: of the front desk itself, behind a + of the program that it runs, and the most memory of
+either, which is never less than this script's. `take` is one run. """
 
 from __future__ import annotations
 
@@ -128,7 +127,9 @@ def main() -> None:
     path = sheet(given.work, given.animals)
     clones = [Clone(at, os.path.abspath(one), given) for at, one in enumerate(given.clones)]
     words = words_of(given.work, path)
-    tell("import", [clone.asked(["import", str(path)]) for clone in clones])
+    # `take` is its word in version 0.12, and is understood since
+    take = ["take", str(path), "--breed", "HOL", "--country", "GBR"]
+    tell("import", [clone.asked(take) for clone in clones])
     for word in given.words.split(",") if given.words else words:
         runs = [[clone.asked(words[word]) for clone in clones] for _ in range(given.runs)]
         tell(word, [min(of_clone) for of_clone in zip(*runs)])

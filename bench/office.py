@@ -1,5 +1,6 @@
 #!/usr/bin/env python3
-"""Measures what an office takes for births and transfers at desks on threads, beside inspectors who freeze without pause.
+"""Measures what an office takes for births and transfers at desks on threads, beside inspectors who freeze without
+pause.
 
     office.sh PROGRAM HERDBOOK [--million] [--runs 5] [--desks 1,2,4,16] [--inspectors 0,1,4]
               [--births 59000] [--transfers 20000]

@@ -1,4 +1,5 @@
-"""What a Python lacks of the packages that pyproject.toml names: `python3 -m building.lacking` prints them, for `check`.
+"""What a Python lacks of the packages that pyproject.toml names: `python3 -m building.lacking` prints them, for
+`check`.
 
 The status is 0 if it lacks none.
 """

@@ -1,5 +1,5 @@
-"""How many functions of a crate were proved, and by which kit: a line that is kept beside what came of the proof, with a
-checksum of the sources that it tells of."""
+"""How many functions of a crate were proved, and by which kit: a line that is kept beside what came of the proof, with
+a checksum of the sources that it tells of."""
 from __future__ import annotations
 
 import contextlib

@@ -72,8 +72,8 @@ class Proving:
             self.say(f"still proving {', '.join(name for name, _ in self.running.values())}")
 
     def prove(self, name: str, jobs: int, gives_way: bool) -> bool:
-        """Proves a crate by so many processes, over those below it, and keeps what comes of it. It may give way to a run
-        for which more crates wait."""
+        """Proves a crate by so many processes, over those below it, and keeps what comes of it. It may give way to a
+        run for which more crates wait."""
         told = collections.deque[str](maxlen=LAST_LINES)
         try:
             with room() as at:

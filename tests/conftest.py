@@ -31,9 +31,21 @@ def program() -> str:
     return str(path)
 
 
+@pytest.fixture(scope="session", autouse=True)
+def caches(tmp_path_factory: pytest.TempPathFactory) -> None:
+    """What calls keep in caches stays with the tests."""
+    os.environ["XDG_CACHE_HOME"] = str(tmp_path_factory.mktemp("caches"))
+
+
+@pytest.fixture(scope="session", autouse=True)
+def numbers() -> None:
+    """What is asked once of a person at a new book: the variable says it for all the tests' books."""
+    os.environ["GUDOKEYI_NUMBERS"] = "HOLGBR"
+
+
 def pytest_runtest_setup() -> None:
-    """What a test starts can be ended by Ctrl-C, also where a shell in the background ignores it for all that it begins, or
-    a change that an earlier test made without a process of its own."""
+    """What a test starts can be ended by Ctrl-C, also where a shell in the background ignores it for all that it
+    begins, or a change that an earlier test made without a process of its own."""
     signal.signal(signal.SIGINT, signal.default_int_handler)
 
 

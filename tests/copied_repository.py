@@ -81,7 +81,12 @@ class Repository:
         (room / "bin/rt").write_text(STAND_IN, encoding="utf-8")
         (room / "bin/rt").chmod(0o755)
         path = f"{room / 'bin'}:{os.environ['PATH']}"
-        known = {"PATH": path, "NOTES": str(self.notes), "TMPDIR": str(self.rooms), "XDG_CACHE_HOME": str(room / "cache")}
+        known = {
+            "PATH": path,
+            "NOTES": str(self.notes),
+            "TMPDIR": str(self.rooms),
+            "XDG_CACHE_HOME": str(room / "cache"),
+        }
         self.env = {**os.environ, **known}
 
     def begin(self, *words: str, at: pathlib.Path | None = None) -> subprocess.Popen[str]:

@@ -35,7 +35,7 @@ class Folder:
     """A folder with `check`, one test, and stand-ins for rt, the building and a system's installer."""
 
     def __init__(
-        self, room: pathlib.Path, status_of_rt: int = 0, commands: tuple[str, ...] = ("cc", "chromedriver")
+        self, room: pathlib.Path, status_of_rt: int = 0, commands: tuple[str, ...] = ("cc", "chromedriver", "Rscript")
     ) -> None:
         self.top, self.bin, self.notes = room / "repository", room / "bin", room / "notes"
         for folder in (self.top / "building", self.top / "tests", self.bin):
@@ -79,13 +79,21 @@ def test_status_of_the_gate_counts(tmp_path: pathlib.Path, status: int) -> None:
 
 
 def test_what_is_missing_is_told_behind_the_proofs(tmp_path: pathlib.Path) -> None:
-    folder = Folder(tmp_path, commands=("cc",))
+    folder = Folder(tmp_path, commands=("cc", "Rscript"))
     ended, lines, told = folder.call()
     assert ended == 1
     assert folder.notes.read_text(encoding="utf-8").splitlines()[0] == "rt ci"
     assert "7 passed, 0 failed" in lines
     assert "chromedriver isn't on the path" in told
     assert not lines[-1].endswith(" 0 failed")
+
+
+def test_what_is_missing_of_r_is_told(tmp_path: pathlib.Path) -> None:
+    ended, lines, told = Folder(tmp_path, commands=("cc", "chromedriver")).call()
+    assert ended == 1 and not lines[-1].endswith(" 0 failed")
+    assert (
+        "R isn't there with what its package is checked with: on Debian apt install r-base-core r-cran-matrix" in told
+    )
 
 
 def test_all_that_is_well_counts(tmp_path: pathlib.Path) -> None:

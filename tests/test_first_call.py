@@ -1,4 +1,5 @@
-"""The build of the program: build.py, which proves its crates side by side, with a stand-in for rt; and who begins it."""
+"""The build of the program: build.py, which proves its crates side by side, with a stand-in for rt; and who begins
+it."""
 from __future__ import annotations
 
 import itertools
@@ -154,7 +155,15 @@ class TestFirstCall:
         self.count(tells(err, "a contract isn't met", why, "still proving herd_pedigree"), err)
         later = begun & {"herd_register", "herd_office", "herd_report", "herd_session", "herdbook"}
         self.count(not later, f"begun in spite of a crate that failed: {later}")
-        below = {"herd_animal", "herd_lineage", "herd_frozen", "herd_kinship", "herd_pruned", "herd_pool", "herd_pedigree"}
+        below = {
+            "herd_animal",
+            "herd_lineage",
+            "herd_frozen",
+            "herd_kinship",
+            "herd_pruned",
+            "herd_pool",
+            "herd_pedigree",
+        }
         self.count(below <= here.kept() == begun - {"herd_advice"}, f"begun: {begun}, kept: {here.kept()}")
         (here.notes / "herd_advice.fails").unlink()
         self.count(here.call()[:2] == (0, "is built\n"), "the call after one that failed")

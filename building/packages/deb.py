@@ -31,8 +31,9 @@ from gudokeyi.cli.main import run
 run()
 """
 SCRIPTS = ("postinst", "prerm", "postrm")
-# what needs none of Debian's packages of Python
-NOT_NEEDED = ("tests",)
+# what the front desk goes without; the package recommends what pedigrees without a book need
+NOT_NEEDED = ("tests", "pedigrees")
+UNITS = ("herdbook.service", "herdbook-backup.service", "herdbook-backup.timer")
 RANGE = re.compile(r"([\w-]+) >=([\d.]+),<([\d.]+)")
 
 
@@ -51,7 +52,8 @@ def deb_files(release: Release, shared: Files) -> Files:
         **below("usr/share", compressed(shared)),
         "usr/share/applications/gudokeyi.desktop": from_file(PARTS / "gudokeyi.desktop"),
         "usr/share/icons/hicolor/scalable/apps/gudokeyi.svg": from_file(TOP / "src/gudokeyi/web/static/icon.svg"),
-        "usr/lib/systemd/system/herdbook.service": from_file(TOP / "examples/serving/herdbook.service"),
+        "usr/lib/gudokeyi/backup": File((PARTS / "backup").read_bytes(), RUN),
+        **{f"usr/lib/systemd/system/{unit}": from_file(TOP / "examples/serving" / unit) for unit in UNITS},
         **below(DOC, pages),
         f"{DOC}/README.md": from_file(TOP / "README.md"),
         f"{DOC}/PROVED": text(f"{release.proved()}in this package: the same without the names of its functions\n"),
@@ -98,7 +100,9 @@ def entries(told: str) -> str:
     """The entries of a version: what stands behind the next heading is of none."""
     lines = re.findall(r"^- (.*)$|^\*\*(.*)\*\*$", told.partition("\n## ")[0], re.MULTILINE)
     return "".join(
-        f"  [ {part} ]\n" if part else textwrap.fill(plain(entry), 78, initial_indent="  * ", subsequent_indent="    ") + "\n"
+        f"  [ {part} ]\n"
+        if part
+        else textwrap.fill(plain(entry), 78, initial_indent="  * ", subsequent_indent="    ") + "\n"
         for entry, part in lines
     )
 
@@ -145,10 +149,13 @@ def write_deb(release: Release, shared: Files, folder: pathlib.Path) -> pathlib.
     return path
 
 
-def run(command: list[str], **known: str) -> None:
+def run(command: list[str], **variables: str) -> None:
+    environment = {**os.environ, **variables}
     try:
-        done = subprocess.run(command, env={**os.environ, **known}, stdin=subprocess.DEVNULL, capture_output=True, text=True)
+        done = subprocess.run(command, env=environment, stdin=subprocess.DEVNULL, capture_output=True, text=True)
     except FileNotFoundError:
-        raise Stop(f"the command {command[0]} isn't on the path: as root on Debian `apt install dpkg binutils`") from None
+        raise Stop(
+            f"the command {command[0]} isn't on the path: as root on Debian `apt install dpkg binutils`"
+        ) from None
     if done.returncode:
         raise Stop(f"{command[0]} ended with status {done.returncode}: {(done.stderr or done.stdout).strip()}")

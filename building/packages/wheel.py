@@ -13,6 +13,7 @@ from typing import Any
 from building.crates import TOP
 from building.packages.files import RUN, File, Files, Link, below, from_file, text
 from building.packages.release import Release, tracked
+from gudokeyi.locale import compiled
 
 SOURCES = "src/gudokeyi"
 EXAMPLE = "examples/society.csv"
@@ -25,9 +26,11 @@ def project() -> dict[str, Any]:
 
 
 def modules() -> dict[str, File | Link]:
-    """The front desk's own files."""
+    """The front desk's own files, with its catalogues compiled."""
     paths = {str(path.relative_to(TOP / "src")): path for path in tracked(SOURCES)}
-    return {name: from_file(path) for name, path in paths.items()}
+    files: dict[str, File | Link] = {name: from_file(path) for name, path in paths.items()}
+    catalogues = {name: path for name, path in paths.items() if path.suffix == ".po"}
+    return files | {f"{name[:-3]}.mo": File(compiled(path.read_bytes())) for name, path in catalogues.items()}
 
 
 def metadata(release: Release, scripts: dict[str, str]) -> dict[str, File | Link]:
@@ -61,7 +64,9 @@ def wheel_files(release: Release, shared: Files) -> dict[str, File | Link]:
         **below(f"{name}.data/data/share", shared),
         **below(f"{name}.dist-info", metadata(release, scripts) | {"WHEEL": text(told)}),
     }
-    lines = [f"{path},{checksum(one)},{len(one.content)}\n" for path, one in sorted(files.items()) if isinstance(one, File)]
+    lines = [
+        f"{path},{checksum(one)},{len(one.content)}\n" for path, one in sorted(files.items()) if isinstance(one, File)
+    ]
     record = f"{name}.dist-info/RECORD"
     return files | {record: text("".join([*lines, f"{record},,\n"]))}
 

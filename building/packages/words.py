@@ -102,7 +102,9 @@ def register(help_of: Callable[[str], str]) -> Program:
     asked = Argument((), "COMMAND", "The subcommand", TEXT, words)
     helps = Word("help", "Prints the help of a subcommand, or of the program.", "help [COMMAND]", (asked,))
     found = (*(word_in(word, help_of(word)) for word in words), helps)
-    return Program("herdbook", "proved answers about a herd book", found, whole.arguments, {"": whole.about} | whole.parts)
+    return Program(
+        "herdbook", "proved answers about a herd book", found, whole.arguments, {"": whole.about} | whole.parts
+    )
 
 
 def word_in(name: str, text: str) -> Word:

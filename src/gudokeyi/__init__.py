@@ -45,14 +45,25 @@ if TYPE_CHECKING:
         NoBook as NoBook, OwnerNotFound as OwnerNotFound, ProgramFailed as ProgramFailed,
     )  # fmt: skip
     from gudokeyi.domain.refusals import MatingFault as MatingFault, Refusal as Refusal
+    from gudokeyi.domain.seals import (
+        CertificateRefused as CertificateRefused, CheckFault as CheckFault, PublishedSeal as PublishedSeal, Seal as Seal,
+    )  # fmt: skip
     from gudokeyi.domain.settings import Setting as Setting
     from gudokeyi.reconcile.import_options import ImportOptions as ImportOptions
-    from gudokeyi.services.answers import (
-        Animal as Animal, Certificate as Certificate, Filed as Filed, Imported as Imported, Kinship as Kinship,
-        Mating as Mating, MatingAdvice as MatingAdvice, Restored as Restored,
+    from gudokeyi.services.library_values import (
+        Animal as Animal, BreedState as BreedState, Certificate as Certificate, Contribution as Contribution,
+        Filed as Filed, Imported as Imported, Kinship as Kinship, Mating as Mating, MatingAdvice as MatingAdvice,
+        MatingPlan as MatingPlan, PlannedMating as PlannedMating, Restored as Restored,
     )  # fmt: skip
-    from gudokeyi.services.book import (
-        Birth as Birth, Book as Book, Command as Command, Exit as Exit, Parents as Parents, Transfer as Transfer,
+    from gudokeyi.services.book import Book as Book
+    from gudokeyi.services.library_commands import (
+        Birth as Birth, Command as Command, Exit as Exit, Parents as Parents, Transfer as Transfer,
+    )  # fmt: skip
+    from gudokeyi.services.pedigrees import Pedigree as Pedigree, read_pedigree as read_pedigree
+    from gudokeyi.services.plans import PlanRules as PlanRules, Unmated as Unmated
+    from gudokeyi.services.seals import (
+        CheckedCertificate as CheckedCertificate, CheckedRecord as CheckedRecord, SealedCertificate as SealedCertificate,
+        check_certificate as check_certificate,
     )  # fmt: skip
     from gudokeyi.services.tables import Table as Table
     from gudokeyi.store.coefficients import Coefficient as Coefficient
@@ -60,21 +71,37 @@ if TYPE_CHECKING:
 # where each name is: it is imported where it is first asked for, since a call of the command line needs few of them
 PLACES = {
     "Book": "services.book",
-    "Birth": "services.book",
-    "Parents": "services.book",
-    "Transfer": "services.book",
-    "Exit": "services.book",
-    "Command": "services.book",
-    "Animal": "services.answers",
-    "Certificate": "services.answers",
+    "Birth": "services.library_commands",
+    "Parents": "services.library_commands",
+    "Transfer": "services.library_commands",
+    "Exit": "services.library_commands",
+    "Command": "services.library_commands",
+    "Animal": "services.library_values",
+    "BreedState": "services.library_values",
+    "Certificate": "services.library_values",
     "Coefficient": "store.coefficients",
-    "Filed": "services.answers",
-    "Imported": "services.answers",
+    "Contribution": "services.library_values",
+    "Filed": "services.library_values",
+    "Imported": "services.library_values",
     "ImportOptions": "reconcile.import_options",
-    "Kinship": "services.answers",
-    "Mating": "services.answers",
-    "MatingAdvice": "services.answers",
-    "Restored": "services.answers",
+    "Kinship": "services.library_values",
+    "Mating": "services.library_values",
+    "MatingAdvice": "services.library_values",
+    "MatingPlan": "services.library_values",
+    "PlannedMating": "services.library_values",
+    "PlanRules": "services.plans",
+    "Unmated": "services.plans",
+    "Restored": "services.library_values",
+    "Pedigree": "services.pedigrees",
+    "read_pedigree": "services.pedigrees",
+    "Seal": "domain.seals",
+    "PublishedSeal": "domain.seals",
+    "SealedCertificate": "services.seals",
+    "CheckedCertificate": "services.seals",
+    "CheckedRecord": "services.seals",
+    "check_certificate": "services.seals",
+    "CertificateRefused": "domain.seals",
+    "CheckFault": "domain.seals",
     "Table": "services.tables",
     "Change": "domain.changes",
     "Entry": "domain.findings",

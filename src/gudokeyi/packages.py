@@ -22,6 +22,7 @@ class Group(enum.StrEnum):
     PAGES = "pages"
     BROWSER = "browser"
     BREED = "breed"
+    PEDIGREES = "pedigrees"
 
 
 @dataclass(frozen=True, slots=True)

@@ -9,7 +9,7 @@ import os
 import signal
 import sys
 import threading
-from typing import NoReturn
+from typing import Any, NoReturn
 
 # A process that makes one call and ends: what the call made goes with the process, all at once. To give it back piece
 # by piece would take long after a large sheet, and serve nobody.
@@ -43,6 +43,8 @@ def end(status: int) -> NoReturn:
 # Ctrl-C: once a change is made, somebody who stops the call would be told something else.
 
 ignores_stops = False
+# what a stop did before the change was made
+before_change: Any = None
 
 
 def is_for_one_change() -> None:
@@ -53,8 +55,18 @@ def is_for_one_change() -> None:
 
 def stop_no_more() -> None:
     """A change is made now."""
+    global before_change
     if ignores_stops and threading.current_thread() is threading.main_thread():
-        signal.signal(signal.SIGINT, signal.SIG_IGN)
+        before = signal.signal(signal.SIGINT, signal.SIG_IGN)
+        before_change = before if before_change is None else before_change
+
+
+def stop_again() -> None:
+    """The change is told, and another one begins: until that is made the process may be stopped."""
+    global before_change
+    if before_change is not None and threading.current_thread() is threading.main_thread():
+        signal.signal(signal.SIGINT, before_change)
+        before_change = None
 
 
 # How this process reads and computes.
@@ -92,9 +104,9 @@ def without_statistics() -> None:
         library.sqlite3_config(STATISTICS, 0)
 
 
-# A process that goes on, as a desk does, gives back what an answer took. By itself the C library has a pool of memory for
-# each of many threads, and of each pool what lies before a piece that is in use stays: so after some large answers each
-# thread keeps as much as the largest of its answers took. Another library than glibc has nothing to set here.
+# A process that goes on, as a desk does, gives back what an answer took. By itself the C library has a pool of memory
+# for each of many threads, and of each pool what lies before a piece that is in use stays: so after some large answers
+# each thread keeps as much as the largest of its answers took. Another library than glibc has nothing to set here.
 
 # mallopt's names of what is set, from malloc.h
 TRIM_THRESHOLD, MMAP_THRESHOLD, ARENA_MAX = -1, -3, -8

@@ -15,7 +15,7 @@ from gudokeyi.domain.messages import Count
 from gudokeyi.domain.requests import Mating
 from gudokeyi.services.matings import Candidate, Candidates
 from gudokeyi.services.plans import (
-    YEAR, Asked, UsualAge, born_at_latest, grown_up, old_enough, prepared, told_of_age, usual_age, usual_bounds,
+    YEAR, PlanRules, UsualAge, born_at_latest, grown_up, old_enough, prepared, told_of_age, usual_age, usual_bounds,
     usual_most,
 )  # fmt: skip
 from gudokeyi.store.book import Book
@@ -29,8 +29,8 @@ def book_of(born: Iterable[Born]) -> Book:
     """A book of living animals."""
     connection = sqlite3.connect(":memory:")
     connection.execute(
-        "CREATE TABLE animal (number, born, sire, dam, birth_source, standing DEFAULT 'row', castrated DEFAULT 0, departed, "
-        "exit_source DEFAULT 'given', until)"
+        "CREATE TABLE animal (number, born, sire, dam, birth_source, standing DEFAULT 'row', castrated DEFAULT 0, "
+        "departed, exit_source DEFAULT 'given', until)"
     )
     rows = [(number, born_at_latest(days), *more) for number, days, *more in born]
     connection.executemany("INSERT INTO animal (number, born, sire, dam, birth_source) VALUES (?, ?, ?, ?, ?)", rows)
@@ -84,7 +84,11 @@ def test_usual_most() -> None:
 
 def test_usual_bounds() -> None:
     """Whose year isn't known, or comes after today, isn't too young."""
-    sire, old, of_a_year = (male(0), 900, "", "", "given"), (female(0), 900, "", "", "given"), (female(1), YEAR, "", "", "given")
+    sire, old, of_a_year = (
+        (male(0), 900, "", "", "given"),
+        (female(0), 900, "", "", "given"),
+        (female(1), YEAR, "", "", "given"),
+    )
     young, invented, ahead = ((female(2 + at), days, "", "", source) for at, (days, source) in enumerate(
         ((YEAR - 1, "given"), (YEAR - 1, "invented"), (-5, "given"))))  # fmt: skip
     all_of_them = [sire, old, of_a_year, young, invented, ahead]
@@ -106,14 +110,18 @@ def test_named(monkeypatch: pytest.MonkeyPatch) -> None:
     found = candidates(YEAR, YEAR - 1)
     monkeypatch.setattr("gudokeyi.services.plans.candidates_of", lambda book, role, named: found)
     named = {Role.DAM: [SocietyRecord(female(0), "a"), SocietyRecord(female(1), "b")], Role.SIRE: None}
-    asked = Asked(at_most=Fraction(1, 8), kinship_weight=Fraction(1, 3))
+    asked = PlanRules(at_most=Fraction(1, 8), kinship_weight=Fraction(1, 3))
     plan = prepared(book_of([]), asked, named)
     assert (plan.dams.animals, plan.sires.animals) == (found.animals, found.animals[:1])
-    assert (plan.rules.most_for_a_sire, plan.rules.at_most, plan.rules.kinship_weight) == (4, Fraction(1, 8), Fraction(1, 3))
+    assert (plan.rules.most_for_a_sire, plan.rules.at_most, plan.rules.kinship_weight) == (
+        4,
+        Fraction(1, 8),
+        Fraction(1, 3),
+    )
     left_out, most = Count(1, "younger animal"), Mating.ASSUMED_MOST.said(most=4)
     assert (plan.minimum_age, plan.assumed) == (YEAR, (Mating.ASSUMED_YEAR.said(days=YEAR, count=left_out), most))
-    assert prepared(book_of([]), Asked(minimum_age=YEAR), named).dams.animals == found.animals[:1]
-    said = prepared(book_of([]), Asked(7, minimum_age=None), named)
+    assert prepared(book_of([]), PlanRules(minimum_age=YEAR), named).dams.animals == found.animals[:1]
+    said = prepared(book_of([]), PlanRules(7, minimum_age=None), named)
     assert (said.sires, said.rules.most_for_a_sire, said.minimum_age, said.assumed) == (found, 7, None, ())
     known = Mating.ASSUMED_AGE.said(days=280, count=left_out, parents=20)
     assert told_of_age(UsualAge(280, 20), 1) == known

@@ -19,8 +19,8 @@ BEFORE_MIDNIGHT = 180
 
 @pytest.fixture
 def today(monkeypatch: pytest.MonkeyPatch) -> datetime.date:
-    """That of all of a test: where a day is about to end the next one is waited for. The front desk isn't told of another
-    place's time."""
+    """That of all of a test: where a day is about to end the next one is waited for. The front desk isn't told of
+    another place's time."""
     monkeypatch.delenv("TZ", raising=False)
     time.tzset()
     now = datetime.datetime.now()

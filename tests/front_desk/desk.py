@@ -73,7 +73,8 @@ class Desk:
     def run(self, *words: str, program: str | None = None) -> Done:
         """Whatever the words are, no fault of the front desk itself comes of it."""
         known = {
-            "PATH": os.environ["PATH"], "HERDBOOK": program or self.program, "LANG": "C", "PYTHONPATH": str(self.room)
+            "PATH": os.environ["PATH"], "HERDBOOK": program or self.program, "LANG": "C", "PYTHONPATH": str(self.room),
+            "XDG_CACHE_HOME": os.environ.get("XDG_CACHE_HOME", ""), "GUDOKEYI_NUMBERS": os.environ.get("GUDOKEYI_NUMBERS", ""),
         }  # fmt: skip
         command = [str(TOP / "gudokeyi"), *words]
         done = subprocess.run(command, cwd=self.room, env=known, capture_output=True, timeout=SECONDS)
@@ -107,7 +108,8 @@ class Desk:
 
     def typed(self, command: str) -> Done:
         """A command as it is suggested, typed into a shell."""
-        known = {"PATH": os.environ["PATH"], "HERDBOOK": self.program, "LANG": "C"}
+        own = {name: os.environ.get(name, "") for name in ("XDG_CACHE_HOME", "GUDOKEYI_NUMBERS")}
+        known = {"PATH": os.environ["PATH"], "HERDBOOK": self.program, "LANG": "C", **own}
         done = subprocess.run(["sh", "-c", command], cwd=self.room, env=known, capture_output=True, timeout=SECONDS)
         assert done.returncode == 0, f"{command}: {done.stderr.decode()}"
         return Done(done.returncode, done.stdout.decode(), done.stderr.decode())
@@ -120,10 +122,11 @@ class Desk:
         return self.good("import", self.write("sheet.csv", text), *words)
 
     def wrong(self, told: str, *words: str) -> Done:
-        """The words are a mistake: it is told in a sentence, and no file is changed."""
+        """The words are a mistake, or what they ask for can't be done: it is told in a sentence, and no file is
+        changed."""
         before = self.files()
         done = self.run(*words)
-        is_told = done.status == 1 and told in done.err and not done.out
+        is_told = done.status in (1, 2, 3) and told in done.err and not done.out
         assert is_told, f"{words}: {done}; wanted {told!r}"
         is_kept = self.files() == before
         assert is_kept, f"{words}: a file was changed"

@@ -11,9 +11,10 @@ from typing import cast
 
 import pytest
 
+from front_desk.replayed import record_after, replay
 from gudokeyi.domain.animals import NO_OWNER, SocietyRecord
 from gudokeyi.domain.changes import ChangeDetails, StoredFinding
-from gudokeyi.domain.commands import RegisterRecord, birth, leave, record_after, replay, transfer
+from gudokeyi.domain.commands import RegisterRecord, birth, leave, transfer
 from gudokeyi.domain.kinds import CELL_FIELDS, ChangeKind, Field, Remembered, Standing
 from gudokeyi.domain.messages import Mistake
 from gudokeyi.domain.provenance import BirthBasis, BirthSource, ExitBasis, ExitSource, OwnerDay, Period, SexSource
@@ -22,7 +23,7 @@ from gudokeyi.reconcile.next_book import NextBook
 from gudokeyi.services.filing import owner_code_of, transferred, with_parents
 from gudokeyi.services.saving import cell_rows
 from gudokeyi.services.writing import write_owners
-from gudokeyi.store.animal_rows import known_of, record_of, row_of
+from gudokeyi.store.animal_rows import society_record_of, record_of, row_of
 from gudokeyi.store.book import Book
 from gudokeyi.store.coefficients import few_descendants, kept_lines, write_coefficients
 from gudokeyi.store.history import all_changes, changed_one_by_one, told_by, write_change
@@ -52,14 +53,6 @@ def test_a_record_names_its_giver_and_the_day() -> None:
     then = record_after(first, transfer(NUMBER, GIVEN, 4, 7))
     assert then == first._replace(owner_code=7, since=GIVEN, from_owner=4)
     assert record_after(then, leave(NUMBER, LEFT)) == then._replace(left=LEFT)
-
-
-def test_a_kind_of_command_that_is_not_known() -> None:
-    """It is a mistake, and no exit."""
-    first = record_after(None, birth(NUMBER, BORN, "", "", 4, False))
-    for record, kind in (first, "marker"), (first, ""), (None, "exit"), (None, "parents"):
-        with pytest.raises(Mistake, match=f"of the kind '{kind}', which this front desk doesn't know"):
-            record_after(record, leave(NUMBER, LEFT)._replace(kind=kind))
 
 
 def test_journals_that_begin_alike() -> None:
@@ -126,7 +119,7 @@ def test_what_is_known_of_an_animal_is_had_again_from_its_row(known: SocietyReco
     whole = RegisterRecord(NUMBER, BORN, NUMBER[:-1] + "2", NUMBER[:-1] + "3", True, 4, GIVEN, LEFT, 7)
     for record in whole, record_after(None, birth(NUMBER, BORN, "", "", 4, False)):
         row = row_of(known, record)
-        assert known_of(row) == known and record_of(row) == record
+        assert society_record_of(row) == known and record_of(row) == record
         assert (row.folded_id, row.folded_name) == (known.id.casefold(), known.name.casefold())
 
 
@@ -229,8 +222,8 @@ def test_parents_and_owners_by_hand() -> None:
     book = cast(Book, SimpleNamespace(records=records, remembered=[], owners={"Nord": 2, "Süd": 5}))
     known = SocietyRecord(NUMBER, "a", written_sire="Bob", written_dam="Eva")
     of_sire, of_dam = with_parents(book, known, "", None), with_parents(book, known, None, "")
-    assert of_sire.known == known._replace(written_sire="", by_hand=frozenset({Field.SIRE})) and not of_sire.findings
-    assert of_dam.known == known._replace(written_dam="", by_hand=frozenset({Field.DAM})) and not of_dam.findings
+    assert of_sire.animal == known._replace(written_sire="", by_hand=frozenset({Field.SIRE})) and not of_sire.findings
+    assert of_dam.animal == known._replace(written_dam="", by_hand=frozenset({Field.DAM})) and not of_dam.findings
     with pytest.raises(Mistake, match="the book has no owner 'Nort'"):
         transferred(book, known, GIVEN, "Süd", "Nort")
     assert (owner_code_of(book, "West"), owner_code_of(book, "Süd"), owner_code_of(book, "")) == (

@@ -92,7 +92,8 @@ def test_page(desk: Desk, language: str, title: str) -> None:
 def test_tables_of_a_pedigree_without_days(desk: Desk) -> None:
     """What needs birth days can't be had, and the other measures can."""
     desk.good("import", "--pedigree", desk.write("pedigree.txt", "a 0 0\nb 0 0\nc a b\nd a b\ne c d\n"))
-    found = measured(desk)
+    desk.wrong("the book is of a pedigree without exits, so that each animal would count as living", "breed")
+    found = measured(desk, "--living")
     assert found["mean_inbreeding"] == "1/20" and found["generation_interval"] == ""
     assert desk.table("tables/years.csv") == []
 
@@ -147,8 +148,8 @@ def test_plan_assumes(secretary_desk: Desk) -> None:
 
 
 def test_plan_assumes_an_age(desk: Desk, today: datetime.date) -> None:
-    """Young animals are left out: those of a year, or those that are younger than parents of the book were; animals that
-    are named are taken, and so are those of which no birth year is known."""
+    """Young animals are left out: those of a year, or those that are younger than parents of the book were; animals
+    that are named are taken, and so are those of which no birth year is known."""
 
     def before(days: int) -> datetime.date:
         return today - datetime.timedelta(days)
@@ -162,10 +163,14 @@ def test_plan_assumes_an_age(desk: Desk, today: datetime.date) -> None:
     assert "lamb" in desk.good("plan", "--minimum-age", "0").out
     assert "lamb" in desk.good("plan", "--dams", desk.write("dams.txt", "lamb\n")).out
     # dams of 280 days, and one of 100 that doesn't count among twenty
-    early = [f"dam{at},f,{before(2000)},,\nkid{at},m,{before(2000 - (280 if at else 100))},ram,dam{at}" for at in range(40)]
+    early = [
+        f"dam{at},f,{before(2000)},,\nkid{at},m,{before(2000 - (280 if at else 100))},ram,dam{at}" for at in range(40)
+    ]
     desk.take("\n".join(rows + early))
     done = desk.good("plan")
-    assert "lamb" in done.out and "parents are 280 days old at least, as nineteen of twenty of the book's 42" in done.err
+    assert (
+        "lamb" in done.out and "parents are 280 days old at least, as nineteen of twenty of the book's 42" in done.err
+    )
 
 
 def test_plan_of_days_after_today(desk: Desk) -> None:

@@ -36,15 +36,18 @@ def test_rows_are_read_as_if_each_cell_were_cleaned(pieces: tuple[str, ...], sep
 
 
 def test_words_by_hand_are_cleaned(desk: Desk) -> None:
-    """And so are a pedigree's: a letter in two parts, or a sign that no one sees, makes no other animal and no other owner."""
+    """And so are a pedigree's: a letter in two parts, or a sign that no one sees, makes no other animal and no other
+    owner."""
     sheet = "id,sex,birth,sire,dam,owner\nö1,f,2001-01-01,,,Käthe\nC1,f,2010-01-01,,,Käthe\n"
     desk.take(sheet)
     desk.good("parents", "C1\u200b", "--dam", "o\u03081")
     desk.good("birth", "ö2\u200b", "--sex", "f", "--day", "2012-01-01", "--dam", "o\u03081", "--owner", "Ka\u0308the")
-    desk.good("transfer", "C1", "--to", "Ka\u0308the\u00adr", "--day", "2015-01-01")
+    desk.good("transfer", "C1", "--to", "Ka\u0308the\u00adr", "--day", "2015-01-01", "--anyway")
     assert [owner for _, owner in desk.owners()] == ["Käthe", "Käther"]
     assert desk.parents() == {"ö1": ("", ""), "C1": ("", "ö1"), "ö2": ("", "ö1")}
-    lines = desk.write("lines", "id sire dam sex birth\no\u03082 R1 o\u03081 F 2012-01-01\no\u03081 R1 0 F 2001-01-01\n")
+    lines = desk.write(
+        "lines", "id sire dam sex birth\no\u03082 R1 o\u03081 F 2012-01-01\no\u03081 R1 0 F 2001-01-01\n"
+    )
     desk.good("import", "--pedigree", lines, "--keep", desk.write("keep", "o\u03082\n"), "--anyway")
     assert desk.parents() == {"ö1": ("R1", ""), "C1": ("", "ö1"), "ö2": ("R1", "ö1"), "R1": ("", "")}
     assert [row["id"] for row in desk.listed("list", "--owner", "ka\u0308the")] == ["ö1", "ö2"]

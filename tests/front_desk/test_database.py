@@ -26,8 +26,8 @@ CALLS = (["list"], ["import", "sheet.csv"], ["verify"], ["undo"], ["backup", "co
 
 
 def test_no_database(flock_desk: Desk) -> None:
-    """A backup is restored in its place only where that is wished: it is kept with what stands beside it, and nothing of
-    that gets into the book."""
+    """A backup is restored in its place only where that is wished: it is kept with what stands beside it, and nothing
+    of that gets into the book."""
     text, book = b"no database " * 999, flock_desk.room / "book"
     flock_desk.good("backup", "good")
     listed = flock_desk.good("list").out

@@ -35,8 +35,11 @@ DAYS = {
     "2.5.2010 oder 3.5.2010": "2010-07-02",
     "15.13.2010": "2010-07-02",
     "20010315": "2001-03-15",
+    "03-Mar-05": "2005-03-03",
+    "01.02.98": "1998-02-01",
+    "37800": "2003-06-28",
 }
-UNREADABLE = ["before 2010", "vor 2010", "2009 oder 2010", "03-Mar-05", "01.02.98", "37800", "Mai"]
+UNREADABLE = ["before 2010", "vor 2010", "2009 oder 2010", "12345", "Mai"]
 
 
 def test_days_in_three_languages(desk: Desk) -> None:
@@ -119,9 +122,9 @@ def test_cells_of_days(today: datetime.date) -> None:
     for field, late in (Field.BIRTH, True), (Field.EXIT, True), (Field.SINCE, False):
         report, unread = Report(), Unread({})
         cells, later = AnimalCells(UnknownParents(), Sexes([], {}), unread, report, False), f"{today.year + 1}-01-02"
-        texts = ["2004-02-03", "2004", "?", "37800", later]
+        texts = ["2004-02-03", "2004", "?", "12345", later]
         animals = [cells.animal(line, f"a{line}", {field: text}) for line, text in enumerate(texts)]
-        assert unread.read[field] == 4 and {**unread.cells} == {field: [("37800", 3)]}
+        assert unread.read[field] == 4 and {**unread.cells} == {field: [("12345", 3)]}
         assert [one.unread for one in animals] == [[], [], [], [field], [field] * late]
         left_out = [entry.line for entry in report.entries if entry.part]
         assert left_out == ([3, 4] if late else [3])
@@ -148,9 +151,10 @@ def test_since_when(word: str) -> None:
         assert days.day(Field.SINCE, f"{word} {text}") == DayCell(span), text
         assert days.day(Field.SINCE, text) == DayCell(span)
     assert not days.day(Field.SINCE, f"{word} ?").says_something
-    faults = {"2003 or 2004": DayFault.NO_DAY, "before 2003": DayFault.NO_DAY, "13.05.03": DayFault.TWO_DIGITS}
+    faults = {"2003 or 2004": DayFault.NO_DAY, "before 2003": DayFault.NO_DAY}
     for text, fault in faults.items():
         assert days.day(Field.SINCE, f"{word} {text}").fault == DayLeftOut(Field.SINCE, fault, f"{word} {text}")
+    assert days.day(Field.SINCE, f"{word} 13.05.03").span == Span(day, day)
     assert days.day(Field.SINCE, word).is_unread
     assert days.day(Field.BIRTH, "since 2003").is_unread
 

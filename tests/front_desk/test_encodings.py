@@ -69,15 +69,16 @@ def test_titles_decoded_twice(desk: Desk) -> None:
     assert "no column for sire is found" in done.err
     done = desk.take("id;birth;sire;dam;PropriÃ©taire\na;2001;;;Groß\n")
     done.shows(
-        "to look at: letters were decoded twice in 1 text: 'PropriÃ©taire' for 'Propriétaire' (line 1): save the sheet anew "
-        "from the spreadsheet in which the letters are right, as CSV in UTF-8"
+        "to look at: letters were decoded twice in 1 text: 'PropriÃ©taire' for 'Propriétaire' (line 1): save the sheet "
+        "anew from the spreadsheet in which the letters are right, as CSV in UTF-8"
     )
 
 
 def test_composed_letters_and_blanks(desk: Desk) -> None:
     """An id is the same with composed letters and with letters and accents apart, with one blank or several."""
     done = desk.take(
-        "id;birth;sire;dam\n\u00c41 7;2001-03-01;;\nB;2004-03-01;A\u03081\u00a0 7;\nC;2004-03-02;\u200b\u00c41 7\u00ad;\n"
+        "id;birth;sire;dam\n\u00c41 7;2001-03-01;;\nB;2004-03-01;A\u03081\u00a0 7;\nC;2004-03-02;\u200b\u00c41 "
+        "7\u00ad;\n"
     )
     assert desk.parents() == {"\u00c41 7": ("", ""), "B": ("\u00c41 7", ""), "C": ("\u00c41 7", "")}
     # the sexes are inferred, and no parent

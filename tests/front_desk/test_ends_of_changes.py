@@ -89,7 +89,9 @@ def test_nothing_is_remembered_any_more(flock_desk: Desk, monkeypatch: pytest.Mo
         for remembered in None, list[Meaning]():
             with changing(folder) as connection:
                 state = State(Rows({}, {}), remembered=remembered, keeps_coefficients=True)
-                write(Book(folder, connection), BookProgram(), Filed([]), lambda: state, ChangeDetails(ChangeKind.TAKE))
+                write(
+                    Book(folder, connection), BookProgram(), Filed([]), lambda _: state, ChangeDetails(ChangeKind.TAKE)
+                )
             with contextlib.closing(sqlite3.connect(folder / "book.sqlite")) as connection:
                 found.append(bool(read_remembered(connection)))
     finally:

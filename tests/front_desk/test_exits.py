@@ -34,14 +34,14 @@ def test_exits(desk: Desk) -> None:
     exits = {row["id"]: left.get(row["number"], row["exit"].partition(":")[0]) for row in desk.table("book/ids.csv")}
     assert [exits[f"a{at}"] for at, _ in enumerate(EXITS)] == list(EXITS.values())
     done.tells(
-        "line 14: a12: its exit is left out: the day in 'sold 01.01.2000' would be before its birth; the animal counts as "
-        "gone",
+        "line 14: a12: its exit is left out: the day in 'sold 01.01.2000' would be before its birth; the animal counts "
+        "as gone",
         "line 15: a13: its exit is left out: 01.01.2000 is before its birth; the animal counts as gone",
     )
     done.shows(
-        "to look at: a day beside words that tell of no exit stands in 2 of 11 cells that tell of an exit in the column 'exit', "
-        "the first in line 16: 'gekört 2020', 'an Meier, 03.04.2020': each counts as an exit on this day; where the animal "
-        "hasn't left, write nothing or alive, lebt or vivant"
+        "to look at: a day beside words that tell of no exit stands in 2 of 11 cells that tell of an exit in the column "
+        "'exit', the first in line 16: 'gekört 2020', 'an Meier, 03.04.2020': each counts as an exit on this day; where "
+        "the animal hasn't left, write nothing or alive, lebt or vivant"
     )
     assert "can't be read" not in done.out
 

@@ -45,8 +45,8 @@ def desk_for(taken_flock: Desk, room: pathlib.Path, is_new: bool) -> Desk:
     ("write", False), ("sync", False), ("rename", False), ("write", True), ("sync", True), ("unlink", True),
 ])  # fmt: skip
 def test_each_call_fails(taken_flock: Desk, failing: str, tmp_path: pathlib.Path, call: str, is_new: bool) -> None:
-    """The first call fails, then the second, and so on, until a taking makes no more. What isn't on the disk isn't made,
-    and what a later call has to write is told."""
+    """The first call fails, then the second, and so on, until a taking makes no more. What isn't on the disk isn't
+    made, and what a later call has to write is told."""
     refused = later = 0
     for nth in range(1, MOST_CALLS):
         desk = desk_for(taken_flock, tmp_path / str(nth), is_new)

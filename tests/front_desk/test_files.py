@@ -97,7 +97,8 @@ def test_name_beside_stays(tmp_path: pathlib.Path, monkeypatch: pytest.MonkeyPat
 
 
 def test_names_that_are_no_text(desk: Desk, tmp_path: pathlib.Path) -> None:
-    """Nothing is begun of a word that isn't UTF-8 text, and the name of a folder that isn't is kept in other letters."""
+    """Nothing is begun of a word that isn't UTF-8 text, and the name of a folder that isn't is kept in other
+    letters."""
     for name in "b\udce4r.csv", "b\udce4r":
         (desk.room / name).write_text("id,born\nA 1,2001-01-01\n", encoding="utf-8")
         desk.wrong(r"b\udce4r", "import", name)

@@ -40,8 +40,8 @@ def test_goats(desk: Desk) -> None:
     done = desk.take(GOATS)
     done.tells(
         (
-            "to look at: words for sexes are taken for longer ones of the same column: 'B' for 'Bock', 'B.' for 'Bock', 'Z' for"
-            " 'Ziege'"
+            "to look at: words for sexes are taken for longer ones of the same column: 'B' for 'Bock', 'B.' for 'Bock', "
+            "'Z' for 'Ziege'"
         ),
         (
             "line 4: CH 120.1158.7: inferred: birth day 2017-02-15, from the month 2017-02, since there is no day "
@@ -55,9 +55,9 @@ def test_goats(desk: Desk) -> None:
         ),
         "CH 120.1150.8: inferred: birth day 2016-05-09, from its offspring (line 6 names it)",
         (
-            "to look at: 1 of 9 cells that say something in the column 'Geschlecht' can't be read, the first in line 10: "
-            "'Q': write M or F, or say which sex each word is by --sexes; if 'Q' is male, say --sexes Q=m; if 'Q' is "
-            "female, say --sexes Q=f"
+            "to look at: 1 of 9 cells that say something in the column 'Geschlecht' can't be read, the first in line "
+            "10: 'Q': write M or F, or say which sex each word is by --sexes; if 'Q' is male, say --sexes Q=m; if 'Q' "
+            "is female, say --sexes Q=f"
         ),
         (
             "to look at: an exit without a day stands in 1 of 2 cells that tell of an exit in the column 'Abgang', the "

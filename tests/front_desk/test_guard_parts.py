@@ -7,8 +7,9 @@ from dataclasses import replace
 from types import SimpleNamespace
 from typing import Any, cast
 
+from front_desk.replayed import record_after
 from gudokeyi.domain.animals import SocietyRecord
-from gudokeyi.domain.commands import birth, record_after
+from gudokeyi.domain.commands import birth
 from gudokeyi.domain.kinds import Role, Standing
 from gudokeyi.domain.provenance import BirthBasis, BirthSource, SexSource
 from gudokeyi.ingest.animals import SheetAnimal
@@ -40,7 +41,7 @@ def guards(had: int, rows: Iterable[SheetAnimal], alike: SocietyRecord = Society
     records = {number(at): record_after(None, birth(number(at), day(at), "", "", 1, False)) for at in range(had)}
     sheet = SimpleNamespace(titles=[])
     columns = SimpleNamespace(lacks_ids="", found={Role.SIRE: 1, Role.DAM: 2}, sheet=sheet)
-    book = SimpleNamespace(known=known, records=records)
+    book = SimpleNamespace(society_records=known, records=records)
     return Guards(cast(Book, book), {one.id: one for one in rows}, cast(Columns, columns))
 
 
@@ -90,10 +91,13 @@ def test_names_of_other_animals() -> None:
     assert told(guards(60, renamed(rows, *next_ones[:5])).other_animals()) is None
     assert told(guards(60, renamed(rows, *(f"new {at}" for at in range(60)))).other_animals()) is None
     without = guards(60, renamed(rows, *[""] * 60))
-    without.book.known = {**without.book.known, "a7": without.book.known["a7"]._replace(name="")}
+    without.book.society_records = {
+        **without.book.society_records,
+        "a7": without.book.society_records["a7"]._replace(name=""),
+    }
     assert told(without.other_animals()) is None
     several = guards(60, renamed(rows, *["BELLA"] * 60))
-    several.book.known = {id: one._replace(name="Bella") for id, one in several.book.known.items()}
+    several.book.society_records = {id: one._replace(name="Bella") for id, one in several.book.society_records.items()}
     assert told(several.other_animals()) is None
     # with other days: another flock, or one column alone
     later = [row(at, days=9) for at in range(60)]
@@ -117,8 +121,8 @@ def test_sexes_and_parents_of_other_animals() -> None:
         """Of animals that all had `a59` as their sire."""
         one = guards(60, [replace(row(at, sire=sire), unread=more.get("unread", [])) for at in range(60)])
         one.book.records = {at: record._replace(sire=before) for at, record in one.book.records.items()}
-        sire_before = one.book.known["a59"]._replace(standing=more.get("standing", Standing.ROW))
-        one.book.known = {**one.book.known, "a59": sire_before}
+        sire_before = one.book.society_records["a59"]._replace(standing=more.get("standing", Standing.ROW))
+        one.book.society_records = {**one.book.society_records, "a59": sire_before}
         one.given = more.get("given", one.given)
         return told(one.other_parents())
 

@@ -127,8 +127,8 @@ def test_columns_sorted_apart(taken: Desk, field: int, what: str) -> None:
     taken.take(sheet(flock("A")))
     refused(
         taken, sheet(shifted(6, field)),
-        f"6 of 60 animals have other {what} than in the book, the first are A20 (line 22), A21 (line 23), A22 (line 24): "
-        "it looks like a sheet in which some columns were sorted without the others",
+        f"6 of 60 animals have other {what} than in the book, the first are A20 (line 22), A21 (line 23), A22 (line "
+        "24): it looks like a sheet in which some columns were sorted without the others",
     )  # fmt: skip
 
 
@@ -216,7 +216,10 @@ def test_days_in_place_of_years(desk: Desk) -> None:
 
 def test_parents_by_name_without_names(desk: Desk) -> None:
     rows = [
-        f"T{at};2001-01-{1 + at % 28:02};Sire of {'abcdefgh'[at % 8]};{'T0' if at > 35 else 'Dam of ' + 'abcdefgh'[at % 7]}"
+        (
+            f"T{at};2001-01-{1 + at % 28:02};Sire of "
+            f"{'abcdefgh'[at % 8]};{'T0' if at > 35 else 'Dam of ' + 'abcdefgh'[at % 7]}"
+        )
         for at in range(40)
     ]
     text = sheet(rows, "Ohrmarke;Geburtsdatum;Vater;Mutter")
@@ -227,9 +230,8 @@ def test_parents_by_name_without_names(desk: Desk) -> None:
 
 
 def test_parents_with_id_and_name(desk: Desk) -> None:
-    rows = [f"A{at};2004-01-{1 + at % 28:02};Max (A{at % 9});A{at % 7} Eva" for at in range(30)]
-    desk.wrong(
-        "60 of 60 parents have no row, the first are 'Max (A0)', 'A0 Eva', 'Max (A1)': it looks like cells that have an id and "
-        "a name: write the ids alone into the parents' columns", "import",
-        desk.write("sheet.csv", sheet(rows, "Ohrmarke;Geburtsdatum;Vater;Mutter")),
-    )  # fmt: skip
+    """The id is read, with which the cell begins or ends, or which stands in brackets."""
+    rows = [f"A{at};2001-01-{1 + at};;" for at in range(9)]
+    rows += [f"B{at};2004-01-{1 + at};Max (A{at % 4});A{4 + at % 5} Eva" for at in range(20)]
+    desk.take(sheet(rows, "Ohrmarke;Geburtsdatum;Vater;Mutter"))
+    assert all(desk.parents()[f"B{at}"] == (f"A{at % 4}", f"A{4 + at % 5}") for at in range(20))

@@ -23,8 +23,9 @@ def test_families() -> None:
 def test_help(desk: Desk, word: str) -> None:
     shown = desk.good(word, "--help").out
     assert word in desk.good("--help").out
-    assert "--book FOLDER" in shown
+    assert ("--book FOLDER" in shown) == (word not in (*FAMILIES["pedigrees"], "check"))
     assert f"usage: {CALLED} {word}" in shown
+    assert "status: 0 done; 1 it couldn't be done" in shown and "4 the book is busy" in shown
 
 
 def test_version(desk: Desk) -> None:

@@ -57,7 +57,7 @@ def test_refused_commands(flock_desk: Desk, words: list[str], refusal: str) -> N
     """The animals stay, and the history tells of the command with its reply."""
     listed, owners = flock_desk.good("list").out, flock_desk.owners()
     done = flock_desk.run(*words)
-    assert done.status == 1 and refusal in done.err and "change 2 of the history" in done.err and not done.out
+    assert done.status == 3 and refusal in done.err and "change 2 of the history" in done.err and not done.out
     assert flock_desk.good("list").out == listed and flock_desk.owners() == owners
     shown = flock_desk.good("history", "2").out
     assert refusal in shown and "animals changed: 0" in shown
@@ -229,7 +229,7 @@ def test_flock_over_three_takings(desk: Desk) -> None:
     rows[1][5] = "farm of the sheet"
     assert ", 0 new, 1 changed, 7 inferred, " in desk.take(text()).last
     assert desk.parents()["n399"][0] == "" and desk.parents()["by hand"] == ("n390", "n391")
-    assert desk.run("exit", "n399", "--day", "1980-01-01").status == 1
+    assert desk.run("exit", "n399", "--day", "1980-01-01").status == 3
     rows[2][2] = "1990-02-01"
     done = desk.take(text())
     assert ", 0 new, 1 changed, 7 inferred, " in done.last and "is written anew" in done.out

@@ -167,7 +167,9 @@ def test_listed(desk: Desk) -> None:
     assert "2006-03-16 (inferred)" in listed and "2007-07-02 (inferred)" in listed
     done = desk.take(listed)
     assert " 0 changed, 2 inferred" in done.last and desk.ids() == before
-    done.tells("line 2: month: inferred: birth day 2006-03-16, as in the book, where it was inferred: from the month 2006-03")
+    done.tells(
+        "line 2: month: inferred: birth day 2006-03-16, as in the book, where it was inferred: from the month 2006-03"
+    )
     done = desk.take(listed.replace("2006-03-16", "2006-04-16"))
     done.tells("line 2: month: inferred: birth day 2006-03-16, from the year 2006 of '2006-04-16 (inferred)'")
     # days that were invented stay that too
@@ -184,7 +186,10 @@ def test_year_of_an_animal_that_is_gone(desk: Desk) -> None:
     for _ in range(2):
         done = desk.take(later)
         assert desk.born()["dam"].startswith("2015-") and desk.parents()["c1"] == ("", "dam")
-        assert "line 2: c2: its dam dam (born 2015-01-01 (inferred)) is left out: it isn't at least a day older" in done.told
+        assert (
+            "line 2: c2: its dam dam (born 2015-01-01 (inferred)) is left out: it isn't at least a day older"
+            in done.told
+        )
 
 
 def test_invented_days(desk: Desk) -> None:

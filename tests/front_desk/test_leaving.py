@@ -89,30 +89,33 @@ def test_faulty_rows(desk: Desk) -> None:
         "line 4: the row is left out: it has no id",
         "line 5: unknown: the row is left out: 'unknown' is a word for an unknown animal: give it another id",
         "line 6: e: inferred: birth day 2002-02-15, from the month 2002-02, since there is no day 31.02.2002",
-        "line 7: f: its birth day is left out: '01.02.98' has two digits of the year: write all four",
+        (
+            "to look at: two digits of the year in 1 cell of the column 'born': '01.02.98' in line 7 is read as "
+            "1998-02-01"
+        ),
         "line 8: g: its sex is left out: 'cat' isn't known: write M or F, or name it by --sexes",
         "line 8: g: its exit is left out: 'sold' has no day; the animal counts as gone",
         "line 8: g: the row is left out: its sex can't be read, and no animal has it as a parent",
         (
-            "to look at: 1 of 10 cells that say something in the column 'sex' can't be read, the first in line 8: 'cat': "
-            "write M or F, or say which sex each word is by --sexes; if 'cat' is male, say --sexes cat=m; if 'cat' is "
-            "female, say --sexes cat=f"
+            "to look at: 1 of 10 cells that say something in the column 'sex' can't be read, the first in line 8: "
+            "'cat': write M or F, or say which sex each word is by --sexes; if 'cat' is male, say --sexes cat=m; if "
+            "'cat' is female, say --sexes cat=f"
         ),
         "line 9: h: the row is left out: it has 9 cells, and there are 8 titles: is there a separator too many?",
         "line 10: i: its cell for a stored embryo is left out: 'maybe' isn't known: write 1 or nothing",
         (
-            "to look at: 1 of 2 cells that say something in the column 'embryo' can't be read, the first in line 10: 'maybe': "
-            "write 1 or nothing; or name another column by --columns; if no column tells of stored embryos, say "
-            "--columns embryo="
+            "to look at: 1 of 2 cells that say something in the column 'embryo' can't be read, the first in line 10: "
+            "'maybe': write 1 or nothing; or name another column by --columns; if no column tells of stored embryos, "
+            "say --columns embryo="
         ),
         (
-            "line 15: n: its birth day is left out: '37800' is a number: give the column the format of a date, and "
-            "save the sheet again"
+            "to look at: a spreadsheet's number for a day in 1 cell of the column 'born': '37800' in line 15 is read "
+            "as 2003-06-28"
         ),
         "line 11: j: its birth day is left out: the year 2300 isn't one of 1900 to 2199",
         "line 10: A: added: the sire of i has no row: added without parents (is a meant?)",
     )
-    assert " 11 left out (5 rows, 6 cells), 1 added" in done.last
+    assert " 9 left out (5 rows, 4 cells), 1 added" in done.last
 
 
 def test_corrections(desk: Desk) -> None:

@@ -21,7 +21,8 @@ def test_import_by_hand(desk: Desk) -> None:
 
 
 def test_settings(desk: Desk) -> None:
-    """They are for new numbers alone, by hand and of a sheet. What `take` itself is given changes all, which is told."""
+    """They are for new numbers alone, by hand and of a sheet. What `take` itself is given changes all, which is
+    told."""
     desk.take(SHEET, "--breed", "SKU", "--country", "DEU")
     desk.good("settings", "--breed", "SKB")
     desk.good("birth", "I1", "--sex", "m", "--day", "2020-01-01")

@@ -11,10 +11,13 @@ from gudokeyi.domain.findings import Report
 from gudokeyi.ingest.files import GivenFile
 from gudokeyi.ingest.pedigrees import read_triples
 from gudokeyi.ingest.unknown_parents import UnknownParents
-from gudokeyi.reconcile.doubtful_founders import founders_in_doubt
+from gudokeyi.reconcile.doubtful_founders import Counts, founders_in_doubt
 
 REFUSED = [
-    ("a 0 0\nb 0 0\nc a b\nd b c\ne b 0\nf 0 b\n", "1 animal is both sire and dam: b (a sire in line 4, a dam in line 3)"),
+    (
+        "a 0 0\nb 0 0\nc a b\nd b c\ne b 0\nf 0 b\n",
+        "1 animal is both sire and dam: b (a sire in line 4, a dam in line 3)",
+    ),
     ("a 0 0\nb a a\n", "1 animal is both sire and dam: a (both parents of b in line 2)"),
     ("a b 0\nb c 0\nc a 0\n", "would be its own ancestor"),
     ("a 0 0\nb 0 0\nc a b\nc 0 b\n", "line 4: c: the line is left out: line 3 has this id too, with other parents"),
@@ -22,15 +25,21 @@ REFUSED = [
     ("id sire dam born\na 0 0 2005\nb a 0 2001\n", "it isn't at least a day older (refusal 7)"),
     (
         "a1 0 0\nb A1 0\n",
-        "1 parent has no line, and an animal that has one differs in capitals, blanks, signs, zeros, look-alike letters or "
-        "the form of a number alone: A1",
+        "1 parent has no line, and an animal that has one differs in capitals, blanks, signs, zeros, look-alike "
+        "letters or the form of a number alone: A1",
     ),
     ("7 0 0\n9 0 0\n8 007 9\n", "007 (of 8 in line 3; is 7 meant?)"),
     # as pandas, R and spreadsheets write numbers beside empty cells, and long ones
     ("id,sire,dam\n1,,\n2,,\n3,1.0,2.0\n", "1.0 (of 3 in line 4; is 1 meant?), 2.0 (of 3 in line 4; is 2 meant?)"),
-    ("100000 NA NA\n99999 NA NA\n8 1e+05 99999\n", "write whole numbers (in pandas by astype('Int64'), in R with"),
-    ("id;sire;dam\n1,23457E+11;;\n9;;\n8;1,23457E+11;9\n", "1 id is a number in the short form, in which digits may be"),
-    ("1 0 0\n9 0 0\n8 1 9\n8.0 1 9\n", "1 id is the number of another animal in another form: 8.0 (line 4; is 8 meant?)"),
+    ("100000 NA NA\n99999 NA NA\n8 1e+05 99999\n", "write them as whole numbers, without a point or an exponent"),
+    (
+        "id;sire;dam\n1,23457E+11;;\n9;;\n8;1,23457E+11;9\n",
+        "1 id is a number in the short form, in which digits may be",
+    ),
+    (
+        "1 0 0\n9 0 0\n8 1 9\n8.0 1 9\n",
+        "1 id is the number of another animal in another form: 8.0 (line 4; is 8 meant?)",
+    ),
     ("GB-12 0 0\n9 0 0\n8 GB12 9\n", "GB12 (of 8 in line 3; is GB-12 meant?)"),
     ("A12 0 0\n9 0 0\n8 \u041012 9\n", "\u041012 (of 8 in line 3; is A12 meant?)"),
 ]
@@ -109,7 +118,9 @@ WORDS_WITH_DIGITS = ("9", "UNK1", "1999", "N.N.1", "12345", "9.0", "99", "unknow
 def of_word(word: str, form: str, count: int) -> str:
     """A pedigree of two founders and their offspring, of which so many have a word for a dam."""
     animals = [f'"{form.format(at)}"' for at in range(10, 10 + count + 2)]
-    return "".join(f"{one} 0 0\n" for one in animals[:2]) + "".join(f"{one} {animals[0]} {word}\n" for one in animals[2:])
+    return "".join(f"{one} 0 0\n" for one in animals[:2]) + "".join(
+        f"{one} {animals[0]} {word}\n" for one in animals[2:]
+    )
 
 
 def doubted(text: str) -> list[str]:
@@ -117,14 +128,17 @@ def doubted(text: str) -> list[str]:
     unknown = UnknownParents()
     file = GivenFile(pathlib.Path("p.txt"), text.encode())
     animals = read_triples(file, {}, unknown, {}, Report()).animals
-    return [one.words() for one in founders_in_doubt(animals, animals.keys(), unknown)]
+    those = [*animals.values()]
+    return [one.words() for one in founders_in_doubt(those, Counts.of(those), animals.keys(), unknown)]
 
 
 @pytest.mark.parametrize("form", FORMS)
 @pytest.mark.parametrize("word", WORDS_WITH_DIGITS)
 def test_words_with_digits(form: str, word: str) -> None:
     """Those that no animal's id looks like, and parents of many, are asked about."""
-    told = f"1 word has no line and is a parent of several animals: {word} (of {form.format(12)} in line 3 and 5 more). To"
+    told = (
+        f"1 word has no line and is a parent of several animals: {word} (of {form.format(12)} in line 3 and 5 more). To"
+    )
     assert doubted(of_word(word, form, 6))[0].startswith(told)
 
 
@@ -145,7 +159,9 @@ def test_founders_that_are_not_asked_about() -> None:
     gap = "".join(f"{at} 1 2\n" for at in range(3, 10))
     few = "".join(f"a{at} 0 0\nb{at} a{at} 0\n" for at in range(12)) + "".join(f"c{at} a1 1999\n" for at in range(4))
     herds = "".join(f"NN{at} 0 0\n" for at in range(10, 16)) + "c NN9 0\nd NN9 0\n"
-    bulls = "".join(f"a{at} 0 0\n" for at in range(9)) + "".join(f"b{at} HOLUSA7723{at // 3} a{at}\n" for at in range(9))
+    bulls = "".join(f"a{at} 0 0\n" for at in range(9)) + "".join(
+        f"b{at} HOLUSA7723{at // 3} a{at}\n" for at in range(9)
+    )
     assert doubted(gap) == doubted(few) == doubted(herds) == []
     assert [one.partition(":")[0] for one in doubted(bulls)] == ["3 of 12 parents have no line, though others have"]
 
@@ -165,7 +181,9 @@ def test_a_word_of_a_tenth() -> None:
 def test_ids_without_their_beginning_or_end(form: str, parent: str) -> None:
     """Also one among parents that have lines, where many ids begin or end so; where few do it may be another animal."""
     ids = [f'"{form.format(at)}"' for at in range(10, 60)]
-    rows = "".join(f"{id} 0 0\n" for id in ids) + "".join(f'"{form.format(at)}" {id} 0\n' for at, id in enumerate(ids[5:], 70))
+    rows = "".join(f"{id} 0 0\n" for id in ids) + "".join(
+        f'"{form.format(at)}" {id} 0\n' for at, id in enumerate(ids[5:], 70)
+    )
     told = f"1 parent has no line, and is an id without what many ids begin or end with: {parent} (of y in line 96; is "
     assert doubted(f"{rows}y {parent} 0\n")[0].startswith(f"{told}{form.format(12)} meant?). To take founders")
     few = "".join(f"X{at + 100}Z 0 0\n" for at in range(1000))

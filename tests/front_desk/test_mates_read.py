@@ -53,8 +53,8 @@ def test_as_the_rows(desk: Desk, role: Role, also_left: bool) -> None:
         read = MatesRead(book, role, also_left)
         wanted = of_rows(book, role, also_left)
         assert all_candidates(book, role, also_left) == wanted
-        assert [*zip(read.numbers, read.ids)] == [(book.known[id].registration_number, id) for id in read.ids]
-        by_id, named = {one.id: one for one in wanted.animals}, [book.known[id] for id in read.ids]
+        assert [*zip(read.numbers, read.ids)] == [(book.society_records[id].registration_number, id) for id in read.ids]
+        by_id, named = {one.id: one for one in wanted.animals}, [book.society_records[id] for id in read.ids]
         assert [*map(birth_shown, read.births)] == [by_id[id].birth for id in read.ids]
         may = {id for id, number in selected(book, ("id", "number"), Condition(MAY_BE_MATED)) if number[6] == role.sex}
         assert also_left or may == {*by_id}
@@ -101,12 +101,12 @@ def test_who_is_refused_is_told_in_age_order(desk: Desk) -> None:
         assert read.ids == ["a", "x", "z"] and [one.id for one in sires.animals] == ["z", "x", "a"]
         faults = [{"a": "5", "z": "5"}.get(id, "") for id in read.ids]
         answers = Answers(["refused" if one else "1/8" for one in faults], [one or "12.50" for one in faults], True)
-        advice = told_of(book.known["d"], sires, answers, shown, read)
+        advice = told_of(book.society_records["d"], sires, answers, shown, read)
         assert [one.partition(":")[0].split()[-1] for one in advice.refused] == ["z", "a"]
         assert [row[0] for row in advice.table.rows] == ["x"] and ",1/8,0.125,12.50\n" in advice.table.text(False)
         assert advice.table.text(True).endswith(";1/8;0,125;12,50\n")
         with pytest.raises(Mistake, match="d"):
-            told_of(book.known["d"], sires, answers._replace(percents=["4"] * 3), shown, read)
+            told_of(book.society_records["d"], sires, answers._replace(percents=["4"] * 3), shown, read)
 
 
 def test_advice_where_the_journal_can_not_be_read_beside(mrode_desk: Desk, monkeypatch: pytest.MonkeyPatch) -> None:
@@ -122,7 +122,7 @@ def test_advice_where_the_journal_can_not_be_read_beside(mrode_desk: Desk, monke
     with reading(mrode_desk.room / "book") as connection:
         book, program = Book(mrode_desk.room / "book", connection), BookProgram()
         with book.journal_read_beside():
-            read, dam = MatesRead(book, Role.SIRE, False), book.known["2"]
+            read, dam = MatesRead(book, Role.SIRE, False), book.society_records["2"]
             begun = program.begin_matings(dam.registration_number, read.numbers, book)
             assert advise_on_all(book, program, dam, read, begun, False).table.text(False) == wanted
             # also where that is only seen when the answers are asked for
@@ -134,10 +134,10 @@ def test_many_sires_are_asked_for_in_parts(mrode_desk: Desk, monkeypatch: pytest
     mrode_desk.good("birth", "0a", "--sex", "m", "--day", "2020-01-01")
     wanted = mrode_desk.good("mating", "--dam", "2").out
     monkeypatch.setenv("HERDBOOK", mrode_desk.program)
-    monkeypatch.setattr("gudokeyi.services.book_program.MOST_NUMBERS", 3)
+    monkeypatch.setattr(BookProgram, "most_numbers", 3)
     with reading(mrode_desk.room / "book") as connection:
         book, program = Book(mrode_desk.room / "book", connection), BookProgram()
-        read, dam = MatesRead(book, Role.SIRE, False), book.known["2"]
+        read, dam = MatesRead(book, Role.SIRE, False), book.society_records["2"]
         begun = program.begin_matings(dam.registration_number, read.numbers, book)
         assert read.ids == ["1", "4", "5", "0a"] and len(begun) == 2
         advice = advise_on_all(book, program, dam, read, begun, False)

@@ -25,7 +25,7 @@ NAMES_BEFORE = {"b01": "Bobby", "only": "", "old": "Olga", "g 7": "", "K": ""}
 def are_alike(field: Field, before: object, now: str, of: str = "a") -> bool:
     """Where `Meier` is written `Meyer` from now on, and `nobody` is an unknown parent."""
     known = {id: SocietyRecord(f"HOLGBRF{at:012}", id, name) for at, (id, name) in enumerate(NAMES_BEFORE.items(), 1)}
-    book = SimpleNamespace(known=known, respelt=lambda owner: {"Meier": "Meyer"}.get(owner, owner))
+    book = SimpleNamespace(society_records=known, respelt=lambda owner: {"Meier": "Meyer"}.get(owner, owner))
     animals = {id: SheetAnimal(id, 2, name) for id, name in NAMES.items()}
     days = DayCells(UnknownParents(["nobody"]), month_first=False)
     return Meanings(animals, cast(Book, book), days).are_alike(of, field, before, now)
@@ -65,3 +65,17 @@ def test_texts_of_parents_that_mean_the_same() -> None:
             ("K", "y"), ("k", "y"), ("K", "k"),
         ):  # fmt: skip
             assert not are_alike(role, text, id), (text, id)
+
+
+def test_words_for_sexes() -> None:
+    """A word for a sex says what another for it does; a castrated male is another than a male."""
+    assert (
+        are_alike(Field.SEX, "F", "weiblich")
+        and are_alike(Field.SEX, "Ochse", "wether")
+        and are_alike(Field.SEX, None, "")
+    )
+    assert (
+        not are_alike(Field.SEX, "m", "Ochse")
+        and not are_alike(Field.SEX, "F", "M")
+        and not are_alike(Field.SEX, "Schf", "F")
+    )

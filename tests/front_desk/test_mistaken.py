@@ -81,7 +81,7 @@ WORDS: list[tuple[list[str], str]] = [
     (["list", "--book", "/no where"],
      "there is no book in the folder /no where: take a sheet first\n"
      f"gudokeyi:   if good.csv is the sheet:\n    {CALLED} import good.csv --book '/no where'\n"),
-    (["sell"], f"there is no word 'sell': `{CALLED} --help` shows"),
+    (["yodel"], f"there is no word 'yodel': `{CALLED} --help` shows"),
     (["Lst"], "there is no word 'Lst': is list meant? `"),
     ([], "a word is lacking that says what to do, as import, list or show"),
 ]  # fmt: skip
@@ -122,7 +122,7 @@ WORDS_WITH_A_BOOK: list[tuple[list[str], str]] = [
     (["list", "--out", "book"], "'book' is a folder: name a file"),
     (["inverse", "--matrix-market", "."], "'.' is a folder: name a file"),
     (["pedigree", "a", "--generations", "11"], "'11' isn't 1 to 10"),
-    (["inverse"], "--matrix-market is lacking"),
+    (["inverse"], "name a pedigree and --out, or of a book --matrix-market"),
     (["list", "--sex"], "nothing stands behind --sex"),
     (["list", "--sex", "x"], "--sex: 'x' is no word for a sex: write m or f"),
     (["breed", "--living", "--owner", "x"], "--owner and --living don't go together"),

@@ -68,14 +68,15 @@ def test_owners_that_are_only_respelt(rows: list[str], before: set[str], found: 
     animals |= {one.id: one for one in others}
     before_it = {id: one for id, (one, _) in pairs.items()} | dict.fromkeys("bd", "Meier")
     herds = {id: SimpleNamespace(owner_code=one) for id, one in before_it.items()}
-    book, report = SimpleNamespace(known=herds, owner_of=str), Report()
+    book, report = SimpleNamespace(society_records=herds, owner_of=str), Report()
     next_book = SimpleNamespace(animals=animals, book=book, record=herds.get, report=report, kept_owners={"d"})
     tell_respelt_owners(cast(NextBook, next_book), before)
     assert [entry.finding for entry in report.entries] == found
 
 
 def test_owners_alike_by_umlauts() -> None:
-    """An umlaut may be written by two letters, or lack its dots; letters that are none of an umlaut tell owners apart."""
+    """An umlaut may be written by two letters, or lack its dots; letters that are none of an umlaut tell owners
+    apart."""
     owners = ["Müller", "MÜLLER", "Mueller", "Weiß", "Weiss", "Bauer", "Baur", "Jäger", "Jager"]
     animals = {owner: SheetAnimal(owner, 2, owner=owner) for owner in owners}
     report = Report()

@@ -89,8 +89,8 @@ def test_named_parent_with_another_name(desk: Desk) -> None:
     for more in "", "R9,Max,M,2002-01-01,,\nL2,,F,2005-01-01,Max,\n":
         done = desk.take(sheet.replace("R1,Max", "R1,Maximilian") + more)
         done.tells(
-            "line 3: L1: inferred: its sire 'Max' is R1 as before, which has another name now: if another is meant, write "
-            "the id of that one"
+            "line 3: L1: inferred: its sire 'Max' is R1 as before, which has another name now: if another is meant, "
+            "write the id of that one"
         )
         assert desk.parents()["L1"] == ("R1", "") and " 0 added" in done.last
     assert desk.parents()["L2"] == ("R9", "")

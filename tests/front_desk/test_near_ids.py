@@ -16,8 +16,8 @@ def test_parent_written_otherwise(desk: Desk) -> None:
     calves += "c4;;F;2004-01-04;DE 007;DE 8\nc5;;F;2004-01-05;DE 0070;DE 80\nc6;;F;2004-01-06;de 8;de 007\n"
     done = desk.take(TITLES + FLOCK + calves)
     done.tells(
-        "line 4: c1: inferred: its sire 'de007' is DE 007, whose id differs in case, blanks or zeros alone: if another is "
-        "meant, give that one a row"
+        "line 4: c1: inferred: its sire 'de007' is DE 007, whose id differs in case, blanks or zeros alone: if another "
+        "is meant, give that one a row"
     )
     assert desk.parents()["c1"] == desk.parents()["c2"] == ("DE 007", "DE 8")
     # no female is a sire; four cells are inferred, and the days of four parents that are none of these
@@ -67,7 +67,7 @@ def test_ids_that_are_like_one_filed_by_hand(desk: Desk) -> None:
     told = "its id differs from DE 9 (in the book) in case, blanks or zeros alone: are they one animal?"
     desk.take(TITLES + FLOCK + rows + "de 9;;F;2002-01-02;;\n").tells(f"line 7: de 9: to look at: {told}")
     # one that is filed by hand now
-    assert desk.good("birth", "DE 09", "--sex", "f", "--day", "2002-01-02").err == f"gudokeyi: DE 09: {told}\n"
+    assert desk.good("birth", "DE 09", "--sex", "f", "--day", "2002-01-02", "--anyway").err == f"gudokeyi: DE 09: {told}\n"
     assert not desk.good("birth", "DE 90", "--sex", "f", "--day", "2002-01-02").err
 
 
@@ -94,8 +94,8 @@ def test_tag_used_again(desk: Desk) -> None:
         done = desk.take(sheet, *words)
         done.tells(
             "line 3: DE 8: the row is left out: the book has this id for another animal ('Eva', born 2001-03-02; here "
-            "'Ida', born 2012-03-02); as a parent in line 5 it means the first: if the tag was used again, give this one "
-            "an id of its own, also where its offspring name it; if it is the same animal, say --anyway"
+            "'Ida', born 2012-03-02); as a parent in line 5 it means the first: if the tag was used again, give this "
+            "one an id of its own, also where its offspring name it; if it is the same animal, say --anyway"
         )
         assert desk.parents()["c1"] == ("DE 007", "DE 8")
         assert desk.born()["DE 8"] == "2001-03-02"
@@ -105,8 +105,8 @@ def test_tag_used_again(desk: Desk) -> None:
 
 
 def test_used_tag_of_an_animal_without_a_row(desk: Desk) -> None:
-    """One that was filed by hand, and one that is gone, stay what they are, as nobody had a row of them: the first isn't
-    dropped once the other animal has an id of its own, and neither is in the list as before."""
+    """One that was filed by hand, and one that is gone, stay what they are, as nobody had a row of them: the first
+    isn't dropped once the other animal has an id of its own, and neither is in the list as before."""
     desk.take(TITLES + FLOCK + "DE 9;Ute;F;2001-03-03;;\n")
     desk.good("birth", "DE 5", "--sex", "f", "--name", "Ida", "--day", "2001-05-05")
     desk.take(TITLES + FLOCK)
@@ -119,17 +119,18 @@ def test_used_tag_of_an_animal_without_a_row(desk: Desk) -> None:
 
 
 def test_birth_after_offspring(desk: Desk) -> None:
-    """An animal of the same name and sex, born after the offspring that the book has, may have a mistyped day: nobody is
-    told that it is another one."""
+    """An animal of the same name and sex, born after the offspring that the book has, may have a mistyped day: nobody
+    is told that it is another one."""
     desk.take(TITLES + FLOCK + "c1;;F;2004-01-01;DE 007;DE 8\nc2;;F;2003-01-01;DE 007;DE 8\n")
     for row in "DE 8;Eva;F;2012-03-02;;", "DE 8;;;2012-03-02;;":
         done = desk.take(
             TITLES + FLOCK.splitlines()[0] + f"\n{row}\nc1;;F;2004-01-01;DE 007;DE 8\nc2;;F;2003;DE 007;DE 8\n"
         )
         done.tells(
-            "line 3: DE 8: the row is left out: born 2012-03-02, it would be younger than its offspring c2, born 2003-01-01; "
-            "the book has born 2001-03-02: if the day is mistyped, mend it; if the tag was used again, give this animal an "
-            "id of its own, also where its offspring name it; if it is the same animal, born on this day, say --anyway"
+            "line 3: DE 8: the row is left out: born 2012-03-02, it would be younger than its offspring c2, born "
+            "2003-01-01; the book has born 2001-03-02: if the day is mistyped, mend it; if the tag was used again, give "
+            "this animal an id of its own, also where its offspring name it; if it is the same animal, born on this "
+            "day, say --anyway"
         )
         assert (desk.born()["DE 8"], desk.parents()["c2"]) == ("2001-03-02", ("DE 007", "DE 8"))
         assert "another animal" not in done.out and " 0 gone" in done.last
@@ -139,8 +140,8 @@ def test_birth_after_offspring(desk: Desk) -> None:
 
 @pytest.mark.parametrize("is_first", [True, False])
 def test_tag_twice_in_a_sheet(desk: Desk, is_first: bool) -> None:
-    """The animal that was born first is taken, in whatever order the rows are; the other is told, with the lines that name
-    it, and is taken with an id of its own."""
+    """The animal that was born first is taken, in whatever order the rows are; the other is told, with the lines that
+    name it, and is taken with an id of its own."""
     eva, ida = FLOCK.splitlines()[1], "DE 8;Ida;F;2012-03-02;;"
     rows = [FLOCK.splitlines()[0], *((eva, ida) if is_first else (ida, eva)), "c1;;F;2004-01-01;DE 007;DE 8"]
     sheet = TITLES + "\n".join([*rows, "c2;;F;2015-01-01;;DE 8"]) + "\n"
@@ -148,9 +149,9 @@ def test_tag_twice_in_a_sheet(desk: Desk, is_first: bool) -> None:
     for _ in range(2):
         done = desk.take(sheet)
         done.shows(
-            f"line {here}: DE 8: the row is left out: line {there} has this id for another animal ('Eva', born 2001-03-02; "
-            "here 'Ida', born 2012-03-02); as a parent in line 6 it means the first: if the tag was used again, give this "
-            "one an id of its own, also where its offspring name it"
+            f"line {here}: DE 8: the row is left out: line {there} has this id for another animal ('Eva', born "
+            "2001-03-02; here 'Ida', born 2012-03-02); as a parent in line 6 it means the first: if the tag was used "
+            "again, give this one an id of its own, also where its offspring name it"
         )
         assert not done.commands()
         assert desk.born()["DE 8"] == "2001-03-02"

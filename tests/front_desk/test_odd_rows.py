@@ -32,13 +32,18 @@ def test_sums_that_are_left_out(desk: Desk) -> None:
     desk.good("undo")
     done = desk.take(sheet, "--no-animal", "Total,Summe")
     done.tells(
-        "line 4: 9: the row is left out: a row with 'Total' is no animal, as --no-animal says; if it is one, say --animal Total",
-        "line 5: Summe: 2: the row is left out: a row with 'Summe' is no animal, as --no-animal says; if it is one, say --animal "
-        "Summe",
+        (
+            "line 4: 9: the row is left out: a row with 'Total' is no animal, as --no-animal says; if it is one, say "
+            "--animal Total"
+        ),
+        "line 5: Summe: 2: the row is left out: a row with 'Summe' is no animal, as --no-animal says; if it is one, "
+        "say --animal Summe",
     )
     assert desk.numbers().keys() == {"a", "b"} and "2 left out (2 rows)" in done.last
     done = desk.take(sheet.replace("Summe: 2", "SUMME 3"))
-    assert "as at the last time: --no-animal Total, --no-animal Summe" in done.out and "2 left out (2 rows)" in done.last
+    assert (
+        "as at the last time: --no-animal Total, --no-animal Summe" in done.out and "2 left out (2 rows)" in done.last
+    )
     done = desk.take(sheet, "--animal", "Total")
     assert desk.numbers().keys() == {"a", "b", "9"} and "1 left out (1 row)" in done.last
     desk.write("p.txt", "a 0 0\n")

@@ -1,5 +1,5 @@
-"""A book that version 0.12 made, `books/0.12`, is read as it was, goes on, and has its findings by their stored names. The
-folder of a book of version 0.11 is that of `old_folder`."""
+"""A book that version 0.12 made, `books/0.12`, is read as it was, goes on, and has its findings by their stored names.
+The folder of a book of version 0.11 is that of `old_folder`."""
 from __future__ import annotations
 
 import contextlib
@@ -18,8 +18,7 @@ import pytest
 from front_desk.desk import TOP, Desk
 from gudokeyi.domain.changes import StoredFinding
 from gudokeyi.domain.findings import KINDS
-from gudokeyi.domain.stored_names import FIELD_NAMES, KIND_NAMES
-from gudokeyi.reconcile.stored_findings import entry_of, kind_named, modules_of_findings, told_of
+from gudokeyi.reconcile.stored_findings import entry_of, modules_of_findings, told_of
 
 MADE = pathlib.Path(__file__).resolve().parent / "books/0.12"
 CHANGES = range(1, 8)
@@ -48,7 +47,8 @@ def test_as_it_was(kept_desk: Desk) -> None:
 def test_goes_on(kept_desk: Desk) -> None:
     """Commands are filed in it and taken back, and what it remembers of its sheet is used for another one."""
     before = kept_desk.good("list").out
-    kept_desk.good("birth", "new", "--sex", "f", "--day", "2014-01-01", "--sire", "d", "--dam", "c", "--owner", "Nord")
+    parents = "--sire", "d", "--dam", "c"
+    kept_desk.good("birth", "new", "--sex", "f", "--day", "2014-01-01", *parents, "--owner", "Nord", "--anyway")
     kept_desk.good("undo")
     assert kept_desk.good("list").out == before
     kept_desk.write("sheet.csv", "Tag;S;born;sire;dam;Hof\nz;F;2015-01-01;d;c;Nord\n")
@@ -56,29 +56,73 @@ def test_goes_on(kept_desk: Desk) -> None:
     kept_desk.good("verify")
 
 
+VIEWS = {
+    "animals": (
+        "id number name sex born birth_is_inferred sire dam sire_number dam_number embryo herd owner owner_since left_on "
+        "has_left exit_reason castrated standing fraction percent"
+    ),
+    "commands": "step kind number day sire dam from_herd to_herd embryo refusal",
+    "coefficients": "id number fraction percent",
+}  # fmt: skip
+
+
+def test_views(kept_desk: Desk) -> None:
+    """Others read it by views, of which no column goes: its animals as they are listed, and its commands as they are
+    exported."""
+    listed = kept_desk.listed("list", "--columns", "+sire,dam,owner,name,sex")
+    exported = kept_desk.commands()
+    with contextlib.closing(sqlite3.connect(kept_desk.room / "book/book.sqlite")) as connection:
+        for view, columns in VIEWS.items():
+            assert [name for _, name, *_ in connection.execute(f"PRAGMA table_info({view})")] == columns.split()
+        wanted = "id, number, name, sex, ifnull(sire, ''), ifnull(dam, ''), ifnull(owner, ''), fraction, percent"
+        found = connection.execute(f"SELECT {wanted} FROM animals ORDER BY born, number").fetchall()
+        titles = ("id", "number", "name", "sex", "sire", "dam", "owner", "coefficient", "percent")
+        assert found == [tuple(row[title].removesuffix(" (inferred)") for title in titles) for row in listed]
+        assert connection.execute("SELECT id, number, fraction, percent FROM coefficients").fetchall() == [
+            (row["id"], row["number"], row["coefficient"], row["percent"]) for row in listed
+        ]
+        steps = connection.execute("SELECT * FROM commands").fetchall()
+    assert [step for step, *_ in steps] == [*range(1, len(exported) + 1)]
+    for (_, kind, number, day, sire, dam, giver, taker, embryo, _), line in zip(steps, exported):
+        parents = [parent or "0" for parent in (sire, dam)] if kind in ("birth", "parents") else ["", ""]
+        cells = [kind, number, day or "", *parents, giver or "", taker or "", "1" if embryo else ""]
+        assert ",".join(map(str, cells)) == line
+
+
 def test_findings(kept_desk: Desk) -> None:
-    """Each finding that it stores is read, and would be stored as it is."""
+    """Each finding that it stores is read, and would be stored as it is, with empty fields that came since."""
     with contextlib.closing(sqlite3.connect(kept_desk.room / "book/book.sqlite")) as connection:
         rows = connection.execute("SELECT kind, part, line, id, fields FROM told").fetchall()
-    found = [StoredFinding(kind, part, line, id, tuple(json.loads(fields).items())) for kind, part, line, id, fields in rows]
+    found = [
+        StoredFinding(kind, part, line, id, tuple(json.loads(fields).items())) for kind, part, line, id, fields in rows
+    ]
     assert len({one.kind for one in found}) > 15
-    assert [told_of(entry_of(one)) for one in found] == found
+    for one in found:
+        again = told_of(entry_of(one))
+        assert again == dataclasses.replace(one, fields=again.fields) and {*one.fields} <= {*again.fields}
+        assert not any(value for _, value in {*again.fields} - {*one.fields})
 
 
-def test_stored_names() -> None:
-    """Each kind of finding has the name by which it is stored, whatever its class is called; so have fields."""
+def test_codes() -> None:
+    """Each kind of finding has a code of its own, and each that version 0.12 stored is still one; what a field is
+    stored as is said of fields that there are."""
     for module in modules_of_findings():
         importlib.import_module(module)
-    classes = {kind.__name__ for kind in KINDS.values() if dataclasses.is_dataclass(kind)}
-    assert classes == KIND_NAMES.keys() and len(set(KIND_NAMES.values())) == len(KIND_NAMES)
-    for name, stored in FIELD_NAMES.items():
-        kind: Any = kind_named(KIND_NAMES[name])
-        assert stored.keys() <= {field.name for field in dataclasses.fields(kind)}
+    kinds: list[Any] = [kind for kind in KINDS.values() if dataclasses.is_dataclass(kind)]
+    assert len({kind.code for kind in kinds}) == len(kinds) and all("code" in kind.__dict__ for kind in kinds)
+    assert {*(MADE / "codes.txt").read_text(encoding="utf-8").splitlines()} <= KINDS.keys()
+    renamed = {kind.code: kind.stored_fields for kind in kinds if kind.stored_fields}
+    assert renamed.keys() == {"added as parent", "castrated sire", "parent refused"}
+    assert all(
+        names.keys() <= {field.name for field in dataclasses.fields(KINDS[code])} for code, names in renamed.items()
+    )
 
 
 def test_words_of_before(desk: Desk) -> None:
     """`take` is another spelling of `import`, and `society/society` of `gudokeyi`, which tells the new one."""
     assert desk.good("take", "--help").out == desk.good("import", "--help").out
-    called = subprocess.run([TOP / "society/society", "import", "--help"], capture_output=True, text=True, cwd=desk.room)
+    called = subprocess.run(
+        [TOP / "society/society", "import", "--help"], capture_output=True, text=True, cwd=desk.room
+    )
     assert called.stdout == desk.good("import", "--help").out and called.returncode == 0
     assert f"{TOP}/gudokeyi" in called.stderr and len(called.stderr.splitlines()) == 1

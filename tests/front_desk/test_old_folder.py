@@ -61,7 +61,8 @@ def test_taken_after_it(old_desk: Desk) -> None:
 
 
 def test_commands_by_hand_after_it(old_desk: Desk) -> None:
-    """They stay where a cell says what the last sheet said, as far as the book shows it, and not where another is said."""
+    """They stay where a cell says what the last sheet said, as far as the book shows it, and not where another is
+    said."""
     old_desk.good("transfer", "a", "--to", "Neu", "--day", "2010-01-01")
     old_desk.good("parents", "c", "--sire", "0")
     old_desk.good("parents", "e", "--sire", "0")
@@ -135,7 +136,7 @@ def test_what_its_files_say_of_animals(old_desk: Desk, monkeypatch: pytest.Monke
     """The texts of parents, and that the days of owners are inferred; what nobody knows is told as changed."""
     old_desk.write("book/parents.csv", b"id,role,written\nc,sire,Bob\nd,dam,Eva\n")
     monkeypatch.setenv("HERDBOOK", old_desk.program)
-    known = old_folder.read(old_desk.room / "book", BookProgram().file).known
+    known = old_folder.read(old_desk.room / "book", BookProgram().file).society_records
     texts = {id: (one.written_sire, one.written_dam) for id, one in known.items()}
     assert texts == dict.fromkeys("abegx", ("", "")) | {"c": ("Bob", ""), "d": ("", "Eva")}
     assert {one.owner_day for one in known.values()} == {OwnerDay.INFERRED}
@@ -201,8 +202,8 @@ def test_changed_by_somebody(old_desk: Desk, name: str, text: str | None, told: 
 
 @pytest.mark.parametrize("is_there", [False, True])
 def test_exports_alone(desk: Desk, is_there: bool) -> None:
-    """Where the database is missing, or has nothing in it, its exports aren't taken for it, also with commands that were
-    refused, and no new one is begun."""
+    """Where the database is missing, or has nothing in it, its exports aren't taken for it, also with commands that
+    were refused, and no new one is begun."""
     desk.take("id,born,sire,dam\na,2001-01-01,,\n")
     assert "is refused" in desk.run("exit", "a", "--day", "1990-01-01").err
     (desk.room / "book/book.sqlite").unlink()

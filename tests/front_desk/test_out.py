@@ -11,7 +11,7 @@ from front_desk.whole import FLOCK
 from gudokeyi.domain.messages import Mistake
 from gudokeyi.ingest.files import MOST_BYTES, MOST_LETTERS, MOST_ROWS, check_bounds, read_bytes
 from gudokeyi.ingest.sheets import SheetRow
-from gudokeyi.services import output_files, restoring as backups
+from gudokeyi.services import output_files, restoring as backups, written_files
 from gudokeyi.store import files
 from gudokeyi.store.book import Book
 from gudokeyi.store.transactions import reading
@@ -95,19 +95,19 @@ def test_a_file_that_came_meanwhile(flock_desk: Desk, monkeypatch: pytest.Monkey
 
 
 def test_all_or_none(tmp_path: pathlib.Path, monkeypatch: pytest.MonkeyPatch) -> None:
-    """Where one of several can't be written those before it go again, but for one that was there."""
+    """Where one of several can't be written those before it go again, and one that was there is as it was."""
 
     def put(path: pathlib.Path, text: bytes, replaces: bool) -> None:
         if path.name == "full":
             raise OSError(28, "No space left on device")
         files.put(path, text, replaces=replaces)
 
-    monkeypatch.setattr(output_files, "put", put)
+    monkeypatch.setattr(written_files, "put", put)
     was_there, new, full = (tmp_path / name for name in ("was there", "new", "full"))
     was_there.write_bytes(b"before")
     with pytest.raises(Mistake, match="full can't be written"):
         output_files.write_outs(Book(tmp_path / "book", None), {was_there: b"a", new: b"b", full: b"c"}, True)
-    assert {path.name: path.read_bytes() for path in tmp_path.iterdir()} == {"was there": b"a"}
+    assert {path.name: path.read_bytes() for path in tmp_path.iterdir()} == {"was there": b"before"}
     # nothing is begun where one of them mustn't be written
     for force, path, told in (False, was_there, "is there already"), (True, tmp_path, "it is a folder: name a file"):
         with pytest.raises(Mistake, match=told):
@@ -150,7 +150,9 @@ def test_bounds_without_end(desk: Desk) -> None:
     for words in ("import", "/dev/zero"), ("import", "--pedigree", "/dev/zero"):
         desk.wrong("/dev/zero has 50 MB, and 50 MB are read at most", *words)
     long = "b" * 140_000
-    sheet, lines = desk.write("long.csv", f"id,born\na,2001\n{long},2001\n"), desk.write("long.txt", f"a 0 0\n{long} 0 0\n")
+    sheet, lines = desk.write("long.csv", f"id,born\na,2001\n{long},2001\n"), desk.write(
+        "long.txt", f"a 0 0\n{long} 0 0\n"
+    )
     desk.wrong("line 3: a cell has more than 10,000 letters", "import", sheet)
     desk.wrong("line 2: a cell has more than 10,000 letters", "import", "--pedigree", lines)
     desk.take("id,sex,born,sire,dam\na,m,2001,,\n")
@@ -163,7 +165,9 @@ def test_at_the_bounds(tmp_path: pathlib.Path) -> None:
     for titles in 0, 1:
         rows = [SheetRow(1, ["b" * MOST_LETTERS])] * (MOST_ROWS + titles)
         check_bounds(path, rows, titles)
-        with pytest.raises(Mistake, match="has 200,001 rows, .* To leave out ancestors, such as the oldest animals, changes"):
+        with pytest.raises(
+            Mistake, match="has 200,001 rows, .* To leave out ancestors, such as the oldest animals, changes"
+        ):
             check_bounds(path, [*rows, rows[0]], titles)
     path.touch()
     os.truncate(path, MOST_BYTES)

@@ -5,8 +5,9 @@ import datetime
 from types import SimpleNamespace
 from typing import NamedTuple, cast
 
+from front_desk.replayed import record_after
 from gudokeyi.domain.animals import NO_OWNER, SocietyRecord
-from gudokeyi.domain.commands import Command, birth, record_after, transfer
+from gudokeyi.domain.commands import Command, birth, transfer
 from gudokeyi.domain.findings import Finding, Report
 from gudokeyi.domain.provenance import OwnerDay
 from gudokeyi.ingest.animals import SheetAnimal
@@ -44,7 +45,7 @@ def found(
     names = {herd: name for name, herd in owners.items()} | {NO_OWNER: ""}
     known = {"a": SocietyRecord(NUMBER, "a", owner_day=INFERRED)}
     book = SimpleNamespace(
-        known=known, records={NUMBER: record}, owners=owners, owner_of=names.get, connection=empty()
+        society_records=known, records={NUMBER: record}, owners=owners, owner_of=names.get, connection=empty()
     )  # fmt: skip
     report = Report()
     days = OwnerDays(cast(Book, book), report, None)
@@ -100,13 +101,14 @@ def test_days_before_the_birth() -> None:
 
 
 def test_new_animal_before_its_birth() -> None:
-    """Of a new animal a day, a month or a year that ends before its birth is told: its owner has it from the birth on."""
+    """Of a new animal a day, a month or a year that ends before its birth is told: its owner has it from the birth
+    on."""
     early = datetime.date(2000, 12, 31)
     for since, told in (
         (on(early), [OwnerDayMoved("Nord", early, BORN)]), (year_of(2000), [OwnerDayMoved("Nord", early, BORN)]),
         (year_of(BORN.year), []), (on(BORN), []), (None, []),
     ):  # fmt: skip
-        report, book = Report(), SimpleNamespace(known={}, owners={"Nord": NORD})
+        report, book = Report(), SimpleNamespace(society_records={}, owners={"Nord": NORD})
         animal = SheetAnimal("b", 2, registration_number=NUMBER, owner="Nord", since=since, born=BORN)
         assert OwnerDays(cast(Book, book), report, None).of(animal) == (NORD, [], 0, False)
         assert [one.finding for one in report.entries] == told

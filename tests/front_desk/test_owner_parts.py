@@ -6,8 +6,9 @@ from types import SimpleNamespace
 from typing import cast
 
 from front_desk.test_taking_parts import BORN, NUMBER
+from front_desk.replayed import record_after
 from gudokeyi.domain.animals import NO_OWNER, SocietyRecord
-from gudokeyi.domain.commands import birth, record_after, transfer
+from gudokeyi.domain.commands import birth, transfer
 from gudokeyi.domain.findings import Report
 from gudokeyi.domain.kinds import Field
 from gudokeyi.domain.provenance import OwnerDay
@@ -87,7 +88,7 @@ def test_owners_of_animals(today: datetime.date) -> None:
         owners = {"Nord": 4, "Süd": 5}
         names = {herd: name for name, herd in owners.items()} | {NO_OWNER: ""}
         book = SimpleNamespace(
-            known=known, records={NUMBER: record}, owners=owners, owner_of=names.get, connection=empty()
+            society_records=known, records={NUMBER: record}, owners=owners, owner_of=names.get, connection=empty()
         )  # fmt: skip
         days = OwnerDays(cast(Book, book), report, None)
         days.before = {NUMBER: 4}, {NUMBER: [given]}

@@ -37,8 +37,8 @@ def test_birth_corrected_past_a_transfer(desk: Desk) -> None:
     desk.take(TITLES + PARENTS.replace("d;F;2001-03-02;;;Meier", "d;F;2001-03-02;;;Groß"), "--day", "2005-01-01")
     done = desk.take(TITLES + PARENTS.replace("d;F;2001-03-02;;;Meier", "d;F;2006-03-02;;;Groß"))
     done.tells(
-        "line 3: d: to look at: it has been of 'Groß' since 2006-03-02, and not since 2005-01-01, which can't be with its "
-        "birth, its exit or its owner before",
+        "line 3: d: to look at: it has been of 'Groß' since 2006-03-02, and not since 2005-01-01, which can't be with "
+        "its birth, its exit or its owner before",
         "line 3: d: changed: birth day: 2006-03-02, before 2001-03-02",
     )
     assert desk.transfer_days() == ["2006-03-02"]
@@ -91,7 +91,9 @@ def test_day_by_hand_is_given(desk: Desk) -> None:
     desk.take(rows.format("Groß;2010;"))
     desk.good("transfer", "d", "--to", "Weiß", "--day", "2012-01-01")
     assert since(desk, "d") == "2012-01-01"
-    moved = "it has been of 'Weiß' since 2011-01-01, and not since 2012-01-01, which can't be with its birth, its exit or"
+    moved = (
+        "it has been of 'Weiß' since 2011-01-01, and not since 2012-01-01, which can't be with its birth, its exit or"
+    )
     desk.take(rows.format("Groß;2010;2011-01-01")).tells(f"line 3: d: to look at: {moved} its owner before")
 
 
@@ -117,7 +119,9 @@ def test_month_or_year_of_an_owner(desk: Desk) -> None:
     assert "owner since 2009-12-31, before 2009-12-31 (inferred)" in shown
     # a year that can't be after the owner before
     done = desk.take(rows.replace("Groß", "Lang").format("2003-05-02", "2001"))
-    told = "it has been of 'Lang' since 2002-12-31, and not since 2001-12-31, which can't be with its birth, its exit or"
+    told = (
+        "it has been of 'Lang' since 2002-12-31, and not since 2001-12-31, which can't be with its birth, its exit or"
+    )
     done.tells(f"line 3: d: to look at: {told} its owner before")
 
 
@@ -195,10 +199,6 @@ def test_owner_is_written_otherwise(desk: Desk) -> None:
     done = desk.good("import", "sheet.csv")
     done.shows(told)
     desk.wrong("the book has 'Meyer' too, as another owner", "import", "sheet.csv", "--owner", "Meier=Meyer")
-    other = desk.copy_to(desk.room.parent / "other")
-    other.good("birth", "c", "--sex", "f", "--day", "2012-03-04")
-    # where nobody else changed the book meanwhile
-    other.wrong("change 2 isn't the last that changed something, which is 3", "undo", "--change", "2")
     assert f"{CALLED} undo --change 2 && " in done.commands()[0]
     done = desk.typed(done.commands()[0])
     assert " 2 changed" in done.last
@@ -223,8 +223,9 @@ def test_owners_that_are_alike(desk: Desk) -> None:
     for _ in range(2):
         done = desk.take(TITLES + PARENTS + "\n".join(rows))
         done.shows(
-            "to look at: the owners 'Groß A' (1 animal) and 'Groß, A.' (1 animal) and 'gross a' (1 animal) differ in case, "
-            "accents, umlauts, blanks or signs alone: if they are one, write the name alike in all rows, and take the sheet again"
+            "to look at: the owners 'Groß A' (1 animal) and 'Groß, A.' (1 animal) and 'gross a' (1 animal) differ in "
+            "case, accents, umlauts, blanks or signs alone: if they are one, write the name alike in all rows, and take "
+            "the sheet again"
         )
         assert done.out.count("differ in case") == 2
     assert "differ in case" not in desk.take(TITLES + PARENTS).out

@@ -128,7 +128,9 @@ def test_animals_of_the_book_that_are_others(desk: Desk) -> None:
     """An id that the book has for another animal, many that have other birth days, sexes and parents than there, and a
     parent that is a name there: a pedigree isn't taken, unless that is wished."""
     rows = "".join(f"c{at};Cleo {at};f;2012-01-{at + 10};b;a\n" for at in range(9))
-    desk.take("id;name;sex;birth;sire;dam\n12;Berta;f;2015-01-01;;\na;Anna;f;2010-01-01;;\nb;Bob;m;2009-01-01;;\n" + rows)
+    desk.take(
+        "id;name;sex;birth;sire;dam\n12;Berta;f;2015-01-01;;\na;Anna;f;2010-01-01;;\nb;Bob;m;2009-01-01;;\n" + rows
+    )
     titles, take = "id sire dam sex birth\n", ("import", "--pedigree", "p.txt")
     desk.write("p.txt", titles + "12 0 0 M 1990-01-01\na 12 0 F 2010-01-01\n")
     done = desk.wrong("1 line has an id that the book has for another animal", *take, "--leave-out")
@@ -146,7 +148,9 @@ def test_animals_of_the_book_that_are_others(desk: Desk) -> None:
     assert "9 of 9 animals have other birth days" in desk.good(*take, "--preview").out
     assert " 9 changed" in desk.typed(done.commands()[-1]).last
     desk.write("p.txt", "x 0 anna\n")
-    done = desk.wrong("1 parent has no line and is the name of an animal of the book: anna (of x in line 1; is a meant?)", *take)
+    done = desk.wrong(
+        "1 parent has no line and is the name of an animal of the book: anna (of x in line 1; is a meant?)", *take
+    )
     desk.typed(done.commands()[-1])
     assert desk.parents()["x"] == ("", "a")
 

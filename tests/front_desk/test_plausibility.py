@@ -5,13 +5,16 @@ import datetime
 from types import SimpleNamespace
 from typing import cast
 
+import pytest
+
 from front_desk.desk import CALLED, Desk
+from front_desk.replayed import replay
 from gudokeyi.domain.animals import SocietyRecord
-from gudokeyi.domain.commands import birth, replay
+from gudokeyi.domain.commands import birth
 from gudokeyi.domain.kinds import Remembered, Role
 from gudokeyi.domain.provenance import BirthBasis, BirthSource
 from gudokeyi.reconcile.findings.plausibility import YoungParent
-from gudokeyi.reconcile.plausibility import young_parents
+from gudokeyi.reconcile.by_hand import young_parents
 from gudokeyi.services.filing import with_parents
 from gudokeyi.store.book import Book
 from gudokeyi.store.state import Meaning
@@ -63,6 +66,50 @@ def test_young_parents_by_hand() -> None:
     assert with_parents(book, calf._replace(birth=inferred), sire, dam).findings == ()
 
 
+FAMILY = (
+    "id;name;sex;birth;sire;dam;owner;exit\ns;Sultan;M;2001-03-01;;;Oak;2004-01-01\nw;;wether;2001-03-01;;;Oak;\n"
+    "d;;F;2002-03-02;;;Oak;\nc;Cora;F;2004-05-01;s;d;Oak;\ne;Zoe;F;2004-05-01;;;Oak;\nz;Zoé;F;2000-05-01;;;Oak;\n"
+)
+BIRTH = ("birth", "n", "--sex", "f", "--owner", "Oak")
+
+
+@pytest.mark.parametrize("words, told", [
+    (("--dam", "d", "--day", "2002-06-01"), "n: to look at: its dam d was 91 days old at its birth, less than 180"),
+    (("--dam", "c", "--day", "2004-06-01"), "n: to look at: its dam c was 31 days old at its birth, less than 180"),
+    (("--dam", "d", "--day", "2004-06-01"), "n: to look at: its dam d bore c 31 days before, less than 100"),
+    (("--dam", "d", "--day", "2004-04-01"), "c: to look at: its dam d bore n 30 days before, less than 100"),
+    (("--sire", "s", "--day", "2005-06-01"), "its sire s left on 2004-01-01, more than a year before its birth on 2005-06-01"),
+    (("--sire", "w", "--day", "2005-06-01"), "w: to look at: it is the sire of n, and the book has it as castrated"),
+    (("--name", "cora", "--day", "2004-05-01"), "n: to look at: c has its name and its birth day too"),
+    (("--dam", "z", "--day", "2006-06-01"), "z: to look at: its name is 'Zoé', and e is called 'Zoe': is that one meant?"),
+    (("--owner", "Oakk", "--day", "2006-06-01"), "n: to look at: the book had no owner 'Oakk' before: is 'Oak' meant?"),
+])  # fmt: skip
+def test_by_hand(desk: Desk, words: tuple[str, ...], told: str) -> None:
+    """What may be wrong is said before a birth is filed, by the rules of sheets; then it is filed where somebody says
+    so, and the history keeps both."""
+    desk.take(FAMILY)
+    desk.wrong(told, *BIRTH, *words)
+    done = desk.wrong("say --anyway to file it all the same", *BIRTH, *words)
+    assert done.err.count("to look at") == 1
+    assert told.replace("to look at: ", "") in desk.good(*BIRTH, *words, "--anyway").err
+    assert told in desk.good("history", "2").out
+    # what is there already isn't told again
+    desk.good("correct", "n", "--name", "Nora", *(["--anyway"] if "cora" in words else []))
+
+
+def test_corrected_by_hand(desk: Desk) -> None:
+    """A correction is looked at with all its offspring, and what the book has already isn't told."""
+    desk.take(FAMILY)
+    desk.wrong("c: to look at: its dam d was 30 days old at its birth", "correct", "d", "--born", "2004-04-01")
+    desk.wrong("c: to look at: its sire s left on 2003-01-01, more than a year", "correct", "s", "--exit", "2003-01-01")
+    desk.wrong("s: to look at: it is the sire of c, and the book has it as castrated", "correct", "s", "--castrated", "yes")
+    desk.wrong("c: to look at: the book had no owner 'oak' before", "correct", "c", "--owner", "oak")
+    desk.wrong("z: to look at: its name is 'Zoé', and e is called 'Zoe'", "parents", "c", "--dam", "z")
+    desk.good("correct", "s", "--castrated", "yes", "--anyway")
+    desk.good("correct", "s", "--name", "Sulla")
+    desk.good("exit", "c", "--day", "2005-01-01")
+
+
 def test_births_of_one_dam(desk: Desk) -> None:
     """Twins are born on one day or nearly; other births are months apart."""
     rows = PARENTS + "c1;M;2003-03-01;s;d;\nc2;F;2003-03-02;s;d;\nc3;F;2003-05-30;s;d;\n"
@@ -76,8 +123,8 @@ def test_births_of_one_dam(desk: Desk) -> None:
 def test_sire_that_left(desk: Desk) -> None:
     done = desk.take(TITLES + "s;M;2001-03-01;;;2005-01-01\nc1;F;2005-12-31;s;;\nc2;F;2006-01-02;s;;\n")
     done.tells(
-        "line 4: c2: to look at: its sire s (line 2) left on 2005-01-01, more than a year before its birth on 2006-01-02: "
-        "is it another sire, or frozen semen?"
+        "line 4: c2: to look at: its sire s (line 2) left on 2005-01-01, more than a year before its birth on "
+        "2006-01-02: is it another sire, or frozen semen?"
     )
     assert done.out.count("to look at") == 1
 
@@ -85,8 +132,8 @@ def test_sire_that_left(desk: Desk) -> None:
 def test_castrated_sire(desk: Desk) -> None:
     """It is told, and advice passes it over, also where a later sheet has no column for the sex."""
     rows = (
-        "w;Hammel;2001-03-01;;;\nv;Bock (kastriert);2001-03-01;;;\nr;ram;2001-03-01;;;\nd;ewe;2001-03-02;;;\nc1;ram;2003-03-01;w;d;\n"
-        "c2;ewe;2003-03-01;w;;\n"
+        "w;Hammel;2001-03-01;;;\nv;Bock "
+        "(kastriert);2001-03-01;;;\nr;ram;2001-03-01;;;\nd;ewe;2001-03-02;;;\nc1;ram;2003-03-01;w;d;\nc2;ewe;2003-03-01;w;;\n"
     )
     done = desk.take(TITLES + rows)
     done.tells("line 2: w: to look at: it is the sire of c1 (line 6) and of 1 more, and its sex is 'Hammel'")
@@ -112,8 +159,8 @@ def test_exits_withdrawn(desk: Desk) -> None:
     exits = [row["exit"] for row in desk.table("book/ids.csv")], desk.commands()
     done = desk.take(TITLES + "\n".join([*(row.rpartition(";")[0] + ";" for row in rows[:3]), *rows[3:]]))
     done.shows(
-        "to look at: 3 animals that had left count as living again, the first are a1 (line 2), a2 (line 3), a3 (line 4): "
-        "does the column of exits lack theirs?"
+        "to look at: 3 animals that had left count as living again, the first are a1 (line 2), a2 (line 3), a3 (line "
+        "4): does the column of exits lack theirs?"
     )
     desk.typed(done.commands()[0])
     assert ([row["exit"] for row in desk.table("book/ids.csv")], desk.commands()) == exits
@@ -123,8 +170,8 @@ def test_old_animal_as_living(desk: Desk) -> None:
     rows = "old;F;1981-03-01;;;\n" + "".join(f"a{at};F;20{at:02}-03-01;;;\n" for at in range(15))
     done = desk.take(TITLES + rows)
     done.tells(
-        "line 2: old: to look at: born 1981-03-01, it counts as living, 25 years older than half of those that do (2006): "
-        "has it left?"
+        "line 2: old: to look at: born 1981-03-01, it counts as living, 25 years older than half of those that do "
+        "(2006): has it left?"
     )
     assert done.out.count("to look at") == 1
     assert "25 years older" not in desk.take(TITLES + rows.partition("\n")[2]).out

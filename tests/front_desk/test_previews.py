@@ -41,15 +41,17 @@ def test_exit_against_the_book(desk: Desk) -> None:
 
 
 def test_many_refusals_of_one_cause(desk: Desk) -> None:
-    """One ram of the wrong sex is told in one sentence, with its line first; the report has each."""
+    """An ewe that is a sire in some rows is told in one sentence, with its line first; the report has each."""
     rows = "s;F;2001-03-01;;;;\n" + "".join(f"c{at};F;2004-01-01;s;;;\n" for at in range(10))
     rows += "t;F;2001-03-01;;;;\n" + "".join(f"d{at};F;2004-01-01;t;;;\n" for at in range(3))
+    # what more of its offspring say is what it is
+    rows += "".join(f"e{at}{dam};F;{2003 + at}-02-01;;{dam};;\n" for at in range(10) for dam in "st")
     done = desk.take(TITLES + rows)
     done.tells(
-        "line 2: s: it isn't male (refusal 5): it is left out as the sire of 10 animals (lines 3, 4, 5, 6, 7, 8, 9, 10, 11 "
-        "and 1 more): if it is, mend its sex",
-        "line 13: t: it isn't male (refusal 5): it is left out as the sire of 3 animals (lines 14, 15, 16): if it is, mend its "
-        "sex",
+        "line 2: s: it isn't male (refusal 5): it is left out as the sire of 10 animals (lines 3, 4, 5, 6, 7, 8, 9, "
+        "10, 11 and 1 more): if it is, mend its sex",
+        "line 13: t: it isn't male (refusal 5): it is left out as the sire of 3 animals (lines 14, 15, 16): if it is, "
+        "mend its sex",
     )
     assert done.out.count("refusal 5") == 2
     assert sum(row["what"] == "left out" for row in desk.table("book/report.csv")) == 13

@@ -52,8 +52,8 @@ def test_list_of_some(society_desk: Desk) -> None:
 
 
 def test_edges_of_choices(desk: Desk) -> None:
-    """First and last days, days of which the year isn't known, exits without a day, animals that were filed, and parents
-    without a row."""
+    """First and last days, days of which the year isn't known, exits without a day, animals that were filed, and
+    parents without a row."""
     desk.take(
         """
         id,sex,birth,sire,dam,owner,exit

@@ -1,13 +1,22 @@
 """Certificates of many animals in one file, with the society's name, the day of issue and common ancestors."""
 from __future__ import annotations
 
+import collections
+import contextlib
 import itertools
 import re
+import sqlite3
+import subprocess
 import xml.etree.ElementTree as xml
+from collections.abc import Collection
+
+import pytest
 
 from front_desk.desk import Desk
+from gudokeyi.render.certificates import lines_of
 from gudokeyi.render.pedigree_boxes import letters, letters_named
 
+NOT_KNOWN = "not known"
 XHTML = "{http://www.w3.org/1999/xhtml}"
 
 
@@ -38,6 +47,99 @@ def test_many(society_desk: Desk) -> None:
     assert titles(society_desk) == [row["id"] for row in wanted] and len(wanted) > 30
     society_desk.wrong("certificate needs animals", "certificate")
     society_desk.wrong("not both", "certificate", "GK-17/472c", "--living")
+
+
+def certified(desk: Desk, numbers: Collection[str]) -> dict[str, dict[str, str]]:
+    """What the program itself writes of the book's journal: each certificate's words, by the animals' numbers."""
+    text = subprocess.run(
+        [desk.program, "certificate", *numbers], input=desk.text("book/commands.csv"), capture_output=True, text=True,
+        check=True,
+    ).stdout  # fmt: skip
+    facts = [dict(line.split(" ", 1) for line in f"animal {one}".splitlines()) for one in text.split("animal ")[1:]]
+    return {one["animal"]: one for one in facts}
+
+
+@pytest.mark.parametrize("generations", [3, 4, 5])
+def test_each_line_is_the_programs(society_desk: Desk, generations: int) -> None:
+    """Each fact of an animal on a certificate that the register knows is one that the program writes."""
+    society_desk.good("transfer", "GK-17/472c", "--to", "Upper Mill", "--day", "2023-05-01")
+    society_desk.good("exit", "GK-18/486b", "--day", "2024-01-01")
+    listed = {row["number"]: row for row in society_desk.listed("list", "--columns", "+owner")}
+    numbers = {row["id"]: number for number, row in listed.items()}
+    told, ids = certified(society_desk, listed), ["GK-17/472c", "GK-18/486b", *list(numbers)[::40]]
+    society_desk.good("certificate", *dict.fromkeys(ids), "--out", "page.html", "--generations", str(generations))
+    counts = collections.Counter[str]()
+    for id, page in zip(dict.fromkeys(ids), pages(society_desk), strict=True):
+        own = told[numbers[id]]
+        check_facts(page, own, listed[numbers[id]]["owner"], counts)
+        drawn = [letters for line in lines_of(generations) for letters in line]
+        for letters, cell in zip(drawn, page.iter(f"{XHTML}td"), strict=True):
+            number, counts[letters] = own["animal"], counts[letters] + 1
+            for letter in letters:
+                number = told[number][letter] if number != "0" else "0"
+            assert bool(classed(cell, "unknown")) == (number == "0")
+            if number != "0":
+                check_ancestor(cell, told[number], listed[number]["id"], counts, generations < 5 or len(letters) <= 3)
+    assert counts["left"] and counts["since"] and counts["inbred"] > 5 and counts["ancestor"] > 40
+
+
+def check_facts(page: xml.Element, own: dict[str, str], owner: str, counts: collections.Counter[str]) -> None:
+    """The animal's own lines, each behind its term."""
+    terms, facts = ([words(one) for one in page.iter(f"{XHTML}{name}")] for name in ("dt", "dd"))
+    shown = dict(zip(terms, facts, strict=True))
+    assert shown["Number"] == own["animal"] and shown["Owner"] == (owner or NOT_KNOWN)
+    assert shown["Sex"].startswith(own["sex"]) and shown["Born"].startswith(own["born"])
+    nothing = ("has not left", "has left, day unknown")
+    for word, term, none in ("left", "Left", nothing), ("since", "Owner since", (NOT_KNOWN,)):
+        is_said = shown[term] not in none
+        assert shown[term].startswith(own[word]) if is_said else word == "since" or own[word] == "-"
+        counts[word] += is_said
+    (coefficient,) = classed(page, "coefficient")
+    fraction, percent = own["inbreeding"].split()
+    assert words(next(coefficient.iter(f"{XHTML}b"))) == f"{percent}%"
+    assert words(next(coefficient.iter(f"{XHTML}small"))).split(" = ")[0] == fraction
+
+
+def check_ancestor(
+    cell: xml.Element, told: dict[str, str], id: str, counts: collections.Counter[str], has_day: bool
+) -> None:
+    """The lines of an ancestor that stand in its cell: its birth day, or the year alone, and its coefficient."""
+    assert words(next(cell.iter(f"{XHTML}b"))).startswith(id)
+    (line,) = classed(cell, "line")
+    fraction, percent = told["inbreeding"].split()
+    assert words(line).startswith(told["born"] if has_day else told["born"][:4]) or "inferred" in words(cell)
+    assert words(line).endswith(f"F {percent}%" if fraction != "0" else "F 0%")
+    assert [words(one) for one in classed(cell, "inbred")] == [f"F {percent}%"] * (fraction != "0")
+    counts["ancestor"] += 1
+    counts["inbred"] += fraction != "0"
+
+
+def test_one_run(society_desk: Desk) -> None:
+    """The program is run once for certificates, of however many animals."""
+    script = f'#!/bin/sh\necho "$1" >> "{society_desk.room}/runs"\nexec {society_desk.program} "$@"\n'
+    counting = society_desk.room / society_desk.write("counting", script)
+    counting.chmod(0o755)
+    done = society_desk.run("certificate", "--living", program=str(counting))
+    assert done.status == 0 and len(titles(society_desk)) > 300
+    assert society_desk.text("runs").split().count("certificate") == 1
+
+
+def edit(desk: Desk, text: str) -> None:
+    """Somebody writes something else of an animal into the database."""
+    with contextlib.closing(sqlite3.connect(desk.room / "book/book.sqlite")) as connection:
+        connection.execute(f"UPDATE animal SET {text} WHERE id = 'GK-17/472c' AND until IS NULL")
+        connection.commit()
+
+
+def test_not_of_the_database(society_desk: Desk) -> None:
+    """What the database has otherwise of an animal isn't printed, and an ancestor that it lacks is told."""
+    society_desk.good("certificate", "GK-17/472c", "--out", "before.html")
+    edit(society_desk, "born = '2017-11-20', departed = '2024-01-01', embryo = 1")
+    society_desk.good("certificate", "GK-17/472c", "--out", "after.html")
+    assert society_desk.text("before.html") == society_desk.text("after.html")
+    edit(society_desk, "sire = NULL")
+    told = "as an ancestor, and the book doesn't"
+    society_desk.wrong(told, "certificate", "GK-17/472c", "--out", "wrong.html")
 
 
 def test_society(society_desk: Desk) -> None:

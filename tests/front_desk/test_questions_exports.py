@@ -25,7 +25,8 @@ def test_export(society_desk: Desk) -> None:
 
 
 def test_export_of_what_is_inferred(desk: Desk) -> None:
-    """Who is castrated, and who left on an unknown day, is so in the book that takes it, and inferred days are so too."""
+    """Who is castrated, and who left on an unknown day, is so in the book that takes it, and inferred days are so
+    too."""
     desk.take("""\
         id,sex,birth,sire,dam,exit
         A,f,2001-02-01,,,sold
@@ -51,7 +52,11 @@ def test_export_of_what_is_inferred(desk: Desk) -> None:
     desk.good("import", "all.csv", "--book", "new")
     # so are sexes, but for that of a sire that is taken without its offspring
     bases = [[row["sex_from"] for row in desk.listed("export", "--book", book)] for book in ("book", "new")]
-    assert bases[0] == bases[1] and {*bases[0]} > {"since it is a sire", "since it is a dam", "since nothing else is known"}
+    assert bases[0] == bases[1] and {*bases[0]} > {
+        "since it is a sire",
+        "since it is a dam",
+        "since nothing else is known",
+    }
     kept = desk.listed("export", "--keep", desk.write("kept.txt", "G\n"))
     assert [(row["id"], row["sex"], row["inferred_sex"]) for row in kept] == [("G", "M", "M")]
     shown = [desk.good("list", "--columns", "id,sex,birth,exit", "--book", book).out for book in ("book", "new")]

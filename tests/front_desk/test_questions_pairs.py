@@ -140,8 +140,8 @@ def test_too_many_pairs() -> None:
 
 
 def test_refused_matings(desk: Desk) -> None:
-    """A calf with 61 steps behind it is refused by the program, and isn't in the table; where each sire that is named is
-    refused the status tells it."""
+    """A calf with 61 steps behind it is refused by the program, and isn't in the table; where each sire that is named
+    is refused the status tells it."""
     lines = ["id,birth,sex,sire,dam", "A0,1930-01-01,m,,", "B,1930-01-01,f,,", "C,2001-01-01,m,,"]
     for at in range(1, 61):
         # sires and dams in turn
@@ -162,8 +162,8 @@ def test_refused_matings(desk: Desk) -> None:
 
 
 def test_who_may_be_mated(desk: Desk) -> None:
-    """Advice, tables and plans take the same animals: living ones that have a row, and no castrated ones, which are told;
-    whoever is named is taken."""
+    """Advice, tables and plans take the same animals: living ones that have a row, and no castrated ones, which are
+    told; whoever is named is taken."""
     rows = """
         id,sex,birth,sire,dam,exit
         dam,ewe,2001-03-01,,,

@@ -85,7 +85,8 @@ def test_very_long_names() -> None:
 
 
 def test_short_ids(desk: Desk) -> None:
-    """They stand whole beside the coefficient and a letter, also in the lowest boxes, and where a percentage is wide."""
+    """They stand whole beside the coefficient and a letter, also in the lowest boxes, and where a percentage is
+    wide."""
     desk.take(full_sibs(9, "GK-00"))
     desk.good("pedigree", "GK-009f", "--generations", "5", "--language", "fr", "--out", "tree.svg")
     boxes = [box for box in desk.page("tree.svg").iter(f"{SVG}svg") if box.get("x")]

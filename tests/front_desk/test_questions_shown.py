@@ -90,7 +90,7 @@ def test_show_all(desk: Desk) -> None:
 def test_show_history(society_desk: Desk) -> None:
     """Each change of the animal and what was told of it, also a refused one; of others nothing."""
     society_desk.good("transfer", "GK-17/472c", "--to", "New Farm", "--day", "2020-01-01")
-    assert society_desk.run("exit", "GK-17/472c", "--day", "2001-01-01").status == 1
+    assert society_desk.run("exit", "GK-17/472c", "--day", "2001-01-01").status == 3
     society_desk.good("exit", "GK-18/486b", "--day", "2021-01-01")
     told = society_desk.good("show", "GK-17/472c").out.partition("\nhistory\n")[2].splitlines()
     assert [line.split()[0] for line in told if line[2] != " "] == ["1", "2", "3"]

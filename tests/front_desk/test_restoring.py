@@ -21,6 +21,10 @@ from gudokeyi.store.exports import LAST_BACKUP, LastBackup, last_backup, remembe
 from gudokeyi.store.transactions import reading
 
 
+# what a book keeps of animals and owners beside the register
+BESIDE = ("note", "own_column", "own_value", "member")
+
+
 def changed(desk: Desk, name: str, *statements: str) -> None:
     """A backup as somebody else wrote it."""
     path = shutil.copyfile(desk.room / "copy", desk.room / name)
@@ -45,7 +49,10 @@ def test_backup(flock_desk: Desk) -> None:
     changed(flock_desk, "changed", "UPDATE command SET refusal = 5 WHERE place = 3")
     flock_desk.wrong("changed: the program's reply to command 3", "restore", "changed", "--book", "other")
     # one that the version before made, with pages of another size
-    changed(flock_desk, "earlier", "DROP INDEX change_form", "ALTER TABLE change DROP COLUMN form",
+    changed(flock_desk, "earlier", *(f"DROP VIEW {view}" for view in ("animals", "commands", "coefficients")),
+            *(f"DROP TABLE {table}" for table in ("published_seal", "former_id", "request", *BESIDE)),
+            "DROP INDEX animal_digits", "ALTER TABLE animal DROP COLUMN exit_reason",
+            "DROP INDEX change_form", "ALTER TABLE change DROP COLUMN form",
             "PRAGMA user_version = 1", "PRAGMA page_size = 8192", "VACUUM")  # fmt: skip
     flock_desk.good("restore", "earlier", "--book", "other")
     assert flock_desk.good("list", "--book", "other").out == listed
@@ -77,7 +84,7 @@ def test_backups_that_are_none(flock_desk: Desk, monkeypatch: pytest.MonkeyPatch
         ("empty", "", "has no book: name a backup"),
         ("acts", "CREATE TRIGGER acts AFTER INSERT ON owner BEGIN SELECT 1; END", "has triggers or views"),
         ("shows", "CREATE VIEW shows AS SELECT 1", "has triggers or views"),
-        ("lacks", "DROP TABLE given_option", "can't be restored"),
+        ("lacks", "DROP TABLE given_option", "has other tables than a herd book"),
     ]:
         if statement:
             changed(flock_desk, name, statement)

@@ -33,7 +33,9 @@ def test_look_alike_letters() -> None:
     letters = [one for others in LOOK_LIKE.values() for one in others]
     assert len({*letters}) == len(letters) > 100 and not any(one.isascii() for one in letters)
     for letter, others in LOOK_LIKE.items():
-        assert all(latin(form).casefold() == letter.casefold() for one in others for form in (one, one.upper(), one.lower()))
+        assert all(
+            latin(form).casefold() == letter.casefold() for one in others for form in (one, one.upper(), one.lower())
+        )
 
 
 @pytest.mark.parametrize(("one", "other"), OTHERS)
@@ -50,8 +52,12 @@ def test_the_likeliest_id_is_meant() -> None:
 def test_each_of_many_ids_is_found() -> None:
     """One is found of all where one by one has a spelling of the text."""
     draw = random.Random(8)
-    ids = {"".join(draw.choice("01.oIaA-/ e") for _ in range(draw.randint(1, 5))) + draw.choice("1a") for _ in range(300)}
-    texts = {"".join(draw.choice("01.oIaA-/ e") for _ in range(draw.randint(1, 5))) + draw.choice("1a") for _ in range(300)}
+    ids = {
+        "".join(draw.choice("01.oIaA-/ e") for _ in range(draw.randint(1, 5))) + draw.choice("1a") for _ in range(300)
+    }
+    texts = {
+        "".join(draw.choice("01.oIaA-/ e") for _ in range(draw.randint(1, 5))) + draw.choice("1a") for _ in range(300)
+    }
     spelled, found = {id: {*spellings(id)} for id in ids}, 0
     for text in texts - ids:
         meant, alike = Spellings(ids).meant(text), {id for id in ids if spelled[id] & {*spellings(text)}}

@@ -30,25 +30,21 @@ def test_remembered(desk: Desk) -> None:
     assert desk.commands() == before
     assert " 0 left out, 0 added" in done.last
     done = desk.take(sheet.replace(";S;", ";sex;"), "--sexes", "Schf=m,Bk=f")
-    assert desk.numbers()["1"][6] == "F"
+    assert desk.numbers()["3"][6] == "M"
     assert "--columns id=Tag,sex=S, --unknown fremd" in done.out
     desk.wrong("there is no column 'X', which --columns names for id", "import", "sheet.csv", "--columns", "id=X")
 
 
-def test_parent_by_hand_that_is_left_out(desk: Desk) -> None:
-    """A sheet's mistyped sex, by which a parent filed by hand is impossible, takes it away as long as it stands there:
-    also from an animal that was filed by hand and has no row."""
+def test_parent_by_hand_with_a_mistyped_sex(desk: Desk) -> None:
+    """It stays one, as the book and its offspring say: also of an animal that was filed by hand and has no row."""
     sheet = "id,sex,birth,sire,dam\nA2,m,2001-01-01,,\nA3,m,2001-01-01,,\nB1,f,2005-01-01,A2,\n"
     desk.take(sheet)
     desk.good("parents", "B1", "--sire", "A3")
     desk.good("birth", "C1", "--sex", "f", "--day", "2006-01-01", "--sire", "A3")
-    desk.take(sheet.replace("A3,m", "A3,f")).tells(
-        "line 4: B1: its sire A3 (line 3) is left out: it isn't male (refusal 5)",
-        "C1: its sire A3 (line 3) is left out: it isn't male (refusal 5)",
-    )
-    assert desk.parents() == {"A2": ("", ""), "A3": ("", ""), "B1": ("", ""), "C1": ("", "")}
-    done = desk.take(sheet)
-    assert desk.parents()["B1"] == ("A3", "") == desk.parents()["C1"] and " 0 left out" in done.last
+    for text in sheet.replace("A3,m", "A3,f"), sheet:
+        done = desk.take(text)
+        assert ("its sex 'f' is wrong, or its offspring are: it is the sire of 2 animals" in done.out) == (text != sheet)
+        assert desk.parents()["B1"] == ("A3", "") == desk.parents()["C1"] and " 0 left out" in done.last
 
 
 def test_many_lines(desk: Desk) -> None:
@@ -59,8 +55,8 @@ def test_many_lines(desk: Desk) -> None:
     )
     done = desk.take("id;sex;born;sire;dam;exit\n" + rows, "--semicolons")
     done.tells(
-        "line 41: 39: its exit is left out: 'sold 39' has no single day with a year of four digits; the animal counts as "
-        "gone",
+        "line 41: 39: its exit is left out: 'sold 39' has no single day with a year of four digits; the animal counts "
+        "as gone",
         "line 42: mate: its sire dam (line 43) is left out: it isn't male (refusal 5)",
     )
     text = (desk.room / "book/report.csv").read_bytes()

@@ -6,8 +6,9 @@ import datetime
 from types import SimpleNamespace
 from typing import Any, cast
 
+from front_desk.replayed import record_after
 from gudokeyi.domain.animals import SocietyRecord
-from gudokeyi.domain.commands import birth, record_after
+from gudokeyi.domain.commands import birth
 from gudokeyi.domain.findings import Report, What
 from gudokeyi.domain.kinds import CELL_FIELDS, ChangeKind, CommandKind, Field, Role, Standing
 from gudokeyi.domain.provenance import BirthBasis, BirthSource, ExitBasis, ExitSource, OwnerDay, SexSource
@@ -48,7 +49,9 @@ def test_numbers_of_a_taking() -> None:
     def book(former: dict[str, str], *known: SocietyRecord, dropped: tuple[SocietyRecord, ...] = ()) -> Book:
         parts = ({one.id: one for one in some} for some in (known, dropped))
         first = next(iter([*(one.registration_number for one in known), *former.values()]), "")
-        found = dict(zip(("known", "dropped"), parts), former_numbers=lambda: former, greatest_digits=lambda: 7)
+        found = dict(
+            zip(("society_records", "dropped"), parts), former_numbers=lambda: former, greatest_digits=lambda: 7
+        )
         return cast(Book, SimpleNamespace(**found, connection=empty(), first_number=lambda: first))
 
     new = ("b", 2001), ("c", 2000), ("a", 2001)
@@ -70,7 +73,7 @@ def next_book(
     """Of one animal, without parents in the book, and the columns that a sheet gives."""
     records = {NUMBER: record_after(None, birth(NUMBER, BORN, "", "", 1, False))}
     before = {known.id: known} if known else {}
-    book = SimpleNamespace(known=before, dropped={}, records=records, by_number=dict)
+    book = SimpleNamespace(society_records=before, dropped={}, records=records, by_number=dict)
     return NextBook(cast(Book, book), {animal.id: animal} if animal else {}, {*given}, Report(), DAYS, is_pedigree)
 
 
@@ -125,7 +128,9 @@ def test_what_an_animal_is_after_a_taking() -> None:
 def test_cells_after_a_pedigree() -> None:
     """A sheet's stay where the pedigree says the same, or has no such column."""
     cells = {"sire": "", "dam": "e"}
-    one = next_book(SheetAnimal("a", 2, cells=cells), SocietyRecord(NUMBER, "e", "Eva"), "sire", "dam", is_pedigree=True)
+    one = next_book(
+        SheetAnimal("a", 2, cells=cells), SocietyRecord(NUMBER, "e", "Eva"), "sire", "dam", is_pedigree=True
+    )
     before = dict(zip(CELL_FIELDS, ("Anna", "f", "2001", "?", "eva", "Nord", None, "sold", "")))
     for dam, after in (("eva", "eva"), ("Ada", "e")):
         one.book.cells = {("a",): ("a", *(before | {Field.DAM: dam}).values())}

@@ -21,21 +21,26 @@ SHEETS = {
         "KC2;Brise;jument;09/01/2005;;;\nKC3;Noé;hongre;10/01/2008;KC1;KC2;vendu le 13/02/2012\n"
     ),
     "brackets": (
-        "Tattoo No.;Geschlecht (m/w);Date born;Vater (LNr.);Mère (SIRE);Current owner;Date left\nKC1;m;2005-01-08;;;Groß;\n"
-        "KC2;w;2005-01-09;;;Groß;\nKC3;m;2008-01-10;KC1;KC2;Groß;2012-01-01\n"
+        "Tattoo No.;Geschlecht (m/w);Date born;Vater (LNr.);Mère (SIRE);Current owner;Date "
+        "left\nKC1;m;2005-01-08;;;Groß;\nKC2;w;2005-01-09;;;Groß;\nKC3;m;2008-01-10;KC1;KC2;Groß;2012-01-01\n"
     ),
     "names of parents": (
-        "Nr;Hund;Sex;geb.;Name Vater;Name Mutter\n1;KC1;m;2005-01-08;;\n2;KC2;f;2005-01-09;;\n3;KC3;m;2008-01-10;KC1;KC2\n"
+        "Nr;Hund;Sex;geb.;Name Vater;Name "
+        "Mutter\n1;KC1;m;2005-01-08;;\n2;KC2;f;2005-01-09;;\n3;KC3;m;2008-01-10;KC1;KC2\n"
     ),
 }
 
 
+# no id is guessed from names
+SAID = {"litters": ["--columns", "id=Registered Name"]}
+
+
 @pytest.mark.parametrize("kind", SHEETS)
 def test_titles(desk: Desk, kind: str) -> None:
-    done = desk.take(SHEETS[kind])
-    assert desk.parents()["KC3"] == ("KC1", "KC2")
-    assert desk.born()["KC3"] == "2008-01-10"
-    assert ("not read" in done.out) == (kind == "names of parents")
+    desk.take(SHEETS[kind], *SAID.get(kind, []))
+    ids = ("1", "2", "3") if kind == "names of parents" else ("KC1", "KC2", "KC3")
+    assert desk.parents()[ids[2]] == ids[:2]
+    assert desk.born()[ids[2]] == "2008-01-10"
 
 
 def test_name_of_an_owner(desk: Desk) -> None:

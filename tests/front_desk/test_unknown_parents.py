@@ -9,8 +9,8 @@ from gudokeyi.ingest.words import is_error_value
 
 TITLES = "id;sex;birth;sire;dam\n"
 UNKNOWN = (
-    "<NA>, NN, n.n., N.N., n.b., k. A., k.A., nicht bekannt, unbekannt, not known, Not recorded, n/a, none, unk, inconnu, "
-    "inconnue, -1, -9, *, 00, 0, 000, ?, -, --, ."
+    "<NA>, NN, n.n., N.N., n.b., k. A., k.A., nicht bekannt, unbekannt, not known, Not recorded, n/a, none, unk, "
+    "inconnu, inconnue, -1, -9, *, 00, 0, 000, ?, -, --, ."
 ).split(", ")
 ERRORS = "#REF! #BEZUG! #N/A #NV #WERT! #VALUE! #VALEUR! #NAME? #NOM? #DIV/0! #ZAHL! #NULL! Err:502 ####".split()
 
@@ -50,7 +50,9 @@ def test_single_commands(desk: Desk) -> None:
 
 def test_words_of_the_book(desk: Desk) -> None:
     """Pedigrees and commands by hand have those that sheets named, and those of the settings, as sheets do."""
-    desk.take(TITLES + "s;M;2001-01-01;;\nNN;F;2001-01-01;;\nc;F;2004-01-01;s;NN\n", "--known", "NN", "--unknown", "fremd")
+    desk.take(
+        TITLES + "s;M;2001-01-01;;\nNN;F;2001-01-01;;\nc;F;2004-01-01;s;NN\n", "--known", "NN", "--unknown", "fremd"
+    )
     desk.good("settings", "--unknown", "Nemo, Extern", "--breed", "SKU", "--country", "CHE")
     desk.good("birth", "n", "--sex", "f", "--day", "2020-01-01", "--sire", "nemo", "--dam", "NN")
     assert desk.numbers()["n"][:6] == "SKUCHE"

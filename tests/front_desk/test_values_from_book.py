@@ -6,8 +6,9 @@ import datetime
 from types import SimpleNamespace
 from typing import Any, cast
 
+from front_desk.replayed import record_after
 from gudokeyi.domain.animals import SocietyRecord
-from gudokeyi.domain.commands import RegisterRecord, birth, record_after
+from gudokeyi.domain.commands import RegisterRecord, birth
 from gudokeyi.domain.findings import Finding, Report
 from gudokeyi.domain.kinds import CELL_FIELDS, Field
 from gudokeyi.domain.provenance import GIVEN_EXIT, BirthBasis, BirthSource, ExitBasis, ExitSource, SexSource
@@ -39,7 +40,7 @@ def kept(
     names = {SIRE: SocietyRecord(SIRE, "s"), DAM: SocietyRecord(DAM, "d"), NUMBER: known}
     cells = {("a",): ("a", *map(cast(Any, last).get, CELL_FIELDS))} if last is not None else {}
     book = SimpleNamespace(
-        known={one.id: one for one in names.values()}, records={NUMBER: record}, by_number=lambda: names, cells=cells,
+        society_records={one.id: one for one in names.values()}, records={NUMBER: record}, by_number=lambda: names, cells=cells,
         respelt=str, owner_of=OWNERS.__getitem__, connection=empty(),
     )  # fmt: skip
     report, given = Report(), {field.value for field in Field if field not in lacks}

@@ -37,7 +37,8 @@ def changes_of(folder: pathlib.Path) -> int:
 
 
 def known(desk: Desk, **more: str) -> dict[str, str]:
-    return {"PATH": os.environ["PATH"], "HERDBOOK": desk.program, "LANG": "C", **more}
+    kept = {name: os.environ[name] for name in ("PATH", "GUDOKEYI_NUMBERS")}
+    return {**kept, "HERDBOOK": desk.program, "LANG": "C", **more}
 
 
 def start(desk: Desk, *words: str, before: Callable[[], None] | None = None, **more: str) -> subprocess.Popen[bytes]:

@@ -123,6 +123,38 @@ def test_mating(book: Book) -> None:
     assert refused == {"a1": gudokeyi.MatingFault.SIRE_NOT_MALE}
 
 
+def test_breed(book: Book) -> None:
+    """The measures of those who are asked for, by their ids: shares and mean kinships are fractions."""
+    state = book.breed(among=["a14", "a15"])
+    assert state.population == ("a14", "a15") and state.measures["animals"].value == 2
+    both = book.kinships(["a14", "a15"])
+    mean = sum(pair.kinship * (1 if pair.one == pair.other else 2) for pair in both) / 4
+    assert state.measures["mean_kinship"].exact == mean == sum(state.mean_kinships.values()) / 2
+    assert sum(one.share for one in state.founders) == 1 and state.mean_kinships.keys() == {"a14", "a15"}
+    born = (DAY.replace(year=2002), DAY.replace(year=2004))
+    assert book.breed(born=born).population == tuple(animal.id for animal in book.list(born=born))
+    assert set(book.breed(owner="farm 1").population) == {
+        animal.id for animal in book.list(living=True, owner="farm 1")
+    }
+    with pytest.raises(gudokeyi.Mistake, match="the book has none of these animals"):
+        book.breed(among=[])
+    with pytest.raises(gudokeyi.OwnerNotFound):
+        book.breed(owner="nobody")
+
+
+def test_plan(book: Book) -> None:
+    """Each dam has the sire that a plan by all pairs has, and what bounds leave open is assumed and said."""
+    plan = book.plan(["a13", "a15"], ["a12", "a14"], gudokeyi.PlanRules(most_for_a_sire=None))
+    by_dam = {dam: book.mating(dam, ["a12", "a14"]).matings for dam in ("a13", "a15")}
+    assert [(one.dam, one.coefficient) for one in plan.matings] == [(dam, by_dam[dam][0].coefficient) for dam in by_dam]
+    assert (
+        plan.mean == sum(one.coefficient.value for one in plan.matings) / 2 and plan.allowed == 4 and not plan.unmated
+    )
+    refused = book.plan(["a15"], ["a14"], gudokeyi.PlanRules(at_most=Fraction(-1)))
+    assert not refused.matings and refused.mean is None and refused.unmated == {"a15": gudokeyi.Unmated.ABOVE}
+    assert any("no sire has more than" in one for one in book.plan().assumed)
+
+
 def test_kinships(book: Book) -> None:
     pairs = book.kinships(["a8", "a9"])
     assert {(one.one, one.other): one.relationship for one in pairs} == {
@@ -238,7 +270,8 @@ def test_unusable(book: Book, tmp_path: pathlib.Path) -> None:
 
 
 def test_long_cells(book: Book, tmp_path: pathlib.Path) -> None:
-    """A cell that is longer than Python's module reads is told as one that is too long, also where no process is set."""
+    """A cell that is longer than Python's module reads is told as one that is too long, also where no process is
+    set."""
     from gudokeyi.domain.messages import Mistake
     from gudokeyi.ingest.pedigree_files import first_cell, given_file, read_lines
 

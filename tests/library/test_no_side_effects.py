@@ -67,12 +67,20 @@ except AttributeError as error:
 
 
 def test_page(tmp_path: pathlib.Path) -> None:
-    """`python -m pydoc gudokeyi` shows the door as a page: what it is for, the book with its methods, and the mistakes."""
+    """`python -m pydoc gudokeyi` shows the door as a page: what it is for, the book with its methods, and the
+    mistakes."""
     source = pathlib.Path(gudokeyi.__file__).resolve().parents[1]
     environment = {"PYTHONPATH": str(source), "PAGER": "cat"}
     asked = [sys.executable, "-m", "pydoc", "gudokeyi"]
     page = subprocess.run(asked, env=environment, cwd=tmp_path, capture_output=True, text=True).stdout
-    for text in ("Book.open(\"book\")", "class Book(", "mating(self, dam", "AnimalNotFound", "class ImportOptions(", "2^-120"):
+    for text in (
+        'Book.open("book")',
+        "class Book(",
+        "mating(self, dam",
+        "AnimalNotFound",
+        "class ImportOptions(",
+        "2^-120",
+    ):
         assert text in page, text
     # each public method and value says what it is
     for name in gudokeyi.__all__[1:]:

@@ -20,6 +20,8 @@ def each_order() -> list[list[str]]:
         ["relationships", animal("M", 7), animal("F", 6), "--with", animal("M", 21), animal("F", 8), animal("F", 999)],
         ["records"],
         ["records", animal("M", 7), animal("M", 1), animal("M", 7)],
+        ["seal"],
+        ["sealed", animal("M", 7)],
         ONE_CLERK,
         ["clerks", "--desks", "3", "--base", "44"],
     ]
@@ -34,4 +36,4 @@ def long_orders(dam: str, sires: list[str]) -> list[list[str]]:
 def order_names() -> list[str]:
     """The orders, as help lists them."""
     of_books = [*dict.fromkeys(words[0] for words in each_order())]
-    return [*of_books[:-1], "pedigree", of_books[-1], "session"]
+    return [*of_books[:-1], "check", "pedigree", of_books[-1], "session"]

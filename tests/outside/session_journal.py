@@ -5,6 +5,7 @@ from collections import defaultdict
 from collections.abc import Iterator
 
 import reference
+import reference_seal
 from outside.session_client import Answer, Client
 from outside.session_requests import Request
 
@@ -62,7 +63,7 @@ class JournalChecks:
 
     def faults(self) -> None:
         """Each wrong request has its fault, and no other has one, unless it asks about an animal that isn't there."""
-        of_animals = (("certificate",), ("coefficient",), ("record",))
+        of_animals = (("certificate",), ("coefficient",), ("record",), ("sealed",))
         for request, answer in self.pairs():
             told = answer.lines[0].removeprefix("fault,") if answer.lines[0].startswith("fault,") else None
             absent = told == "NotRegistered" and request.question()[:1] in of_animals
@@ -114,15 +115,27 @@ class JournalChecks:
             self.texts.clear()
 
     def compare(self, request: Request, answer: Answer) -> None:
-        question = request.question()
-        if answer.steps() is None:
+        question, steps = request.question(), answer.steps()
+        if steps is None:
             if all(number in self.book.animals for number in question[1:]):
                 self.mistakes.append(f"{request}: {answer.lines}, though the animals are there")
             return
-        if question not in self.texts:
-            self.texts[question] = self.text(*question)
-        if answer.text() != self.texts[question]:
-            self.mistakes.append(f"{request}: {answer.text()!r}, not {self.texts[question]!r}")
+        if question[0] in ("seal", "sealed"):
+            wanted = self.sealed(steps, *question[1:])
+        else:
+            wanted = self.texts[question] = self.texts.get(question) or self.text(*question)
+        if answer.text() != wanted:
+            self.mistakes.append(f"{request}: {answer.text()!r}, not {wanted!r}")
+
+    def sealed(self, steps: int, *numbers: str) -> str:
+        """The seal of the book after so many steps, or a number's certificate under it."""
+        records = reference.records_of(self.book, []).splitlines()
+        if not numbers:
+            return reference_seal.seal(records, steps)
+        if numbers[0] not in self.book.animals:
+            return "the animal isn't there\n"
+        coefficient = self.line_of(numbers[0]).rstrip("\n").partition(",")[2]
+        return reference_seal.sealed(records, steps, numbers[0], coefficient)
 
     def text(self, word: str, *numbers: str) -> str:
         """The report that answers a question from the book."""

@@ -96,8 +96,10 @@ class Requests:
             ("inbreeding",),
             ("inverse",),
             ("records",),
+            ("seal",),
+            ("sealed", self.number()),
         ]
-        fields = self.draw.choices(asked, [8, 8, 4, 4, 4, 4, 1, 1, 1])[0]
+        fields = self.draw.choices(asked, [8, 8, 4, 4, 4, 4, 1, 1, 1, 2, 2])[0]
         return Request(tag, ("inspector", str(inspector), *fields), inspector=inspector)
 
     def wrong(self, tag: str) -> Request:
@@ -129,6 +131,10 @@ class Requests:
             ("Fields", ("record",)),
             ("Fields", ("record", "x", NOBODY)),
             ("Fields", ("relationships",)),
+            ("Fields", ("seal", "")),
+            ("Fields", ("sealed",)),
+            ("Fields", ("sealed", NOBODY, NOBODY)),
+            ("Animal", ("sealed", "x")),
             ("Animal", ("record", "x")),
             ("Animal", ("certificate", "x")),
             ("Animal", ("certificate", NOBODY, "x")),

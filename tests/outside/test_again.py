@@ -30,8 +30,9 @@ class TestAgain(Refusals):
         asked.expect("nothing refused", wrote(answers), [])
         told = AskedAgain(answers.splitlines())
         grown = asked.until_none("growth", [], "", {"REFUSE": "growth"}, told)
-        # the room of the copy that is shown second is asked for twice, so that a refusal of the first is made up
-        asked.count(told.made_up == 1, f"{told.made_up} refused growths were told by no line")
+        # the room of the copy that is shown second, for records and for hints, is asked for twice, so that a refusal of
+        # the first is made up
+        asked.count(told.made_up == 2, f"{told.made_up} refused growths were told by no line")
         # in the first records buffers grow too; the list has room for 4 commands, and then for twice as many
         full = [births for births in told.births if births > 3]
         asked.count(full == [4, 8, 16, 32], f"the commands read before the list couldn't grow: {told.births}")
@@ -45,8 +46,8 @@ class TestAgain(Refusals):
 
 
 class AskedAgain:
-    """What may be printed where one call is refused: all lines, and a line that tells it before the call's answer. While the
-    first step is filed it may be made up."""
+    """What may be printed where one call is refused: all lines, and a line that tells it before the call's answer.
+    While the first step is filed it may be made up."""
 
     def __init__(self, answers: list[str]) -> None:
         self.answers = answers

@@ -24,7 +24,7 @@ class TestExamples(Rooms):
     def test_examples(self) -> None:
         """The spreadsheet becomes a book of which nothing is refused."""
         room = self.example_room("examples")
-        taken = self.shell("./gudokeyi import examples/society.csv", room)
+        taken = self.shell("./gudokeyi import examples/society.csv --breed HOL --country GBR", room)
         is_told = taken.out.splitlines()[-1:] == [TAKEN.encode()]
         self.count(taken.status == 0 and is_told, f"the society's spreadsheet: {taken}")
         book = (room / "book/commands.csv").read_text()

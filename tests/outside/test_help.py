@@ -7,6 +7,7 @@ import shlex
 from outside.books import full_sibs
 from outside.orders import order_names
 from outside.runs import TOP, Checks, wrote
+from outside.test_seals import CERTIFICATE, SEAL
 from reference_pedigree import mrode
 
 
@@ -30,14 +31,16 @@ class TestHelp(Checks):
         self.count(asked == wrote((TOP / f"tests/help/{name}.txt").read_text()), f"help: {order}: {asked}")
         is_narrow = all(len(line) <= 80 for line in text.splitlines())
         self.count(is_narrow, f"help: {order}: a line is longer than 80 columns: {text}")
-        tells_input = "from standard input" in text and "Usage: " in text
+        tells_input = "from standard input" in " ".join(text.split()) and "Usage: " in text
         self.count(tells_input, f"help: {order}: what is read isn't told: {text}")
         self.expect("help", asked, ["help", *order])
         statuses = re.findall(r"(?m)^  (\d)  ", text.partition("Status:")[2])
-        self.count(statuses == ["0", "1", "2"], f"help: {order}: the statuses {statuses}")
-        example = re.search(r"(?m)^Example:\n  herdbook (.*) < (\w+).csv$", text)
-        words = shlex.split(example[1]) if example else [""]
+        is_checked = order in ([], ["check"])
+        self.count(statuses == ["0", "1", "2", "3"][: 3 + is_checked], f"help: {order}: the statuses {statuses}")
+        example = re.search(r"(?m)^Example:\n  herdbook (.*) < (\w+)\.(?:csv|txt)$", text)
+        words = shlex.split(example[1].replace("SEAL", SEAL)) if example else [""]
         self.count(words[0] == shown, f"help: {order}: the example of another: {words}")
         given = {"book": full_sibs(3), "pedigree": mrode().text(), "requests": "a1,inspector,1,seen\n"}
+        given["certificate"] = CERTIFICATE
         done = self.run(words, given[example[2] if example else "book"])
         self.count(done.status == 0 and done.out, f"help: {order}: its example: {done}")

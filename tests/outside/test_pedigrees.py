@@ -2,10 +2,12 @@
 from __future__ import annotations
 
 import os
+import re
 
 import reference
 from outside.books import SAMPLES, drawn, full_sibs
-from outside.runs import Checks, fault, wrote
+from outside.refusals import ALL, Refusals
+from outside.runs import Done, fault, wrote
 from reference_pedigree import Pedigree, mrode
 from reference_pedigree import drawn as drawn_pedigree
 
@@ -55,12 +57,16 @@ MISPLACED: list[list[str]] = [
 ]
 
 
+# reports of which one starts threads
+REPORTS = [INBREEDING, [*INBREEDING, "--workers", "3", "--block", "1"], INVERSE, [*RELATIONSHIPS, "9", "10"]]
+
+
 def chain(steps: int) -> str:
     """A path of so many steps."""
     return HEADER + "".join(f"{number},0\n" for number in range(steps + 1))
 
 
-class TestPedigrees(Checks):
+class TestPedigrees(Refusals):
     def test_drawn_pedigrees(self) -> None:
         for seed in range(300):
             self.reports_of(f"drawn by {seed}", drawn_pedigree(seed))
@@ -114,6 +120,24 @@ class TestPedigrees(Checks):
         folder = os.open(self.room, os.O_RDONLY)
         self.expect("a folder", fault("record 0: fault 2 Read"), INBREEDING, folder)
         os.close(folder)
+
+    def test_refused_growths(self) -> None:
+        """A growth that is refused is told: of the record that is being read, or as want of memory or of a thread."""
+        text = HEADER + "0,0\n0,0\n1,2\n1,1\n" + "".join(f"{sire},{sire + 1}\n" for sire in range(3, 40))
+        for words in REPORTS:
+            for last in 0, ALL:
+                told: set[str] = set()
+
+                def is_told(wanted: Done, done: Done, told: set[str] = told) -> bool:
+                    fault_of = re.fullmatch(
+                        rb"herdbook: (?:record \d+: )?(fault 3 Memory|no memory|no thread)\n", done.err
+                    )
+                    told.add(fault_of[1].decode() if fault_of else "")
+                    return done == wanted or (fault_of is not None and done.status == 1 and not done.out)
+
+                refuse = {"REFUSE": "growth"} | ({"REFUSE_LAST": ALL} if last else {})
+                self.until_none("growth", words, text, refuse, is_told)
+                self.count({"fault 3 Memory", "no memory"} <= told, f"{words}: only {told} were told")
 
     def refused_by_each(self, text: str, told: str) -> None:
         """A fault of the file comes before all else, and nothing is written."""

@@ -93,7 +93,9 @@ class TestSessionBounds(Checks):
             told = self.without_growths(nth, first, asked, 1)
             self.count(told == b"a,fault,Memory\nclosed,0,0\n", f"growth {nth} is no place in a queue: {told!r}")
             out = self.without_growths(nth, first, asked, MANY)
-            self.count(out == b"a,fault,Memory\n" * MANY + b"closed,0,0\n", f"{out.count(b'Memory')} told: {out[-60:]!r}")
+            self.count(
+                out == b"a,fault,Memory\n" * MANY + b"closed,0,0\n", f"{out.count(b'Memory')} told: {out[-60:]!r}"
+            )
 
     def growth_of_a_place(self, before: list[bytes], asked: bytes) -> int:
         """The last growth from which on a request's place in its queue is refused."""
@@ -108,8 +110,8 @@ class TestSessionBounds(Checks):
         return nth
 
     def without_growths(self, nth: int, before: list[bytes], asked: bytes, count: int) -> bytes:
-        """What a session answers to so many requests, from whose nth growth on none is granted; the first ones, for nobody,
-        are answered one by one."""
+        """What a session answers to so many requests, from whose nth growth on none is granted; the first ones, for
+        nobody, are answered one by one."""
         refuse = {"LD_PRELOAD": str(self.refuser), "REFUSE": "growth", "REFUSE_NTH": str(nth), "REFUSE_LAST": str(ALL)}
         with self.held(WORDS, refuse) as process:
             assert process.stdin and process.stdout

@@ -136,8 +136,8 @@ class TestSessionRefusals(Refusals):
         self.count(process.wait() == 1 and told == b"herdbook: write fault\n", f"a broken pipe: {told!r}")
 
     def test_desk_left(self) -> None:
-        """Once a write has failed a session ends at the next request of an input that doesn't end, whoever met the failed
-        write and whomever the request is for."""
+        """Once a write has failed a session ends at the next request of an input that doesn't end, whoever met the
+        failed write and whomever the request is for."""
         desk, inspector = b"a,desk,1,exit,%s,2000-01-01,,,,,\n" % SIRE.encode(), b"q,inspector,2,seen\n"
         # of an animal that none is, and nothing that an inspector answers: their faults are written
         no_exit, nothing = b"a,desk,1,exit,x,2000-01-01,,,,,\n", b"q,inspector,2,nothing\n"

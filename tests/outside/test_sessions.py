@@ -67,6 +67,8 @@ class TestSessions(Checks):
             self.as_word(client, text, f"certificate,{','.join(there)}", ["certificate", *there])
             self.as_word(client, text, "records", ["records"])
             self.as_word(client, text, f"record,{there[0]}", ["records", there[0]])
+            self.as_word(client, text, "seal", ["seal"])
+            self.as_word(client, text, f"sealed,{there[0]}", ["sealed", there[0]])
             self.count(client.end() == 0, f"session as other words: {seed}")
 
     def as_word(self, client: Client, text: str, question: str, words: Words) -> None:

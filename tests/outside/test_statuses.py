@@ -19,6 +19,11 @@ NO_COMMAND_LINES: list[tuple[list[str], str]] = [
     (["inbreeding", "--workers", "many"], "'many'"),
     (["certificate"], "<NUMBER>"),
     (["records", "--desks", "1"], "'--desks'"),
+    (["sealed"], "<NUMBER>"),
+    (["sealed", animal("M", 1), animal("M", 2)], animal("M", 2)),
+    (["seal", animal("M", 1)], animal("M", 1)),
+    (["check"], "<SEAL>"),
+    (["check", "00", "--limit-steps", "9"], "'--limit-steps'"),
     (["mating", "--dam", animal("F", 1)], "<SIRE>"),
     (["mating", animal("M", 1)], "--dam <NUMBER>"),
     (["inverse", "--desks", "1"], "'--desks'"),
@@ -92,6 +97,7 @@ class TestStatuses(Checks):
                 self.expect("number", wanted, [word, right, number, "HOLGBRX000000000001"], "not read")
             self.expect("number", wanted, ["mating", "--dam", right, animal("M", 1), number, "HOLGBRX000000000001"])
             self.expect("number", wanted, ["mating", "--dam", number, "HOLGBRM1"])
+            self.expect("number", wanted, ["sealed", number])
             self.expect("number", wanted, ["relationships", right, number, "--with", "HOLGBRX000000000001"])
             self.expect("number", wanted, ["relationships", right, "--with", right, number, "HOLGBRX000000000001"])
 
@@ -108,7 +114,7 @@ class TestStatuses(Checks):
 
     def test_other_statuses(self) -> None:
         text = SAMPLES[1].read_text()
-        for word in "certificate", "records":
+        for word in "certificate", "records", "sealed":
             self.expect("absent", fault("not registered"), [word, animal("M", 9)], text)
         # what can't be read at all
         unread = fault("record 0: fault 11 Read")

@@ -23,8 +23,8 @@ ASKED = [
 
 
 class Places:
-    """A machine with places for the program. Each script answers its version; that of the clone notes whether a terminal
-    was there."""
+    """A machine with places for the program. Each script answers its version; that of the clone notes whether a
+    terminal was there."""
 
     def __init__(self, room: pathlib.Path, monkeypatch: pytest.MonkeyPatch) -> None:
         self.room, self.clone, self.package = room, room / "clone", room / "clone/src/gudokeyi"
@@ -32,6 +32,7 @@ class Places:
         (room / "bin").mkdir()
         monkeypatch.setattr(location, "CLONE", self.clone)
         monkeypatch.setattr(location, "PACKAGE", self.package)
+        monkeypatch.setattr(location, "FOR_ALL", room / "etc/program")
         monkeypatch.setenv("PATH", f"{room / 'bin'}:/usr/bin:/bin")
         monkeypatch.delenv("HERDBOOK", raising=False)
 
@@ -66,6 +67,16 @@ def test_order(places: Places, monkeypatch: pytest.MonkeyPatch) -> None:
     assert location.located() == said
 
 
+def test_for_all(places: Places, monkeypatch: pytest.MonkeyPatch) -> None:
+    """What the machine's administrator says holds for servers and terminals, but where HERDBOOK says otherwise."""
+    places.add("bin/herdbook")
+    own, other = places.add("own"), places.add("other")
+    places.add("etc/program", f"{own}\n")
+    assert location.located() == own
+    monkeypatch.setenv("HERDBOOK", str(other))
+    assert location.located() == other
+
+
 def test_other_versions_on_the_path(places: Places) -> None:
     """A program of another version, or one that can't be run, is passed over, and so is the clone's own script."""
     built = places.add_clone(0)
@@ -96,7 +107,9 @@ def test_nothing_is_built_without_a_terminal(
     """One sentence says what to do, and the clone's script sees no terminal."""
     places.add_clone(1)
     monkeypatch.setattr(sys, "argv", [str(places.room / called)])
-    with pytest.raises(Mistake, match="call .*/clone/herdbook --version at a terminal, which proves and builds it") as told:
+    with pytest.raises(
+        Mistake, match="call .*/clone/herdbook --version at a terminal, which proves and builds it"
+    ) as told:
         location.located()
     assert len(told.value.sentences) == 1
     assert not (places.room / "noted").exists()

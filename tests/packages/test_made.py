@@ -1,4 +1,5 @@
-"""What `package` makes: the files of the Debian package and the wheel, man pages, completion, and the same bytes twice."""
+"""What `package` makes: the files of the Debian package and the wheel, man pages, completion, and the same bytes
+twice."""
 from __future__ import annotations
 
 import datetime
@@ -37,7 +38,8 @@ SOURCE = """#include <stdio.h>
 int main(int count, char **words) { FILE *file = fopen(words[count - 1], "r"); puts("herdbook"); return file != 0; }
 """
 PATHS = {
-    "usr/bin/gudokeyi", "usr/bin/herdbook", "usr/lib/systemd/system/herdbook.service",
+    "usr/bin/gudokeyi", "usr/bin/herdbook", "usr/lib/gudokeyi/backup", "usr/lib/systemd/system/herdbook.service",
+    "usr/lib/systemd/system/herdbook-backup.service", "usr/lib/systemd/system/herdbook-backup.timer",
     "usr/share/applications/gudokeyi.desktop", "usr/share/bash-completion/completions/gudokeyi",
     "usr/share/bash-completion/completions/herdbook", "usr/share/doc/gudokeyi/PROVED", "usr/share/doc/gudokeyi/README.md",
     "usr/share/doc/gudokeyi/changelog.gz", "usr/share/doc/gudokeyi/copyright",
@@ -104,13 +106,26 @@ def test_files_of_the_package(release: Release, tmp_path: pathlib.Path) -> None:
         members = archive.getmembers()
     names = {one.name.removeprefix("./") for one in members if not one.isdir()}
     assert names >= PATHS, PATHS - names
-    others = {name for name in names - PATHS if not name.startswith(("usr/lib/python3/dist-packages/gudokeyi", "usr/share/doc/"))}
+    others = {
+        name
+        for name in names - PATHS
+        if not name.startswith(("usr/lib/python3/dist-packages/gudokeyi", "usr/share/doc/"))
+    }
     assert not others
     modules = {str(path.relative_to(TOP / "src")) for path in releases.tracked("src/gudokeyi")}
-    assert {name.partition("dist-packages/")[2] for name in names if "dist-packages/gudokeyi/" in name} == modules | {"gudokeyi/examples"}
+    compiled = {name.removesuffix(".po") + ".mo" for name in modules if name.endswith(".po")}
+    made = modules | compiled | {"gudokeyi/examples"}
+    assert (
+        compiled
+        and {name.partition("dist-packages/")[2] for name in names if "dist-packages/gudokeyi/" in name} == made
+    )
     assert all((one.uname, one.gname, one.mtime) == ("root", "root", MOMENT) for one in members)
     assert {one.mode for one in members if not one.issym()} == {0o755, 0o644}
-    assert {one.name for one in members if one.isfile() and one.mode == 0o755} == {"./usr/bin/gudokeyi", "./usr/bin/herdbook"}
+    assert {one.name for one in members if one.isfile() and one.mode == 0o755} == {
+        "./usr/bin/gudokeyi",
+        "./usr/bin/herdbook",
+        "./usr/lib/gudokeyi/backup",
+    }
 
 
 def test_what_the_package_says_of_itself(release: Release) -> None:
@@ -124,7 +139,9 @@ def test_what_the_package_says_of_itself(release: Release) -> None:
     assert first == f"gudokeyi ({gudokeyi.__version__}) unstable; urgency=medium"
     assert all(len(line) <= 80 for line in lines if not line.startswith(" -- "))
     licence = (TOP / "packaging/copyright").read_text(encoding="utf-8")
-    said = re.search(r"No licence is chosen yet: ask before you copy it\.", (TOP / "README.md").read_text(encoding="utf-8"))
+    said = re.search(
+        r"No licence is chosen yet: ask before you copy it\.", (TOP / "README.md").read_text(encoding="utf-8")
+    )
     assert said and said[0] in licence
 
 
@@ -143,7 +160,9 @@ def test_wheel(release: Release, tmp_path: pathlib.Path) -> None:
         assert wheel.read("gudokeyi/examples/society.csv") == (TOP / "examples/society.csv").read_bytes()
         folder = f"gudokeyi-{gudokeyi.__version__}.dist-info"
         record = [line.split(",") for line in wheel.read(f"{folder}/RECORD").decode().splitlines()]
-        assert [name for name, *_ in record] == sorted(set(wheel.namelist()) - {f"{folder}/RECORD"}) + [f"{folder}/RECORD"]
+        assert [name for name, *_ in record] == sorted(set(wheel.namelist()) - {f"{folder}/RECORD"}) + [
+            f"{folder}/RECORD"
+        ]
         assert all(int(size) == len(wheel.read(name)) for name, _, size in record[:-1])
         told = wheel.read(f"{folder}/METADATA").decode()
         assert 'Requires-Dist: Flask >=2.2,<4; extra == "all"' in told.splitlines()
@@ -170,7 +189,14 @@ def test_archive(release: Release, tmp_path: pathlib.Path) -> None:
         archive.extractall(tmp_path / "there")
     folder = tmp_path / f"there/gudokeyi-{gudokeyi.__version__}"
     subprocess.run(["sha256sum", "--check", "--strict", "SHA256SUMS"], cwd=folder, check=True, capture_output=True)
-    assert {path.name for path in folder.iterdir()} == {"herdbook", wheel.name, "PROVED", "README", "LICENCE", "SHA256SUMS"}
+    assert {path.name for path in folder.iterdir()} == {
+        "herdbook",
+        wheel.name,
+        "PROVED",
+        "README",
+        "LICENCE",
+        "SHA256SUMS",
+    }
     told = (folder / "PROVED").read_text()
     assert "commit: c0ffee\nkit: a\nrt version: a kit logic 1\nproved functions: 600\n" in told
     assert f"sha256 as built: {hashlib.sha256((folder / 'herdbook').read_bytes()).hexdigest()}\n" in told
@@ -203,7 +229,7 @@ COMPLETED = [
     ("gudokeyi show --book b", ["book", "breeds"]),
     ("herdbook in", ["inbreeding", "inverse"]),
     ("herdbook mating --d", ["--dam"]),
-    ("herdbook help c", ["certificate", "clerks"]),
+    ("herdbook help c", ["certificate", "check", "clerks"]),
 ]
 
 
@@ -216,8 +242,9 @@ def test_completion(line: str, wanted: list[str], tmp_path: pathlib.Path) -> Non
         (tmp_path / "room" / folder).mkdir(parents=True)
     words = line.split(" ")
     script = (
-        f"source ../{words[0]}.bash; compopt() {{ :; }}; COMP_WORDS=({' '.join(word or chr(39) * 2 for word in words)}); "
-        f"COMP_CWORD={len(words) - 1}; _{words[0]}; printf '%s\\n' \"${{COMPREPLY[@]}}\""
+        f"source ../{words[0]}.bash; compopt() {{ :; }}; "
+        f"COMP_WORDS=({' '.join(word or chr(39) * 2 for word in words)}); COMP_CWORD={len(words) - 1}; _{words[0]}; "
+        f"printf '%s\\n' \"${{COMPREPLY[@]}}\""
     )
     done = subprocess.run(["bash", "-c", script], cwd=tmp_path / "room", capture_output=True, text=True)
     assert (sorted(done.stdout.split()), done.stderr) == (wanted, "")
@@ -227,12 +254,16 @@ def test_what_was_proved(release: Release, tmp_path: pathlib.Path, monkeypatch: 
     """A release tells the functions of all crates together, names those whose number isn't kept, and isn't made where
     none is."""
     crates = Crates("herdbook")
-    monkeypatch.setattr(releases, "told_by", lambda command: f"herdbook {gudokeyi.__version__}" if command[-1] == "--version" else "1")
+    monkeypatch.setattr(
+        releases, "told_by", lambda command: f"herdbook {gudokeyi.__version__}" if command[-1] == "--version" else "1"
+    )
     monkeypatch.setattr(proved, "kept", lambda name: proved.Proof(2, "a kit"))
     assert releases.release_of(crates, release.program).functions == 2 * len(crates.lines)
     monkeypatch.setattr(proved, "kept", lambda name: None if name == "herd_pool" else proved.Proof(2, "a kit"))
     told = releases.release_of(crates, release.program).proved()
-    assert f"proved functions: {2 * len(crates.lines) - 2}, and those of herd_pool, which an earlier run proved\n" in told
+    assert (
+        f"proved functions: {2 * len(crates.lines) - 2}, and those of herd_pool, which an earlier run proved\n" in told
+    )
     monkeypatch.setattr(proved, "kept", lambda name: None)
     with pytest.raises(Stop, match="nothing is kept of what was proved"):
         releases.release_of(crates, release.program)

@@ -13,7 +13,6 @@ from dataclasses import dataclass, field
 from urllib.parse import quote
 
 from web.site import shown
-from gudokeyi.locale import TEXTS
 from serving.server import Browser, Server
 
 # a form that was sent, by its kind and fields
@@ -22,8 +21,8 @@ Sent = tuple[str, dict[str, str]]
 
 @dataclass(frozen=True)
 class Plan:
-    """How many there are; a clerk files so many commands, each of which is written for a while, and inspectors read for so
-    long, with a pause between pages."""
+    """How many there are; a clerk files so many commands, each of which is written for a while, and inspectors read for
+    so long, with a pause between pages."""
 
     clerks: int
     commands: int
@@ -44,8 +43,8 @@ class Animals:
 
 @dataclass
 class Work:
-    """What was done. `answered` are the numbers of changes with what was sent and whether it was shown as accepted; of what
-    was `open` nobody knows whether it was filed."""
+    """What was done. `answered` are the numbers of changes with what was sent and whether it was shown as accepted; of
+    what was `open` nobody knows whether it was filed."""
 
     answered: dict[int, tuple[Sent, bool]] = field(default_factory=dict)
     open: list[Sent] = field(default_factory=list)
@@ -68,8 +67,8 @@ def waits(found: list[float]) -> str:
 
 
 def commands_of(clerk: int, count: int, animals: Animals) -> list[Sent]:
-    """Births of one's own, of which every second has both parents, and exits and transfers of animals that others file on
-    too."""
+    """Births of one's own, of which every second has both parents, and exits and transfers of animals that others file
+    on too."""
     chosen, made = random.Random(clerk), []
     for at in range(count):
         shared = chosen.choice(animals.females[:40])
@@ -96,7 +95,7 @@ def file_all(browser: Browser, work: Work, plan: Plan, commands: list[Sent], at:
         page = shown(browser.get(to))
         work.filing.append(time.monotonic() - began)
         work.open.remove((kind, fields))
-        work.answered[int(answer[1])] = (kind, fields), TEXTS["accepted"][0] in page
+        work.answered[int(answer[1])] = (kind, fields), "Accepted." in page
 
 
 def read_all(browser: Browser, work: Work, plan: Plan, animals: Animals, at: int) -> None:

@@ -53,7 +53,8 @@ def typed(desk: Desk, words: list[str], *lines: str) -> tuple[int, str]:
 
 
 def test_accounts(desk: Desk) -> None:
-    """The first account is a keeper's; passwords are asked twice and not shown; accounts are listed, changed and removed."""
+    """The first account is a keeper's; passwords are asked twice and not shown; accounts are listed, changed and
+    removed."""
     status, told = typed(desk, ["account", "Kim", "--role", "clerk"], WORD, WORD)
     assert status == 1 and "the first account is a keeper's: say --role keeper" in told
     status, told = typed(desk, ["account", "Kim", "--role", "keeper"], WORD, WORD)
@@ -104,6 +105,17 @@ def test_where(society_desk: Desk, cheap: None) -> None:
         society_desk.wrong("can't be used", "serve", "--listen", place)
     (folder / "accounts.sqlite").chmod(0o640)
     society_desk.wrong("may be read by others", "serve", "--listen", "127.0.0.1:0")
+
+
+@pytest.mark.parametrize("answers", ["echo herdbook 0.1.0", "exit 3"])
+def test_other_program(society_desk: Desk, cheap: None, answers: str) -> None:
+    """A program of another version, or one that doesn't answer, isn't served with."""
+    Accounts(society_desk.room / "book").add("Kim", AccountRole.KEEPER, WORD, WORD)
+    other = society_desk.room / "herdbook"
+    other.write_text(f"#!/bin/sh\n{answers}\n", encoding="utf-8")
+    other.chmod(0o755)
+    desk = Desk(society_desk.room, str(other))
+    desk.wrong("should answer 'herdbook ", "serve", "--listen", "127.0.0.1:0")
 
 
 @pytest.mark.parametrize("how", [signal.SIGTERM, signal.SIGINT])

@@ -1,4 +1,5 @@
-"""Several people at one book: each sees what the others did, nothing is filed twice, and the history names who did what."""
+"""Several people at one book: each sees what the others did, nothing is filed twice, and the history names who did
+what."""
 from __future__ import annotations
 
 import contextlib
@@ -11,9 +12,9 @@ import threading
 
 import pytest
 
+from web.said import SENTENCES
 from web.site import HOST, looked_in, shown
 from front_desk.desk import Desk
-from gudokeyi.locale import SENTENCES, TEXTS
 from gudokeyi.store.accounts import A_DAY
 from gudokeyi.store.messages import BackupFault
 from gudokeyi.web.forms import new_form
@@ -39,19 +40,20 @@ def looked_at(visitor: Visitor, at: int) -> str:
 
 
 def test_two_sheets(served: Served) -> None:
-    """The second clerk sees what the first changed before "import", and nothing of it is undone."""
+    """The second clerk's sheet is taken though the first one's came between, and nothing of that is undone; where both
+    change an animal the second is asked about it anew."""
     carl, clara = Visitor(served, "Carl"), Visitor(served, "Clara")
     first, second = looked_at(carl, 1), looked_at(clara, 2)
-    looked = looked_in(clara.page(second))
+    same = looked_at(clara, 1)
+    looked = looked_in(clara.page(same))
     carl.take(first)
-    # what Clara looked at isn't there any more: she is shown the book of now, and nothing is taken
-    page = clara.page(clara.post(f"{second}/take", **looked).headers["Location"])
-    assert TEXTS["book changed"][0] in shown(page) and looked_in(page) != looked
+    page = clara.page(clara.post(f"{same}/take", **looked).headers["Location"])
+    assert "Somebody changed 1 animal meanwhile that the sheet changes too." in shown(page) and looked_in(page) != looked
     assert names(clara)[1:] == ["Carl"]
     clara.take(second)
     assert names(clara)[1:] == ["Carl", "Clara"]
     with served.desk.opened() as book:
-        assert book and {"NEW-1", "NEW-2"} <= book.known.keys()
+        assert book and {"NEW-1", "NEW-2"} <= book.society_records.keys()
 
 
 def test_own_sheets(served: Served) -> None:
@@ -66,7 +68,8 @@ def test_own_sheets(served: Served) -> None:
 
 
 def test_one_animal(served: Served) -> None:
-    """Commands on one animal at once are answered in an order, as the replies say: one is accepted, the others see it."""
+    """Commands on one animal at once are answered in an order, as the replies say: one is accepted, the others see
+    it."""
     people = [Visitor(served, name) for name in ("Carl", "Clara", "Kim", "Carl", "Clara")]
     tokens = [one.token() for one in people]
     ready, found = threading.Barrier(len(people)), [""] * len(people)
@@ -83,7 +86,7 @@ def test_one_animal(served: Served) -> None:
         one.join()
     assert sorted(found) == [f"/answer/{number}" for number in range(2, 7)]
     pages = {address: shown(people[0].page(address)) for address in found}
-    assert TEXTS["accepted"][0] in pages["/answer/2"]
+    assert "Accepted." in pages["/answer/2"]
     assert all("it has left already" in pages[f"/answer/{number}"] for number in range(3, 7))
     assert len(served.desk.program.desks) == 3
     Desk(served.desk.folder.parent, str(served.desk.program.path)).good("verify")
@@ -101,16 +104,18 @@ def test_names(served: Served, society_desk: Desk) -> None:
     data = {"csrf_token": kim.token(), "backup": (io.BytesIO(copy), "../copy.sqlite")}
     address = kim.client.post("/restore", data=data, headers={"Host": HOST}).headers["Location"]
     page = kim.page(address)
-    assert TEXTS["ask restore"][0].format("copy.sqlite") in shown(page) and "502" in shown(page)
-    assert TEXTS["book changed"][0] in shown(kim.page(kim.post(address, looked="4-1").headers["Location"]))
+    assert "Restore copy.sqlite?" in shown(page) and "502" in shown(page)
+    assert "Somebody changed the book meanwhile. This is what is there now." in shown(
+        kim.page(kim.post(address, looked="4-1").headers["Location"])
+    )
     page = kim.page(kim.post(address, **looked_in(page)).headers["Location"])
-    assert TEXTS["backup restored"][0].format("copy.sqlite") in shown(page)
+    assert "The backup copy.sqlite is restored." in shown(page)
     own = names(kim)
     assert own[1:] == ["Carl", "Kim"]
     assert "<bdi>Carl</bdi>" in kim.page("/history") and society_desk.good("history").out.count("Carl:") == 1
     # the book of before is kept, and the session answers for the one of now
     assert len(list((served.desk.folder / "old").glob("book-*.sqlite"))) == 1
-    assert TEXTS["accepted"][0] in shown(
+    assert "Accepted." in shown(
         carl.page(carl.post("/file/exit", id="GK-16/433c", day="2024-05-01").headers["Location"])
     )
     society_desk.good("verify")
@@ -119,19 +124,23 @@ def test_names(served: Served, society_desk: Desk) -> None:
 @pytest.mark.parametrize("kind, fields", [("exit", {"id": DAM, "day": "2024-05-01"}),
                                           ("birth", {"id": 'NEW-1 "<b>', "sex": "F", "day": "2024-05-01", "name": "Ä & Ö"})])  # fmt: skip
 def test_login_over(served: Served, clerk: Visitor, kind: str, fields: dict[str, str]) -> None:
-    """A login that runs out in the middle of a form keeps what was written: it is sent after logging in, and filed once."""
+    """A login that runs out in the middle of a form keeps what was written: it is sent after logging in, and filed
+    once."""
     token = clerk.token()
     served.clock.now += A_DAY + 1
     answer = clerk.client.post(f"/file/{kind}", data={"csrf_token": token, **fields}, headers={"Host": HOST})
     page = answer.get_data(as_text=True)
-    assert answer.status_code == 401 and TEXTS["login over"][0] in shown(page)
+    assert (
+        answer.status_code == 401
+        and "You aren't logged in any more. Log in: what you wrote is kept, and nothing was filed yet." in shown(page)
+    )
     kept = {name: html.unescape(text) for name, text in re.findall(r'name="(kept[- ][^"]*)" value="([^"]*)"', page)}
     assert kept == {"kept to": f"/file/{kind}"} | {f"kept-{name}": text for name, text in fields.items()}
     # a wrong password keeps it too
     page = clerk.log_in("Carl", "wrong", **kept).get_data(as_text=True)
     assert all(f'value="{text}"' in html.unescape(page) for text in kept.values())
     page = clerk.log_in("Carl", **kept).get_data(as_text=True)
-    assert TEXTS["send again how"][0] in shown(page) and names(clerk) == names(clerk)[:1]
+    assert "You are logged in again. Nothing was filed yet." in shown(page) and names(clerk) == names(clerk)[:1]
     again = {
         name: html.unescape(text) for name, text in re.findall(r'type="hidden" name="([^"]*)" value="([^"]*)"', page)
     }
@@ -145,12 +154,19 @@ def test_login_over(served: Served, clerk: Visitor, kind: str, fields: dict[str,
 def test_login_over_elsewhere(served: Served) -> None:
     """What is kept is sent to a form of this desk alone, and no password is kept."""
     visitor = Visitor(served)
-    for path in ("http://evil.example/", "//evil.example/file/exit", "/nothing", "/animals", "/login", "javascript:alert(1)"):
+    for path in (
+        "http://evil.example/",
+        "//evil.example/file/exit",
+        "/nothing",
+        "/animals",
+        "/login",
+        "javascript:alert(1)",
+    ):
         assert visitor.log_in("Carl", **{"kept to": path, "kept-id": "x"}).status_code == 302
         visitor.post("/logout")
     # who has another role meanwhile isn't asked whether to send it, nor shown what is no text of his own
     assert visitor.log_in("Ines", **{"kept to": "/file/exit", "kept-id": DAM}).headers["Location"] == "/"
-    assert TEXTS["refused role"][0] in shown(visitor.page("/"))
+    assert "Your role doesn't allow this: ask a keeper of the book." in shown(visitor.page("/"))
     visitor.post("/logout")
     kept = {"kept to": "/file/exit", "kept-id": DAM, "kept-form": new_form()}
     asked = shown(visitor.log_in("Carl", **kept).get_data(as_text=True))
@@ -175,38 +191,50 @@ def test_login_over_much(served: Served) -> None:
 def test_backup(served: Served, society_desk: Desk) -> None:
     """Backups are made while others work, and the page says when the last one was made; the accounts aren't in it."""
     carl, ines = Visitor(served, "Carl"), Visitor(served, "Ines")
-    assert TEXTS["no backup known"][0] in shown(ines.page("/history"))
+    assert "No copy is known that has the book as it is now." in shown(ines.page("/history"))
     with served.desk.opened():
         society_desk.good("backup", "copy.sqlite")
     first = shown(ines.page("/history"))
-    assert TEXTS["last backup"][0].partition("{}")[0] in first and "after change 1." in first
+    assert "The last backup was made on {}, after change {}.".partition("{}")[0] in first and "after change 1." in first
     carl.post("/file/exit", id=DAM, day="2024-05-01")
     copy = carl.get("/book.sqlite").get_data()
     assert "after change 2." in shown(ines.page("/history"))
     assert b"scrypt" not in copy and b"account" not in copy and b"Ines" not in copy
 
 
-def acting(copy: bytes, room: pathlib.Path) -> bytes:
-    """A backup that would do something where it is written to."""
-    path = room / "acting.sqlite"
+# what somebody may have done to a backup: it would do something where it is written to, or has what no book has
+CHANGED = {
+    BackupFault.ACTS: ["CREATE TRIGGER own AFTER INSERT ON change BEGIN DELETE FROM animal; END"],
+    BackupFault.OTHER_TABLES: ["CREATE TABLE own (one)", "CREATE INDEX own ON change (abs(time))"],
+    BackupFault.NO_TIME: ["UPDATE change SET time = 9000000000000000000", "UPDATE change SET time = 0"],
+    BackupFault.ODD_NAMES: [
+        "UPDATE change SET login = char(27) || '[2J'", "UPDATE change SET login = ' '", "UPDATE animal SET name = char(10, 0)",
+        "UPDATE owner SET name = printf('%.*c', 5000, 'x') WHERE herd = (SELECT min(herd) FROM owner)",
+    ],
+}  # fmt: skip
+
+
+def changed(copy: bytes, room: pathlib.Path, statement: str) -> bytes:
+    path = room / "changed.sqlite"
     path.write_bytes(copy)
     with contextlib.closing(sqlite3.connect(path)) as connection:
-        connection.execute("CREATE TRIGGER own AFTER INSERT ON change BEGIN DELETE FROM animal; END")
+        connection.execute(statement)
         connection.commit()
     return path.read_bytes()
 
 
-@pytest.mark.parametrize("kind, told", [("text", BackupFault.DAMAGED), ("torn", BackupFault.DAMAGED), ("empty", BackupFault.NO_BOOK),
-                                        ("acting", BackupFault.ACTS)])  # fmt: skip
+@pytest.mark.parametrize("kind, told", [
+    ("text", BackupFault.DAMAGED), ("torn", BackupFault.DAMAGED), ("empty", BackupFault.NO_BOOK),
+    *((statement, told) for told, statements in CHANGED.items() for statement in statements),
+])  # fmt: skip
 def test_hostile_backups(served: Served, tmp_path: pathlib.Path, kind: str, told: BackupFault) -> None:
     """A file that is no backup, or one that does something, is refused; nothing is changed, and no path is told."""
     kim = Visitor(served, "Kim")
     copy = kim.get("/book.sqlite").get_data()
-    file = {"text": b"no database", "torn": copy[: len(copy) // 2], "empty": b"", "acting": acting(copy, tmp_path)}[
-        kind
-    ]
+    files = {"text": b"no database", "torn": copy[: len(copy) // 2], "empty": b""}
+    file = files[kind] if kind in files else changed(copy, tmp_path, kind)
     kim.get("/language/de")
     data = {"csrf_token": kim.token(), "backup": (io.BytesIO(file), "../../x.sqlite")}
     page = kim.page(kim.client.post("/restore", data=data, headers={"Host": HOST}).headers["Location"])
-    assert SENTENCES[told][1].replace("{path}", "x.sqlite") in shown(page)
+    assert SENTENCES[told][1].replace("{path}", "x.sqlite").replace("{change}", "1") in shown(page)
     assert str(served.desk.uploads.room) not in page and names(kim) == names(kim)[:1]

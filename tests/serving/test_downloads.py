@@ -9,7 +9,6 @@ import pytest
 
 from front_desk.desk import Desk
 from gudokeyi.domain.people import AccountRole
-from gudokeyi.locale import TEXTS
 from gudokeyi.store.accounts import Accounts
 from serving.server import Browser, Server
 from serving.visitor import WORD
@@ -17,7 +16,7 @@ from web.site import shown
 
 # so long it is waited for what is told, and for what isn't to be told
 SECONDS, A_WHILE = 60, 1.5
-NONE_KNOWN = TEXTS["no backup known"][0]
+NONE_KNOWN = "No copy is known that has the book as it is now."
 
 
 @pytest.fixture

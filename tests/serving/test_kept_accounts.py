@@ -112,19 +112,34 @@ def test_new_passwords(password: str, is_taken: bool) -> None:
             passwords.checked(password, password, "Kim")
 
 
+def guess(throttle: Throttle, name: str, address: str, is_right: bool = False) -> int:
+    """So many seconds to wait; 0 where a password was tried."""
+    return throttle.wait_of(name, address) or throttle.tried(name, address, is_right)
+
+
 def test_throttle_right() -> None:
-    """Who guessed right may guess anew by that name; whoever knows one password of an address gives its guesses of others
-    no new beginning."""
+    """Who guessed right may guess anew by that name; whoever knows one password of an address gives its guesses of
+    others no new beginning."""
     throttle = Throttle(lambda: 0.0)
     for _ in range(2):
-        assert [throttle.begin("Carl", "2.2.2.2") for _ in range(FREE_BY_NAME)] == [0] * FREE_BY_NAME
-        throttle.was_right("Carl", "2.2.2.2")
-    for at in range(FREE_BY_ADDRESS - 1):
-        assert throttle.begin(f"name {at}", "1.1.1.1") == 0
-    for _ in range(3):
-        assert throttle.begin("own", "1.1.1.1") == 0
-        throttle.was_right("own", "1.1.1.1")
-    assert throttle.begin("one", "1.1.1.1") == 0 and throttle.begin("other", "1.1.1.1") == 1
+        assert [guess(throttle, "Carl", "2.2.2.2") for _ in range(FREE_BY_NAME - 1)] == [0] * (FREE_BY_NAME - 1)
+        assert guess(throttle, "Carl", "2.2.2.2", is_right=True) == 0
+    for at in range(FREE_BY_ADDRESS - 1 - 2 * (FREE_BY_NAME - 1)):
+        assert guess(throttle, f"name {at}", "2.2.2.2") == 0
+    # however many log in with right passwords, at once too, they count for nothing
+    for at in range(2 * FREE_BY_ADDRESS):
+        assert throttle.wait_of(f"clerk {at}", "2.2.2.2") == 0
+    for at in range(2 * FREE_BY_ADDRESS):
+        assert throttle.tried(f"clerk {at}", "2.2.2.2", True) == 0
+    assert guess(throttle, "one", "2.2.2.2") == 0 and guess(throttle, "other", "2.2.2.2") == 1
+
+
+def test_throttle_at_once() -> None:
+    """Whoever tries many passwords at once is told of so many alone as one after the other."""
+    throttle = Throttle(lambda: 0.0)
+    assert [throttle.wait_of("Carl", "1.1.1.1") for _ in range(100)] == [0] * 100
+    told = [throttle.tried("Carl", "1.1.1.1", is_right=at == 50) for at in range(100)]
+    assert told == [0] * FREE_BY_NAME + [1] * (100 - FREE_BY_NAME)
 
 
 def test_throttle_after_an_hour() -> None:
@@ -133,7 +148,7 @@ def test_throttle_after_an_hour() -> None:
     throttle = Throttle(lambda: now[0])
     for hour in range(2):
         now[0] = (SECONDS + 1) * hour
-        assert [throttle.begin("Carl", "1.1.1.1") for _ in range(FREE_BY_NAME + 1)] == [0] * FREE_BY_NAME + [1]
+        assert [guess(throttle, "Carl", "1.1.1.1") for _ in range(FREE_BY_NAME + 1)] == [0] * FREE_BY_NAME + [1]
 
 
 def test_throttle_full() -> None:
@@ -142,17 +157,17 @@ def test_throttle_full() -> None:
 
     def guess_others() -> None:
         for at in [next(others) for _ in range(MOST * 3 // 10)]:
-            throttle.begin(f"name {at}", f"10.1.{at >> 8}.{at & 255}")
+            guess(throttle, f"name {at}", f"10.1.{at >> 8}.{at & 255}")
 
-    throttle.begin("Carl", "1.1.1.1")
+    guess(throttle, "Carl", "1.1.1.1")
     guess_others()
     for at in range(1, FREE_BY_NAME):
-        throttle.begin("Carl", f"1.1.1.{at + 1}")
+        guess(throttle, "Carl", f"1.1.1.{at + 1}")
     guess_others()
-    assert throttle.begin("Carl", "2.2.2.2") == 1
+    assert guess(throttle, "Carl", "2.2.2.2") == 1
     for at in range(FREE_BY_NAME):
-        assert throttle.begin("Clara", f"3.3.3.{at}") == 0
-    assert throttle.begin("Clara", "4.4.4.4") == 1
+        assert guess(throttle, "Clara", f"3.3.3.{at}") == 0
+    assert guess(throttle, "Clara", "4.4.4.4") == 1
 
 
 def test_log_in_lines() -> None:

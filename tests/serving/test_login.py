@@ -9,16 +9,18 @@ from email.utils import parsedate_to_datetime
 
 import pytest
 
+from web.said import in_each
 from web.site import HOST, shown
-from gudokeyi.locale import TEXTS
+from gudokeyi.render.page_language import PageLanguage
+from gudokeyi.web.routes.login import WAIT
 from gudokeyi.store import accounts as passwords
 from gudokeyi.store.accounts import A_DAY
 from gudokeyi.web.forms import new_form
-from gudokeyi.web.language import PageLanguage
 from gudokeyi.web.logins import FREE_BY_ADDRESS, FREE_BY_NAME, LONGEST, SECONDS, Throttle
+from serving.test_kept_accounts import guess
 from serving.visitor import WORD, Served, Visitor
 
-WRONG = TEXTS["login wrong"][0]
+WRONG = "The name or the password is wrong."
 
 
 def test_in_and_out(served: Served) -> None:
@@ -94,10 +96,51 @@ def test_ended_by_a_change(served: Served, clerk: Visitor, change: str) -> None:
     elif change == "role":
         keeper.post("/accounts/change", name="Carl", role="inspector")
     else:
-        keeper.post("/accounts/change", name="Carl", password="quite another word", again="quite another word")
+        given = {"password": "quite another word", "again": "quite another word"}
+        for own in "", "wrong":
+            answer = keeper.post("/accounts/change", name="Carl", own=own, **given)
+            assert "our own password is wrong: nothing is changed" in shown(answer.get_data(as_text=True)) and clerk.is_in()
+        keeper.post("/accounts/change", name="Carl", own=WORD, **given)
     assert not clerk.is_in() and other.is_in() and keeper.is_in()
     assert clerk.log_in("Carl").status_code == (302 if change == "role" else 401)
     assert clerk.get("/sheet").status_code == (403 if change == "role" else 302)
+
+
+def test_given_password(served: Served) -> None:
+    """Who got a password from a keeper, with an account or later, has no other page before it is changed."""
+    keeper, given = Visitor(served, "Kim"), {"password": "a word of the keeper", "again": "a word of the keeper"}
+    keeper.post("/accounts", name="Nora", role="clerk", own=WORD, **given)
+    keeper.post("/accounts/change", name="Carl", own=WORD, **given)
+    assert "account of Carl: password given" in served.log.getvalue()
+    for name in "Nora", "Carl":
+        visitor = Visitor(served)
+        assert visitor.log_in(name, given["password"]).status_code == 302
+        for path in "/", "/animals", "/sheet", "/book.sqlite", "/nothing":
+            assert visitor.get(path).headers["Location"] == "/password", path
+        assert "A keeper gave you the password" in shown(visitor.page("/password"))
+        assert visitor.get("/static/desk.css").status_code == 200
+        assert visitor.post("/file/exit", id="GK-17/472c", day="2024-05-01").headers["Location"] == "/password"
+        same = visitor.post("/password", password=given["password"], new=given["password"], again=given["password"])
+        assert "is the one that a keeper gave you" in shown(same.get_data(as_text=True))
+        new = {"new": "a wholly new word", "again": "a wholly new word"}
+        assert visitor.post("/password", password=given["password"], **new).status_code == 302
+        assert visitor.is_in() and visitor.get("/sheet").status_code == 200
+        assert Visitor(served).log_in(name, new["new"]).headers["Location"] == "/"
+
+
+def test_society(served: Served) -> None:
+    """Who logs in sees whose book it is, and whom to ask."""
+    Visitor(served, "Kim").post("/settings", name="Holgrave Society", address="Office\n1 Mill Lane")
+    page = shown(Visitor(served).page("/login"))
+    assert "Holgrave Society" in page and "Whom to ask: Office, 1 Mill Lane" in page
+
+
+def test_removal_is_asked(served: Served) -> None:
+    keeper = Visitor(served, "Kim")
+    assert 'href="/accounts/remove?name=Carl"' in keeper.page("/accounts")
+    assert "Remove the account of Carl?" in shown(keeper.page("/accounts/remove?name=Carl"))
+    assert keeper.get("/accounts/remove?name=Nobody").status_code == 404
+    assert Visitor(served).log_in("Carl").status_code == 302
 
 
 def test_own_password(served: Served, clerk: Visitor) -> None:
@@ -119,7 +162,9 @@ def test_guesses_of_own_password(clerk: Visitor) -> None:
     for _ in range(FREE_BY_NAME):
         assert clerk.post("/password", password="x", **new).status_code == 400
     answer = clerk.post("/password", password=WORD, **new)
-    assert answer.status_code == 400 and TEXTS["login wait (one)"][0].format(1) in shown(answer.get_data(as_text=True))
+    assert answer.status_code == 400 and "There were too many wrong passwords. Wait 1 second, then try again." in shown(
+        answer.get_data(as_text=True)
+    )
 
 
 def test_language_stays(served: Served) -> None:
@@ -127,7 +172,7 @@ def test_language_stays(served: Served) -> None:
     visitor = Visitor(served)
     visitor.get("/language/de")
     visitor.log_in("Carl")
-    assert TEXTS["logout"][1] in visitor.page("/")
+    assert in_each("Log out")[1] in visitor.page("/")
 
 
 def test_cookies(served: Served) -> None:
@@ -164,7 +209,9 @@ def test_new_login_is_new(served: Served) -> None:
     assert not served.gate.accounts.person_of(first["login"])
     data = {"csrf_token": before, "form": new_form(), "id": "GK-17/472c", "day": "2024-05-01"}
     answer = visitor.client.post("/file/exit", data=data, headers={"Host": HOST})
-    assert answer.status_code == 400 and TEXTS["refused form"][0] in shown(answer.get_data(as_text=True))
+    assert answer.status_code == 400 and "The form is too old: open the page anew, and send it again." in shown(
+        answer.get_data(as_text=True)
+    )
 
 
 def test_guesses_by_name(served: Served) -> None:
@@ -176,7 +223,7 @@ def test_guesses_by_name(served: Served) -> None:
         answer = Visitor(served, address="10.0.1.1").log_in("Carl")
         assert answer.status_code == 429
         told = shown(answer.get_data(as_text=True))
-        waited.append(next(s for s in range(1, LONGEST) if PageLanguage("en").counted("login wait", s) in told))
+        waited.append(next(s for s in range(1, LONGEST) if PageLanguage("en").ngettext(*WAIT, s) in told))
         served.clock.now += waited[-1]
         assert Visitor(served, address="10.0.1.1").log_in("Carl", "x").status_code == 401
     assert waited == [1, 2, 4, 8]
@@ -191,8 +238,10 @@ def test_guesses_by_address(served: Served) -> None:
         for at in range(FREE_BY_ADDRESS):
             assert Visitor(served, address=address).log_in(f"nobody {at} {address}", "x").status_code == 401
         assert Visitor(served, address=address).log_in("Kim").status_code == 429
-    assert Visitor(served, address="2001:db8::2").log_in("Kim").status_code == 429
-    assert Visitor(served, address="2001:db8:0:1::1").log_in("Kim").status_code == 302
+    # what one household or office has: the rest of it is the same
+    for address in "2001:db8::2", "2001:db8:0:ff::1":
+        assert Visitor(served, address=address).log_in("Kim").status_code == 429
+    assert Visitor(served, address="2001:db8:0:100::1").log_in("Kim").status_code == 302
 
 
 def test_throttle_ends() -> None:
@@ -201,11 +250,10 @@ def test_throttle_ends() -> None:
     throttle = Throttle(lambda: now[0])
     waited = []
     for _ in range(40):
-        waited.append(throttle.begin("a", "1.1.1.1"))
+        waited.append(guess(throttle, "a", "1.1.1.1"))
         now[0] += waited[-1]
     assert max(waited) == LONGEST
-    throttle.was_right("a", "1.1.1.1")
-    assert throttle.begin("a", "2.2.2.2") == 0
+    assert guess(throttle, "a", "1.1.1.1", is_right=True) == 0 == guess(throttle, "a", "2.2.2.2")
     for at in range(30_000):
-        throttle.begin(f"name {at}", f"10.{at >> 16}.{at >> 8 & 255}.{at & 255}")
+        guess(throttle, f"name {at}", f"10.{at >> 16}.{at >> 8 & 255}.{at & 255}")
     assert len(throttle.guesses) <= 20_000

@@ -19,7 +19,8 @@ from serving.server import Browser, Server
 from serving.visitor import WORD, Served, Visitor
 
 PAGES = ("/", "/animals", "/animal/HOLGBRM000000000402", "/animals?words=a&order=name", "/history", "/search?words=GK")
-# so often each is asked for between two looks, and so much may be kept of all that was answered, such as lines of the log
+# so often each is asked for between two looks, and so much may be kept of all that was answered, such as lines of the
+# log
 TIMES, MOST_KEPT = 4, 50_000
 # so many requests the server answers in so many parts, in a test that is run by hand
 REQUESTS, PARTS = 6_600, 12
@@ -111,6 +112,10 @@ def test_looked_for() -> None:
 def test_given_back() -> None:
     """What one thread gave back the next one takes: by itself the C library would have some 20 MB for each of them."""
     done = subprocess.run(
-        [sys.executable, "-c", IN_TURNS], env={"PYTHONPATH": str(TOP / "src")}, capture_output=True, text=True, check=True
+        [sys.executable, "-c", IN_TURNS],
+        env={"PYTHONPATH": str(TOP / "src")},
+        capture_output=True,
+        text=True,
+        check=True,
     )
     assert int(done.stdout) >> 10 < 90, done.stdout

@@ -10,7 +10,6 @@ from selenium import webdriver
 from web.screen import PHONE, Screen, chromium
 from web.test_access import Outline
 from front_desk.desk import Desk
-from gudokeyi.locale import TEXTS
 from gudokeyi.store.accounts import Accounts
 from serving.server import Server
 from serving.visitor import WORD, Served, Visitor, with_accounts
@@ -50,7 +49,7 @@ class Phone(Screen):
         self.writes(f'//main//*[@name="{name}"]', text)
 
     def clicks(self, what: str) -> None:
-        self.leaves_by(f'//*[self::button or self::a][normalize-space()="{TEXTS[what][0]}"]')
+        self.leaves_by(f'//*[self::button or self::a][normalize-space()="{what}"]')
 
     def logs_in(self, name: str, password: str = WORD) -> None:
         self.fills("name", name)
@@ -64,17 +63,17 @@ def test_phone(chromium: webdriver.Chrome, society_desk: Desk, cheap: None) -> N
     phone = Phone(chromium, server)
     # the inspector comes to the page that was asked for, and is offered nothing to file
     phone.comes_to("/animals?words=472")
-    phone.is_told(TEXTS["forgot password"][0])
+    phone.is_told("Who forgot the password gets another one from a keeper of the book.")
     phone.logs_in("Ines")
     phone.is_told(DAM)
-    assert TEXTS["filing"][0] not in str(phone.reads("document.querySelector('nav').innerText"))
-    phone.clicks("logout")
-    phone.is_told(TEXTS["logged out"][0])
+    assert "File a command" not in str(phone.reads("document.querySelector('nav').innerText"))
+    phone.clicks("Log out")
+    phone.is_told("You are logged out.")
     # the clerk writes a form, and the login ends meanwhile
     phone.logs_in("Carl", "wrong")
-    phone.is_told(TEXTS["login wrong"][0])
+    phone.is_told("The name or the password is wrong.")
     phone.logs_in("Carl")
-    phone.is_told(TEXTS["book"][0])
+    phone.is_told("The book at a glance")
     phone.comes_to("/file/exit")
     phone.fills("id", DAM)
     phone.reads("document.getElementsByName('day')[0].value = '2024-05-01'")
@@ -83,21 +82,21 @@ def test_phone(chromium: webdriver.Chrome, society_desk: Desk, cheap: None) -> N
     # no animals are offered any more while somebody types, and that is no fault
     phone.fills("id", DAM)
     phone.waits_for("GET /search 302")
-    phone.clicks("file it")
-    phone.is_told(TEXTS["login over"][0])
+    phone.clicks("File it")
+    phone.is_told("You aren't logged in any more. Log in: what you wrote is kept, and nothing was filed yet.")
     phone.logs_in("Carl", OTHER)
     phone.is_told(DAM)
-    phone.clicks("yes send")
-    phone.is_told(TEXTS["accepted"][0])
+    phone.clicks("Yes, send it")
+    phone.is_told("Accepted.")
     for path in "/", "/history", "/history/2", "/settings", "/password", "/matings", "/sheet":
         phone.comes_to(path)
     # where measures can't be made the page says why
     phone.comes_to("/breed?from=2017&to=2017")
     phone.is_told("not each of the four paths")
-    phone.clicks("logout")
-    phone.is_told(TEXTS["logged out"][0])
+    phone.clicks("Log out")
+    phone.is_told("You are logged out.")
     phone.goes_back()
-    phone.is_told(TEXTS["login"][0])
+    phone.is_told("Log in")
     is_told = " - Failed to load resource: the server responded with a status of 401 (UNAUTHORIZED)"
     assert phone.told() <= {f"/login{is_told}", f"/file/exit{is_told}"}
     server.end()

@@ -9,23 +9,27 @@ from werkzeug.routing import Rule
 from web.site import HOST, shown
 from web.test_desk_security import address_of
 from gudokeyi.domain.people import AccountRole
-from gudokeyi.locale import TEXTS
 from gudokeyi.web.access import LEAST, OPEN_TO_ALL
 from serving.visitor import PEOPLE, Served, Visitor
 
 # what nobody but a keeper may do, and what somebody may change who files nothing
 KEEPERS = {
     "history.ask_undo", "history.bring_back", "settings.change", "accounts.page", "accounts.add", "accounts.change",
-    "accounts.remove",
+    "accounts.ask_removal", "accounts.remove",
     "restoring.page", "restoring.drop", "restoring.look", "restoring.bring_back", "restoring.under_way",
-    "folder.page", "folder.choose", "folder.close",
+    "folder.page", "folder.choose", "folder.close", "seals.publish",
+    "history.ask_take_back", "history.take_it_back", "owners.merge", "owners.ask_erase", "owners.erase",
+    "own_columns.change",
 }  # fmt: skip
 # what nobody does who only reads
 CLERKS = {
     "sheet.page", "sheet.drop", "sheet.drop_example", "sheet.look", "sheet.choose", "sheet.take_suggestion", "sheet.take",
     "sheet.taking", "sheet.leave", "history.backup", "filing.page", "filing.form", "filing.file",
+    "correcting.form", "correcting.correct", "litters.form", "litters.file", "notes.form", "notes.write",
+    "owners.file", "owners.form", "owners.write", "own_columns.form", "own_columns.write",
 }  # fmt: skip
-OWN = {"login.leave", "login.change_password"}
+# what is sent and writes nothing of the book
+OWN = {"login.leave", "login.change_password", "seals.check", "work.stop"}
 
 
 def asked(served: Served) -> list[tuple[Rule, str]]:
@@ -43,7 +47,7 @@ def is_answered(visitor: Visitor, rule: Rule, method: str) -> bool:
     assert answer.status_code < 500 and answer.status_code != 405, rule
     is_sent_to_login = answer.headers.get("Location", "").startswith("/login?")
     if answer.status_code == 403:
-        assert TEXTS["refused role"][0] in shown(answer.get_data(as_text=True))
+        assert "Your role doesn't allow this: ask a keeper of the book." in shown(answer.get_data(as_text=True))
     return answer.status_code not in (401, 403) and not is_sent_to_login
 
 
@@ -77,7 +81,9 @@ def test_without_rule(served: Served) -> None:
 @pytest.mark.parametrize("name", PEOPLE)
 def test_offered(served: Served, name: str) -> None:
     """Pages offer what somebody may do, and nothing else: each link and each form that they have is answered."""
-    assert Visitor(served, "Carl").post("/file/exit", id="GK-17/472c", day="2024-05-01").headers["Location"] == "/answer/2"
+    assert (
+        Visitor(served, "Carl").post("/file/exit", id="GK-17/472c", day="2024-05-01").headers["Location"] == "/answer/2"
+    )
     visitor = Visitor(served, name)
     addresses = [
         "/",
@@ -90,6 +96,7 @@ def test_offered(served: Served, name: str) -> None:
         "/matings",
         "/matings?dam=GK-16/433c",
         "/breed",
+        "/seals",
     ]
     for address in addresses:
         page = visitor.page(address)

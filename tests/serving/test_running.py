@@ -1,6 +1,7 @@
 """The examples for whoever sets a server up: the unit for systemd, and the proxy."""
 from __future__ import annotations
 
+import os
 import pathlib
 import re
 import shutil
@@ -56,7 +57,10 @@ def test_unit(society_desk: Desk, cheap: None) -> None:
 def test_unit_as_systemd_reads_it(tmp_path: pathlib.Path) -> None:
     """systemd finds nothing to say about the unit, and little that it leaves open."""
     unit = tmp_path / "herdbook.service"
-    unit.write_text(UNIT.replace("/usr/bin/gudokeyi", str(TOP / "gudokeyi")).replace("User=herdbook", "User=www-data"), encoding="utf-8")
+    unit.write_text(
+        UNIT.replace("/usr/bin/gudokeyi", str(TOP / "gudokeyi")).replace("User=herdbook", "User=www-data"),
+        encoding="utf-8",
+    )
     done = subprocess.run(["systemd-analyze", "verify", str(unit)], capture_output=True, text=True, timeout=SECONDS)
     assert not [line for line in done.stderr.splitlines() if "herdbook.service" in line], done.stderr
     words = ["systemd-analyze", "security", "--offline=yes", "--threshold=35", str(unit)]
@@ -71,6 +75,35 @@ def curl(room: pathlib.Path, port: int, path: str, *words: str) -> str:
     return subprocess.run(
         [*command, f"https://{NAME}:{port}{path}"], cwd=room, capture_output=True, text=True, check=True
     ).stdout
+
+
+def test_backups(society_desk: Desk, cheap: None, tmp_path: pathlib.Path) -> None:
+    """The script writes the book and its accounts, keeps so many of each, and tells where it can't."""
+    book, folder = society_desk.room / "book", tmp_path / "copies"
+    Accounts(book).add("Kim", AccountRole.KEEPER, WORD, WORD)
+    folder.mkdir()
+    for at in range(3):
+        for kind in "book", "accounts":
+            (folder / f"{kind}-2020010{at}T000000Z.sqlite").write_bytes(b"old")
+    (folder / "own.sqlite").write_bytes(b"of somebody else")
+    env = {"PATH": f"{TOP}:{os.environ['PATH']}", "HERDBOOK": society_desk.program, "HOME": str(tmp_path)}
+    words = [str(TOP / "packaging/backup"), str(book), str(folder), "2"]
+    assert subprocess.run(words, env=env, timeout=SECONDS).returncode == 0
+    names = sorted(path.name for path in folder.iterdir())
+    kept = [name for name in names if "20200102" in name]
+    assert kept == ["accounts-20200102T000000Z.sqlite", "book-20200102T000000Z.sqlite"] and len(names) == 5
+    assert "own.sqlite" in names
+    # on another machine
+    new_accounts, new_book = (max(folder.glob(f"{kind}-*")) for kind in ("accounts", "book"))
+    assert new_accounts.stat().st_mode & 0o077 == new_book.stat().st_mode & 0o077 == 0
+    other = tmp_path / "other"
+    other.mkdir()
+    shutil.copy(new_accounts, other / "accounts.sqlite")
+    society_desk.good("restore", str(new_book), "--anyway", "--book", str(other))
+    assert Accounts(other).fits("Kim", WORD) and "is whole" in society_desk.good("verify", "--book", str(other)).out
+    words[2] = str(tmp_path / "nowhere")
+    done = subprocess.run(words, env=env, timeout=SECONDS, capture_output=True, text=True)
+    assert done.returncode == 1 and "can't be written" in done.stderr
 
 
 @pytest.mark.slow
@@ -107,7 +140,7 @@ def test_proxy(society_desk: Desk, cheap: None, tmp_path: pathlib.Path) -> None:
     )
     try:
         page = curl(tmp_path, port, "/login")
-        assert "__Host-herdbook=" in page and "Secure" in page and "Strict-Transport-Security" in page
+        assert "__Host-herdbook=" in page and "Secure" in page
         token = page.partition('name="csrf_token" value="')[2].partition('"')[0]
         origin = f"Origin: https://{NAME}:{port}"
         words = [

@@ -1,5 +1,5 @@
-"""All routes asked with hostile names, ids, files, fields and headers, by nobody and by each role: nothing is a fault, acts
-in a page, reaches a file, or is told that nobody should know."""
+"""All routes asked with hostile names, ids, files, fields and headers, by nobody and by each role: nothing is a fault,
+acts in a page, reaches a file, or is told that nobody should know."""
 from __future__ import annotations
 
 import io
@@ -29,10 +29,30 @@ HEADERS = ("User-Agent", "Referer", "Accept-Language", "X-Forwarded-For", "X-For
            "If-None-Match", "X-HTTP-Method-Override", "Authorization")  # fmt: skip
 # the names of fields, as the pages' templates have them, and those that one may think of
 FIELD = re.compile(r'name="([\w -]+)"|field\("([\w -]+)"|\.get\("(\w+)"')
-MORE_FIELDS = ("kept to", "kept-id", "kept-csrf_token", "column-id", "understood-id", "option", "word", "page", "secret")
+MORE_FIELDS = (
+    "kept to",
+    "kept-id",
+    "kept-csrf_token",
+    "column-id",
+    "understood-id",
+    "option",
+    "word",
+    "page",
+    "secret",
+)
 TEMPLATES = sorted((TOP / "src/gudokeyi/web/templates").glob("*.html"))
 # what a page or the log may not have of the machine and the program
-TOLD = ("Traceback", str(TOP), f"{tempfile.gettempdir()}/", "site-packages", "dist-packages", "sqlite3.", "root:x:0", "werkzeug", "jinja2")
+TOLD = (
+    "Traceback",
+    str(TOP),
+    f"{tempfile.gettempdir()}/",
+    "site-packages",
+    "dist-packages",
+    "sqlite3.",
+    "root:x:0",
+    "werkzeug",
+    "jinja2",
+)
 
 
 def fields() -> set[str]:
@@ -114,7 +134,11 @@ def test_words_of_files(served: Served, clerk: Visitor, tmp_path: pathlib.Path, 
     longest = 5000 if "file" in path else 4000
     for word in str(there), f"{tmp_path}/where", f"/{'9' * longest}":
         given = {"id": "GK-17/472c", "sex": "F", "day": "2024-05-01"} | {name: word}
-        answer = clerk.post(path, **given) if "file" in path else clerk.client.get(path, query_string=given, headers={"Host": HOST})
+        answer = (
+            clerk.post(path, **given)
+            if "file" in path
+            else clerk.client.get(path, query_string=given, headers={"Host": HOST})
+        )
         assert answer.status_code in (200, 400)
         told.add(shown(answer.get_data(as_text=True)).replace(word, "the word"))
     assert len(told) == 1 and "the word" in told.pop()

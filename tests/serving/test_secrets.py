@@ -1,4 +1,5 @@
-"""What neither the log, nor the page of a fault, nor the file of accounts has: passwords, tokens and what people wrote."""
+"""What neither the log, nor the page of a fault, nor the file of accounts has: passwords, tokens and what people
+wrote."""
 from __future__ import annotations
 
 import pytest
@@ -32,6 +33,8 @@ def test_log(served: Served) -> None:
     assert any("10.0.0.9 Carl (clerk) POST /login 302" in line for line in lines)
     assert any("Carl (clerk) GET /sheet/<token> 200" in line for line in lines)
     assert any("Carl (clerk) GET /history/<number>/undo 403" in line and "refused role" in line for line in lines)
+    # why something isn't done, by the sentence's name
+    assert any("POST /file/<kind> 400" in line and line.endswith(" Naming.NO_ANIMAL") for line in lines)
     for secret in ("my secret", WORD, "looked-for", "forged", "no such animal", address.rpartition("/")[2], *tokens):
         assert secret == "True" or secret not in log, secret
 

@@ -23,7 +23,7 @@ from gudokeyi.store.book import Book
 from gudokeyi.store.transactions import Overtaken, reading
 from gudokeyi.web import sheet_work
 from gudokeyi.web.forms import new_form
-from gudokeyi.web.sheet_work import Chosen, Imported, Seen, imported, seen_of
+from gudokeyi.web.sheet_work import TRIES_BESIDE, Asked, Chosen, Imported, Seen, imported, looked_at, seen_of
 
 DAM, OTHER, DAY = "GK-17/472c", "GK-16/433c", "2024-05-01"
 ANYWAY = Chosen(options=(("anyway", "1"),))
@@ -82,25 +82,41 @@ def seen_now(folder: pathlib.Path) -> Seen:
 
 def taken_now(folder: pathlib.Path, path: pathlib.Path) -> Imported:
     """A sheet is taken at a desk that looked at the book of now."""
-    return imported(folder, path, ANYWAY, seen_now(folder), new_form(), lambda _: None)
+    look = looked_at(folder, path, ANYWAY, (), lambda _: None)
+    return imported(folder, path, ANYWAY, Asked(look.seen, look.by_animal, new_form()), lambda _: None)
 
 
 def test_sheet_of_a_desk(folder: pathlib.Path, society_desk: Desk, monkeypatch: pytest.MonkeyPatch) -> None:
-    """Others file while a sheet is prepared, and then it isn't taken, but looked at anew."""
-    path = sheet(society_desk)
+    """Others file while a sheet is prepared, and then it is prepared anew behind that, until they wait for it."""
+    path, free = sheet(society_desk), list[bool]()
+    look = looked_at(folder, path, ANYWAY, (), lambda _: None)
+    prepare = getattr(sheet_work, "import_sheet_into")
 
-    def file() -> None:
-        assert is_free(folder)
-        exit_of(society_desk)
+    def prepared(*values: object, **named: object) -> object:
+        found: object = prepare(*values, **named)
+        free.append(is_free(folder))
+        if free[-1]:
+            at = len(free)
+            society_desk.good("birth", f"OTHER-{at}", "--sex", "f", "--day", "2024-01-01", "--owner", "Lower Mill")
+        return found
 
-    behind(monkeypatch, sheet_work, "import_sheet_into", file)
-    assert taken_now(folder, path).book_changed
-    assert kinds(folder) == ["take", "exit"]
-    monkeypatch.undo()
-    monkeypatch.setenv("HERDBOOK", society_desk.program)
-    made = taken_now(folder, path)
-    assert (made.change, made.book_changed) == (3, False) and kinds(folder) == ["take", "exit", "take"]
+    monkeypatch.setattr(sheet_work, "import_sheet_into", prepared)
+    made = imported(folder, path, ANYWAY, Asked(look.seen, look.by_animal, new_form()), lambda _: None)
+    assert free == [True] * TRIES_BESIDE + [False]
+    assert made.change == TRIES_BESIDE + 2 and kinds(folder) == ["take", *["birth"] * TRIES_BESIDE, "take"]
     society_desk.good("verify")
+
+
+def test_touched_by_others(folder: pathlib.Path, society_desk: Desk) -> None:
+    """Where others changed an animal that the sheet changes too it isn't taken, and that animal alone is named."""
+    path = sheet(society_desk)
+    look = looked_at(folder, path, ANYWAY, (), lambda _: None)
+    asked = Asked(look.seen, look.by_animal, new_form())
+    society_desk.good("birth", "NEW-1", "--sex", "f", "--day", "2023-01-01", "--owner", "Lower Mill")
+    made = imported(folder, path, ANYWAY, asked, lambda _: None)
+    assert (made.change, made.otherwise) == (0, ("NEW-1",)) and kinds(folder) == ["take", "birth"]
+    again = looked_at(folder, path, ANYWAY, made.otherwise, lambda _: None)
+    assert again.again and {entry.id for entry in again.again} == {"NEW-1"}
 
 
 def test_sheet_of_a_terminal(folder: pathlib.Path, society_desk: Desk, monkeypatch: pytest.MonkeyPatch) -> None:
@@ -179,8 +195,8 @@ def test_restoring(folder: pathlib.Path, society_desk: Desk, monkeypatch: pytest
 
 
 def test_restoring_of_another_book(folder: pathlib.Path, society_desk: Desk, monkeypatch: pytest.MonkeyPatch) -> None:
-    """Where somebody files behind the look at a book, and be it at the last moment, nothing is restored, and the book is as
-    it was left."""
+    """Where somebody files behind the look at a book, and be it at the last moment, nothing is restored, and the book
+    is as it was left."""
     society_desk.good("backup", "copy.sqlite")
     exits = iter((OTHER, DAM))
     for module, name in (restoring, "prepare"), (backups, "set_write_ahead"):

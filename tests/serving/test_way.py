@@ -6,7 +6,6 @@ import pytest
 from web.site import HOST, PORT, shown
 from web.test_desk_security import writing
 from gudokeyi.domain.messages import Mistake
-from gudokeyi.locale import TEXTS
 from gudokeyi.web.addresses import ListenAddress, ServerAddress, listen_address, server_address
 from serving.visitor import Served, Visitor
 
@@ -21,7 +20,9 @@ def test_hosts(served: Served, clerk: Visitor, host: str) -> None:
     """A name that another site has made for this address isn't answered, nor does a page lead there."""
     for path in "/", "/login", "/static/desk.css":
         answer = clerk.client.get(path, headers={"Host": host})
-        assert answer.status_code == 400 and TEXTS["refused host"][0] in shown(answer.get_data(as_text=True))
+        assert answer.status_code == 400 and "This server isn't asked by this name." in shown(
+            answer.get_data(as_text=True)
+        )
         assert "Location" not in answer.headers
 
 
@@ -47,7 +48,7 @@ def test_tokens(served: Served) -> None:
         for token in "", "x", other.token():
             answer = keeper.client.post(address, data={"csrf_token": token}, headers={"Host": HOST})
             assert answer.status_code == 400, address
-            assert TEXTS["refused form"][0] in shown(answer.get_data(as_text=True))
+            assert "The form is too old: open the page anew, and send it again." in shown(answer.get_data(as_text=True))
 
 
 def test_headers(served: Served, clerk: Visitor) -> None:
@@ -72,6 +73,8 @@ def test_proxy(proxied: Served) -> None:
         headers = {name: value for name, value in BY_PROXY.items() if name != missing}
         assert proxy.client.get("/login", headers=headers).status_code in (400, 403), missing
     assert proxy.client.get("/login", headers=BY_PROXY | {"X-Forwarded-For": "evil"}).status_code == 403
+    # a server of both protocols sees the proxy's address otherwise
+    assert Visitor(proxied, address=f"::ffff:{PROXY}").client.get("/login", headers=BY_PROXY).status_code == 200
     # a browser may send such a header too: the proxy writes behind it
     proxied.log.truncate(0)
     proxy.client.get(
@@ -119,5 +122,7 @@ def test_places() -> None:
     for place, proxy in ("0.0.0.0:80", ""), ("[::]:80", ""), ("127.0.0.1:80", PROXY):
         with pytest.raises(Mistake, match="by which name"):
             server_address(listen_address(place), [], proxy)
+    with pytest.raises(Mistake, match="isn't the address of a proxy"):
+        server_address(listen_address("127.0.0.1:80"), ["herd.example"], "localhost")
     with pytest.raises(Mistake, match="can't be a name"):
         server_address(listen_address("127.0.0.1:80"), ["evil/name"], "")

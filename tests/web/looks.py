@@ -4,7 +4,7 @@ from __future__ import annotations
 import re
 
 from web.site import Site, shown
-from gudokeyi.web.language import PageLanguage
+from gudokeyi.render.page_language import PageLanguage
 
 TITLES = "Ohrmarke;Name;Geschlecht;geb;Vater;Mutter;Besitzer\n"
 PAIR = "001;Max;m;2001-01-01;;;Huber\n002;Eva;w;2001-02-01;;;Huber\n018;Rex;m;2001-03-01;;;Huber\n"
@@ -20,11 +20,11 @@ class Says:
     def __init__(self, language: str) -> None:
         self.words = PageLanguage(language)
 
-    def __call__(self, what: str, *values: object) -> str:
-        return " ".join(self.words(what, *values).split())
+    def __call__(self, text: str, *values: object) -> str:
+        return " ".join(self.words.gettext(text, *values).split())
 
-    def counted(self, what: str, count: int) -> str:
-        return " ".join(self.words.counted(what, count).split())
+    def counted(self, one: str, several: str, count: int) -> str:
+        return " ".join(self.words.ngettext(one, several, count).split())
 
 
 def look_at(site: Site, text: str, **options: str) -> tuple[str, str]:
@@ -48,7 +48,9 @@ def press(site: Site, address: str, page: str, label: str) -> str:
     return site.page(site.post(f"{address}/suggested", option=option, word=word).headers["Location"])
 
 
-def part(page: str, what: str, language: str = "en") -> str:
+def part(page: str, title: str, language: str = "en") -> str:
     """A part of what is found, from its title to the next one."""
-    found = re.search(rf"<details[^>]*>\s*<summary><h3>{PageLanguage(language)(what)} .*?</table>", page, re.DOTALL)
+    found = re.search(
+        rf"<details[^>]*>\s*<summary><h3>{PageLanguage(language).gettext(title)} .*?</table>", page, re.DOTALL
+    )
     return found[0] if found else ""

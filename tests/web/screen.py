@@ -29,6 +29,8 @@ NOT_DONE = (
     NoSuchElementException, StaleElementReferenceException, ElementNotInteractableException,
     ElementClickInterceptedException,
 )  # fmt: skip
+# what a browser says of itself there
+PHONE_BROWSER = "Mozilla/5.0 (Linux; Android 14; K) AppleWebKit/537.36 (KHTML, like Gecko) Mobile Safari/537.36"
 PHONE = {"width": 390, "height": 844, "deviceScaleFactor": 1, "mobile": True}
 IS_WHOLE = "document.readyState === 'complete'"
 Value = TypeVar("Value")
@@ -74,12 +76,14 @@ class Screen:
         # nothing is left of whoever was here before, nor of what the browser found fault with then
         self.opens("about:blank")
         chromium.execute_cdp_cmd("Emulation.clearDeviceMetricsOverride", {})
+        chromium.execute_cdp_cmd("Emulation.setUserAgentOverride", {"userAgent": ""})
         chromium.execute_cdp_cmd("Network.clearBrowserCookies", {})
         self.told()
 
     def becomes_small(self) -> None:
         """It is that of a telephone from now on."""
         self.chromium.execute_cdp_cmd("Emulation.setDeviceMetricsOverride", PHONE)
+        self.chromium.execute_cdp_cmd("Emulation.setUserAgentOverride", {"userAgent": PHONE_BROWSER})
 
     def waits(self, find: Callable[[], Value | None], what: str) -> Value:
         """Waits until something is found, and answers it. A page that is being left can't be asked, and is asked again;

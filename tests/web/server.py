@@ -48,7 +48,8 @@ class Running:
     """A command that goes on until it is ended. `said` is the first line that it prints."""
 
     def __init__(self, room: pathlib.Path, program: str, command: list[str], errors: IO[str] | None = None) -> None:
-        known = {"PATH": os.environ["PATH"], "HERDBOOK": program, "LANG": "C", "TMPDIR": str(room)}
+        own = {name: os.environ.get(name, "") for name in ("XDG_CACHE_HOME", "GUDOKEYI_NUMBERS")}
+        known = {"PATH": os.environ["PATH"], "HERDBOOK": program, "LANG": "C", "TMPDIR": str(room), **own}
         self.process = subprocess.Popen(command, cwd=room, env=known, stdout=subprocess.PIPE, stderr=errors, text=True)
         RUNNING.append(self.process)
         late = threading.Timer(SECONDS, self.process.kill)

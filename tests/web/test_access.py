@@ -20,8 +20,8 @@ STYLE = (TOP / "src/gudokeyi/web/static/desk.css").read_text(encoding="utf-8")
 
 
 class Outline(html.parser.HTMLParser):
-    """The headings of a page in their order, the ids that have a label, the fields without one, and the text of links and
-    buttons."""
+    """The headings of a page in their order, the ids that have a label, the fields without one, and the text of links
+    and buttons."""
 
     def __init__(self) -> None:
         super().__init__()
@@ -82,10 +82,11 @@ def test_outline(site: Site, address: str) -> None:
     assert "<a href" in text and "aria-current" in text or address == "/nothing"
 
 
-def colours() -> dict[str, str]:
-    return dict(re.findall(r"--([\w-]+): (#[0-9a-f]{3,6});", STYLE)) | dict(
-        re.findall(r"\.(level-\d) \{ background: (#\w+)", STYLE)
-    )
+def colours(is_dark: bool) -> dict[str, str]:
+    """By their names, as the system wants them light or dark."""
+    light, _, dark = STYLE.partition("(prefers-color-scheme: dark)")
+    named = re.compile(r"--([\w-]+): (#[0-9a-f]{3,6});")
+    return dict(named.findall(light)) | (dict(named.findall(dark)) if is_dark else {})
 
 
 def luminance(colour: str) -> float:
@@ -100,18 +101,22 @@ def luminance(colour: str) -> float:
     "ink, ground",
     [
         ("ink", "paper"), ("ink", "ground"), ("quiet", "paper"), ("quiet", "ground"), ("main", "paper"), ("main", "ground"),
-        ("paper", "main"), ("paper", "main-dark"), ("good", "good-ground"), ("wrong", "wrong-ground"), ("look", "look-ground"),
+        ("on-bar", "bar"), ("on-bar", "bar-dark"), ("main", "tint"), ("main", "head"), ("quiet", "rule"),
+        ("good", "good-ground"), ("wrong", "wrong-ground"), ("look", "look-ground"),
         ("inbred-ink", "inbred"), ("good", "paper"), *(("ink", f"level-{at}") for at in range(5)),
     ],
 )  # fmt: skip
-def test_contrast(ink: str, ground: str) -> None:
+@pytest.mark.parametrize("is_dark", [False, True])
+def test_contrast(ink: str, ground: str, is_dark: bool) -> None:
     """Letters stand out by 4.5 to 1 at least."""
-    found = colours()
+    found = colours(is_dark)
     light, dark = sorted((luminance(found[ink]), luminance(found[ground])), reverse=True)
     assert (light + 0.05) / (dark + 0.05) >= 4.5
 
 
-@pytest.mark.parametrize("ink, grounds", [(GREY, (SIRE, DAM, PAPER)), (INBRED_INK, (INBRED, PAPER)), (INK, (SIRE, DAM, INBRED))])
+@pytest.mark.parametrize(
+    "ink, grounds", [(GREY, (SIRE, DAM, PAPER)), (INBRED_INK, (INBRED, PAPER)), (INK, (SIRE, DAM, INBRED))]
+)
 def test_contrast_of_pictures(ink: str, grounds: tuple[str, ...]) -> None:
     """So do those of pedigrees and certificates, on the colours of sires and dams."""
     for ground in grounds:

@@ -1,5 +1,5 @@
-"""A secretary's whole way in Chromium, from an empty folder to a list, a certificate, a plan, a second sheet and undo, in
-each language; and the search while she types."""
+"""A secretary's whole way in Chromium, from an empty folder to a list, a certificate, a plan, a second sheet and undo,
+in each language; and the search while she types."""
 from __future__ import annotations
 
 import pathlib
@@ -10,10 +10,10 @@ from selenium import webdriver
 from selenium.webdriver.common.keys import Keys
 from selenium.webdriver.support.ui import Select
 
+from web.said import in_each
 from web.screen import PHONE, Screen, chromium
 from web.server import Server
 from front_desk.desk import TOP, Desk
-from gudokeyi.locale import TEXTS
 
 __all__ = ["chromium"]
 LANGUAGES = ("en", "de", "fr")
@@ -37,7 +37,7 @@ class Secretary(Screen):
         self.opens(f"/language/{language}")
 
     def says(self, what: str, *values: object) -> str:
-        return TEXTS[what][self.at].format(*values)
+        return in_each(what)[self.at].format(*values)
 
     def is_told(self, what: str, *values: object) -> None:
         self.sees(self.says(what, *values))
@@ -53,59 +53,59 @@ class Secretary(Screen):
         self.leaves_by(f'//nav//a[normalize-space()="{self.says(what)}"]')
 
     def drops(self, path: pathlib.Path) -> None:
-        self.goes_to("sheet")
+        self.goes_to("Take a sheet")
         self.does('//input[@type="file"]', lambda field: field.send_keys(str(path)))
-        self.clicks("look at it")
+        self.clicks("Look at it")
 
 
 @pytest.mark.parametrize("language", LANGUAGES)
 def test_whole_way(chromium: webdriver.Chrome, server: Server, desk: Desk, language: str) -> None:
     secretary = Secretary(chromium, server, language)
-    secretary.is_told("no book yet")
+    secretary.is_told("There is no book in this folder yet.")
     # the first sheet: one column has a title that says nothing
     text = EXAMPLE.read_text(encoding="utf-8")
     first = desk.room / "erste Tabelle.csv"
     first.write_text(text.replace(",dam,", ",x,", 1), encoding="utf-8")
-    secretary.clicks("take first sheet")
+    secretary.clicks("Take your first sheet")
     secretary.drops(first)
     secretary.does('//select[@name="column-dam"]', lambda field: Select(field).select_by_visible_text("x"))
-    secretary.clicks("look anew")
-    secretary.is_told("would be", 502, 500)
+    secretary.clicks("Look anew")
+    secretary.is_told("The book would have {} animals.", 502, 500)
     assert not (desk.room / "book").exists()
-    secretary.clicks("take it")
-    secretary.is_told("sheet taken", first.name)
+    secretary.clicks("Take it into the book")
+    secretary.is_told("{} is taken.", first.name)
     # the list, and a certificate
-    secretary.goes_to("animals")
-    secretary.is_told("animals found", 502)
+    secretary.goes_to("Animals")
+    secretary.is_told("{} animals", 502)
     secretary.fills("words", "GK-14/388b")
-    secretary.is_told("animals found (one)", 1)
+    secretary.is_told("{} animal", 1)
     secretary.leaves_by('//a[normalize-space()="GK-14/388b"]')
     secretary.sees("1/4 = 0")
-    certificate = f'//a[normalize-space()="{secretary.says("certificate")}"]'
+    certificate = f'//a[normalize-space()="{secretary.says("Certificate to print")}"]'
     secretary.opens(secretary.waits(lambda: str(secretary.there(certificate).get_attribute("href")), certificate))
     secretary.sees("GK-05/192c")
     style = "getComputedStyle(document.querySelector('table')).tableLayout"
     assert secretary.reads(style) == "fixed", "the certificate's style is taken"
     # a plan for all
     secretary.opens("/matings")
-    secretary.clicks("plan for all")
+    secretary.clicks("A plan for all dams")
     secretary.fills("most", "20")
-    secretary.clicks("make plan")
+    secretary.clicks("Make the plan")
     dams = desk.listed("list", "--living", "--sex", "f")
-    secretary.is_told("planned", len(dams))
+    secretary.is_told("{} matings.", len(dams))
     # a second sheet, with one animal more
     second = desk.room / "second.csv"
     second.write_text(first.read_text(encoding="utf-8") + "Lower Mill,NEW-1,f,2019-01-01,,,\n", encoding="utf-8")
     secretary.drops(second)
-    secretary.is_told("would be", 503, 1)
-    secretary.clicks("take it")
-    secretary.is_told("sheet taken", second.name)
+    secretary.is_told("The book would have {} animals.", 503, 1)
+    secretary.clicks("Take it into the book")
+    secretary.is_told("{} is taken.", second.name)
     # undo, with a question
-    secretary.goes_to("history")
-    secretary.clicks("undo")
-    secretary.is_told("ask undo", 1)
-    secretary.clicks("yes undo")
-    secretary.is_told("brought back", 1)
+    secretary.goes_to("History")
+    secretary.clicks("Undo")
+    secretary.is_told("Bring back the book as it was after change {}?", 1)
+    secretary.clicks("Yes, bring it back")
+    secretary.is_told("The state after change {} is brought back.", 1)
     assert len(desk.good("list").out.splitlines()) == 503
     assert not secretary.told()
 
@@ -114,11 +114,12 @@ def test_typing(chromium: webdriver.Chrome, society_desk: Desk) -> None:
     """What is found is shown while somebody types, and animals are offered below a field; a birth is filed by keys."""
     server = Server(society_desk.room, society_desk.program)
     secretary = Secretary(chromium, server, "en")
-    secretary.goes_to("animals")
+    secretary.goes_to("Animals")
     secretary.fills("words", "mill 47")
     secretary.sees("2 animals")
     secretary.is_shown("location.search.includes('words=mill+47')", True)
-    rows = "[...document.querySelectorAll('tbody th')].map(one => one.innerText)"
+    # each with its number, by which it was found
+    rows = "[...document.querySelectorAll('tbody th')].map(one => one.innerText.split('\\n')[0])"
     secretary.is_shown(rows, ["GK-03/142c", "GK-16/433c"])
     secretary.opens("/file/birth")
     secretary.fills("id", "NEW-1")
@@ -128,7 +129,7 @@ def test_typing(chromium: webdriver.Chrome, society_desk: Desk) -> None:
     secretary.is_shown("document.querySelectorAll('#sire-found > [value=\"GK-10/294b\"]').length", 1)
     secretary.fills("sire", "GK-10/294b")
     secretary.leaves_by('//*[@name="dam"]', lambda field: field.send_keys("GK-17/472c", Keys.ENTER))
-    secretary.is_told("accepted")
+    secretary.is_told("Accepted.")
     # gone back to, the form has all that was written: another animal isn't filed without its parents
     secretary.goes_back()
     written = "['id', 'sire', 'dam'].map(name => document.querySelector(`input[name=${name}]`).value)"
@@ -171,7 +172,7 @@ def test_tables_of_the_breed(chromium: webdriver.Chrome, society_desk: Desk) -> 
     """Ids and names stand at the left of their columns, and figures at the right."""
     server = Server(society_desk.room, society_desk.program)
     secretary = Secretary(chromium, server, "en")
-    secretary.goes_to("breed")
+    secretary.goes_to("The breed")
     secretary.sees("Mean kinship")
     secretary.is_shown("document.querySelectorAll('.breed .measures').length > 0", True)
     # the heading comes first, also on a telephone and for a screen reader
@@ -191,7 +192,7 @@ def test_read_only(chromium: webdriver.Chrome, society_desk: Desk) -> None:
     """Nothing that changes is offered."""
     server = Server(society_desk.room, society_desk.program, "--read-only")
     secretary = Secretary(chromium, server, "en")
-    secretary.is_told("read only")
+    secretary.is_told("This desk is only to be read: nothing can be changed here.")
     said = str(secretary.reads("document.querySelector('nav').innerText"))
-    assert TEXTS["animals"][0] in said and TEXTS["sheet"][0] not in said and TEXTS["filing"][0] not in said
+    assert "Animals" in said and "Take a sheet" not in said and "File a command" not in said
     server.end()

@@ -1,9 +1,11 @@
-"""Certificates in Chromium, on paper and on a telephone: nothing of a box is cut but a long name."""
+"""Certificates in Chromium, on paper and on a telephone: nothing of a box is cut but a long name, and a
+long id of the fourth and fifth generation; each animal has a sheet."""
 from __future__ import annotations
 
 import base64
 import re
 
+import pytest
 from selenium import webdriver
 
 from web.screen import PHONE, Screen, chromium
@@ -13,14 +15,17 @@ from gudokeyi.domain.settings import LANGUAGES
 __all__ = ["chromium"]
 NAME = "Wilhelmine Charlotte Friederike von der hohen Wiese am Wald und an der Heide"
 OWNER = "Arbeitsgemeinschaft der Halter alter Rassen im Landkreis Sonstwo"
-SOCIETY = "Landesverband der Züchter und Halter alter und gefährdeter Nutztierrassen im Südwesten und in Gebieten daneben"
+SOCIETY = (
+    "Landesverband der Züchter und Halter alter und gefährdeter Nutztierrassen im Südwesten und in Gebieten daneben"
+)
 ADDRESS = "Wilhelmine Huber\nAm Hang 17\n12345 Hintertupfingen\ninfo@example.org"
 # ids of a word, a line and two
 BEFORE = ("k-", "de-09-2765-", "de-09-2765-0000123456-zv")
 # what leaves its box, or is itself cut
 CUT = """[...document.querySelectorAll('.box')].flatMap(box => {
     const edge = box.getBoundingClientRect();
-    return [...box.querySelectorAll('small, b, .line, .inbred')].filter(one => {
+    const isFar = box.closest('.four, .five');
+    return [...box.querySelectorAll(isFar ? 'small, .line, .inbred' : 'small, b, .line, .inbred')].filter(one => {
         const part = one.getBoundingClientRect();
         const [wide, high] = [one.scrollWidth - one.clientWidth, one.scrollHeight - one.clientHeight];
         const isCut = one.clientHeight && (wide > 0 || high > 1);
@@ -60,6 +65,21 @@ def test_boxes(chromium: webdriver.Chrome, desk: Desk) -> None:
         screen.opens(address)
         assert screen.reads(CUT) == [] and screen.reads(WIDTH) == PHONE["width"]
         chromium.execute_cdp_cmd("Emulation.clearDeviceMetricsOverride", {})
+
+
+@pytest.mark.parametrize("generations, boxes", [(4, 30), (5, 62)])
+def test_further_generations(chromium: webdriver.Chrome, desk: Desk, generations: int, boxes: int) -> None:
+    desk.take("id,name,sex,birth,sire,dam,owner\n" + "".join(map(full_sibs, BEFORE)))
+    desk.good("settings", "--name", SOCIETY, "--address", ADDRESS)
+    ids = [f"{before}6f" for before in BEFORE]
+    desk.good("certificate", *ids, "--generations", str(generations), "--language", "de", "--out", "long.html")
+    screen = Screen(chromium, "")
+    screen.opens((desk.room / "long.html").as_uri())
+    assert screen.reads("document.querySelectorAll('.box').length") == 3 * boxes
+    chromium.execute_cdp_cmd("Emulation.setEmulatedMedia", {"media": "print"})
+    assert screen.reads(CUT) == []
+    chromium.execute_cdp_cmd("Emulation.setEmulatedMedia", {"media": ""})
+    assert sheets_printed(chromium) == 3
 
 
 def sheets_printed(chromium: webdriver.Chrome) -> int:

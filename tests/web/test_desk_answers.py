@@ -9,15 +9,16 @@ from collections.abc import Iterator
 
 import pytest
 
+from web.said import SENTENCES
 from web.site import Site, shown
 from web.test_desk_filing import BIRTH, DAM
 from web.test_desk_sheets import EXAMPLE
 from front_desk.desk import Desk
 from gudokeyi.domain.requests import WebFault
 from gudokeyi.engine.session import Answer, Session
-from gudokeyi.locale import SENTENCES, TEXTS
 from gudokeyi.services.book_session import BookMoved, BookSession
 from gudokeyi.services.cache import mark_of
+from gudokeyi.services.tables import Table
 from gudokeyi.store.book import Book
 from gudokeyi.web.mating_work import Bounds, PlanMade, compare
 
@@ -51,12 +52,12 @@ def test_looked_at_by_the_session(site: Site, society_desk: Desk, asked: list[li
 
 
 def test_few_coefficients(site: Site, society_desk: Desk, asked: list[list[str]]) -> None:
-    """A correction of parents asks for the coefficients of the animal and its descendants, and the others stay."""
+    """A correction of parents asks for the animal's record and its descendants' coefficients; the others stay."""
     site.post("/file/exit", id=DAM, day="2024-05-01")
     asked.clear()
     site.post("/file/parents", id="GK-14/388b", sire="0", dam="0")
-    assert TEXTS["accepted"][0] in shown(site.page("/answer/3"))
-    assert asked and {one[0] for one in asked} == {"coefficient"}
+    assert "Accepted." in shown(site.page("/answer/3"))
+    assert asked and {one[0] for one in asked} == {"record", "coefficient"}
     society_desk.good("verify")
     rows = {row["id"]: row["coefficient"] for row in society_desk.listed("list", "--columns", "id,coefficient")}
     assert rows["GK-14/388b"] == "0" and len({*rows.values()}) > 9
@@ -66,7 +67,7 @@ def test_all_coefficients(site: Site, society_desk: Desk, monkeypatch: pytest.Mo
     """Of many descendants all coefficients are asked for at once."""
     monkeypatch.setattr("gudokeyi.store.coefficients.MOST_ONE_BY_ONE", 0)
     site.post("/file/parents", id="GK-14/388b", sire="0", dam="0")
-    assert TEXTS["accepted"][0] in shown(site.page("/answer/2"))
+    assert "Accepted." in shown(site.page("/answer/2"))
     society_desk.good("verify")
 
 
@@ -94,7 +95,7 @@ def test_plan_of_another_history(site: Site) -> None:
     with site.desk.opened() as book:
         assert book
         number, moment = mark_of(book)
-    plan = PlanMade((number, moment), Bounds(None, None, ()), [], {}, None, 0, None, {})
+    plan = PlanMade((number, moment), Bounds(None, None, ()), [], {}, None, 0, None, Table((), ()))
     compare(site.desk, plan)
     for other in (number, moment + 1), (number + 1, moment):
         with pytest.raises(BookMoved):
@@ -129,11 +130,11 @@ def test_session_killed_while_a_sheet_is_taken(site: Site, society_desk: Desk) -
     address = site.drop("sheet.csv", EXAMPLE + NEW_ROW)
     site.page(address)
     with session_killed_again_and_again(site):
-        assert TEXTS["sheet taken"][0].format("sheet.csv") in shown(site.take(address))
+        assert "sheet.csv is taken." in shown(site.take(address))
     assert before.process.wait(9) and before.has_ended
     answer = site.post("/file/exit", id="NEW-9", day="2024-05-02")
     assert answer.headers["Location"] == "/answer/4"
-    assert TEXTS["accepted"][0] in shown(site.page("/answer/4"))
+    assert "Accepted." in shown(site.page("/answer/4"))
     assert site.desk.program.session is not before
     society_desk.good("verify")
     assert [line.split()[0] for line in society_desk.good("history").out.splitlines()] == ["1", "2", "3", "4"]

@@ -1,5 +1,5 @@
-"""How pages change the book: once, one after the other, by the session of the book that is there, and the files beside it
-are written behind each change."""
+"""How pages change the book: once, one after the other, by the session of the book that is there, and the files beside
+it are written behind each change."""
 from __future__ import annotations
 
 import concurrent.futures
@@ -14,13 +14,13 @@ from collections.abc import Iterator
 
 import pytest
 
+from web.said import SENTENCES
 from web.site import HOST, SECONDS, Site, form_in, looked_in, shown
 from web.test_desk_filing import BIRTH, DAM
 from web.test_desk_sheets import EXAMPLE
 from front_desk.desk import Desk
 from gudokeyi.domain.messages import Mistake
 from gudokeyi.domain.settings import LANGUAGES
-from gudokeyi.locale import SENTENCES, TEXTS
 from gudokeyi.services.opening import alone_to_change
 from gudokeyi.store.book import Book
 from gudokeyi.store.messages import BackupFault
@@ -47,8 +47,8 @@ def test_two_tabs(site: Site, society_desk: Desk) -> None:
     taken = []
     for job in jobs:
         assert job and job.is_over.wait(SECONDS) and isinstance(job.value, Imported)
-        taken.append(job.value.book_changed)
-    assert sorted(taken) == [False, True]
+        taken.append(job.value.otherwise)
+    assert sorted(taken) == [(), ("NEW-9",)]
     assert [line.split()[0] for line in society_desk.good("history").out.splitlines()] == ["1", "2"]
     society_desk.good("verify")
 
@@ -85,31 +85,35 @@ def test_restored(site: Site, society_desk: Desk, monkeypatch: pytest.MonkeyPatc
     copy = site.get("/book.sqlite").get_data()
     site.post("/file/exit", id=DAM, day="2024-05-01")
     address = site.drop_backup(copy)
-    assert TEXTS["book changed"][0] in shown(site.page(site.post(address, looked="1-1").headers["Location"]))
+    assert "Somebody changed the book meanwhile. This is what is there now." in shown(
+        site.page(site.post(address, looked="1-1").headers["Location"])
+    )
     assert len(society_desk.good("history").out.splitlines()) == 2
-    assert TEXTS["backup restored"][0].format("copy.sqlite") in shown(
+    assert "The backup copy.sqlite is restored." in shown(
         site.page(site.post(address, **looked_in(site.page(address))).headers["Location"])
     )
     # the exit is gone with the book that had it
-    assert TEXTS["accepted"][0] in shown(
+    assert "Accepted." in shown(
         site.page(site.post("/file/exit", id=DAM, day="2024-05-02").headers["Location"])
     )
     society_desk.good("verify")
 
 
 def test_same_number(site: Site, society_desk: Desk) -> None:
-    """A restored book isn't the one that was looked at before, though its last change has the same number."""
+    """A restored book isn't the one that was looked at before, though its last change has the same number; a sheet that
+    does the same to it is taken."""
     copy = site.get("/book.sqlite").get_data()
     society_desk.good("exit", DAM, "--day", "2024-05-01")
     sheet, backup, undo = site.drop("sheet.csv", EXAMPLE + NEW_ROW), site.drop_backup(copy), "/history/1/undo"
     pages = {to: site.page(to) for to in (sheet, backup, undo)}
     site.restore(copy)
-    assert looked_in(site.page(sheet)) != looked_in(pages[sheet])
-    for to, address in (sheet, f"{sheet}/take"), (backup, backup), (undo, undo):
-        answer = site.page(site.post(address, **looked_in(pages[to])).headers["Location"])
-        assert TEXTS["book changed"][0] in shown(answer)
+    for address in backup, undo:
+        answer = shown(site.page(site.post(address, **looked_in(pages[address])).headers["Location"]))
+        assert "Somebody changed the book meanwhile. This is what is there now." in answer
     with site.desk.opened() as book:
-        assert book and book.change and book.change.number == 2 and "NEW-9" not in book.known
+        assert book and book.change and book.change.number == 2 and "NEW-9" not in book.society_records
+    # a sheet changes the same animals in the same way there
+    assert "sheet.csv is taken." in shown(site.page(site.post(f"{sheet}/take", **looked_in(pages[sheet])).headers["Location"]))
 
 
 def test_breed_of_another_history(site: Site, society_desk: Desk) -> None:
@@ -121,11 +125,14 @@ def test_breed_of_another_history(site: Site, society_desk: Desk) -> None:
     assert 'class="breed"' not in site.get("/breed").get_data(as_text=True)
     site.page("/breed")
     society_desk.good("exit", DAM, "--day", "2024-05-02")
-    assert TEXTS["older state"][0].format(2, 3) in shown(site.get("/breed").get_data(as_text=True))
+    assert "This is the state after change 2; the book is at change 3." in shown(
+        site.get("/breed").get_data(as_text=True)
+    )
 
 
 def test_last_backup(site: Site, society_desk: Desk) -> None:
-    """The history tells of one that has changes of this book, not of one whose last change went with a restored book."""
+    """The history tells of one that has changes of this book, not of one whose last change went with a restored
+    book."""
     copy = site.get("/book.sqlite").get_data()
     society_desk.good("exit", DAM, "--day", "2024-05-01")
     later = site.get("/book.sqlite").get_data()
@@ -133,7 +140,7 @@ def test_last_backup(site: Site, society_desk: Desk) -> None:
     site.restore(copy)
     page = shown(site.page("/history"))
     # nor does it say that there is none
-    assert "after change 2." not in page and TEXTS["no backup known"][0] in page
+    assert "after change 2." not in page and "No copy is known that has the book as it is now." in page
     site.restore(later)
     assert "after change 2." in shown(site.page("/history"))
 
@@ -144,11 +151,13 @@ def test_no_backup(site: Site) -> None:
     head = site.client.head("/book.sqlite", headers={"Host": HOST})
     assert head.status_code == 200 and not head.get_data()
     other = site.get("/book.sqlite", headers={"Sec-Fetch-Site": "cross-site"})
-    assert other.status_code == 403 and TEXTS["refused other site"][0] in shown(other.get_data(as_text=True))
+    assert other.status_code == 403 and "This came from another site, and isn't done." in shown(
+        other.get_data(as_text=True)
+    )
     broken = site.get("/book.sqlite")
     assert next(iter(broken.response)) and int(broken.headers["Content-Length"]) > 8192
     broken.close()
-    assert shown(site.page("/history")) == before and TEXTS["no backup known"][0] in before
+    assert shown(site.page("/history")) == before and "No copy is known that has the book as it is now." in before
     whole = site.get("/book.sqlite")
     assert len(whole.get_data()) == int(whole.headers["Content-Length"])
     whole.close()
@@ -156,8 +165,8 @@ def test_no_backup(site: Site) -> None:
 
 
 def test_restored_while_clerks_file(site: Site) -> None:
-    """However often somebody files meanwhile the backup is restored, and what is filed while that is done is filed
-    behind it."""
+    """What somebody files meanwhile is told, and goes only where that is wished: so a backup is restored however often
+    somebody files, and what is filed while that is done is filed behind it."""
     copy = site.get("/book.sqlite").get_data()
     address = site.drop_backup(copy)
     page, statuses, is_over = site.page(address), list[int](), threading.Event()
@@ -172,11 +181,17 @@ def test_restored_while_clerks_file(site: Site) -> None:
     try:
         while len(statuses) < 2:
             time.sleep(0.01)
-        answer = shown(site.page(site.post(address, **looked_in(page)).headers["Location"]))
+        page = site.page(site.post(address, **looked_in(page)).headers["Location"])
+        assert "Somebody changed the book meanwhile. This is what is there now." in shown(page)
+        assert re.search(r"\d+ changes? of the book of now (isn't|aren't) in the copy, and goe?s?", shown(page))
+        count = len(statuses)
+        while len(statuses) == count:
+            time.sleep(0.01)
+        answer = shown(site.page(site.post(address, **looked_in(page), anyway="1").headers["Location"]))
     finally:
         is_over.set()
         clerk.join()
-    assert TEXTS["backup restored"][0].format("copy.sqlite") in answer
+    assert "The backup copy.sqlite is restored." in answer
     assert re.search(r"\d+ changes? that came meanwhile (is|are) in the folder old", answer), answer
     assert set(statuses) == {302}
     with site.desk.opened() as book:

@@ -1,5 +1,5 @@
-"""What is where the session, the server or the disk fails while a command is filed: nothing is lost, and nothing goes on
-that isn't so."""
+"""What is where the session, the server or the disk fails while a command is filed: nothing is lost, and nothing goes
+on that isn't so."""
 from __future__ import annotations
 
 import contextlib
@@ -13,13 +13,13 @@ import textwrap
 
 import pytest
 
+from web.said import SENTENCES
 from web.site import Site, shown, site_of
 from web.test_desk_filing import BIRTH, DAM, SIRE
 from front_desk.desk import TOP, Desk
 from gudokeyi.domain.messages import Mistake
 from gudokeyi.domain.requests import WebFault
 from gudokeyi.engine.session import Places, Session, SessionEnded
-from gudokeyi.locale import SENTENCES, TEXTS
 from gudokeyi.services.book_program import BookProgram
 from gudokeyi.store.messages import BookFault
 
@@ -68,7 +68,7 @@ def test_not_stored(site: Site, monkeypatch: pytest.MonkeyPatch) -> None:
         patched.setattr("gudokeyi.services.writing.commit", lambda *_: 1 / 0)
         assert site.post("/file/exit", id="NEW-1", day="2024-06-01").status_code == 500
     page = shown(site.page(site.post("/file/exit", id="NEW-1", day="2024-06-02").headers["Location"]))
-    assert TEXTS["accepted"][0] in page and "Change 3" in page
+    assert "Accepted." in page and "Change 3" in page
     Desk(site.desk.folder.parent, site.desk.program.path.as_posix()).good("verify")
 
 
@@ -87,8 +87,8 @@ def test_sessions_end(society_desk: Desk, program: str, tmp_path: pathlib.Path) 
 
 
 def test_killed_before_storing(society_desk: Desk, tmp_path: pathlib.Path) -> None:
-    """A server that is killed between the session's reply and its storing leaves the book as it was, and the form that is
-    sent again by the next one is filed once."""
+    """A server that is killed between the session's reply and its storing leaves the book as it was, and the form that
+    is sent again by the next one is filed once."""
     killed = """
         import os, signal, sys
         sys.path[:0] = sys.argv[1:3]
@@ -133,7 +133,7 @@ def test_closed(site: Site) -> None:
     site.desk.program.close()
     with site.desk.opened() as book, pytest.raises(Mistake, match="session ended"):
         assert book
-        site.desk.program.coefficients([book.known[DAM].registration_number], book)
+        site.desk.program.coefficients([book.society_records[DAM].registration_number], book)
     assert site.desk.program.session is None
     site.desk.is_closing = True
     answer = site.post("/file/exit", id=SIRE, day="2024-05-01")

@@ -1,5 +1,5 @@
-"""What is said for the reading of a sheet: fields that can't be read, and what holds for later sheets; and how the look at
-it and the change say how much it is."""
+"""What is said for the reading of a sheet: fields that can't be read, and what holds for later sheets; and how the look
+at it and the change say how much it is."""
 from __future__ import annotations
 
 import datetime
@@ -24,15 +24,17 @@ def test_wrong_country(empty_site: Site, language: str) -> None:
     address, page = look_at(site, TITLES + PAIR, breed="sku", country="DE")
     field = re.search(r'<input id="country"[^>]*>\s*<strong class="is-wrong" id="country-wrong">.*?</strong>', page)
     assert field and 'aria-invalid="true"' in field[0] and "country-wrong" in field[0] and "DE" in shown(field[0])
-    assert words("mend first") in shown(page) and words.counted("would be", 3) in shown(page)
-    assert f"{address}/take" not in page and words("wrong how") in shown(page)
+    assert words("This can't be read so. Mend it, and look anew; what would change is shown without it:") in shown(
+        page
+    ) and words.counted("The book would have {} animal.", "The book would have {} animals.", 3) in shown(page)
+    assert f"{address}/take" not in page and words("It can be taken once what is marked is mended.") in shown(page)
     site.post(f"{address}/take", looked=site.looked())
     assert site.desk.folder.exists() is False
     site.post(f"{address}/columns", breed="sku", country="deu")
     site.take(address)
     # settings have what the numbers begin with, and tell what is wrong beside its field
     page = site.page("/settings")
-    assert words("breed of new") in shown(page) and words("country of new") in shown(page)
+    assert words("Breed in new numbers") in shown(page) and words("Country in new numbers") in shown(page)
     assert re.search(r'name="breed"[^>]*value="SKU"', page) and re.search(r'name="country"[^>]*value="DEU"', page)
     page = site.post("/settings", country="DE").get_data(as_text=True)
     assert re.search(r'<input id="country"[^>]*aria-invalid="true"[^>]*>\s*<strong class="is-wrong"', page)
@@ -56,10 +58,10 @@ def test_unknown_of_earlier_sheets(empty_site: Site, language: str) -> None:
     """Settings have the words for unknown parents that sheets were read with; they hold on."""
     site, words = empty_site, Says(language)
     site.get(f"/language/{language}")
-    assert words("unknown said", "") not in shown(site.page("/settings"))
+    assert words("known from earlier sheets: {}", "") not in shown(site.page("/settings"))
     address, _ = look_at(site, TITLES + PAIR + "019;Uli;m;2003-03-01;fremd;extern;Huber\n", unknown="fremd,extern")
     site.take(address)
-    assert words("unknown said", "fremd,extern") in shown(site.page("/settings"))
+    assert words("known from earlier sheets: {}", "fremd,extern") in shown(site.page("/settings"))
 
 
 @pytest.mark.parametrize("field, text", [
@@ -88,13 +90,14 @@ def test_owner_who_is_not_there(site: Site, society_desk: Desk) -> None:
     assert "transfer" not in "\n".join(society_desk.commands())
 
 
-def test_findings_come_first_on_a_telephone(empty_site: Site) -> None:
-    """What is found stands above the lists of columns there."""
+def test_findings_come_first(empty_site: Site) -> None:
+    """What is found stands above the lists of columns, and what may be wrong has its row's cells beside it."""
     _, page = look_at(empty_site, TITLES + PAIR)
-    assert page.index('<form class="reading"') < page.index('<div class="outcome">')
-    css = empty_site.get("/static/desk.css").get_data(as_text=True)
-    narrow = css[css.index("@media (max-width: 40rem)") : css.index("@page")]
-    assert ".sheet .reading { order: 1; }" in narrow
+    assert page.index('<div class="outcome">') < page.index('<form class="reading"')
+    rows = "200;;w;2015-01-01;900;002;Huber\n201;;w;01.02.2030;900;002;Huber\n"
+    _, page = look_at(empty_site, TITLES + PAIR + rows)
+    may_be_wrong = shown(page).partition("The columns")[0]
+    assert "2030" in may_be_wrong and "Huber" in may_be_wrong
 
 
 @pytest.mark.parametrize(("language", "told"), [

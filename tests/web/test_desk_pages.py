@@ -1,13 +1,16 @@
-"""What pages say and offer: a refused command with its form, the history in words, the animals that have left, and the plan
-of matings with what it assumes."""
+"""What pages say and offer: a refused command with its form, the history in words, the animals that have left, and the
+plan of matings with what it assumes."""
 from __future__ import annotations
 
+import dataclasses
+import datetime
 import html
 import pathlib
 import re
 
 import pytest
 
+from web.said import MESSAGES, SENTENCES, in_each
 from web.sent_forms import corrected, written_in
 from web.site import Site, form_in, shown
 from web.test_desk_filing import BIRTH, DAM, SIRE
@@ -15,22 +18,28 @@ from front_desk.desk import Desk
 from front_desk.old_folder import write_old
 from gudokeyi.domain.changes import Change, Option
 from gudokeyi.domain.kinds import ChangeKind
+from gudokeyi.domain.options import LIST, LIST_ON_PAGE
 from gudokeyi.domain.settings import LANGUAGES
-from gudokeyi.locale import SENTENCES, TEXTS
-from gudokeyi.locale.breed import MEANINGS
 from gudokeyi.reconcile.import_options import ImportOptions
+from gudokeyi.render.page_language import PageLanguage
+from gudokeyi.render.texts.members import STEPS_OF_WORK
+from gudokeyi.services.selection import Choice
 from gudokeyi.store.history import EPOCH, FILED_BY_HAND
-from gudokeyi.web.language import PageLanguage
+from gudokeyi.web.views.animals import asked_by, fields_of
 from gudokeyi.web.views.changes import given_of
 
 LEFT = {"id": DAM, "day": "2024-05-01"}
 
 
 REFUSED = [
-    ("birth", BIRTH | {"sire": DAM, "embryo": "1"}, "refusal 5"),
-    ("parents", {"id": DAM, "sire": SIRE, "dam": SIRE}, "refusal 6"),
-    ("transfer", {"id": DAM, "day": "1999-05-01", "to": "Nobody & <sons>"}, "refusal 14"),
-    ("exit", {"id": DAM, "day": "1999-05-01"}, "refusal 14"),
+    ("birth", BIRTH | {"sire": DAM, "embryo": "1"}, "its sire isn't male"),
+    ("parents", {"id": DAM, "sire": SIRE, "dam": SIRE}, "its dam isn't female"),
+    (
+        "transfer",
+        {"id": DAM, "day": "1999-05-01", "to": "Nobody & <sons>"},
+        "the day is before its birth, or before its owner got it",
+    ),
+    ("exit", {"id": DAM, "day": "1999-05-01"}, "the day is before its birth, or before its owner got it"),
 ]
 
 
@@ -41,7 +50,7 @@ def test_refused_comes_back(site: Site, language: str, kind: str, fields: dict[s
     site.get(f"/language/{language}")
     at = LANGUAGES.index(language)
     page = site.page(site.post(f"/file/{kind}", **fields).headers["Location"])
-    assert TEXTS[why][at] in html.unescape(page) and TEXTS["refused"][at] in shown(page)
+    assert in_each(why)[at] in html.unescape(page) and in_each("Refused.")[at] in shown(page)
     kept = written_in(page)
     assert fields.items() <= kept.items()
     assert f'action="/file/{kind}"' in page
@@ -53,7 +62,7 @@ def test_corrected_and_filed(site: Site) -> None:
     again = written_in(page) | {"sire": SIRE, "form": form_in(page)}
     again.pop("csrf_token")
     assert site.post("/file/birth", **again).headers["Location"] == "/answer/3"
-    assert TEXTS["accepted"][0] in shown(site.page("/answer/3"))
+    assert "Accepted." in shown(site.page("/answer/3"))
 
 
 def test_unreadable_comes_back(site: Site) -> None:
@@ -69,12 +78,12 @@ def test_history_of_refused(site: Site, society_desk: Desk) -> None:
     changed something, and says what it takes back."""
     site.post("/file/birth", **BIRTH)
     site.post("/file/exit", id="NEW-1", day="1999-05-01")
-    why = TEXTS["refusal 14"][0]
+    why = "the day is before its birth, or before its owner got it"
     for page in ("/history", "/"):
-        assert f"filed an exit : NEW-1 {TEXTS['refused short'][0]}" in shown(site.page(page))
+        assert "filed an exit : NEW-1 refused" in shown(site.page(page))
     history, change = site.page("/history"), site.page("/history/3")
     assert why in shown(history) and why in shown(change)
-    assert TEXTS["changes nothing"][0] in shown(change) and "/undo" not in change
+    assert "There is nothing to undo: a refused command changes no animal." in shown(change) and "/undo" not in change
     assert re.findall(r"/history/\d+/undo", history) == ["/history/1/undo", "/history/1/undo"]
     assert [site.get(f"/history/{number}/undo").status_code for number in (1, 2, 3)] == [200, 404, 404]
     asked = shown(site.page("/history/1/undo"))
@@ -89,7 +98,7 @@ def test_history_has_pages(site: Site, monkeypatch: pytest.MonkeyPatch) -> None:
     """A long history is shown in parts."""
     monkeypatch.setattr("gudokeyi.web.paging.ON_A_PAGE", 2)
     for at in range(3):
-        site.post("/file/birth", **BIRTH | {"id": f"NEW-{at}"})
+        site.post("/file/birth", **BIRTH | {"id": f"NEW-{at}", "name": f"Calf {at}"})
     first, second = site.page("/history"), site.page("/history?page=2")
     assert "NEW-2" in first and "NEW-1" in first and "NEW-0" not in first
     assert "NEW-0" in second and "society.csv" in second
@@ -101,11 +110,16 @@ def test_settings_of_two(site: Site, society_desk: Desk) -> None:
     society_desk.good("settings", "--name", "Goats", "--unknown", "keiner", "--address", "Here\nThere")
     assert site.post("/settings", **corrected(form, country="CHE")).status_code == 302
     told = society_desk.good("settings").out
-    assert all(f"{line}\n" in told for line in ("name: Goats", "address: Here, There", "country: CHE", "unknown: keiner"))
+    assert all(
+        f"{line}\n" in told for line in ("name: Goats", "address: Here, There", "country: CHE", "unknown: keiner")
+    )
     answer = site.post("/settings", **corrected(form, name="Sheep"))
     page = answer.get_data(as_text=True)
     assert answer.status_code == 400
-    assert TEXTS["set meanwhile"][0].format(TEXTS["society name"][0], "Goats") in shown(page)
+    assert (
+        "Name of the society: somebody else wrote “Goats” meanwhile. Look at it, and keep the settings again."
+        in shown(page)
+    )
     assert society_desk.good("settings").out == told and written_in(page)["unknown"] == "keiner"
     assert written_in(page)["shown-address"] == "Here\nThere"
     assert site.post("/settings", **corrected(written_in(page))).status_code == 302
@@ -122,14 +136,27 @@ def test_options_in_words(language: str) -> None:
     )  # fmt: skip
     options = wishes.options()
     assert {one.option for one in options} >= {"--drop-gone", "--columns", "--leave-out", "--semicolons", "--anyway"}
-    filed = [Option("--day", "2024-03-01"), Option("--sex", "f"), Option("--sire", "0"), Option("--embryo"), Option("--from", "x")]
+    filed = [
+        Option("--day", "2024-03-01"),
+        Option("--sex", "f"),
+        Option("--sire", "0"),
+        Option("--embryo"),
+        Option("--from", "x"),
+    ]
     changes = [Change(1, kind, EPOCH, "me", 1, 1, None, tuple(filed)) for kind in FILED_BY_HAND]
     words = PageLanguage(language)
-    said = [one for change in [Change(1, ChangeKind.TAKE, EPOCH, "me", 1, 1, None, options), *changes] for one in given_of(change, words)]
+    said = [
+        one
+        for change in [Change(1, ChangeKind.TAKE, EPOCH, "me", 1, 1, None, options), *changes]
+        for one in given_of(change, words)
+    ]
     assert len(said) == len(options) + 1 + 5 * len(FILED_BY_HAND)
     assert not [one for one in said if "--" in one.what or "--" in one.value]
-    assert (words("field dam"), "Mutter") in said and (words("sire"), words("unknown")) in said
-    assert (words("sex"), words("female")) in said and (words("day of exit"), words.day("2024-03-01")) in said
+    assert (words.gettext("Dam"), "Mutter") in said and (words.gettext("Sire"), words.gettext("unknown")) in said
+    assert (words.gettext("Sex"), words.gettext("female")) in said and (
+        words.gettext("Day of the exit"),
+        words.day("2024-03-01"),
+    ) in said
 
 
 def test_facts_in_the_language(site: Site) -> None:
@@ -148,11 +175,11 @@ def test_offered(site: Site, living: bool) -> None:
         site.post("/file/exit", **LEFT)
     with site.desk.opened() as book:
         assert book
-        number = book.known[DAM].registration_number
+        number = book.society_records[DAM].registration_number
     said = shown(site.page(f"/animal/{number}"))
-    for what in ("mates for it", "file exit", "file transfer"):
-        assert (TEXTS[what][0] in said) is living
-    assert TEXTS["file parents"][0] in said and TEXTS["certificate"][0] in said
+    for what in ("Sires for it", "File its exit", "File a new owner"):
+        assert (what in said) is living
+    assert "Correct its parents" in said and "Certificate to print" in said
 
 
 def test_plan_assumes(site: Site, society_desk: Desk) -> None:
@@ -173,18 +200,37 @@ def test_plan_assumes(site: Site, society_desk: Desk) -> None:
     assert "assumed" not in done.err
 
 
+def test_one_description_of_a_list(site: Site) -> None:
+    """The word and the page have the options that a choice has, from one description."""
+    assert {one.attribute for one in LIST.values()} == {field.name for field in dataclasses.fields(Choice)}
+    assert {*LIST_ON_PAGE} == LIST.keys()
+    page = site.page("/animals?sex=M&owner=Hill++Farm&from=2017&to=2018&living=1")
+    fields = written_in(page)
+    assert [fields[name] for name in ("owner", "from", "to", "living")] == ["Hill  Farm", "2017", "2018", "1"]
+    assert '<option value="M" selected>' in page
+    asked = asked_by({"sex": "M", "owner": "Hill  Farm", "from": "2017", "to": "2018", "living": "1"})
+    born = datetime.date(2017, 1, 1), datetime.date(2018, 12, 31)
+    assert asked.choice == Choice(True, "M", "Hill Farm", born)
+    assert fields_of(asked) == {"living": "1", "sex": "M", "owner": "Hill Farm", "from": "2017", "to": "2018"}
+
+
 def test_neutral_words() -> None:
     """No page speaks of calves: the book may be of goats, dogs or horses."""
-    several = [*TEXTS.values(), *SENTENCES.values(), *MEANINGS.values()]
-    told = [text for texts in several for text in texts if re.search(r"\b(cal(f|ves)|kalb|kälber\w*|veaux?)\b", text, re.I)]
+    several = [*MESSAGES.values(), *SENTENCES.values()]
+    told = [
+        text for texts in several for text in texts if re.search(r"\b(cal(f|ves)|kalb|kälber\w*|veaux?)\b", text, re.I)
+    ]
     assert not told
 
 
 def test_whole_sentences() -> None:
     """What a page that waits says are sentences."""
-    for what, texts in TEXTS.items():
-        if re.match(r"(doing|so far|looks again|measuring)\b", what):
-            assert all(text.endswith(".") and (text[0].isupper() or text[0] == "{") for text in texts), what
+    waiting = (
+        "{} second so far.", "{} seconds so far.", "This page looks again by itself.",
+        "The measures of the book after change {} are being made.",
+    )  # fmt: skip
+    for text in (*STEPS_OF_WORK.values(), *waiting):
+        assert all(one.endswith(".") and (one[0].isupper() or one[0] == "{") for one in in_each(text)), text
 
 
 def test_blanks_of_french(site: Site) -> None:
@@ -192,7 +238,10 @@ def test_blanks_of_french(site: Site) -> None:
     site.get("/language/fr")
     refused = site.post("/file/birth", **BIRTH | {"sire": DAM}).headers["Location"]
     wrong = site.post("/file/birth", **BIRTH | {"sire": "nobody"}).get_data(as_text=True)
-    for page in (wrong, *(site.page(path) for path in (refused, "/history", "/history/1", "/matings/plan?made=1", "/animals?from=x"))):
+    for page in (
+        wrong,
+        *(site.page(path) for path in (refused, "/history", "/history/1", "/matings/plan?made=1", "/animals?from=x")),
+    ):
         content = html.unescape(page.partition('<main id="content"')[2].partition("</main>")[0])
         assert not re.findall(r"\w* [:;?!»]|« ", re.sub(r"<[^>]*>", "", content))
         assert "\u00a0" in content
@@ -205,12 +254,13 @@ def menu_of(page: str) -> list[str]:
 def test_without_a_book(empty_site: Site) -> None:
     """Where there is no book yet the menu has nothing that needs one, and a copy can be restored."""
     page = empty_site.page("/")
-    assert menu_of(page) == ["/", "/sheet"]
+    assert menu_of(page) == ["/", "/sheet", "/seals"]
     assert 'href="/restore"' in page and "<form" in empty_site.page("/restore")
 
 
 def test_menu(site: Site) -> None:
-    assert {"/", "/sheet", "/animals", "/file", "/matings", "/breed", "/history", "/settings"} == {*menu_of(site.page("/"))}
+    pages = {"/", "/sheet", "/animals", "/file", "/matings", "/breed", "/history", "/seals", "/owners", "/settings"}
+    assert pages == {*menu_of(site.page("/"))}
 
 
 def test_not_there(site: Site) -> None:
@@ -218,8 +268,8 @@ def test_not_there(site: Site) -> None:
     for path in ("/nothing", "/animal/HOLGBRM000000999999", "/answer/77", "/history/1/undo"):
         answer = site.get(path)
         page = answer.get_data(as_text=True)
-        assert answer.status_code == 404 and f"<h1>{TEXTS['not there'][0]}</h1>" in page
-        assert f'<a href="/">{TEXTS["to start"][0]}</a>' in page
+        assert answer.status_code == 404 and "<h1>Not found</h1>" in page
+        assert '<a href="/">To the start page</a>' in page
 
 
 @pytest.mark.parametrize("year", ["x", "0", "99999", "000002015999"])
@@ -231,14 +281,17 @@ def test_no_year(site: Site, year: str) -> None:
 def test_none_found(site: Site, path: str) -> None:
     """An empty list says what may be done."""
     page = site.page(path)
-    if TEXTS["animals found"][0].format(0) in shown(page):
-        assert TEXTS["none found"][0] in shown(page) and 'href="/animals"' in page
+    if "0 animals" in shown(page):
+        assert "No animal is so. Write less, or a part of an id or a name." in shown(page) and 'href="/animals"' in page
     else:
         assert "Nobody Of That" in shown(page)
 
 
 def test_folder_of_an_earlier_version(empty_site: Site, desk: Desk) -> None:
     """A folder of version 0.11 that isn't taken over is no empty one."""
-    assert TEXTS["no book yet"][0] in shown(empty_site.page("/"))
+    assert "There is no book in this folder yet." in shown(empty_site.page("/"))
     write_old(desk)
-    assert TEXTS["old folder"][0] in shown(empty_site.page("/"))
+    assert (
+        "This folder has a book of version 0.11, which isn't taken over yet: whoever opened the desk opens it anew for that, without --read-only."
+        in shown(empty_site.page("/"))
+    )

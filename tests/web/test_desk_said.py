@@ -1,5 +1,5 @@
-"""How pages say what the book has: an animal's facts, the options and counts of a change, and what somebody wrote into a
-field."""
+"""How pages say what the book has: an animal's facts, the options and counts of a change, and what somebody wrote into
+a field."""
 from __future__ import annotations
 
 import dataclasses
@@ -9,31 +9,32 @@ import sqlite3
 
 import pytest
 
+from web.said import in_each
 from gudokeyi.domain.animals import NO_OWNER
 from gudokeyi.domain.changes import Change, Option
 from gudokeyi.domain.kinds import ChangeKind
 from gudokeyi.domain.refusals import Refusal
-from gudokeyi.locale import TEXTS
 from gudokeyi.reconcile.findings.animals import CommandRefused
+from gudokeyi.render.page_language import PageLanguage
+from gudokeyi.render.page_wording import PageWording
+from gudokeyi.services.facts import facts_of
 from gudokeyi.store.animal_rows import COLUMNS, AnimalRow
 from gudokeyi.store.book import Book
 from gudokeyi.store.changed_animals import id_of_command
-from gudokeyi.store.schema import FIRST, SECOND
+from gudokeyi.store.schema import MIGRATIONS
 from gudokeyi.web.forms import cleaned, owners_of, wrong_fields
-from gudokeyi.web.language import PageLanguage
-from gudokeyi.web.views.animals import facts_said
-from gudokeyi.web.views.changes import Given, counts_of, given_of, what_of, why
+from gudokeyi.web.views.changes import Given, counts_of, given_of, value_said, what_of
 
 DAY = datetime.datetime(2024, 3, 1, tzinfo=datetime.timezone.utc)
 EMBRYO = AnimalRow(
     "E-7", "HOLGBRF000000000007", "Else", "e-7", "else", "gone", "period", "2001-02", "2001-02-30", "period", "2009", None,
     None, "dam", 0, "Leihbock", "Oma", "name exit", "given", "2001-02-15", "HOLGBRM000000000001", "HOLGBRF000000000002",
-    1, 5, "2003-04-05", None, "2009-07-01",
+    1, 5, "2003-04-05", None, "2009-07-01", None,
 )  # fmt: skip
 FACTS = {
-    "standing": "hat keine Zeile mehr", "number": EMBRYO.registration_number, "name": "Else",
+    "id": "E-7", "standing": "hat keine Zeile mehr", "number": EMBRYO.registration_number, "name": "Else",
     "birth day": "15.02.2001 (erschlossen)", "sire": "V-1", "dam": "HOLGBRF000000000002", "owner": "Huber",
-    "owner since": "05.04.2003", "exit": "01.07.2009 (erschlossen)", "stored embryo": "ja", "castrated": "",
+    "owner since": "05.04.2003", "exit": "01.07.2009 (erschlossen)", "exit reason": "", "stored embryo": "ja", "castrated": "",
     "basis of the birth day": "aus Monat oder Jahr: 2001-02", "basis of the sex": "da es Mutter ist",
     "sire in the sheet": "Leihbock", "dam in the sheet": "Oma", "filed by hand": "Name, Abgang",
 }  # fmt: skip
@@ -44,6 +45,11 @@ def change_of(kind: ChangeKind, options: tuple[Option, ...] = (), **values: obje
     for name, value in values.items():
         object.__setattr__(made, name, value)
     return made
+
+
+def facts_said(row: AnimalRow, names: dict[str, str], owners: dict[int, str], words: PageLanguage) -> dict[str, str]:
+    facts = facts_of(row, names, owners)
+    return {fact.value: value_said(facts, fact, words) for fact in facts}
 
 
 def test_facts() -> None:
@@ -57,7 +63,7 @@ def test_facts() -> None:
     )  # fmt: skip
     said = facts_said(plain, names, owners, words)
     empty = {name for name, text in said.items() if not text}
-    assert empty == {"sire", "dam", "owner", "exit", "stored embryo", "castrated", "basis of the birth day",
+    assert empty == {"sire", "dam", "owner", "exit", "exit reason", "stored embryo", "castrated", "basis of the birth day",
                      "basis of the sex", "sire in the sheet", "filed by hand"}  # fmt: skip
     assert facts_said(EMBRYO._replace(castrated=1), names, owners, words)["castrated"] == "ja"
     assert said["birth day"] == "15.02.2001"
@@ -70,8 +76,9 @@ def test_facts() -> None:
 def test_refusal_of_an_inferred_day() -> None:
     """Where only an inferred day of its owner's forbids a command that is said."""
     refused, words = CommandRefused(ChangeKind.EXIT, "2001-01-01", Refusal.DAY_TOO_EARLY), PageLanguage("de")
-    assert why(refused, words) == TEXTS["refusal 14"][1]
-    told = why(dataclasses.replace(refused, owner_since=DAY.date()), words)
+    wording = PageWording(words)
+    assert wording.told(refused.why()) == in_each("the day is before its birth, or before its owner got it")[1]
+    told = wording.told(dataclasses.replace(refused, owner_since=DAY.date()).why())
     assert told.endswith("bekam; der erste Tag des Besitzers, 01.03.2024, ist erschlossen und weicht dem einer Tabelle")
 
 
@@ -88,9 +95,11 @@ def test_options() -> None:
                                        Option("--columns", "nothing of that"), Option("--anyway")))  # fmt: skip
     said = given_of(take, words)
     assert said[:3] == [
-        Given("Père", words("no column")), Given("Mère", "M, x"), Given("Lignes qui ne sont pas des animaux", "Total"),
+        Given("Père", words.gettext("– no column –")), Given("Mère", "M, x"), Given("Lignes qui ne sont pas des animaux", "Total"),
     ]  # fmt: skip
-    assert said[3].value == "nothing of that" and said[4] == Given(words("option anyway"))
+    assert said[3].value == "nothing of that" and said[4] == Given(
+        words.gettext("It is the right sheet: take it though it looks like another one")
+    )
 
 
 def test_counts() -> None:
@@ -107,20 +116,22 @@ def test_counts() -> None:
 def test_what() -> None:
     words = PageLanguage("en")
     undone = [what_of(change_of(ChangeKind.UNDO, undone_to=to), words) for to in (0, 3)]
-    assert undone == [words("change to empty"), words("change undo", 3)] and undone[0] != words("change undo", 0)
+    assert undone == ["brought back the empty book", "brought back the state after change 3"]
 
 
 def test_animal_of_a_command() -> None:
     """That of the last command of the change, by the id that it has now."""
     with sqlite3.connect(":memory:") as connection:
-        connection.executescript(FIRST + SECOND)
+        connection.executescript("".join(MIGRATIONS))
         connection.execute("PRAGMA foreign_keys = OFF")
         command = "INSERT INTO command VALUES (1, ?, 'parents', ?, NULL, NULL, NULL, NULL, NULL, 0, 0)"
         for place, number in enumerate(("HOLGBRF000000000009", EMBRYO.registration_number, "HOLGBRF000000000008"), 2):
             connection.execute(command, (place, number))
         for since, until, id in (1, 4, "earlier"), (4, None, "E-7"):
             values = (since, until, *EMBRYO._replace(id=id))
-            connection.execute(f"INSERT INTO animal (since, until, {COLUMNS}) VALUES ({', '.join('?' * len(values))})", values)
+            connection.execute(
+                f"INSERT INTO animal (since, until, {COLUMNS}) VALUES ({', '.join('?' * len(values))})", values
+            )
         assert id_of_command(connection, change_of(ChangeKind.PARENTS)) == "E-7"
         assert id_of_command(connection, change_of(ChangeKind.PARENTS, length=2)) == ""
 

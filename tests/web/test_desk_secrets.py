@@ -1,4 +1,5 @@
-"""Each desk signs cookies and forms with a secret of its own, which nobody guesses: those of another desk are refused."""
+"""Each desk signs cookies and forms with a secret of its own, which nobody guesses: those of another desk are
+refused."""
 from __future__ import annotations
 
 import pathlib
@@ -9,7 +10,6 @@ import pytest
 from web.server import Server
 from web.site import HOST, PORT, SECRET, Site, form_in, shown, site_of
 from front_desk.desk import Desk
-from gudokeyi.locale import TEXTS
 
 COOKIE, OTHER = f"desk-{PORT}", "another secret"
 
@@ -44,7 +44,9 @@ def test_forms_of_another_desk(site: Site, other_site: Site) -> None:
     assert other_site.token() != of_other
     data = {"csrf_token": other_site.token(), "name": "Mine"}
     answer = site.client.post("/settings", data=data, headers={"Host": HOST})
-    assert answer.status_code == 400 and TEXTS["refused form"][0] in shown(answer.get_data(as_text=True))
+    assert answer.status_code == 400 and "The form is too old: open the page anew, and send it again." in shown(
+        answer.get_data(as_text=True)
+    )
     assert "Mine" not in site.page("/settings")
     assert site.post("/settings", name="Mine").status_code == 302 and "Mine" in site.page("/settings")
 

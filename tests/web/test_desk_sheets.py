@@ -10,7 +10,6 @@ import pytest
 
 from web.site import HOST, Site, form_in, looked_in, shown
 from front_desk.desk import TOP, Desk
-from gudokeyi.locale import TEXTS
 from gudokeyi.services.folder_files import refresh
 from gudokeyi.web.sheet_work import Chosen, import_options_of
 from gudokeyi.web.workers import TAKING, Job
@@ -27,7 +26,7 @@ def files_of(folder: pathlib.Path) -> dict[str, bytes]:
 def test_first_sheet(empty_site: Site, program: str, tmp_path: pathlib.Path) -> None:
     """From an empty folder to a book, which is that of `take`; nothing is written before it is taken."""
     site = empty_site
-    assert TEXTS["take first sheet"][0] in shown(site.page("/animals"))
+    assert "Take your first sheet" in shown(site.page("/animals"))
     address = site.post("/sheet/example").headers["Location"]
     look = shown(site.page(address))
     assert "Rows of the sheet 501 of these left out 1 Animals with a row 500 Parents without a row, added 2" in look
@@ -39,7 +38,7 @@ def test_first_sheet(empty_site: Site, program: str, tmp_path: pathlib.Path) -> 
     assert "276 GK-12/351b its sire GK-12/341c (line 148) is left out: it isn't male (refusal 5)" in look
     assert not site.desk.folder.exists()
     page = site.take(address)
-    assert TEXTS["sheet taken"][0].format("society.csv") in shown(page)
+    assert "society.csv is taken." in shown(page)
     by_word = Desk(tmp_path / "by word", program)
     by_word.good("import", str(TOP / "examples/society.csv"))
     by_page = Desk(site.desk.folder.parent, program)
@@ -51,17 +50,34 @@ def test_first_sheet(empty_site: Site, program: str, tmp_path: pathlib.Path) -> 
     assert not any(site.desk.uploads.room.iterdir())
 
 
+def test_letters_are_asked_once(empty_site: Site, monkeypatch: pytest.MonkeyPatch) -> None:
+    """Breed and country are asked on the page of the first sheet, which isn't taken before, and never again."""
+    monkeypatch.delenv("GUDOKEYI_NUMBERS")
+    site, flock = empty_site, b"id,sex,born,sire,dam\na,m,2001-01-01,,\nb,f,2001-02-01,,\n"
+    address = site.drop("sheet.csv", flock)
+    page = site.page(address)
+    assert "Breed and country Each animal gets a number that begins with both." in shown(page)
+    assert "Take it into the book" not in shown(page) and 'name="breed"' in page
+    site.post(f"{address}/columns", breed="sku", country="D")
+    assert "Take it into the book" not in shown(site.page(address))
+    site.post(f"{address}/columns", breed="sku", country="deu")
+    assert "is taken." in shown(site.take(address))
+    assert "SKUDEUM000000000001" in shown(site.page("/animal/SKUDEUM000000000001"))
+    assert "Breed and country" not in shown(site.page(site.drop("grown.csv", flock + b"c,m,2003-01-01,a,b\n")))
+
+
 def test_start_while_the_first_is_taken(empty_site: Site) -> None:
-    """While the first sheet is taken the start page says that the book is being made, and leads to the page that waits."""
+    """While the first sheet is taken the start page says that the book is being made, and leads to the page that
+    waits."""
     site, job = empty_site, Job((TAKING, "a form"))
     job.address = "/sheet/a-token/taking/a-form"
     site.desk.jobs.jobs[job.key] = job
     page = site.page("/")
-    assert TEXTS["book under way"][0] in shown(page) and f'href="{job.address}"' in page
-    assert TEXTS["no book yet"][0] not in shown(page)
+    assert "The book is being made: it is here when that is done." in shown(page) and f'href="{job.address}"' in page
+    assert "There is no book in this folder yet." not in shown(page)
     job.is_over.set()
     page = site.page("/")
-    assert TEXTS["no book yet"][0] in shown(page) and job.address not in page
+    assert "There is no book in this folder yet." in shown(page) and job.address not in page
     address = site.drop("first.csv", EXAMPLE)
     to = site.post(f"{address}/take", **looked_in(site.page(address))).headers["Location"]
     taking = site.desk.jobs.found((TAKING, to.rpartition("/")[2]))
@@ -74,13 +90,20 @@ def test_left(site: Site) -> None:
     address = site.drop("sheet.csv", EXAMPLE + b"Lower Mill,NEW-1,f,2019-01-01,,,\n")
     assert "501" not in before
     look = shown(site.page(address))
-    assert "Animals with a row 501 of these new 1 of these in the book already 500 Animals of the book without a row 2" in look
+    assert (
+        "Animals with a row 501 of these new 1 of these in the book already 500 Animals of the book without a row 2"
+        in look
+    )
     assert "The book would have 503 animals." in look
-    assert TEXTS["sheet left"][0].format("sheet.csv") in shown(
+    assert "sheet.csv is left, and nothing is changed." in shown(
         site.page(site.post(f"{address}/leave").headers["Location"])
     )
     answer = site.get(address)
-    assert answer.status_code == 404 and TEXTS["refused upload"][0] in shown(answer.get_data(as_text=True))
+    assert (
+        answer.status_code == 404
+        and "This file isn't here any more: it was taken or left, or its hour is over. Drop it again."
+        in shown(answer.get_data(as_text=True))
+    )
     assert files_of(site.desk.folder).keys() >= before.keys()
     assert files_of(site.desk.folder)["commands.csv"] == before["commands.csv"]
     assert not any(site.desk.uploads.room.iterdir())
@@ -105,8 +128,11 @@ def test_columns(empty_site: Site) -> None:
     site.take(address)
     with site.desk.opened() as book:
         assert book
-        record = book.records[book.known["c"].registration_number]
-        assert (record.sire, record.dam) == (book.known["a"].registration_number, book.known["b"].registration_number)
+        record = book.records[book.society_records["c"].registration_number]
+        assert (record.sire, record.dam) == (
+            book.society_records["a"].registration_number,
+            book.society_records["b"].registration_number,
+        )
 
 
 def test_options(empty_site: Site) -> None:
@@ -124,20 +150,23 @@ def test_options(empty_site: Site) -> None:
     site.take(address)
     with site.desk.opened() as book:
         assert book
-        assert book.known["c"].registration_number == "SKUDEUF000000000003"
-        assert book.records[book.known["c"].registration_number].sire == ""
+        assert book.society_records["c"].registration_number == "SKUDEUF000000000003"
+        assert book.records[book.society_records["c"].registration_number].sire == ""
     for first in ("month_first", "day_first"):
         wishes = import_options_of(site.desk.folder, Chosen.of({}, {first: "1"}))
         assert (wishes.month_first, wishes.day_first) == (first == "month_first", first == "day_first")
 
 
 def test_book_changed_between(site: Site, society_desk: Desk) -> None:
-    """A command in a terminal between the look and `take`: the page says so and looks anew."""
+    """A command in a terminal between the look and `take` on an animal that the sheet changes too: the page says so,
+    and asks about this one alone."""
     address = site.drop("sheet.csv", EXAMPLE + b"Lower Mill,NEW-1,f,2019-01-01,,,\n")
     looked = looked_in(site.page(address))
     society_desk.good("birth", "NEW-1", "--sex", "f", "--day", "2019-01-01", "--owner", "Lower Mill")
     again = site.page(site.post(f"{address}/take", **looked).headers["Location"])
-    assert TEXTS["book changed"][0] in shown(again)
+    assert "Somebody changed 1 animal meanwhile that the sheet changes too." in shown(again)
+    findings = again.partition('id="findings"')[2].partition("Take it or leave it")[0]
+    assert {id for id in re.findall(r"<bdi>([^<]*)</bdi>", findings) if id.startswith(("GK", "NEW"))} <= {"NEW-1"}
     assert "Animals with a row 501 of these in the book already 501 Animals" in shown(again)
     assert looked_in(again) != looked
     assert len(society_desk.good("history").out.splitlines()) == 2
@@ -145,32 +174,48 @@ def test_book_changed_between(site: Site, society_desk: Desk) -> None:
     assert len(society_desk.good("history").out.splitlines()) == 3
 
 
+def test_filed_between(site: Site, society_desk: Desk) -> None:
+    """What others file on animals that the sheet doesn't change, before it is taken and while it is, keeps it from
+    nothing, and nothing of that is lost."""
+    address = site.drop("sheet.csv", EXAMPLE + b"Lower Mill,NEW-1,f,2019-01-01,,,\n")
+    looked = looked_in(site.page(address))
+    society_desk.good("birth", "OTHER-1", "--sex", "f", "--day", "2024-01-01", "--owner", "Lower Mill")
+    assert looked_in(site.page(address)) == looked
+    assert "sheet.csv is taken." in shown(site.page(site.post(f"{address}/take", **looked).headers["Location"]))
+    with site.desk.opened() as book:
+        assert book and {"NEW-1", "OTHER-1"} <= book.society_records.keys()
+    society_desk.good("verify")
+
+
 def test_read_otherwise_between(site: Site, society_desk: Desk) -> None:
     """Where settings, or what was chosen, are others than on the page that takes a sheet that is told, and it is looked
     at anew; what else a society says of itself is no matter of sheets."""
     address = site.drop("sheet.csv", EXAMPLE + b"Lower Mill,NEW-1,f,2019-01-01,keiner,,\n")
-    page, told = site.page(address), TEXTS["sheet read otherwise"][0]
+    page, told = (
+        site.page(address),
+        "The settings, or what was chosen for this sheet, changed meanwhile. This is what it would change now.",
+    )
     assert "keiner" in shown(page)
     for to, given in ("/settings", {"unknown": "keiner"}), (f"{address}/columns", {"drop_gone": "1"}):
         site.post(to, **given)
         before, page = page, site.page(site.post(f"{address}/take", **looked_in(page)).headers["Location"])
         assert told in shown(page) and shown(page).replace(told, "") != shown(before)
     site.post("/settings", unknown="keiner", name="Goats")
-    assert TEXTS["sheet taken"][0].format("sheet.csv") in shown(
+    assert "sheet.csv is taken." in shown(
         site.page(site.post(f"{address}/take", **looked_in(page)).headers["Location"])
     )
     assert len(society_desk.good("history").out.splitlines()) == 2
 
 
 def test_sent_twice(site: Site, society_desk: Desk) -> None:
-    """A form that is sent again takes its sheet once: meanwhile, afterwards, and by a desk that was opened anew, whoever
-    sends it sees what the first one changed."""
+    """A form that is sent again takes its sheet once: meanwhile, afterwards, and by a desk that was opened anew,
+    whoever sends it sees what the first one changed."""
     address = site.drop("sheet.csv", EXAMPLE + b"Lower Mill,NEW-1,f,2019-01-01,,,\n")
     page = site.page(address)
     form, looked = form_in(page), looked_in(page)
     first, second = (site.post(f"{address}/take", **looked, form=form).headers["Location"] for _ in range(2))
     assert first == second
-    assert TEXTS["sheet taken"][0].format("sheet.csv") in shown(site.page(first))
+    assert "sheet.csv is taken." in shown(site.page(first))
     site.desk.jobs.forget((TAKING, form))
     for again in second, site.post(f"{address}/take", **looked, form=form).headers["Location"]:
         assert site.get(again).headers["Location"] == "/history/2"
@@ -184,10 +229,10 @@ def test_another_sheet(site: Site) -> None:
         "other.csv", b"id,name,sex,birth,sire,dam\n" + b"".join(b"X-%d,,f,2001-01-01,,\n" % at for at in range(30))
     )
     page = site.page(address)
-    assert TEXTS["guarded"][0] in shown(page) and "/take" not in page
-    assert f'<button class="second"><bdi>{TEXTS["option anyway"][0]}' in page
+    assert "It isn't taken so:" in shown(page) and "/take" not in page
+    assert f'<button class="second"><bdi>{"It is the right sheet: take it though it looks like another one"}' in page
     page = site.page(site.post(f"{address}/suggested", option="--anyway", word="").headers["Location"])
-    assert TEXTS["guarded"][0] not in shown(page) and f"{address}/take" in page
+    assert "It isn't taken so:" not in shown(page) and f"{address}/take" in page
 
 
 def workbook_of(size: int) -> bytes:
@@ -238,7 +283,7 @@ def test_second_sheet_and_undo(empty_site: Site) -> None:
     assert "nothing" not in shown(site.page(site.post("/history/1/undo", looked=earlier).headers["Location"]))[:1]
     assert len(re.findall("<tr>", site.page("/history"))) == 3
     page = site.page(site.post("/history/1/undo", **looked_in(question)).headers["Location"])
-    assert TEXTS["brought back"][0].format(1) in shown(page)
+    assert "The state after change 1 is brought back." in shown(page)
     assert "d isn't in the book any more" in shown(page)
     assert "Animals 3 " in shown(site.page("/"))
     # the state of now isn't brought back

@@ -26,15 +26,22 @@ LANGUAGES = ("en", "de", "fr")
 COLUMNS = "id,name,number,sex,birth,sire,dam,owner,exit,coefficient,decimal,percent"
 
 
+def without_links(page: str) -> str:
+    """A page of certificates without the links to their files, which aren't printed."""
+    return re.sub("<nav>.*</nav>\n", "", page)
+
+
 @pytest.mark.parametrize("language", LANGUAGES)
 def test_printed(site: Site, society_desk: Desk, language: str) -> None:
-    """Certificates and pedigrees are those that the words write, byte for byte."""
+    """Certificates and pedigrees are those that the words write, but for links to certificates' files, each byte."""
     site.get(f"/language/{language}")
     words = ["--language", language, "--out"]
     society_desk.good("certificate", INBRED, *words, "one.html")
-    assert site.get(f"/animal/{NUMBER}/certificate").get_data(as_text=True) == society_desk.text("one.html")
+    one = site.get(f"/animal/{NUMBER}/certificate").get_data(as_text=True)
+    assert f"/animal/{NUMBER}/certificate.txt" in one and without_links(one) == society_desk.text("one.html")
     society_desk.good("certificate", "--owner", "Lower Mill", "--living", *words, "many.html")
-    assert site.get("/certificates?owner=lower+mill").get_data(as_text=True) == society_desk.text("many.html")
+    many = site.get("/certificates?owner=lower+mill").get_data(as_text=True)
+    assert without_links(many) == society_desk.text("many.html")
     society_desk.good("pedigree", INBRED, *words, "tree.svg")
     assert site.get(f"/animal/{NUMBER}/pedigree").get_data(as_text=True) == society_desk.text("tree.svg")
     society_desk.good("pedigree", INBRED, "--generations", "8", *words, "tree.html")
@@ -61,13 +68,22 @@ def test_generations(site: Site, generations: str) -> None:
 def test_animals(site: Site, society_desk: Desk, asked: str, words: list[str]) -> None:
     """The file of animals is that of `list`, and the page has as many, in the same order."""
     text = society_desk.good("list", "--columns", COLUMNS, *words).out
-    assert site.get(f"/animals.csv?{asked}").get_data(as_text=True) == text
     rows = list(csv.DictReader(io.StringIO(text)))
+    assert with_marks(site.get(f"/animals.csv?{asked}").get_data(as_text=True)) == rows
     page = site.page(f"/animals?{asked}")
     assert f"{len(rows)} animals" in shown(page)
     assert ids_in(page) == [row["id"] for row in rows[:50]]
     behind = re.findall(r"[\d.]+%", shown(page).partition("F ")[2])
-    assert behind[: len(rows)] == [row["percent"] + "%" for row in rows[:50] if row["coefficient"] != "0"]
+    assert behind[: len(rows)] == [row["percent"] + "%" if row["coefficient"] != "0" else "0%" for row in rows[:50]]
+
+
+def with_marks(text: str) -> list[dict[str, str]]:
+    """The rows of a page's file, with the marks behind the values that they are of."""
+    rows = list(csv.DictReader(io.StringIO(text)))
+    for row in rows:
+        for name, _, mark in (one.partition(": ") for one in filter(None, row.pop("inferred", "").split("; "))):
+            row[{"Birth day": "birth", "Sex": "sex", "Exit": "exit"}[name]] += f" ({mark})"
+    return rows
 
 
 def ids_in(page: str) -> list[str]:
@@ -94,12 +110,18 @@ def sorted_by(order: str, row: dict[str, str]) -> Any:
 
 
 def test_asked_again(site: Site, monkeypatch: pytest.MonkeyPatch) -> None:
-    """What leads from a page of animals to another asks for the same animals, sorted as it says; there is no page behind
-    the last one, and the search while typing has animals of the sex alone."""
-    asked = asked_by({"words": "gk 1", "living": "1", "sex": "F", "owner": "Oak Lodge", "from": "2001", "to": "2015", "down": "1"})
+    """What leads from a page of animals to another asks for the same animals, sorted as it says; there is no page
+    behind the last one, and the search while typing has animals of the sex alone."""
+    asked = asked_by(
+        {"words": "gk 1", "living": "1", "sex": "F", "owner": "Oak Lodge", "from": "2001", "to": "2015", "down": "1"}
+    )
     assert asked_by(fields_of(asked)) == asked
     upwards = turned(asked, Order.ID)
-    assert not upwards.is_downwards and turned(upwards, Order.ID).is_downwards and not turned(asked, Order.BIRTH).is_downwards
+    assert (
+        not upwards.is_downwards
+        and turned(upwards, Order.ID).is_downwards
+        and not turned(asked, Order.BIRTH).is_downwards
+    )
     # what an animal was before a change is no animal more
     site.post("/file/exit", id=DAM, day="2024-05-01")
     monkeypatch.setattr("gudokeyi.services.found_animals.ON_A_PAGE", 251)
@@ -108,7 +130,7 @@ def test_asked_again(site: Site, monkeypatch: pytest.MonkeyPatch) -> None:
         found = found_by(book, Asked(page=9))
         assert (found.total, found.page, found.pages, len(found.rows)) == (502, 2, 2, 251)
         ids = [one["id"] for one in site.get("/search?words=gk&sex=M").get_json() or []]
-        assert ids and {book.known[id].registration_number[6] for id in ids} == {"M"}
+        assert ids and {book.society_records[id].registration_number[6] for id in ids} == {"M"}
 
 
 def test_levels() -> None:
@@ -144,10 +166,11 @@ def test_matings(site: Site, society_desk: Desk, left: str) -> None:
     site.post("/file/exit", id=LEFT, day="2024-05-01")
     words = ["mating", "--dam", DAM] + ["--left"] * bool(left)
     text = society_desk.good(*words).out
-    assert site.get(f"/matings.csv?dam={DAM}&left={left}").get_data(as_text=True) == text
     rows = list(csv.DictReader(io.StringIO(text)))
+    assert with_marks(site.get(f"/matings.csv?dam={DAM}&left={left}").get_data(as_text=True)) == rows
     page = site.page(f"/matings?dam={DAM}&left={left}")
-    assert re.findall(r'class="number level level-\d">([\d.]+)%<', page) == [row["percent"] for row in rows]
+    percents = ["0" if row["coefficient"] == "0" else row["percent"] for row in rows]
+    assert re.findall(r'class="number level level-\d">([\d.]+)%<', page) == percents
     assert ids_in(page) == [row["id"] for row in rows]
     # the other advice is asked anew
     other = ids_in(site.page(f"/matings?dam={DAM}&left={'' if left else 1}"))
@@ -221,7 +244,9 @@ def test_settings(site: Site, society_desk: Desk) -> None:
     """What is set on the page is what `settings` says, and the other way round; new numbers have the breed and country,
     and others stay."""
     assert re.search(r'name="breed"[^>]* value="HOL"', site.page("/settings"))
-    assert '<html lang="fr">' in site.get("/settings", {"Accept-Language": "en;q=0.8, de;q=0, it, FR-ch"}).get_data(as_text=True)
+    assert '<html lang="fr">' in site.get("/settings", {"Accept-Language": "en;q=0.8, de;q=0, it, FR-ch"}).get_data(
+        as_text=True
+    )
     assert '<html lang="en">' in site.get("/settings", {"Accept-Language": "it, de;q=0"}).get_data(as_text=True)
     society_desk.good("birth", "NEW-1", "--sex", "f", "--day", "2024-03-01", "--breed", "ABC", "--country", "DEU")
     # an import's letters are its own

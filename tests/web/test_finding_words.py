@@ -16,8 +16,8 @@ from gudokeyi.ingest.findings.cells import ExitInferred, IdAgain
 from gudokeyi.reconcile.findings.animals import BirthDayInferred, KeptByHand, KeptFromBook, RowIsGone, ValueChanged
 from gudokeyi.reconcile.findings.parents import DayFact, ParentRefused
 from gudokeyi.reconcile.findings.rows import OwnerDayInferred
-from gudokeyi.web.language import PageLanguage
-from gudokeyi.web.views.messages import sentence_of
+from gudokeyi.render.page_language import PageLanguage
+from gudokeyi.render.page_wording import sentence_of
 
 DAY = datetime.date(2001, 2, 3)
 QUOTED = re.compile("[«„].*?[»“]")
@@ -68,8 +68,8 @@ def test_words_of_book(finding: Any) -> None:
          "Abgang: 03.02.2001, vorher Tag unbekannt", "sortie\u00a0: 03/02/2001, avant jour inconnu"),
         (IdAgain(3, ("A", "B"), ("A", "B"), (("birth", "2001-02-03", "ca. 2001"),)),
          "die Zeile ist weggelassen: Zeile 3 hat diese Ohrmarke auch; Geburtstag: „03.02.2001“, dort „ca. 2001“",
-         "la ligne est omise\u00a0: la ligne 3 a aussi cette boucle\u00a0; Date de naissance\u00a0: «\u00a003/02/2001\u00a0», là "
-         "«\u00a0ca. 2001\u00a0»"),
+         "la ligne est omise\u00a0: la ligne 3 a aussi cette boucle\u00a0; Date de naissance\u00a0: "
+         "«\u00a003/02/2001\u00a0», là «\u00a0ca. 2001\u00a0»"),
         (RowIsGone(False, True), "kein Tier hat es mehr als Elterntier: es wird aus dem Herdbuch gestrichen",
          "aucun animal ne l'a plus pour parent\u00a0: il est retiré du livre"),
         (RowIsGone(True, False), "es hat keine Zeile mehr, und es bleibt im Herdbuch",
@@ -80,7 +80,8 @@ def test_words_of_book(finding: Any) -> None:
          "(erschlossen); B ist am 03.02.2002 geboren; Nachkommen aus einem gelagerten Embryo brauchen 1 in der "
          "Spalte „Embryo“",
          "Mère A (ligne 3)\u00a0: omis, la mère est sortie avant le jour de la naissance\u00a0; sorti le 03/02/2001 "
-         "(déduit)\u00a0; B est né le 03/02/2002\u00a0; un descendant d'un embryon conservé demande 1 dans la colonne «\u00a0embryo\u00a0»"),
+         "(déduit)\u00a0; B est né le 03/02/2002\u00a0; un descendant d'un embryon conservé demande 1 dans la colonne "
+         "«\u00a0embryo\u00a0»"),
     ],
 )  # fmt: skip
 def test_sentences(finding: Any, german: str, french: str) -> None:

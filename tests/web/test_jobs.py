@@ -9,7 +9,7 @@ import pytest
 
 from gudokeyi.domain.requests import WebFault
 from gudokeyi.web import workers
-from gudokeyi.web.changing import begin_to_see
+from gudokeyi.web.verification import begin_to_see
 from gudokeyi.web.served_book import ServedBook, is_set
 from gudokeyi.web.workers import TAKING, Exports, Job, Jobs, Stage
 

@@ -1,24 +1,27 @@
-"""A book whose kept coefficients aren't the program's: each page says so, and nothing is printed of it."""
+"""A book whose stored records or coefficients aren't the program's: each page says so, and nothing is printed of it."""
 from __future__ import annotations
 
 import contextlib
 import pathlib
 import shutil
 import sqlite3
+import time
 
 import pytest
 
+from web.said import SENTENCES
 from web.site import Site, shown
 from front_desk.desk import Desk
 from gudokeyi.domain.settings import LANGUAGES
-from gudokeyi.locale import SENTENCES
 from gudokeyi.services.cache import stamp_of
 from gudokeyi.store.messages import NotWhole
-from gudokeyi.web.changing import go_on, see_whole
+from gudokeyi.web.changing import go_on
+from gudokeyi.web.verification import keep_seeing, see, see_whole
 
 DAM, SIRE, CALF = "GK-17/472c", "GK-10/294b", "HOLGBRM000000000402"
 TOLD, ON_PAGE = "the program has 1 kept coefficient otherwise", "The program has 1 of the kept coefficients otherwise"
 PRINTED = (f"/animal/{CALF}/certificate", "/certificates?owner=", f"/animal/{CALF}/pedigree", "/animals.csv")
+WRONG = "what is shown may be wrong"
 PAGES = ("/", "/animals", f"/animal/{CALF}", "/matings", "/history", "/settings", "/file/exit")
 
 
@@ -102,3 +105,44 @@ def test_words_that_print(society_desk: Desk) -> None:
     edit(society_desk.room / "book")
     for words in (DAM,), (DAM, SIRE), ("--living",), (DAM, "--out", "certificate.html"):
         society_desk.wrong("the book isn't whole: nothing is printed", "certificate", *words)
+
+
+def edit_owner(folder: pathlib.Path) -> None:
+    """Somebody writes another owner of an animal into the database, of which no coefficient tells."""
+    with contextlib.closing(sqlite3.connect(folder / "book.sqlite")) as connection:
+        connection.execute("UPDATE animal SET herd = herd + 1 WHERE id = ? AND until IS NULL", (DAM,))
+        connection.commit()
+
+
+def test_seen_by_parts(site: Site) -> None:
+    """Once it is seen that a stored record isn't the program's, each page says so, nothing is certified and nothing
+    filed; of one that is mended nothing is said."""
+    see(site.desk)
+    assert site.desk.trusted and site.desk.faulty is None
+    edit_owner(site.desk.folder)
+    assert site.get(PRINTED[0]).status_code == 200
+    see(site.desk)
+    for path in PAGES:
+        page = shown_all(site, path)
+        assert "The journal has 1 of the animals otherwise" in page and WRONG in page, path
+    for path in PRINTED:
+        assert site.get(path).status_code == 400, path
+    assert site.post("/file/exit", id=SIRE, day="2024-06-01").status_code == 400
+    with contextlib.closing(sqlite3.connect(site.desk.folder / "book.sqlite")) as connection:
+        connection.execute("UPDATE animal SET herd = herd - 1 WHERE id = ? AND until IS NULL", (DAM,))
+        connection.commit()
+    see(site.desk)
+    assert WRONG not in shown_all(site, "/") and site.get(PRINTED[0]).status_code == 200
+
+
+def test_seen_each_hour(site: Site, monkeypatch: pytest.MonkeyPatch) -> None:
+    """It is seen again and again, as long as the desk is open."""
+    monkeypatch.setattr("gudokeyi.web.verification.SECONDS_BETWEEN", 0.05)
+    keep_seeing(site.desk)
+    assert site.desk.is_seen.wait(60) and site.desk.faulty is None
+    edit_owner(site.desk.folder)
+    until = time.monotonic() + 60
+    while site.desk.faulty is None and time.monotonic() < until:
+        time.sleep(0.05)
+    site.desk.closes.set()
+    assert WRONG in shown_all(site, "/animals")

@@ -1,4 +1,5 @@
-"""The overview of a book comes from an earlier one where little was changed, and is the same as that of the whole book."""
+"""The overview of a book comes from an earlier one where little was changed, and is the same as that of the whole
+book."""
 from __future__ import annotations
 
 import pytest

@@ -3,6 +3,7 @@ from __future__ import annotations
 
 import pytest
 
+from web.said import SENTENCES, in_each
 from web.sent_forms import corrected, written_in
 from web.site import Site, shown
 from web.test_desk_filing import DAM, SIRE
@@ -10,7 +11,6 @@ from gudokeyi.domain.changes import Option
 from gudokeyi.domain.kinds import Field
 from gudokeyi.domain.requests import WebFault
 from gudokeyi.domain.settings import LANGUAGES
-from gudokeyi.locale import SENTENCES, TEXTS
 
 
 def test_correction_of_nothing(site: Site) -> None:
@@ -26,23 +26,23 @@ def test_corrected_by_two(site: Site) -> None:
     is told, and the form has those of now but for what was written."""
     first, second, third = (written_in(site.page(f"/file/parents?id={DAM}")) for _ in range(3))
     page = site.page(site.post("/file/parents", **corrected(first, dam="")).headers["Location"])
-    assert TEXTS["accepted"][0] in shown(page)
+    assert "Accepted." in shown(page)
     with site.desk.opened() as book:
         assert book and book.change and book.change.options == (Option("--dam", "0"),)
-        assert book.known[DAM].by_hand == {Field.DAM}
+        assert book.society_records[DAM].by_hand == {Field.DAM}
     answer = site.post("/file/parents", **corrected(second, sire=SIRE))
     page = answer.get_data(as_text=True)
     assert answer.status_code == 400 and f"somebody gave {DAM} other parents meanwhile" in shown(page)
-    assert TEXTS["in book now"][0].format(second["sire"]) in shown(page)
+    assert f"in the book now: {second['sire']}" in shown(page)
     second = written_in(page)
     assert (second["sire"], second["dam"]) == (SIRE, "")
     page = site.page(site.post("/file/parents", **corrected(second, sire="GK-16/433c")).headers["Location"])
     # refused: the other parent is there again too
     third = written_in(page)
-    assert TEXTS["refused"][0] in shown(page) and (third["sire"], third["dam"]) == ("GK-16/433c", "")
+    assert "Refused." in shown(page) and (third["sire"], third["dam"]) == ("GK-16/433c", "")
     assert site.post("/file/parents", **corrected(third, sire=SIRE)).headers["Location"] == "/answer/4"
     with site.desk.opened() as book:
-        assert book and book.records[book.known[DAM].registration_number].dam == ""
+        assert book and book.records[book.society_records[DAM].registration_number].dam == ""
 
 
 @pytest.mark.parametrize("language", LANGUAGES)
@@ -58,7 +58,7 @@ def test_sent_for_another(site: Site, language: str) -> None:
     assert answer.status_code == 400 and told.format(shown=DAM, id=other).casefold() in shown(page).casefold()
     again = written_in(page)
     assert (again["sire"], again["dam"], again["shown-id"]) == (SIRE, wanted["dam"], other)
-    assert TEXTS["in book now"][at].format(wanted["sire"]) in shown(page)
+    assert in_each("in the book now: {}")[at].format(wanted["sire"]) in shown(page)
     with site.desk.opened() as book:
         assert book and book.change and book.change.number == 1
     assert site.post("/file/parents", **corrected(again)).headers["Location"] == "/answer/2"
@@ -71,8 +71,8 @@ def test_sent_for_another(site: Site, language: str) -> None:
 
 @pytest.mark.parametrize("language", LANGUAGES)
 def test_sent_without_parents(site: Site, language: str) -> None:
-    """A form that showed no parents takes none away that is left empty: it comes back with those of now, but for what was
-    written."""
+    """A form that showed no parents takes none away that is left empty: it comes back with those of now, but for what
+    was written."""
     site.get(f"/language/{language}")
     now, at = written_in(site.page(f"/file/parents?id={DAM}")), [*LANGUAGES].index(language)
     answer = site.post("/file/parents", id=f" {DAM.lower()}", sire=SIRE, dam="")
@@ -83,4 +83,4 @@ def test_sent_without_parents(site: Site, language: str) -> None:
     assert site.post("/file/parents", **corrected(again)).headers["Location"] == "/answer/2"
     with site.desk.opened() as book:
         assert book and book.change and book.change.options == (Option("--sire", SIRE),)
-        assert book.by_number()[book.records[book.known[DAM].registration_number].dam].id == now["dam"]
+        assert book.by_number()[book.records[book.society_records[DAM].registration_number].dam].id == now["dam"]

@@ -9,7 +9,6 @@ import pytest
 from web.looks import PAIR, TITLES, Says, buttons_of, calves, look_at, part, press
 from web.site import Site, shown
 from gudokeyi.domain.settings import LANGUAGES
-from gudokeyi.locale import TEXTS
 
 
 @pytest.mark.parametrize("total", ["Summe;;;;;;", "Summe;;;63;;;", "63;Summe;;;;;", "63;;;;;;Gesamt"])
@@ -17,17 +16,17 @@ def test_row_of_a_total(empty_site: Site, total: str) -> None:
     """It is told before all else; a click leaves its line out, which is told, and later sheets are read so too."""
     site, text = empty_site, TITLES + PAIR + calves(9)
     address, page = look_at(site, text + total + "\n")
-    first = re.search(r"<tbody>.*?</tr>", part(page, "what to look at"), re.DOTALL)
+    first = re.search(r"<tbody>.*?</tr>", part(page, "May be wrong"), re.DOTALL)
     assert first and "14 " in shown(first[0]) and "this row looks like a total" in shown(first[0])
     assert "The book would have 13 animals." in shown(page)
     page = press(site, address, page, "Leave out line 14")
     assert "this row looks like a total" not in page
     assert "Rows of the sheet 13 of these left out 1 Animals with a row 12" in shown(page)
     assert "The book would have 12 animals." in shown(page)
-    assert "the row is left out: one with" in shown(part(page, "what left out"))
+    assert "the row is left out: one with" in shown(part(page, "Left out"))
     site.take(address)
     with site.desk.opened() as book:
-        assert book and len(book.known) == 12
+        assert book and len(book.society_records) == 12
     # the next year the total stands elsewhere
     address, page = look_at(site, text + "190;;w;2015-01-01;001;002;Huber\n" + total + "\n")
     assert "Animals with a row 13 of these new 1 of these in the book already 12" in shown(page)
@@ -43,9 +42,9 @@ def test_total_that_was_taken(empty_site: Site) -> None:
     site.take(address)
     address, page = look_at(site, text, no_animal="Summe")
     assert "Animals of the book without a row 1" in shown(page)
-    page = press(site, address, page, TEXTS["drop these"][0])
+    page = press(site, address, page, "Drop these from the book, but for ancestors of others")
     assert "The book would have 12 animals." in shown(page)
-    assert TEXTS["drop these"][0] not in buttons_of(page)
+    assert "Drop these from the book, but for ancestors of others" not in buttons_of(page)
 
 
 def test_animals_with_words_of_totals(empty_site: Site) -> None:
@@ -59,10 +58,10 @@ def test_animals_with_words_of_totals(empty_site: Site) -> None:
 def test_misspelt_parent(empty_site: Site, written: str, meant: str) -> None:
     """It stands among what may be wrong, which is unfolded, with its line, what stands there and what may be meant."""
     _, page = look_at(empty_site, TITLES + PAIR + calves(9) + f"200;;w;2012-01-01;{written};002;Huber\n")
-    found = part(page, "what to look at")
+    found = part(page, "May be wrong")
     assert found.startswith("<details open>")
     assert f"14 {written} the sire of 200 has no row: added without parents (is {meant} meant?)" in shown(found)
-    assert f"14 {written}" in shown(part(page, "what added"))
+    assert f"14 {written}" in shown(part(page, "Added as parents"))
 
 
 def test_parents_that_are_no_misspelt_ones(empty_site: Site) -> None:
@@ -92,12 +91,14 @@ def test_word_for_unknown_parents(empty_site: Site, language: str, told: str) ->
     address, page = look_at(site, TITLES + PAIR + rows)
     words = Says(language)
     assert told in re.sub(r"\s", " ", shown(page)) and " 0 " not in told
-    unknown = words("means", "fremd", words("unknown parent"))
-    assert unknown in buttons_of(page) and words("drop these") not in buttons_of(page)
+    unknown = words("'{}' means: {}", "fremd", words("unknown parent"))
+    assert unknown in buttons_of(page) and words(
+        "Drop these from the book, but for ancestors of others"
+    ) not in buttons_of(page)
     page = press(site, address, page, unknown)
-    assert words.counted("would be", 10) in shown(page)
-    page = press(site, address, page, words("drop these"))
-    assert words.counted("would be", 9) in shown(page)
+    assert words.counted("The book would have {} animal.", "The book would have {} animals.", 10) in shown(page)
+    page = press(site, address, page, words("Drop these from the book, but for ancestors of others"))
+    assert words.counted("The book would have {} animal.", "The book would have {} animals.", 9) in shown(page)
 
 
 def test_births_near_one_another(empty_site: Site) -> None:
@@ -108,19 +109,23 @@ def test_births_near_one_another(empty_site: Site) -> None:
         for at, date in enumerate(("2003-01-06", "2004-03-01", "2005-04-06"))
     )
     address, page = look_at(site, TITLES + PAIR + rows)
-    found = shown(part(page, "what to look at"))
+    found = shown(part(page, "May be wrong"))
     assert [f"{count} days before" in found for count in days] == [True] * 3
-    label = "That can be: report only what is below {} days (ends {} of these 3 reports)".format
-    assert [one for one in buttons_of(page) if one.startswith("That can be")] == [label(5, 3), label(60, 2), label(95, 1)]
+    label = "That can be: warn only below {} days ({} of these 3 warnings go)".format
+    assert [one for one in buttons_of(page) if one.startswith("That can be")] == [
+        label(5, 3),
+        label(60, 2),
+        label(95, 1),
+    ]
     page = press(site, address, page, label(60, 2))
-    found = shown(part(page, "what to look at"))
+    found = shown(part(page, "May be wrong"))
     assert [f"{count} days before" in found for count in days] == [True, False, False]
     assert 'name="apart" type="text" value="60"' in page
 
 
 def test_back_to_the_findings(empty_site: Site, monkeypatch: pytest.MonkeyPatch) -> None:
-    """Whoever presses a button waits on a page that asks again by its address, since one with a place in it wouldn't, and
-    comes back to what is found."""
+    """Whoever presses a button waits on a page that asks again by its address, since one with a place in it wouldn't,
+    and comes back to what is found."""
     address, _ = look_at(empty_site, TITLES + PAIR)
     monkeypatch.setattr("gudokeyi.web.workers.SOON", 0)
     to = empty_site.post(f"{address}/suggested", option="--youngest", word="300").headers["Location"]
@@ -131,25 +136,37 @@ def test_back_to_the_findings(empty_site: Site, monkeypatch: pytest.MonkeyPatch)
 
 def test_one_birth_near_another(empty_site: Site) -> None:
     _, page = look_at(empty_site, TITLES + PAIR + "501;;w;2003-01-01;001;002;\n502;;w;2003-03-01;001;002;\n")
-    assert buttons_of(page) == ["That can be: report only what is below 59 days"]
+    assert buttons_of(page) == ["That can be: warn only below 59 days"]
 
 
 @pytest.mark.parametrize("language", LANGUAGES)
 def test_many_births_near_one_another(empty_site: Site, language: str) -> None:
     """Many are one line, and each can be shown."""
     empty_site.get(f"/language/{language}")
-    rows = "".join(f"{at}0;;w;{2003 + at}-01-01;001;002;\n{at}1;;w;{2003 + at}-02-0{at};001;002;\n" for at in range(1, 6))
+    rows = "".join(
+        f"{at}0;;w;{2003 + at}-01-01;001;002;\n{at}1;;w;{2003 + at}-02-0{at};001;002;\n" for at in range(1, 6)
+    )
     _, page = look_at(empty_site, TITLES + PAIR + rows)
-    found, words = part(page, "what to look at", language), Says(language)
-    assert words("births near", 5, 100, 31, 35) in shown(found)
+    found, words = part(page, "May be wrong", language), Says(language)
+    assert words(
+        "{} births came less than {} days after the same dam's one before, from {} to {} days. If that can be in your herd, nothing need be done.",
+        5,
+        100,
+        31,
+        35,
+    ) in shown(found)
     assert len(re.findall("<li>", found)) == 5 and len(re.findall("<tr>", found)) == 2
 
 
 def test_owner_with_a_letter_more(empty_site: Site) -> None:
-    """An owner of few animals who is one of many but for a letter is told, once; houses and initials tell owners apart."""
-    rows = calves(9) + "300;;w;2015-01-01;001;002;Hubber\n301;;w;2015-01-01;001;002;Huber 2\n302;;w;2015-01-01;;;A. Huber\n"
+    """An owner of few animals who is one of many but for a letter is told, once; houses and initials tell owners
+    apart."""
+    rows = (
+        calves(9)
+        + "300;;w;2015-01-01;001;002;Hubber\n301;;w;2015-01-01;001;002;Huber 2\n302;;w;2015-01-01;;;A. Huber\n"
+    )
     address, page = look_at(empty_site, TITLES + PAIR + rows)
-    found = shown(part(page, "what to look at"))
+    found = shown(part(page, "May be wrong"))
     assert "14 300 the owner 'Hubber' (1 animal) may be 'Huber' (12 animals): is 'Huber' meant?" in found
     assert found.count("meant?") == 1
     empty_site.take(address)

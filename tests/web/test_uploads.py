@@ -9,7 +9,6 @@ import pytest
 from werkzeug.datastructures import FileStorage
 
 from web.site import HOST, Site, shown
-from gudokeyi.locale import TEXTS
 from gudokeyi.web import files
 
 FLOCK = b"Tag,Geschlecht,geb\na,m,2001-01-01\n"
@@ -18,7 +17,9 @@ FLOCK = b"Tag,Geschlecht,geb\na,m,2001-01-01\n"
 def test_too_large(empty_site: Site) -> None:
     data = {"csrf_token": empty_site.token(), "sheet": (io.BytesIO(b"x" * 51_000_000), "large.csv")}
     answer = empty_site.client.post("/sheet", data=data, headers={"Host": HOST})
-    assert answer.status_code == 413 and TEXTS["refused size of sheet.drop"][0] in shown(answer.get_data(as_text=True))
+    assert answer.status_code == 413 and "The file is too large: 50 MB are read at most." in shown(
+        answer.get_data(as_text=True)
+    )
     assert not any(empty_site.desk.uploads.room.iterdir())
 
 

@@ -1,12 +1,14 @@
 //! Coefficients of inbreeding of a frozen book's animals.
-ghost use Rattle.std.specs.Prelude.{◌≡◌, ◌*◌, ◌^◌, ◌<◌, ◌≤◌, All, Some, length, map, IfOk};
+ghost use Rattle.std.specs.Prelude.{◌≡◌, ℕ, ◌*◌, ◌^◌, ◌<◌, ◌≤◌, ◌++◌, ◌∷◌, [], List, Some, length, map, IfOk, OnOk};
 ghost use Rattle.herd_frozen.specs.declared.TheConstants.{DEPTH_LIMIT};
 ghost use Rattle.herd_frozen.specs.freezing.Frozen.{parents_of};
 ghost use Rattle.herd_kinship.specs.Ranks.{HasUnknownParent};
 ghost use Rattle.herd_kinship.specs.Table.{entry, mendelian as mendelian_variance};
-ghost use Rattle.herd_advice.specs.BookCoefficients.{AreBookCoefficients, AreBookCoefficientsOf, KnowsBookAncestors};
+ghost use Rattle.herd_advice.specs.BookCoefficients.{AreBookCoefficients, AreBookCoefficientsOf, AreRanksOf};
+ghost use Rattle.herd_advice.specs.BookCoefficients.{KnowsBookAncestors};
 ghost use Rattle.herd_advice.specs.FrozenAncestry.{ancestry_of, number_of_row};
 
+use herd_animal::AnimalNumber;
 use herd_frozen::Frozen;
 use herd_kinship::Coefficients;
 use std::alloc::{AllocError, Allocator};
@@ -24,24 +26,57 @@ pub fn coefficients_plain<F: Allocator, A: Allocator + Clone>(
     herd_kinship::coefficients_plain(alloc, frozen.lineage())
 }
 
-/// A list with the coefficients of inbreeding of some animals, at their ranks, by their ancestors alone. What it has of
-/// others doesn't count. The only error is a growth of memory that is refused.
+/// A list with the coefficients of inbreeding of some animals and of all their ancestors, at their ranks, by these
+/// alone.
+///
+/// A number that isn't in the book is passed over. What the list has of other animals doesn't count. The only error is
+/// a growth of memory that is refused.
 pub fn coefficients_of<F: Allocator, A: Allocator + Clone>(
     alloc: A,
     frozen: &Frozen<F>,
-    ranks: &[u32],
+    numbers: &[AnimalNumber],
 ) -> Result<Coefficients<A>, AllocError>
-    requires { All (λ rank. rank < length frozen.now) ranks.now }
-    ensures { IfOk result (AreBookCoefficientsOf DEPTH_LIMIT frozen.now ranks.now) }
+    ensures { IfOk result (AreBookCoefficientsOf DEPTH_LIMIT frozen.now numbers.now) }
 {
-    herd_pruned::coefficients_of(alloc, frozen.lineage(), ranks)
+    let ranks = ranks_of(alloc.clone()?, frozen, numbers)?;
+    herd_pruned::coefficients_of(alloc, frozen.lineage(), &ranks)
 }
 
-/// The Mendelian sampling variance of the animal at a rank, by the coefficients of its parents.
-///
-/// It is a whole number of units of 2^-120 of the additive variance: 1 less a quarter of each known parent's
-/// relationship with itself (Henderson 1976; Meuwissen and Luo 1992). So it is `ONE` of a founder, and never 0. Only
-/// the numerators of the animal's ancestors need be right in `known`.
+// The ranks of those of some numbers that are in the book.
+fn ranks_of<F: Allocator, A: Allocator>(
+    alloc: A,
+    frozen: &Frozen<F>,
+    numbers: &[AnimalNumber],
+) -> Result<Vec<u32, A>, AllocError>
+    ensures { IfOk result (λ ranks. AreRanksOf frozen.now numbers.now ranks.items) }
+{
+    let mut ranks = Vec::new(alloc);
+    for number in numbers {
+        push_rank(frozen, *number, &mut ranks)?;
+    }
+    Ok(ranks)
+}
+
+// Adds the rank of a number that is in the book.
+fn push_rank<F: Allocator, A: Allocator>(
+    frozen: &Frozen<F>,
+    number: AnimalNumber,
+    ranks: &mut Vec<u32, A>,
+) -> Result<(), AllocError>
+    ensures { OnOk result ((numbers : List (List ℕ)) → AreRanksOf frozen.now numbers ranks.old.items
+        → AreRanksOf frozen.now (numbers ++ number ∷ []) ranks.new.items) }
+{
+    match frozen.rank(&number) {
+        Some(rank) => {
+            ranks.push(rank)?;
+            Ok(())
+        }
+        None => Ok(()),
+    }
+}
+
+/// The Mendelian sampling variance of the animal at a rank, by the coefficients of its ancestors, as
+/// `herd_kinship::mendelian` of the book's lineage.
 pub fn mendelian<F: Allocator>(frozen: &Frozen<F>, known: &[u128], rank: u32) -> u128
     requires rank { rank < length frozen.now }
     requires known { KnowsBookAncestors DEPTH_LIMIT frozen.now known.now rank }
@@ -52,12 +87,8 @@ pub fn mendelian<F: Allocator>(frozen: &Frozen<F>, known: &[u128], rank: u32) ->
     herd_kinship::mendelian(frozen.lineage(), known, rank)
 }
 
-/// The relationship of the animal at a rank with itself, by the coefficients of its ancestors (Meuwissen and Luo
-/// 1992).
-///
-/// It is a whole number of units of 2^-120, below 2 * `ONE` by `laws::bound`; `inbred` makes the coefficient of it.
-/// Only the numerators of the animal's ancestors need be right in `known`. The only error is a growth of memory that
-/// is refused; none is taken where a parent is unknown.
+/// The relationship of the animal at a rank with itself, by the coefficients of its ancestors, as `herd_kinship::trace`
+/// of the book's lineage.
 pub fn trace<F: Allocator, A: Allocator + Clone>(
     alloc: A,
     frozen: &Frozen<F>,

@@ -1,8 +1,8 @@
-ghost use Rattle.std.specs.Prelude.{◌≡◌, ◌*◌, ◌-◌, ◌^◌, ◌<◌, false, IfOk, IfErr, IsOk, Some, None};
+ghost use Rattle.std.specs.Prelude.{◌≡◌, ◌*◌, ◌-◌, ◌^◌, ◌<◌, ◌∷◌, [], false, IfOk, IfErr, IsOk, Some, None};
 ghost use Rattle.herd_frozen.specs.declared.TheConstants.{DEPTH_LIMIT};
 ghost use Rattle.herd_frozen.specs.freezing.Frozen.{book_of};
 ghost use Rattle.herd_frozen.specs.rules.Book.{is_there};
-ghost use Rattle.herd_advice.specs.BookCoefficients.{AreBookCoefficients};
+ghost use Rattle.herd_advice.specs.BookCoefficients.{AreBookCoefficientsOf};
 ghost use Rattle.herd_advice.specs.FrozenAncestry.{book_ancestry};
 ghost use Rattle.herd_advice.specs.Mating.{mating_fault};
 ghost use Rattle.herd_kinship.specs.Table.{entry};
@@ -50,15 +50,15 @@ impl<'a, F: Allocator, A: Allocator> Model for DamMatings<'a, F, A> {
 }
 
 impl<'a, F: Allocator, A: Allocator + Clone> DamMatings<'a, F, A> {
-    /// By the coefficients of the book's animals. The only error is a growth of memory that is refused; none is taken
-    /// where the dam isn't in the book.
+    /// By the coefficients of the dam and of its ancestors. The only error is a growth of memory that is refused; none
+    /// is taken where the dam isn't in the book.
     pub fn of<C: Allocator>(
         alloc: A,
         frozen: &'a Frozen<F>,
         coefficients: &Coefficients<C>,
         number: AnimalNumber,
     ) -> Result<DamMatings<'a, F, A>, AllocError>
-        requires { AreBookCoefficients DEPTH_LIMIT frozen.now coefficients.now }
+        requires { AreBookCoefficientsOf DEPTH_LIMIT frozen.now (number ∷ []) coefficients.now }
         ensures book { IfOk result (λ matings. matings.book ≡ book_of frozen.now) }
         ensures dam { IfOk result (λ matings. matings.dam ≡ number) }
         ensures absent { is_there (book_of frozen.now) number ≡ false → IsOk result }

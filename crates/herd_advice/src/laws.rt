@@ -1,5 +1,5 @@
-//! The laws of the numerator relationship matrix A, each promised for the animals at two ranks of a frozen book. The
-//! calls do nothing: who calls one has its `ensures` as a fact. `herd_kinship::laws` has them of any lineage.
+//! The laws of the numerator relationship matrix A for the animals at two ranks of a frozen book, as
+//! `herd_kinship::laws` has them of any lineage.
 
 ghost use Rattle.std.specs.Prelude.{ℕ, ◌+◌, ◌<◌, Some, length, map};
 ghost use Rattle.herd_frozen.specs.declared.TheConstants.{DEPTH_LIMIT};

@@ -5,7 +5,8 @@
 //! | | definition (`specs/`) | code (`src/`) | proof (`proofs/lemmas/`) |
 //! |---|---|---|---|
 //! | the ancestry that a book tells | `FrozenAncestry` | | `BookFacts`, `BookPaths`, `FrozenFacts` |
-//! | coefficients, relationships | `BookCoefficients` | `book_coefficients`, `workers`, `book_relationships` | `FrozenFacts` |
+//! | coefficients | `BookCoefficients` | `book_coefficients`, `workers` | `FrozenFacts` |
+//! | relationships | `BookCoefficients` | `book_relationships` | `FrozenFacts` |
 //! | contributions | `BookContributions` | `book_contributions` | `ContributionFacts` |
 //! | mating advice | `Mating` | `mating_advice`, `dam_matings` | `MatingFacts` |
 //! | the laws | those of `herd_kinship` | `laws` | `FrozenFacts` |

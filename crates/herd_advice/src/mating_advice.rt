@@ -1,9 +1,10 @@
-ghost use Rattle.std.specs.Prelude.{◌≡◌, ◌*◌, ◌-◌, ◌^◌, ◌<◌, false, IfOk, IfErr, IfSome, IfNone, MatchResult, Some, None};
+ghost use Rattle.std.specs.Prelude.{◌≡◌, ◌*◌, ◌-◌, ◌^◌, ◌<◌, false, IfOk, IfErr, IfSome, IfNone, MatchResult, Some};
+ghost use Rattle.std.specs.Prelude.{None, ◌∷◌, []};
 ghost use Rattle.herd_animal.specs.Sex.{is_male as is_male_number};
 ghost use Rattle.herd_frozen.specs.declared.TheConstants.{DEPTH_LIMIT};
 ghost use Rattle.herd_frozen.specs.freezing.Frozen.{book_of};
 ghost use Rattle.herd_frozen.specs.rules.Book.{is_there};
-ghost use Rattle.herd_advice.specs.BookCoefficients.{AreBookCoefficients};
+ghost use Rattle.herd_advice.specs.BookCoefficients.{AreBookCoefficientsOf};
 ghost use Rattle.herd_advice.specs.FrozenAncestry.{ancestry_of};
 ghost use Rattle.herd_advice.specs.Mating.{IsCandidate, candidates_fault, mating_fault, number_of_mating_fault};
 ghost use Rattle.herd_kinship.specs.Table.{entry};
@@ -107,8 +108,8 @@ pub fn check(sire: Candidate, dam: Candidate) -> Result<(), MatingFault>
 
 /// The coefficient that a calf of the two would have, in units of 2^-120: half their relationship, below `ONE`.
 ///
-/// It traces the dam's ancestors once. Ages and exits aren't asked; a calf is too deep where one of the two has a path
-/// of 60 steps. `Memory` is told where a growth of memory is refused.
+/// It traces the dam's ancestors once, by their coefficients. Ages and exits aren't asked; a calf is too deep where one
+/// of the two has a path of 60 steps. `Memory` is told where a growth of memory is refused.
 pub fn mating<F: Allocator, C: Allocator, A: Allocator + Clone>(
     alloc: A,
     frozen: &Frozen<F>,
@@ -116,7 +117,7 @@ pub fn mating<F: Allocator, C: Allocator, A: Allocator + Clone>(
     sire: &AnimalNumber,
     dam: &AnimalNumber,
 ) -> Result<u128, MatingFault>
-    requires { AreBookCoefficients DEPTH_LIMIT frozen.now coefficients.now }
+    requires { AreBookCoefficientsOf DEPTH_LIMIT frozen.now (dam.now ∷ []) coefficients.now }
     ensures value { IfOk result
         (λ value. value ≡ entry (ancestry_of frozen.now) (2 * DEPTH_LIMIT - 1) (Some sire.now) (Some dam.now)) }
     ensures below_one { IfOk result (λ value. value < 2 ^ (2 * DEPTH_LIMIT)) }

@@ -1,10 +1,11 @@
 //! What the tests begin with: animals named short, births, the books of small families and of many generations, heaps
-//! that are too small, and where threads wait for one another. Only tests stand on it, and the programs that are to be
-//! timed or refused memory.
+//! that are too small, a reader that fails, and where threads wait for one another. Only tests stand on it, and the
+//! programs that are to be timed or refused memory.
 #![tactic(auto)]
 
 mod birth;
 mod books;
+mod breaks_after;
 mod families;
 mod heaps;
 mod herd;
@@ -17,6 +18,7 @@ pub use books::{
     BirthFault, file_birth, file_births, founders, frozen_of, generations, new_year, pair_of,
     pedigree_of,
 };
+pub use breaks_after::BreaksAfter;
 pub use families::{descendants_of_full_sibs, full_sibs};
 pub use heaps::{Crowd, MOST_BLOCKS, heap_of, small_heap, spare_of};
 pub use herd::herd_of;

@@ -1,9 +1,10 @@
 //! A book of records, what it may be, and the book in age order.
 //!
 //! A book is a list of records by their numbers, in the order of registration. `Frozen` is one in age order, whose rows
-//! have the ranks of the parents, for who reads the whole of it. `freeze_list` makes it of a list of records, and
-//! `frozen_from` of whatever tells in the order of registration what a row keeps of each animal, and the places of its
-//! parents (`Registered`), as `herd_pedigree`'s book.
+//! have the ranks of the parents, for who reads the whole of it. `freeze_list` makes it of a list of records,
+//! `freeze_hinted` sooner of one with the places where parents are expected, and `frozen_from` of whatever tells in the
+//! order of registration what a row keeps of each animal, and the places of its parents (`Registered`), as
+//! `herd_pedigree`'s book.
 //!
 //!     let frozen = freeze_list(alloc, &records)?;
 //!     let row = frozen.row(0);
@@ -19,12 +20,12 @@ mod freezing;
 mod places;
 mod rules;
 
-pub use freezing::freeze::{freeze_list, frozen_from};
+pub use freezing::freeze::{freeze_hinted, freeze_list, frozen_from};
 pub use freezing::frozen::{Frozen, Row};
 pub use freezing::registered::Registered;
 pub use freezing::rows::RowRecord;
 pub use herd_lineage::{Lineage, Parents};
-pub use places::links::Link;
+pub use places::links::{Link, LinkHint};
 pub use rules::animal::Animal;
 pub use rules::parent_fault::ParentFault;
 // A crate can name a frozen book in a contract only if the types of its fields are exported.

@@ -1,16 +1,10 @@
--- The calves of some sires and of known dams, each by its rank with a numerator, and what is kept from one sire to the
--- next while they are listed.
-use Rattle.std.specs.Prelude.{◌≡◌, ◌≢◌, ℕ, ◌*◌, ◌/◌, ◌≤◌, ◌⊎◌, ◌++◌, All, AllPairs, Any, List, length, slice_index, vec_capacity}
-use Rattle.herd_lineage.specs.declared.TheConstants.{DEPTH_LIMIT}
+-- The calves of some sires and of known dams, each by its rank with a numerator.
+use Rattle.std.specs.Prelude.{◌≡◌, ◌≢◌, ℕ, ◌/◌, ◌⊎◌, ◌++◌, All, AllPairs, Any, List, slice_index}
 use Rattle.herd_lineage.specs.declared.lineage.Parents.{Parents}
 use Rattle.herd_lineage.specs.Lineage.{dam_rank}
 use Rattle.herd_kinship.specs.CalfLinks.{IsCalf}
 use Rattle.herd_kinship.specs.Columns.{at_parent}
-use Rattle.herd_kinship.specs.Pending.{mark}
-use Rattle.herd_kinship.specs.Tracing.{IsIdle}
-use Rattle.herd_kinship.specs.Variances.{AreVariances}
 use Rattle.herd_kinship.specs.declared.calves.CalfCoefficient.{CalfCoefficient}
-use Rattle.herd_kinship.specs.declared.mates.Mates.{Mates}
 
 -- a calf with half the number that its dam has in the column, and 0 where the dam is unknown
 abbrev pub with_half : List Parents → List ℕ → ℕ → CalfCoefficient
@@ -52,12 +46,3 @@ AreWritten f known calves = All (λ calf. slice_index known calf.rank ≡ f calf
 pub record HasWritten (f : ℕ → ℕ) (calves : List CalfCoefficient) (old new : List ℕ) : Type 0 where
   pub kept : Keeps f old new
   pub written : AreWritten f new calves
-
--- there is room for the animals of a lineage, nobody is marked, nobody is traced, and variances are its own
-pub record IsReady {A : Type 0} (rows : List Parents) (mates : Mates A) : Type 0 where
-  pub room : length rows ≤ 64 * length mates.marked.chunks.items
-  pub unmarked : (distance : ℕ) → mark mates.marked.chunks.items distance ≡ 0
-  pub idle : IsIdle (length rows) mates.tracing
-  pub variances : AreVariances DEPTH_LIMIT rows mates.variances.kept.items
-  pub space : length rows ≤ vec_capacity mates.collected
-  pub each : length mates.column.items ≡ length rows

@@ -13,3 +13,4 @@ pub mod Columns
 pub mod CalfLinks
 pub mod CalfCoefficients
 pub mod Contributions
+pub mod Mates

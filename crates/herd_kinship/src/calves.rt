@@ -1,4 +1,5 @@
-ghost use Rattle.std.specs.Prelude.{◌≡◌, ◌==◌, ℕ, ◌<◌, ◌⊎◌, All, is_some, length, true, IsTrue, IsFalse, IfOk, IfSome, IfNone, None, Some};
+ghost use Rattle.std.specs.Prelude.{◌≡◌, ℕ, ◌<◌, ◌⊎◌, All, is_some, length, true, IsTrue, IsFalse, IfOk, IfSome};
+ghost use Rattle.std.specs.Prelude.{IfNone, None, Some};
 ghost use Rattle.std.specs.Iterator.{YieldsFirst, item_count};
 ghost use Rattle.herd_kinship.specs.CalfCoefficients.{HasWritten, HaveValues};
 ghost use Rattle.herd_kinship.specs.CalfLinks.{AreCalvesOf, IsCalf, calf_count, calves_of_sire};
@@ -50,16 +51,6 @@ impl<'a> Iterator for SireCalves<'a> {
         let calf = self.next?;
         self.next = self.earlier[calf as usize].get();
         Some(calf)
-    }
-}
-
-impl<'a> SireCalves<'a> {
-    /// Whether there are none.
-    #[inline(always)]
-    pub(crate) fn is_empty(&self) -> bool
-        ensures { result ≡ (length self.now == 0) }
-    {
-        self.next.is_none()
     }
 }
 

@@ -2,7 +2,7 @@ ghost use Rattle.std.specs.Prelude.{◌≡◌, ◌==◌, ℕ, ◌+◌, ◌*◌, 
 ghost use Rattle.herd_lineage.specs.declared.TheConstants.{DEPTH_LIMIT};
 ghost use Rattle.herd_kinship.specs.CalfLinks.{AreCalvesOf, IsCalf};
 ghost use Rattle.herd_kinship.specs.Coefficients.{AreCoefficients, IsBefore, KnowsReached};
-ghost use Rattle.herd_kinship.specs.CalfCoefficients.{IsReady};
+ghost use Rattle.herd_kinship.specs.Mates.{IsReady};
 
 use crate::calves::{CalfCoefficient, Calves, has_calves, write_calves};
 use crate::mates::Mates;
@@ -28,8 +28,8 @@ impl<A: Allocator> Model for Coefficients<A> {
 }
 
 impl<A: Allocator> Coefficients<A> {
-    /// Takes over a list of numerators in units of 2^-120, each below `ONE`. That they are a lineage's coefficients is for
-    /// the caller to show.
+    /// Takes over a list of numerators in units of 2^-120, each below `ONE`. That they are a lineage's coefficients is
+    /// for the caller to show.
     pub fn from_list(numerators: Vec<u128, A>) -> Coefficients<A>
         requires { All (λ n. n < 2 ^ (2 * DEPTH_LIMIT)) numerators.items }
         ensures { result ≡ numerators.items }

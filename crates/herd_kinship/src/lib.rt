@@ -23,7 +23,7 @@
 //! | shares, A = T D T', the laws | `Shares`, `InverseRows`, `Laws` | `laws` | `ancestry`, `laws` |
 //! | a lineage as an ancestry | `Ranks` | | `lineages` |
 //! | columns of A | `Columns`, `Variances` | `columns`, `variances` | `sires` |
-//! | sire by sire | `CalfCoefficients` | `coefficients`, `mates` | `sires` |
+//! | sire by sire | `Mates`, `CalfCoefficients` | `mates`, `coefficients` | `sires` |
 //! | a sire's calves, and their coefficients | `CalfLinks`, `CalfCoefficients` | `calves` | `sires` |
 //! | animal by animal | `Tracing`, `Pending` | `tracing`, `pending` | `tracing`, `numbers` |
 //! | one animal's relationships | `Columns` | `relationships` | `sires` |

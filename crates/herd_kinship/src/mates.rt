@@ -1,10 +1,12 @@
-ghost use Rattle.std.specs.Prelude.{◌≡◌, ℕ, ◌+◌, ◌-◌, ◌*◌, ◌/◌, ◌<◌, ◌≤◌, ◌++◌, All, length, map, IfOk, OnErr, Some};
+ghost use Rattle.std.specs.Prelude.{◌≡◌, ℕ, ◌+◌, ◌-◌, ◌*◌, ◌/◌, ◌<◌, ◌≤◌, ◌++◌, All, length, map, vec_capacity};
+ghost use Rattle.std.specs.Prelude.{vec_len, IfOk, OnErr, Some};
 ghost use Rattle.herd_lineage.specs.declared.TheConstants.{DEPTH_LIMIT};
 ghost use Rattle.herd_lineage.specs.Lineage.{dam_rank};
-ghost use Rattle.herd_kinship.specs.CalfCoefficients.{GoesOnWith, IsReady, with_half};
+ghost use Rattle.herd_kinship.specs.CalfCoefficients.{GoesOnWith, with_half};
 ghost use Rattle.herd_kinship.specs.CalfLinks.{AreCalvesOf, IsCalf, calves_of_sire};
 ghost use Rattle.herd_kinship.specs.Coefficients.{KnowsAncestors, coefficient_at};
 ghost use Rattle.herd_kinship.specs.Columns.{at_parent};
+ghost use Rattle.herd_kinship.specs.Mates.{IsReady};
 ghost use Rattle.herd_kinship.specs.Pending.{mark};
 
 use crate::calves::{CalfCoefficient, Calves, SireCalves};
@@ -106,12 +108,14 @@ impl<A: Allocator> Mates<A> {
             (coefficient_at DEPTH_LIMIT lineage.now) list.old.items list.new.items) }
         ensures err { OnErr result (list.new.items ≡ list.old.items) }
     {
-        let its_calves = calves.of_sire(lineage, sire);
-        if its_calves.is_empty() {
+        let count = calves.count(lineage, sire) as usize;
+        if count == 0 {
             return Ok(());
         }
-        self.relate_to(lineage, its_calves, known, sire);
-        append_halves(lineage, calves.of_sire(lineage, sire), &self.column, list)
+        list.reserve(count)?;
+        self.relate_to(lineage, calves.of_sire(lineage, sire), known, sire);
+        append_halves(lineage, calves.of_sire(lineage, sire), &self.column, list);
+        Ok(())
     }
 }
 
@@ -136,26 +140,20 @@ fn mark_mates<F: Allocator, P: Allocator>(
     }
 }
 
-// Appends calves, each with half the number that its dam has in the column. After refused memory the list is as it was.
+// Appends calves, each with half the number that its dam has in the column, to a list with room for them.
 fn append_halves<F: Allocator, L: Allocator>(
     lineage: &Lineage<F>,
     calves: SireCalves<'_>,
     column: &[u128],
     list: &mut Vec<CalfCoefficient, L>,
-) -> Result<(), AllocError>
+)
     requires calves { All (λ calf. calf < length lineage.now) calves }
     requires column { length column.now ≡ length lineage.now }
-    ensures calves { IfOk result
-        (λ _. list.new.items ≡ list.old.items ++ map (with_half lineage.now column.now) calves.entry) }
-    ensures err { OnErr result (list.new.items ≡ list.old.items) }
+    requires room { vec_len list.old + length calves ≤ vec_capacity list.old }
+    ensures { list.new.items ≡ list.old.items ++ map (with_half lineage.now column.now) calves.entry }
 {
-    let before = list.len();
     for rank in calves {
         let numerator = with_parent(column, lineage.parents(rank).dam) / 2;
-        if let Err(refused) = list.push(CalfCoefficient { rank, numerator }) {
-            list.truncate(before);
-            return Err(refused.into());
-        }
+        list.push_reserved(CalfCoefficient { rank, numerator });
     }
-    Ok(())
 }

@@ -1,6 +1,6 @@
 ghost use Rattle.std.specs.Prelude.{◌≡◌, ◌<◌, length, slice_index, IfOk};
 ghost use Rattle.herd_lineage.specs.declared.TheConstants.{DEPTH_LIMIT};
-ghost use Rattle.herd_kinship.specs.Coefficients.{AreCoefficients};
+ghost use Rattle.herd_kinship.specs.Coefficients.{KnowsAncestors};
 ghost use Rattle.herd_kinship.specs.Columns.{AreRelationships};
 
 use crate::coefficients::Coefficients;
@@ -28,7 +28,8 @@ impl<A: Allocator> Model for Relationships<A> {
 
 impl<A: Allocator + Clone> Relationships<A> {
     /// The relationships of the animal at a rank, by one tracing and one pass over the lineage from the oldest on
-    /// (Colleau 2002). The only error is a growth of memory that is refused.
+    /// (Colleau 2002). Only the coefficients of the animal's ancestors need be right. The only error is a growth of
+    /// memory that is refused.
     pub fn of<F: Allocator, C: Allocator>(
         alloc: A,
         lineage: &Lineage<F>,
@@ -36,12 +37,12 @@ impl<A: Allocator + Clone> Relationships<A> {
         rank: u32,
     ) -> Result<Relationships<A>, AllocError>
         requires rank { rank < length lineage.now }
-        requires coefficients { AreCoefficients DEPTH_LIMIT lineage.now coefficients.now }
+        requires coefficients { KnowsAncestors DEPTH_LIMIT lineage.now coefficients.now rank }
         ensures { IfOk result (AreRelationships DEPTH_LIMIT lineage.now rank) }
     {
         let mut column = vec![in alloc.clone()?; 0u128; lineage.len() as usize]?;
         let mut tracing = Tracing::with_room(alloc.clone()?, lineage.len())?;
-        let mut variances = Variances::of(alloc, lineage)?;
+        let mut variances = Variances::unkept(alloc);
         write_parts(
             &mut tracing,
             &mut variances,

@@ -1,4 +1,5 @@
-ghost use Rattle.std.specs.Prelude.{◌≡◌, ◌<◌, length, IfOk};
+ghost use Rattle.std.specs.Prelude.{◌≡◌, ◌<◌, List, length, IfOk};
+ghost use Rattle.herd_lineage.specs.declared.lineage.Parents.{Parents};
 ghost use Rattle.herd_lineage.specs.declared.TheConstants.{DEPTH_LIMIT};
 ghost use Rattle.herd_kinship.specs.Ranks.{ranked};
 ghost use Rattle.herd_kinship.specs.Coefficients.{KnowsAncestors};
@@ -9,20 +10,33 @@ use crate::tracing::mendelian;
 use herd_lineage::Lineage;
 use std::alloc::{AllocError, Allocator};
 
-/// The Mendelian sampling variances of a lineage's animals, each computed where it is first asked for.
+/// The Mendelian sampling variances of a lineage's animals, each computed where it is first asked for, or where none
+/// are kept each time.
 #[derive(Drop)]
 pub struct Variances<A: Allocator> {
-    /// By rank, in units of 2^-120; 0, which is nobody's, where it wasn't asked for yet.
+    /// By rank, in units of 2^-120; 0, which is nobody's, where it wasn't asked for yet. Empty where none are kept.
     kept: Vec<u128, A>,
 }
 
 impl<A: Allocator + Clone> Variances<A> {
     /// Of nobody yet.
     pub fn of<F: Allocator>(alloc: A, lineage: &Lineage<F>) -> Result<Variances<A>, AllocError>
-        ensures { IfOk result (λ variances. AreVariances DEPTH_LIMIT lineage.now variances.kept.items) }
+        ensures each { IfOk result (λ variances. length variances.kept.items ≡ length lineage.now) }
+        ensures kept { IfOk result (λ variances. AreVariances DEPTH_LIMIT lineage.now variances.kept.items) }
     {
         let kept = vec![in alloc; 0u128; lineage.len() as usize]?;
         Ok(Variances { kept })
+    }
+}
+
+impl<A: Allocator> Variances<A> {
+    /// That are computed each time, for who asks once.
+    pub fn unkept(alloc: A) -> Variances<A>
+        ensures { (rows : List Parents) → AreVariances DEPTH_LIMIT rows result.kept.items }
+    {
+        Variances {
+            kept: Vec::new(alloc),
+        }
     }
 }
 
@@ -33,9 +47,11 @@ impl<A: Allocator> Variances<A> {
         requires kept { AreVariances DEPTH_LIMIT lineage.now self.old.kept.items }
         requires known { KnowsAncestors DEPTH_LIMIT lineage.now known.now rank }
         ensures kept { AreVariances DEPTH_LIMIT lineage.now self.new.kept.items }
-        ensures value { result ≡ mendelian_variance (ranked lineage.now) DEPTH_LIMIT
-            rank }
+        ensures value { result ≡ mendelian_variance (ranked lineage.now) DEPTH_LIMIT rank }
     {
+        if rank as usize >= self.kept.len() {
+            return mendelian(lineage, known, rank);
+        }
         let kept = self.kept[rank as usize];
         if kept > 0 {
             return kept;

@@ -3,4 +3,4 @@ pub mod ListFacts
 pub mod LineagePush
 pub mod LevelFacts
 pub mod LevelReads
-pub mod BuilderFacts
+pub mod DepthFacts

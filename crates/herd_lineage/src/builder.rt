@@ -1,5 +1,6 @@
 //! Building a lineage animal by animal, from parents that nobody has looked at yet.
-ghost use Rattle.std.specs.Prelude.{◌≡◌, ◌<◌, ◌++◌, ◌∷◌, [], None, Some, length, unwrap_or, IfErr, IfOk, IfSome, OnErr, OnOk};
+ghost use Rattle.std.specs.Prelude.{◌≡◌, ◌<◌, ◌++◌, ◌∷◌, [], None, Some, length, unwrap_or, IfErr, IfOk, IfSome, OnErr};
+ghost use Rattle.std.specs.Prelude.{OnOk};
 ghost use Rattle.std.specs.Option.{option_map};
 ghost use Rattle.herd_lineage.specs.Builder.{first_fault, is_earlier, offspring};
 ghost use Rattle.herd_lineage.specs.Lineage.{IsLineage, IsNextOf, depth_at};
@@ -69,7 +70,7 @@ impl<A: Allocator> LineageBuilder<A> {
     }
 
     // The depth of the next animal, or its first fault but for memory.
-    #[tactic(auto, using(crate::proofs::lemmas::BuilderFacts::depth_from_read), unfolding(crate::specs::Builder::first_fault))]
+    #[tactic(auto, using(crate::proofs::lemmas::DepthFacts::from_read), unfolding(crate::specs::Builder::first_fault))]
     fn depth_of_next(&self, sire: Option<u32>, dam: Option<u32>) -> Result<u8, LineageFault>
         ensures faultless { OnOk result (first_fault DEPTH_LIMIT MOST_ANIMALS self.now sire dam ≡ None) }
         ensures next { IfOk result (λ depth. IsNextOf DEPTH_LIMIT MOST_ANIMALS self.now

@@ -1,7 +1,7 @@
 //! From whom animals come, and nothing else of them: for each animal its known parents, which come before it.
 //!
-//! Relationship and inbreeding need no more. `herd_frozen`'s book has a lineage, its animals by their ranks. Any other is
-//! built animal by animal, each after its parents:
+//! Relationship and inbreeding need no more. `herd_frozen`'s book has a lineage, its animals by their ranks. Any other
+//! is built animal by animal, each after its parents:
 //!
 //!     let mut builder = Lineage::builder(alloc)?;
 //!     builder.push(None, None)?;

@@ -28,8 +28,8 @@ pub struct PackedParents {
     depth: u8,
 }
 
-/// From whom animals come. An animal is named by its rank, which counts from 0. Both parents may be the same animal, and
-/// an animal may be sire of one and dam of another.
+/// From whom animals come. An animal is named by its rank, which counts from 0. Both parents may be the same animal,
+/// and an animal may be sire of one and dam of another.
 #[derive(Drop)]
 pub struct Lineage<A: Allocator> {
     parents: Vec<PackedParents, A>,

@@ -152,7 +152,6 @@ pub fn show<R: Wait>(rt: &R, copies: &mut Copies, change: &Change, past: Past)
     requires pending { pending copies.old ≡ CopyUpdate.Filed change.now ∷ [] }
     requires shown { AreOf (absorbed (published copies.old) (CopyUpdate.Filed change.now)) past.seen.log past.limits
         past.seen.book }
-    requires later { length (published copies.old).past.seen.log < length past.seen.log }
     ensures shown { AreOf (published copies.new) past.seen.log past.limits past.seen.book }
     ensures pending { pending copies.new ≡ [] }
 {

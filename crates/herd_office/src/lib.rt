@@ -31,8 +31,8 @@
 //! # Two copies
 //!
 //! Readers take one of two copies of the register's records, which `left_right` keeps, with the history that was told
-//! with it. A copy whose history has as many steps as it has taken over has the records of that history's commands; an
-//! inspector reads no other.
+//! with it. A copy has the records of a journal that begins with that history. Where the history has as many steps as
+//! the copy has taken over it is that journal; an inspector reads no other copy.
 //! The rule of the copies ties each seat to the office. An inspector reads twice: for the number of records, by
 //! which it makes room while it reads nothing, and then to copy them out. It leaves, and sorts its own copy.
 //!
@@ -63,7 +63,7 @@
 //! | all desks and inspectors | `Beginnings`, `Histories` | `desks`, `inspector` | `Counting`, `ListFacts` |
 //! | a desk's call, its slip | `Filing`, `Histories`, `Standing` | `desk`, `filing` | `Stored` |
 //! | the history: its rule, claims, beginnings of it | `Keeping` | `history`, `keeper` | `Claiming`, `Fronts` |
-//! | the readers' copies, what is sent to them | `Copies`, `Shelves` | `copies`, `shown` | `Sides` |
+//! | the readers' copies, what is sent to them | `Copies`, `Shelves` | `copies`, `shown` | `Sides`, `ToldFacts` |
 //! | reading a copy with no lock | `Copies`, `Keeping` | `inspector` | `Sides` |
 //! | why an office isn't opened or closed, or a copy not frozen; the limits | | `faults`, `limits` | |
 #![tactic(auto)]

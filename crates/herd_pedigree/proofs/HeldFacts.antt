@@ -13,7 +13,8 @@ use Rattle.herd_frozen.specs.rules.Book.{Book, changed, with_parents}
 use Rattle.herd_pedigree.specs.Pedigree.{IsCorrection}
 use Rattle.herd_frozen.specs.rules.Depths.{IsParent, AreDepths}
 use Rattle.herd_frozen.specs.places.Places.{AreParents, IsIndexIn, parent_at, parentage_at}
-use Rattle.herd_pedigree.specs.store.Exchange.{IsSettled, exchanged}
+use Rattle.herd_pedigree.specs.store.Carrying.{IsSettled}
+use Rattle.herd_pedigree.specs.store.Exchange.{exchanged}
 use Rattle.herd_pedigree.specs.store.Kept.{IsKept}
 use Rattle.herd_pedigree.specs.store.Records.{NamesItsOwn, animal_of, set_value_at}
 use Rattle.herd_pedigree.specs.store.Undo.{IsHeld, without_last, undone_writes}

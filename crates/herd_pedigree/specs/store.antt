@@ -3,5 +3,6 @@ pub mod Kept
 pub mod Undo
 pub mod Records
 pub mod Calves
+pub mod Carrying
 pub mod Exchange
 pub mod Correction

@@ -16,6 +16,7 @@
 #![tactic(auto)]
 
 mod found;
+mod parents;
 mod pedigree;
 mod registration;
 mod store;

@@ -1,23 +1,30 @@
-ghost use Rattle.std.specs.Prelude.{◌≡◌, ◌≢◌, ◌==◌, ◌<◌, [], ◌++◌, ◌∷◌, length, Option, None, Some, IfNone, IfOk, IfSome, IsTrue, OnOk, OnErr, IsSome, is_some, not, vec_capacity, vec_len};
+ghost use Rattle.std.specs.Prelude.{◌≡◌, ◌≢◌, ◌==◌, ◌<◌, ◌≤◌, [], ◌++◌, ◌∷◌, length, Option, None, Some, IfNone, IfOk};
+ghost use Rattle.std.specs.Prelude.{IfSome, IsTrue, OnOk, OnErr, IsSome, is_some, not, vec_capacity, vec_len};
 ghost use Rattle.std.specs.Map.{keys_of};
-ghost use Rattle.herd_frozen.specs.rules.Book.{IsDepthOf, changed, has_calved_after, is_there, record_of, with_left, with_owner, with_parents};
+ghost use Rattle.herd_frozen.specs.rules.Book.{IsDepthOf, changed, has_calved_after, is_there, record_of, with_left};
+ghost use Rattle.herd_frozen.specs.rules.Book.{with_owner, with_parents};
 ghost use Rattle.herd_frozen.specs.freezing.Frozen.{IsFrozenFrom};
 ghost use Rattle.herd_frozen.specs.rules.Lawful.{IsLawful};
 ghost use Rattle.herd_frozen.specs.rules.ParentFault.{fault_by_records, parent_fault};
+ghost use Rattle.herd_frozen.specs.places.Links.{IsLinkAt};
 ghost use Rattle.herd_frozen.specs.places.Places.{AreParents, IsIndexIn};
-ghost use Rattle.herd_pedigree.specs.Pedigree.{IfShownWith, IsBirth, IsCorrection, IsExit, IsFaultWith, IsFound, IsPresentOn, TellsTooDeep, birth_record, changed_to, registration, unsound};
+ghost use Rattle.herd_pedigree.specs.Pedigree.{IfShownWith, IsBirth, IsCorrection, IsExit, IsFaultWith, IsFound};
+ghost use Rattle.herd_pedigree.specs.Pedigree.{IsPresentOn, TellsTooDeep, birth_record, changed_to, registration};
+ghost use Rattle.herd_pedigree.specs.Pedigree.{unsound};
 ghost use Rattle.herd_pedigree.specs.store.Kept.{pushed_if};
 ghost use Rattle.herd_pedigree.specs.store.Records.{IsStoredAt, animal_of, set_value_at};
 ghost use Rattle.herd_frozen.specs.declared.TheConstants.{DEPTH_LIMIT, MOST_ANIMALS};
 
-use crate::found::{Found, sound_parents};
+use crate::found::Found;
+use crate::parents::sound_parents;
 use crate::registration::{Newborn, Registration};
-use crate::store::correction::{Correction, depth_with};
+use crate::store::correction::Correction;
+use crate::store::depth::depth_with;
 use crate::store::progeny::Progeny;
 use crate::store::records::{Records, StoredRecord};
 use crate::store::undo::{Undo, undo_writes};
 use herd_animal::{AnimalNumber, Day, Herd};
-use herd_frozen::{Animal, DEPTH_LIMIT, Frozen, Link, ParentFault, frozen_from};
+use herd_frozen::{Animal, DEPTH_LIMIT, Frozen, Link, ParentFault, Registered, frozen_from};
 use std::alloc::{AllocError, Allocator};
 use std::marker::Model;
 
@@ -350,6 +357,19 @@ impl<A: Allocator> Pedigree<A> {
         ensures { record_of self.now.book found.now.number ≡ Some result }
     {
         self.records.animal_at(found.place as usize)
+    }
+
+    /// The places of the parents of the animal at a place, if there is one.
+    #[inline(always)]
+    pub fn link_at(&self, place: u32) -> Option<Link>
+        ensures link { IfSome result (IsLinkAt self.now.book place) }
+        ensures none { IfNone result (length self.now.book ≤ place) }
+    {
+        if (place as usize) < self.records.len() {
+            Some(self.records.link_at(place as usize))
+        } else {
+            None
+        }
     }
 
     /// Whether an animal is the dam of one born after the day. Calves from stored embryos don't count.

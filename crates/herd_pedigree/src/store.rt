@@ -1,6 +1,7 @@
 //! How a pedigree keeps its book, changes it, and takes a change back.
 
 pub(crate) mod correction;
+pub(crate) mod depth;
 pub(crate) mod progeny;
 pub(crate) mod records;
 pub(crate) mod undo;

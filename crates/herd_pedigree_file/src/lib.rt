@@ -11,6 +11,7 @@
 //! |---|---|---|---|
 //! | the number that a text writes | `Number` | `number` | `NumberFacts` |
 //! | a record as an animal | `Grammar` | `animal` | `GrammarFacts` |
+//! | the header | `PedigreeFile` | `reading` | `proofs/Header` |
 //! | the pedigree in a file, and its first fault | `PedigreeFile` | `reading`, `pedigree_fault` | `ReadingFacts` |
 #![tactic(auto)]
 

@@ -3,7 +3,8 @@ ghost use Rattle.std.specs.Prelude.{◌≡◌, ◌≤◌, ◌<◌, ◌+◌, [], 
 ghost use Rattle.herd_lineage.specs.declared.TheConstants.{MOST_ANIMALS};
 ghost use Rattle.csv_records.specs.Upcoming.{IsSetUp, upcoming};
 ghost use Rattle.herd_pedigree_file.specs.PedigreeCause.{is_interruption};
-ghost use Rattle.herd_pedigree_file.specs.PedigreeFile.{IsToldOf, LacksHeader, TakesAnimal, TakesHeader, fault_at, lineage_from, lineage_in};
+ghost use Rattle.herd_pedigree_file.specs.PedigreeFile.{IsToldOf, LacksHeader, TakesAnimal, TakesHeader, fault_at};
+ghost use Rattle.herd_pedigree_file.specs.PedigreeFile.{lineage_from, lineage_in};
 ghost use Rattle.herd_pedigree_file.specs.declared.pedigree_fault.PedigreeCause.TheVariants as cause;
 
 use crate::animal::{add_animal, is_header};
@@ -41,7 +42,7 @@ pub fn read_lineage<R: Read + Drop>(
 }
 
 // Reads the header.
-#[tactic(auto, using(crate::proofs::lemmas::ReadingFacts::takes_header, crate::proofs::lemmas::ReadingFacts::no_header, crate::proofs::lemmas::ReadingFacts::no_record))]
+#[tactic(auto, using(crate::proofs::Header::takes, crate::proofs::Header::lacks, crate::proofs::Header::ended))]
 fn read_header<R: Read>(records: &mut Reader<R>, row: &mut ByteRecord) -> Result<(), PedigreeFault>
     requires { IsSetUp records.old }
     ensures set_up { OnOk result (IsSetUp records.new) }
@@ -81,7 +82,8 @@ fn read_animal<R: Read>(
     ensures end { IfOk result (λ found. found ≡ false → (builder.new ≡ builder.old)
         × IfSome (upcoming R.remaining records.old) (λ records. records ≡ [])) }
     ensures record_number { IfErr result (λ fault. fault.record_number ≡ length builder.old + 1) }
-    ensures fault { IfErr result (λ fault. is_interruption fault.cause ≡ false → IfSome (upcoming R.remaining records.old)
+    ensures fault { IfErr result (λ fault. is_interruption fault.cause ≡ false
+        → IfSome (upcoming R.remaining records.old)
         (λ records. lineage_from most builder.old records ≡ fault_at fault.record_number fault.cause)) }
 {
     let record_number = builder.len() + 1;

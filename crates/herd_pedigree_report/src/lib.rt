@@ -12,7 +12,8 @@
 //! | the inverse of A | `InverseList` | `inverse_list` | `ListFacts` |
 //! | entries of A | `RelationshipList` | `relationship_list` | `PairFacts` |
 //! | the animals that an order names | `Named` | `named` | `NamedFacts` |
-//! | what an order writes, and how that may end | `PedigreeReport` | `pedigree_order`, `work_plan`, `report`, `pedigree_report_fault` | `ReportFacts` |
+//! | what an order writes | `PedigreeReport` | `pedigree_order`, `report` | `ReportFacts` |
+//! | how that may end | `PedigreeReport` | `pedigree_report_fault` | |
 #![tactic(auto)]
 
 mod inbreeding_list;
@@ -23,7 +24,6 @@ mod pedigree_order;
 mod pedigree_report_fault;
 mod relationship_list;
 mod report;
-mod work_plan;
 
 pub use inbreeding_list::write_inbreeding;
 pub use inverse_list::write_inverse;
@@ -31,4 +31,3 @@ pub use pedigree_order::PedigreeOrder;
 pub use pedigree_report_fault::PedigreeReportFault;
 pub use relationship_list::write_relationships;
 pub use report::{answer_pedigree, write_report};
-pub use work_plan::WorkPlan;

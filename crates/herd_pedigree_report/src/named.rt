@@ -1,6 +1,6 @@
 ghost use Rattle.std.specs.Prelude.{◌≡◌, ◌<◌, ◌∷◌, ◌++◌, [], All, Some, false, true, IfErr, IfOk, OnErr, OnOk};
 ghost use Rattle.herd_pedigree_report.specs.Named.{EndsNaming, all_there, is_there, ranks_of};
-ghost use Rattle.herd_pedigree_report.specs.declared.pedigree_report_fault.PedigreeReportFault.TheVariants.{NotRegistered};
+ghost use Rattle.herd_pedigree_report.specs.declared.pedigree_report_fault.PedigreeReportFault.TheVariants as faults;
 
 use crate::pedigree_report_fault::PedigreeReportFault;
 use std::alloc::{AllocError, Allocator};
@@ -35,7 +35,7 @@ fn add_rank<A: Allocator>(ranks: &mut Vec<u32, A>, rank: u32) -> Result<(), Allo
 fn rank_of(animal: Option<u32>, animals: u32) -> Result<u32, PedigreeReportFault>
     ensures rank { IfOk result (λ rank. (animal ≡ Some rank) × (rank < animals)) }
     ensures absent { OnErr result (is_there animals animal ≡ false) }
-    ensures fault { IfErr result (λ fault. fault ≡ NotRegistered) }
+    ensures fault { IfErr result (λ fault. fault ≡ faults.NotRegistered) }
 {
     match animal {
         Some(rank) if rank < animals => Ok(rank),

@@ -1,4 +1,4 @@
-use crate::work_plan::WorkPlan;
+use herd_pool::WorkPlan;
 
 /// What is asked of a pedigree. `in_units` asks for whole numbers of units of 2^-120 in place of fractions.
 #[derive(Clone, Copy, Debug, PartialEq, Eq)]

@@ -2,7 +2,8 @@ ghost use Rattle.std.specs.Prelude.{◌≡◌, ◌<◌, ◌++◌, All, IfErr, On
 ghost use Rattle.std.specs.Io.KnownBytes.{Appends};
 ghost use Rattle.herd_lineage.specs.declared.TheConstants.{DEPTH_LIMIT};
 ghost use Rattle.herd_kinship.specs.Coefficients.{AreCoefficients};
-ghost use Rattle.herd_pedigree_report.specs.RelationshipList.{column_lines, lines_with, pair_line, partners_of as partners_in, relationships_text};
+ghost use Rattle.herd_pedigree_report.specs.RelationshipList.{column_lines, lines_with, pair_line};
+ghost use Rattle.herd_pedigree_report.specs.RelationshipList.{partners_of as partners_in, relationships_text};
 ghost use Rattle.herd_text.specs.Text.{EndsReport};
 ghost use Rattle.herd_text.specs.Text.{AppendsFront, PassesOn};
 

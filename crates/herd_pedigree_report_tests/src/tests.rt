@@ -1,7 +1,8 @@
 //! Each report of a pedigree with selfing, and how it ends early.
 
 use herd_pedigree_file::{PedigreeCause, PedigreeFault};
-use herd_pedigree_report::{PedigreeOrder, PedigreeReportFault, WorkPlan, answer_pedigree};
+use herd_pedigree_report::{PedigreeOrder, PedigreeReportFault, answer_pedigree};
+use herd_pool::WorkPlan;
 use std::test::Fail;
 
 // The first animal is sire and dam of the second, that of the third, and the third and the first are of the fourth.

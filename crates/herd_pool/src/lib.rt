@@ -38,9 +38,11 @@ mod sires;
 mod starter;
 mod traced;
 mod work;
+mod work_plan;
 mod worker;
 
 pub use gate::{Gate, NoGate};
 pub use limits::{DEFAULT_BLOCK, MOST_WORKERS};
 pub use pool::{coefficients, coefficients_by_sires};
 pub use pool_fault::PoolFault;
+pub use work_plan::WorkPlan;

@@ -24,7 +24,8 @@ impl<F: Allocator, A: Allocator> SireLevel<'_, '_, F, A> {
     /// a sire has calves, and at most one more than their calves divided by `CALVES_FOR_A_WORKER`.
     pub fn worth(&self, blocks: u32, workers: u32) -> u32
         requires { AreCalvesOf self.now.level.lineage.now self.now.calves.now }
-        ensures { result ≡ worth_of self.now.level.lineage.now self.now.level.depth self.now.level.block blocks workers }
+        ensures { result
+            ≡ worth_of self.now.level.lineage.now self.now.level.depth self.now.level.block blocks workers }
     {
         let mut busy = 0;
         let mut calves = 0;
@@ -54,7 +55,7 @@ impl<F: Allocator, A: Allocator> SireLevel<'_, '_, F, A> {
 
 impl<F: Allocator + Sync, A: Allocator + Copy + Send + Sync> Work<A> for SireLevel<'_, '_, F, A> {
     ghost use Rattle.herd_lineage.specs.declared.TheConstants.{DEPTH_LIMIT};
-    ghost use Rattle.herd_kinship.specs.CalfCoefficients.{IsReady};
+    ghost use Rattle.herd_kinship.specs.Mates.{IsReady};
     ghost use Rattle.herd_pool.specs.Sires.{HasCalvesOf, KnowsCalvesBelow};
 
     type Scratch = Mates<A>;

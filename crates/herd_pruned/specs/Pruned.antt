@@ -28,8 +28,8 @@ pub record IsPrunedOf (whole : List Parents) (pruned : Pruned) : Type 0 where
 
 -- these animals are kept with all their ancestors, and no others
 pub record KeepsAncestorsOf (whole : List Parents) (animals : List ℕ) (pruned : Pruned) : Type 0 where
-  pub ancestors : (rank : ℕ) → ComesFrom whole (Contains animals) rank → Contains pruned.ranks rank
-  pub others : (rank : ℕ) → Contains pruned.ranks rank → ComesFrom whole (Contains animals) rank
+  pub ancestors : (rank : ℕ) → ComesFrom (ranked whole) (Contains animals) rank → Contains pruned.ranks rank
+  pub others : (rank : ℕ) → Contains pruned.ranks rank → ComesFrom (ranked whole) (Contains animals) rank
 
 -- what stands at each kept animal's rank is its place
 abbrev pub ArePlaces : List ℕ → List ℕ → Type 0

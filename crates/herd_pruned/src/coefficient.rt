@@ -23,8 +23,8 @@ pub fn coefficient_of<F: Allocator, A: Allocator + Clone>(
     Ok(coefficients.numerator(rank))
 }
 
-/// A list with the coefficients of inbreeding of some animals and of all their ancestors, at their ranks. What it has of
-/// others doesn't count. The only error is a growth of memory that is refused.
+/// A list with the coefficients of inbreeding of some animals and of all their ancestors, at their ranks. What it has
+/// of others doesn't count. The only error is a growth of memory that is refused.
 pub fn coefficients_of<F: Allocator, A: Allocator + Clone>(
     alloc: A,
     lineage: &Lineage<F>,

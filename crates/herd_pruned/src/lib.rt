@@ -1,8 +1,8 @@
 //! A lineage that is pruned to some animals and all their ancestors, and what it tells of them.
 //!
 //! The tabular method asks of two animals for nothing but their ancestors. So relationships and coefficients of the
-//! animals that are kept are those of the whole lineage (`laws::entries`), and one animal's coefficient costs its
-//! ancestors, however many animals there are beside them.
+//! animals that are kept are those of the whole lineage (`laws::entries`), and one animal's coefficient is computed of
+//! its ancestors alone. To mark them takes a pass over the ranks below it.
 //!
 //! | | definition (`specs/`) | code (`src/`) | proof (`proofs/lemmas/`) |
 //! |---|---|---|---|

@@ -1,5 +1,6 @@
 //! Some animals of a lineage and all their ancestors, as a lineage of their own.
-ghost use Rattle.std.specs.Prelude.{◌≡◌, ◌<◌, ◌++◌, ◌∷◌, [], All, Contains, length, slice_get, slice_index, slice_set, IfOk, OnOk, Some};
+ghost use Rattle.std.specs.Prelude.{◌≡◌, ◌<◌, ◌++◌, ◌∷◌, [], All, Contains, length, slice_get, slice_index, slice_set};
+ghost use Rattle.std.specs.Prelude.{IfOk, OnOk, Some};
 ghost use Rattle.std.specs.Option.{ForSome, option_map};
 ghost use Rattle.herd_lineage.specs.Lineage.{IsLineage, IsNextOf};
 ghost use Rattle.herd_lineage.specs.declared.TheConstants.{DEPTH_LIMIT, MOST_ANIMALS};
@@ -34,8 +35,8 @@ impl<A: Allocator> Model for PrunedLineage<A> {
 }
 
 impl<A: Allocator + Clone> PrunedLineage<A> {
-    /// Of some animals, by their ranks, and all their ancestors. It goes through the whole lineage twice, and takes five
-    /// bytes for each animal of it. The only error is a growth of memory that is refused.
+    /// Of some animals, by their ranks, and all their ancestors. It goes through the whole lineage twice, and takes
+    /// five bytes for each animal of it. The only error is a growth of memory that is refused.
     pub fn of<F: Allocator>(
         alloc: A,
         lineage: &Lineage<F>,

@@ -1,5 +1,5 @@
 -- What a step that was answered makes of the records.
-use Rattle.std.proofs.Common.{◌≡◌, ℕ, ◌-◌, zero, suc, true, false, List, [], ◌∷◌, ◌++◌, length, get_or, set, slice_get, Option, Some, None, refl, sym, ap, ◌∙◌, subst, arith, ⊎_elim}
+use Rattle.std.proofs.Common.{◌≡◌, ℕ, ◌<◌, ◌≤◌, ◌-◌, zero, suc, true, false, List, [], ◌∷◌, ◌++◌, length, get_or, set, slice_get, Option, Some, None, refl, sym, ap, ◌∙◌, subst, arith, ⊎_elim}
 use Rattle.std.specs.Str.{bytes_eq}
 use Rattle.std.specs.List.{IsDistinct}
 use Rattle.std.specs.Map.{keys_of}
@@ -9,6 +9,7 @@ use Rattle.herd_frozen.specs.declared.rules.animal.Animal.{Animal}
 use Rattle.herd_frozen.specs.declared.TheConstants.{DEPTH_LIMIT, MOST_ANIMALS}
 use Rattle.herd_frozen.specs.rules.Book.{Book, changed, record_of}
 use Rattle.herd_frozen.specs.rules.Lawful.{IsLawful}
+use Rattle.herd_pedigree.specs.store.Records.{set_value_at}
 use Rattle.herd_frozen.proofs.lemmas.ListFacts.{all_at}
 use Rattle.herd_frozen.proofs.lemmas.rules.BookFacts.{bytes_itself, bytes_turned, keys-changed}
 use Rattle.herd_register.specs.declared.command.Command.{Command}
@@ -21,7 +22,7 @@ use Rattle.herd_register.specs.Run.{answer, commands_of, fault, IsLegal, next, r
 use Rattle.herd_register.proofs.RunLemmas.{answer-refused, IsLegal-front, next-accepted, next-answered, run_book-append}
 
 -- the record of a number that was changed, set in its place
-set-changed : (book : Book) (number : List ℕ) (becomes : Animal → Animal) (place : ℕ) (animal : Animal) → IsDistinct bytes_eq (keys_of book) → slice_get (keys_of book) place ≡ Some number → record_of (changed book number becomes) number ≡ Some animal → set book place (number, animal) ≡ changed book number becomes
+set-changed : (book : Book) (number : List ℕ) (becomes : Animal → Animal) (place : ℕ) (animal : Animal) → IsDistinct bytes_eq (keys_of book) → slice_get (keys_of book) place ≡ Some number → record_of (changed book number becomes) number ≡ Some animal → set_value_at book place animal ≡ changed book number becomes
 unfolding IsDistinct
 set-changed [] number becomes place animal once at here = absurd (cc (at))
 set-changed (entry ∷ book) number becomes zero animal once at here =
@@ -29,13 +30,13 @@ set-changed (entry ∷ book) number becomes zero animal once at here =
     let found : bytes_eq number entry.0 ≡ true = subst (λ (n : List ℕ). bytes_eq number n ≡ true) (sym same) (bytes_itself number) in
     let told : Some (becomes entry.1) ≡ Some animal = rw (found, found) at here in
     let is : becomes entry.1 ≡ animal = cc (told) in
-    rw found (ap (λ (e : List ℕ × Animal). e ∷ book) (λ i. (sym same i, sym is i)))
+    rw found (ap (λ (a : Animal). (entry.0, a) ∷ book) (sym is))
 set-changed (entry ∷ book) number becomes (suc place) animal once at here =
     let other : bytes_eq number entry.0 ≡ false = bytes_turned entry.0 number (all_at (λ z. bytes_eq entry.0 z ≡ false) (keys_of book) place number once.0 at) in
     rw other (ap (λ (b : Book). entry ∷ b) (set-changed book number becomes place animal once.1 at (rw (other, other) at here)))
 
 -- so the changed book is made from the one before it
-pub set_in_place : (before now : Book) (number : List ℕ) (becomes : Animal → Animal) (place : ℕ) (animal : Animal) → IsLawful DEPTH_LIMIT MOST_ANIMALS now → slice_get (keys_of now) place ≡ Some number → record_of now number ≡ Some animal → now ≡ changed before number becomes → set before place (number, animal) ≡ now
+pub set_in_place : (before now : Book) (number : List ℕ) (becomes : Animal → Animal) (place : ℕ) (animal : Animal) → IsLawful DEPTH_LIMIT MOST_ANIMALS now → slice_get (keys_of now) place ≡ Some number → record_of now number ≡ Some animal → now ≡ changed before number becomes → set_value_at before place animal ≡ now
 set_in_place before now number becomes place animal lawful at here is =
     let keys : keys_of now ≡ keys_of before = ap keys_of is ∙ keys-changed before number becomes in
     set-changed before number becomes place animal
@@ -43,6 +44,18 @@ set_in_place before now number becomes place animal lawful at here is =
     (subst (λ (ks : List (List ℕ)). slice_get ks place ≡ Some number) keys at)
     (subst (λ (b : Book). record_of b number ≡ Some animal) is here)
     ∙ sym is
+
+-- another record written at a place is that of the animal there
+pub set-at : (book : Book) (place : ℕ) (animal : Animal) → place < length book → (entry : List ℕ × Animal) → entry ≡ get_or book place entry → set book place (entry.0, animal) ≡ set_value_at book place animal
+set-at [] place animal within entry is = absurd (omega arith)
+set-at (first ∷ book) zero animal within entry is = ap (λ (n : List ℕ × Animal). (n.0, animal) ∷ book) is
+set-at (first ∷ book) (suc place) animal within entry is = ap (λ (b : Book). first ∷ b) (set-at book place animal (omega arith) entry is)
+
+-- and nothing is where no animal is
+pub set-beyond : (book : Book) (place : ℕ) (animal : Animal) → length book ≤ place → set_value_at book place animal ≡ book
+set-beyond [] place animal beyond = refl
+set-beyond (first ∷ book) zero animal beyond = absurd (omega arith)
+set-beyond (first ∷ book) (suc place) animal beyond = ap (λ (b : Book). first ∷ b) (set-beyond book place animal (omega arith))
 
 -- a change of a number that isn't there changes nothing
 changed-absent : (book : Book) (number : List ℕ) (becomes : Animal → Animal) → record_of (changed book number becomes) number ≡ None → changed book number becomes ≡ book

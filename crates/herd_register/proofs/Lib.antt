@@ -1,4 +1,5 @@
 pub mod ChangeFacts
+pub mod CopyFacts
 pub mod FaultFacts
 pub mod RegisterFacts
 pub mod RunLemmas

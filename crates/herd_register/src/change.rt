@@ -8,7 +8,7 @@ ghost use Rattle.herd_register.specs.Run.{fault, set};
 
 use crate::command::{Command, newborn};
 use herd_animal::AnimalNumber;
-use herd_frozen::Animal;
+use herd_frozen::{Animal, Link, LinkHint};
 use herd_pedigree::Pedigree;
 use std::alloc::Allocator;
 
@@ -17,10 +17,10 @@ use std::alloc::Allocator;
 pub enum Change {
     /// Nothing.
     Nothing,
-    /// A record more, at the end.
-    Added(AnimalNumber, Animal),
-    /// Another record at a place, which counts from 0.
-    Set(u32, AnimalNumber, Animal),
+    /// A record more, at the end, and where its parents are expected.
+    Added(AnimalNumber, Animal, LinkHint),
+    /// Another record of the animal at a place, which counts from 0, and where its parents are expected.
+    Set(u32, Animal, LinkHint),
 }
 
 impl Command {
@@ -37,7 +37,11 @@ impl Command {
                 dam,
                 herd,
                 embryo,
-            } => Change::Added(animal, newborn(day, sire, dam, herd, embryo).animal()),
+            } => {
+                let last = pedigree.len().wrapping_sub(1);
+                let born = newborn(day, sire, dam, herd, embryo).animal();
+                Change::Added(animal, born, hint_at(pedigree, last))
+            }
             Command::Parents {
                 animal,
                 sire: _,
@@ -60,7 +64,19 @@ fn record_set<A: Allocator>(pedigree: &Pedigree<A>, number: &AnimalNumber) -> Ch
         → pedigree.now.book ≡ changed before number.now becomes → changed_by most before result ≡ pedigree.now.book }
 {
     match pedigree.find(number) {
-        Some(found) => Change::Set(found.place, *number, pedigree.animal_at(&found)),
+        Some(found) => {
+            let hint = hint_at(pedigree, found.place);
+            Change::Set(found.place, pedigree.animal_at(&found), hint)
+        }
         None => Change::Nothing,
     }
+}
+
+// Where the parents of the animal at a place stand.
+fn hint_at<A: Allocator>(pedigree: &Pedigree<A>, place: u32) -> LinkHint {
+    let no_parents = Link {
+        sire: None,
+        dam: None,
+    };
+    LinkHint::from(pedigree.link_at(place).unwrap_or(no_parents))
 }

@@ -3,7 +3,8 @@ ghost use Rattle.std.specs.Prelude.{◌≡◌, IfNone, IfOk, IsSome, OnOk, OnErr
 ghost use Rattle.herd_frozen.specs.rules.Book.{changed, with_left, with_owner, with_parents};
 ghost use Rattle.herd_frozen.specs.rules.ParentFault.{first_that_holds};
 ghost use Rattle.herd_pedigree.specs.Pedigree.{IsFound, birth_record, changed_to};
-ghost use Rattle.herd_register.specs.Run.{answer, birth_refusals, correction_refusals, exit_refusals, next, transfer_refusals, with_record};
+ghost use Rattle.herd_register.specs.Run.{answer, birth_refusals, correction_refusals, exit_refusals, next};
+ghost use Rattle.herd_register.specs.Run.{transfer_refusals, with_record};
 
 use crate::command::{Command, newborn};
 use crate::limits::Limits;

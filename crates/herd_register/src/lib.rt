@@ -3,7 +3,7 @@
 //! `Register::file` answers a command: accepted, or the first refusal that holds. Book and replies are always those of
 //! the journal's commands, filed one after the other into an empty book. `Register::withdraw` takes the last step back.
 //! `Register::last_change` tells what that step made of the records. A `Copybook` takes such changes over, and so has
-//! the same records, in a room that is made at once.
+//! the same records, in a room that is made at once, and freezes as the register's book does.
 //!
 //!     let mut register = Register::new(alloc, limits);
 //!     let reply = register.file(desk, command)?;
@@ -18,6 +18,7 @@ mod command;
 mod copybook;
 mod file_fault;
 mod filing;
+pub mod laws;
 mod limits;
 mod register;
 mod reply;

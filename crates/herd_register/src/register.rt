@@ -1,11 +1,11 @@
 ghost use Rattle.std.specs.Option.{option_copied};
-ghost use Rattle.std.specs.Prelude.{◌≡◌, ◌≢◌, ◌<◌, ◌≤◌, ◌↔◌, ◌++◌, ◌∷◌, [], IsFalse, IsTrue, IfOk, List, OnErr, OnOk, length};
+ghost use Rattle.std.specs.Prelude.{◌≡◌, ◌≢◌, ◌<◌, ◌≤◌, ◌↔◌, [], IsFalse, IsTrue, IfOk, OnErr, OnOk};
+ghost use Rattle.std.specs.Prelude.{length};
 ghost use Rattle.herd_register.specs.declared.limits.TheConstants.{MOST_STEPS};
 ghost use Rattle.herd_register.specs.declared.reply.Refusal.{Refusal};
-ghost use Rattle.herd_register.specs.declared.step.Step.{Step};
-ghost use Rattle.herd_register.specs.Change.{changed_by};
+ghost use Rattle.herd_register.specs.Change.{IsLastChange};
 ghost use Rattle.herd_register.specs.Register.{register_book, new_register, step_at, with_step, without_last_step};
-ghost use Rattle.herd_register.specs.Run.{IsLegal, answer, commands_of, next, run_book, step_of};
+ghost use Rattle.herd_register.specs.Run.{IsLegal, answer, next, step_of};
 
 use crate::change::Change;
 use crate::command::Command;
@@ -109,9 +109,7 @@ impl<A: Allocator> Register<A> {
 
     /// What the last step made of the records, which were those of the steps before it.
     pub fn last_change(&self) -> Change
-        ensures made { (earlier : List Step) (last : Step) → self.now.journal ≡ earlier ++ last ∷ []
-            → changed_by self.now.limits.animals (run_book self.now.limits (commands_of earlier)) result
-            ≡ register_book self.now }
+        ensures made { IsLastChange self.now.limits self.now.journal result }
         ensures none { self.now.journal ≡ [] → result ≡ Change.Nothing }
     {
         let [.., last] = self.journal.as_slice() else {

@@ -4,6 +4,7 @@ mod copies;
 mod copies_without_memory;
 mod families;
 mod filed;
+mod frozen_copies;
 mod full;
 mod registers_without_memory;
 mod seen;

@@ -1,5 +1,5 @@
 -- What a run files and writes, and how it ends.
-use Rattle.std.proofs.Common.{◌&&◌, ap₂, ◌≡◌, inl, inr, ℕ, ◌+◌, ◌<◌, arith, true, false, MatchBool, Option, Some, None, Result, List, [], ◌∷◌, ◌++◌, refl, ap, sym, subst, ◌∙◌, ⊎_elim, append_assoc, append-nil, length, length-append}
+use Rattle.std.proofs.Common.{◌&&◌, ap₂, ◌≡◌, inl, inr, ℕ, suc, ◌+◌, ◌<◌, arith, true, false, MatchBool, Option, Some, None, Result, List, [], ◌∷◌, ◌++◌, refl, ap, sym, subst, ◌∙◌, ⊎_elim, append_assoc, append-nil, length, length-append}
 use Rattle.std.proofs.lemmas.List.Sorted.{IsPermutation-sym}
 use Rattle.std.proofs.lemmas.Result.{IfErr-weaker}
 use Rattle.std.specs.Prelude.{IfErr, is_some}
@@ -17,19 +17,19 @@ use Rattle.herd_register.specs.Limits.{Limits}
 use Rattle.herd_register.specs.declared.step.Step.{Step}
 use Rattle.herd_report.specs.reading.CommandFile.{CommandFile, IsRead, IsReadBefore, commands_from}
 use Rattle.herd_report.specs.reading.LineCause.{is_interruption}
-use Rattle.herd_report.specs.writing.Text.{AppendsFront}
+use Rattle.herd_text.specs.Text.{AppendsFront}
 use Rattle.herd_report.specs.writing.Registered.{are_there}
 use Rattle.herd_report.specs.writing.Replies.{reply_line, reply_lines_from, replies_text}
 use Rattle.herd_report.specs.Run.{CanEndBy, EndsBy, EndsReplying, EndsReporting, HasFiled, IsOneAbsent, IsAnswered, IsFrozenFile, IsReport, IsReported, AreThere, filed_from, replies_to, wanted}
 use Rattle.herd_report.specs.RunFault.{run_fault_of}
 use Rattle.herd_report.specs.declared.reading.line_fault.LineFault.{LineFault}
-use Rattle.herd_report.specs.declared.writing.report_fault.ReportFault.{ReportFault}
-use Rattle.herd_report.specs.declared.writing.report_fault.ReportFault.TheVariants as report
+use Rattle.herd_text.specs.declared.report_fault.ReportFault.{ReportFault}
+use Rattle.herd_text.specs.declared.report_fault.ReportFault.TheVariants as report
 use Rattle.herd_report.specs.declared.orders.Order.{Order}
-use Rattle.herd_report.specs.declared.orders.Order.TheVariants.{Inbreeding, Certificates, Mating, Inverse, Relationships, Records}
+use Rattle.herd_report.specs.declared.orders.Order.TheVariants.{Inbreeding, Certificates, Mating, Inverse, Relationships, Records, Seal, Sealed}
 use Rattle.herd_report.specs.declared.run_fault.RunFault.{RunFault}
 use Rattle.herd_report.specs.declared.run_fault.RunFault.TheVariants.{Line, NotRegistered, NoThread, Memory, Write}
-use Rattle.herd_report.proofs.lemmas.writing.TextFacts.{passes_before, some_before}
+use Rattle.herd_text.proofs.lemmas.TextFacts.{passes_before, some_before}
 
 -- ---- commands that are filed one after the other
 
@@ -45,6 +45,11 @@ pub commands_of-filed_from : (limits : Limits) (book : Book) (commands : List Co
 commands_of-filed_from limits book [] = refl
 commands_of-filed_from limits book (command ∷ commands) =
     ap (λ rest. command ∷ rest) (commands_of-filed_from limits (next limits book command) commands)
+
+-- there is a step for each
+length-filed : (limits : Limits) (book : Book) (commands : List Command) → length (filed_from limits book commands) ≡ length commands
+length-filed limits book [] = refl
+length-filed limits book (command ∷ commands) = ap (λ (n : ℕ). suc n) (length-filed limits (next limits book command) commands)
 
 -- the commands of the steps are those that were filed
 pub commands_of-filed : (limits : Limits) (commands : List Command) (register : Register) → HasFiled limits commands register → commands_of register.journal ≡ commands
@@ -108,11 +113,14 @@ first_commands most file list (Some fault) read =
     ] read
 
 -- the frozen rows of a register in which all was filed that a file without a fault has
-pub frozen_file : (limits : Limits) (file : CommandFile) (list : List Command) (register : Register) (rows : List Row) →
-    IsRead limits.steps file list None → HasFiled limits list register → IsFrozenFrom DEPTH_LIMIT MOST_ANIMALS (register_book register) rows →
-    IsFrozenFile limits file rows
-frozen_file limits file list register rows read filed frozen = record {
+pub frozen_file : (limits : Limits) (file : CommandFile) (list : List Command) (register : Register) (steps : ℕ) (rows : List Row) →
+    IsRead limits.steps file list None → HasFiled limits list register → steps ≡ length register.journal →
+    IsFrozenFrom DEPTH_LIMIT MOST_ANIMALS (register_book register) rows → IsFrozenFile limits file steps rows
+frozen_file limits file list register steps rows read filed counted frozen = record {
   faultless = read.1;
+  steps_are =
+      counted ∙ ap (λ (journal : List Step). length journal) filed.journal_is ∙ length-filed limits [] list
+      ∙ ap (λ (commands : List Command). length commands) read.0;
   frozen = subst (λ book. IsFrozenFrom DEPTH_LIMIT MOST_ANIMALS book rows) (book_of-filed limits list register filed ∙ ap (run_book limits) read.0) frozen;
 }
 
@@ -157,17 +165,19 @@ some_named book [] absent = absurd (cc)
 some_named book (number ∷ numbers) absent = omega arith
 
 -- only certificates and records are of animals that must be in the book
-can_end_reporting : (order : Order) (rows : List Row) (old new : Option (List ℕ)) (fault : RunFault) → EndsReporting order rows old new fault → CanEndBy order fault
-can_end_reporting order rows old new (Line fault) ends = absurd ends
-can_end_reporting (Certificates numbers) rows old new NotRegistered ends = some_named (book_of rows) numbers.now ends.0
-can_end_reporting (Records numbers) rows old new NotRegistered ends = some_named (book_of rows) numbers.now ends.0
-can_end_reporting (Inbreeding plan) rows old new NotRegistered ends = absurd ends.0
-can_end_reporting (Mating dam sires) rows old new NotRegistered ends = absurd ends.0
-can_end_reporting Inverse rows old new NotRegistered ends = absurd ends.0
-can_end_reporting (Relationships numbers others) rows old new NotRegistered ends = absurd ends.0
-can_end_reporting order rows old new NoThread ends = ends.0
-can_end_reporting order rows old new Memory ends = tt
-can_end_reporting order rows old new Write ends = tt
+can_end_reporting : (order : Order) (steps : ℕ) (rows : List Row) (old new : Option (List ℕ)) (fault : RunFault) → EndsReporting order steps rows old new fault → CanEndBy order fault
+can_end_reporting order steps rows old new (Line fault) ends = absurd ends
+can_end_reporting (Certificates numbers) steps rows old new NotRegistered ends = some_named (book_of rows) numbers.now ends.0
+can_end_reporting (Records numbers) steps rows old new NotRegistered ends = some_named (book_of rows) numbers.now ends.0
+can_end_reporting (Sealed number) steps rows old new NotRegistered ends = tt
+can_end_reporting (Inbreeding plan) steps rows old new NotRegistered ends = absurd ends.0
+can_end_reporting (Mating dam sires) steps rows old new NotRegistered ends = absurd ends.0
+can_end_reporting Inverse steps rows old new NotRegistered ends = absurd ends.0
+can_end_reporting (Relationships numbers others) steps rows old new NotRegistered ends = absurd ends.0
+can_end_reporting Seal steps rows old new NotRegistered ends = absurd ends.0
+can_end_reporting order steps rows old new NoThread ends = ends.0
+can_end_reporting order steps rows old new Memory ends = tt
+can_end_reporting order steps rows old new Write ends = tt
 
 -- who is in a frozen book is in the book that was frozen
 there-frozen : (book : Book) (rows : List Row) (number : List ℕ) → IsFrozenFrom DEPTH_LIMIT MOST_ANIMALS book rows →
@@ -184,39 +194,47 @@ are_there-frozen book rows (number ∷ numbers) frozen =
 there_too : (order : Order) (book : Book) (rows : List Row) → IsFrozenFrom DEPTH_LIMIT MOST_ANIMALS book rows → AreThere order (book_of rows) → AreThere order book
 there_too (Certificates numbers) book rows frozen there = sym (are_there-frozen book rows numbers.now frozen) ∙ there
 there_too (Records numbers) book rows frozen there = sym (are_there-frozen book rows numbers.now frozen) ∙ there
+there_too (Sealed number) book rows frozen there = sym (there-frozen book rows number frozen) ∙ there
 there_too (Inbreeding plan) book rows frozen there = tt
 there_too (Mating dam sires) book rows frozen there = tt
 there_too Inverse book rows frozen there = tt
 there_too (Relationships numbers others) book rows frozen there = tt
+there_too Seal book rows frozen there = tt
 
 absent_too : (order : Order) (book : Book) (rows : List Row) → IsFrozenFrom DEPTH_LIMIT MOST_ANIMALS book rows → IsOneAbsent order (book_of rows) → IsOneAbsent order book
 absent_too (Certificates numbers) book rows frozen absent = sym (are_there-frozen book rows numbers.now frozen) ∙ absent
 absent_too (Records numbers) book rows frozen absent = sym (are_there-frozen book rows numbers.now frozen) ∙ absent
+absent_too (Sealed number) book rows frozen absent = sym (there-frozen book rows number frozen) ∙ absent
 absent_too (Inbreeding plan) book rows frozen absent = absurd absent
 absent_too (Mating dam sires) book rows frozen absent = absurd absent
 absent_too Inverse book rows frozen absent = absurd absent
 absent_too (Relationships numbers others) book rows frozen absent = absurd absent
+absent_too Seal book rows frozen absent = absurd absent
 
 -- a text of the frozen rows is one of the file's commands
-report_of_file : (limits : Limits) (order : Order) (file : CommandFile) (rows : List Row) (Passes : List ℕ → Type 0) →
-    IsFrozenFile limits file rows → Passes (wanted order rows) → IsReport limits order file.commands Passes
-report_of_file limits order file rows Passes made passes = record { rows = rows; frozen = made.frozen; passes = passes }
-
-pub run_answers : (limits : Limits) (order : Order) (file : CommandFile) (rows : List Row) (old new : Option (List ℕ)) →
-    IsFrozenFile limits file rows → IsReported order rows old new → IsAnswered limits order file old new
-run_answers limits order file rows old new made reported = record {
-  faultless = made.faultless;
-  there = there_too order (run_book limits file.commands) rows made.frozen reported.there;
-  written = report_of_file limits order file rows (Appends old new) made reported.written;
+report_of_file : (limits : Limits) (order : Order) (file : CommandFile) (steps : ℕ) (rows : List Row) (Passes : List ℕ → Type 0) →
+    IsFrozenFile limits file steps rows → Passes (wanted order steps rows) → IsReport limits order file.commands Passes
+report_of_file limits order file steps rows Passes made passes = record {
+  rows = rows;
+  frozen = made.frozen;
+  passes = subst (λ (n : ℕ). Passes (wanted order n rows)) made.steps_are passes;
 }
 
-pub run_ends : (limits : Limits) (order : Order) (file : CommandFile) (rows : List Row) (old new : Option (List ℕ)) (fault : RunFault) →
-    IsFrozenFile limits file rows → EndsReporting order rows old new fault → EndsBy limits order file old new fault
-run_ends limits order file rows old new fault made ends =
+pub run_answers : (limits : Limits) (order : Order) (file : CommandFile) (steps : ℕ) (rows : List Row) (old new : Option (List ℕ)) →
+    IsFrozenFile limits file steps rows → IsReported order steps rows old new → IsAnswered limits order file old new
+run_answers limits order file steps rows old new made reported = record {
+  faultless = made.faultless;
+  there = there_too order (run_book limits file.commands) rows made.frozen reported.there;
+  written = report_of_file limits order file steps rows (Appends old new) made reported.written;
+}
+
+pub run_ends : (limits : Limits) (order : Order) (file : CommandFile) (steps : ℕ) (rows : List Row) (old new : Option (List ℕ)) (fault : RunFault) →
+    IsFrozenFile limits file steps rows → EndsReporting order steps rows old new fault → EndsBy limits order file old new fault
+run_ends limits order file steps rows old new fault made ends =
     let there = there_too order (run_book limits file.commands) rows made.frozen in
-    let front : AppendsFront old new (wanted order rows) → IsReport limits order file.commands (AppendsFront old new) =
-    report_of_file limits order file rows (AppendsFront old new) made in
-    elim fault as (λ f. EndsReporting order rows old new f → EndsBy limits order file old new f) [
+    let front : AppendsFront old new (wanted order steps rows) → IsReport limits order file.commands (AppendsFront old new) =
+    report_of_file limits order file steps rows (AppendsFront old new) made in
+    elim fault as (λ f. EndsReporting order steps rows old new f → EndsBy limits order file old new f) [
       | Line line ↦ λ ends. absurd ends
       | NotRegistered ↦ λ ends. (made.faultless, absent_too order (run_book limits file.commands) rows made.frozen ends.0, ends.1)
       | NoThread ↦ λ ends. (ends.0, made.faultless, ends.1)
@@ -224,6 +242,6 @@ run_ends limits order file rows old new fault made ends =
       | Write ↦ λ ends. (made.faultless, record { there = there ends.0; front = front ends.1 })
     ] ends
 
-pub run_possible : {T : Type 0} (order : Order) (rows : List Row) (old new : Option (List ℕ)) (result : Result T RunFault) →
-    IfErr result (EndsReporting order rows old new) → IfErr result (CanEndBy order)
-run_possible order rows old new result ends = IfErr-weaker result _ _ (λ fault end. can_end_reporting order rows old new fault end) ends
+pub run_possible : {T : Type 0} (order : Order) (steps : ℕ) (rows : List Row) (old new : Option (List ℕ)) (result : Result T RunFault) →
+    IfErr result (EndsReporting order steps rows old new) → IfErr result (CanEndBy order)
+run_possible order steps rows old new result ends = IfErr-weaker result _ _ (λ fault end. can_end_reporting order steps rows old new fault end) ends

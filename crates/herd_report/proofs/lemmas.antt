@@ -1,3 +1,2 @@
-pub mod Exits
 pub mod reading
 pub mod writing

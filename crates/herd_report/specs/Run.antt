@@ -1,7 +1,8 @@
 -- What is written of a command file, and how that may end.
 use Rattle.std.specs.Prelude.{◌≡◌, ◌⊎◌, ◌<◌, ℕ, List, [], ◌∷◌, ⊤, IfSome, Option, Some, None, true, false, length}
 use Rattle.std.specs.Io.KnownBytes.{Appends}
-use Rattle.herd_frozen.specs.rules.Book.{Book}
+use Rattle.herd_certificate.specs.Sealed.{seal_text}
+use Rattle.herd_frozen.specs.rules.Book.{Book, is_there}
 use Rattle.herd_frozen.specs.freezing.Frozen.{IsFrozenFrom, book_of}
 use Rattle.herd_frozen.specs.declared.TheConstants.{DEPTH_LIMIT, MOST_ANIMALS}
 use Rattle.herd_frozen.specs.declared.freezing.frozen.Row.{Row}
@@ -20,11 +21,12 @@ use Rattle.herd_report.specs.writing.MatingList.{mating_text}
 use Rattle.herd_report.specs.writing.RecordList.{records_text}
 use Rattle.herd_report.specs.writing.Registered.{are_there}
 use Rattle.herd_report.specs.writing.RelationshipList.{relationships_text}
-use Rattle.herd_report.specs.writing.Text.{AppendsFront}
+use Rattle.herd_report.specs.writing.SealedCertificate.{sealed_text}
+use Rattle.herd_text.specs.Text.{AppendsFront}
 use Rattle.herd_report.specs.writing.Replies.{replies_text}
 use Rattle.herd_report.specs.declared.reading.line_fault.LineFault.{LineFault}
 use Rattle.herd_report.specs.declared.orders.Order.{Order}
-use Rattle.herd_report.specs.declared.orders.Order.TheVariants.{Inbreeding, Certificates, Mating, Inverse, Relationships, Records}
+use Rattle.herd_report.specs.declared.orders.Order.TheVariants.{Inbreeding, Certificates, Mating, Inverse, Relationships, Records, Seal, Sealed}
 use Rattle.herd_report.specs.declared.run_fault.RunFault.{RunFault}
 use Rattle.herd_report.specs.declared.run_fault.RunFault.TheVariants.{Line, NotRegistered, NoThread, Memory, Write}
 
@@ -79,31 +81,36 @@ CanEndReplying Write = ⊤
 
 -- ---- what is ordered of a frozen book
 
--- the text that an order wants of the frozen rows of a book
-abbrev pub wanted : Order → List Row → List ℕ
-wanted (Inbreeding plan) rows = inbreeding_text (coefficient (ancestry_of rows) DEPTH_LIMIT) rows
-wanted (Certificates numbers) rows = certificates_of rows numbers.now
-wanted (Mating dam sires) rows = mating_text (book_of rows) dam sires.now
-wanted Inverse rows = inverse_text rows
-wanted (Relationships numbers others) rows = relationships_text (book_of rows) numbers.now others.now
-wanted (Records numbers) rows = records_text rows numbers.now
+-- the text that an order wants of the frozen rows of a book, whose journal has so many steps
+abbrev pub wanted : Order → ℕ → List Row → List ℕ
+wanted (Inbreeding plan) steps rows = inbreeding_text (coefficient (ancestry_of rows) DEPTH_LIMIT) rows
+wanted (Certificates numbers) steps rows = certificates_of rows numbers.now
+wanted (Mating dam sires) steps rows = mating_text (book_of rows) dam sires.now
+wanted Inverse steps rows = inverse_text rows
+wanted (Relationships numbers others) steps rows = relationships_text (book_of rows) numbers.now others.now
+wanted (Records numbers) steps rows = records_text rows numbers.now
+wanted Seal steps rows = seal_text rows steps
+wanted (Sealed number) steps rows = sealed_text rows steps number
 
 -- each animal that certificates or records are asked of is in the book
 abbrev pub AreThere : Order → Book → Type 0
 AreThere (Certificates numbers) book = are_there book numbers.now ≡ true
 AreThere (Records numbers) book = are_there book numbers.now ≡ true
+AreThere (Sealed number) book = is_there book number ≡ true
 AreThere order book = ⊤
 
 -- one of them is not
 abbrev pub IsOneAbsent : Order → Book → Type 0
 IsOneAbsent (Certificates numbers) book = are_there book numbers.now ≡ false
 IsOneAbsent (Records numbers) book = are_there book numbers.now ≡ false
+IsOneAbsent (Sealed number) book = is_there book number ≡ false
 IsOneAbsent order book = ⊥
 
 -- certificates or records are asked of an animal at least
 abbrev pub NamesSome : Order → Type 0
 NamesSome (Certificates numbers) = 0 < length numbers.now
 NamesSome (Records numbers) = 0 < length numbers.now
+NamesSome (Sealed number) = ⊤
 NamesSome order = ⊥
 
 -- the order is for work that more than one worker share
@@ -120,25 +127,26 @@ CanEndBy order Memory = ⊤
 CanEndBy order Write = ⊤
 
 -- the animals that must be there are in the frozen book, and what the order wants of it was written
-pub record IsReported (order : Order) (rows : List Row) (old new : Option (List ℕ)) : Type 0 where
+pub record IsReported (order : Order) (steps : ℕ) (rows : List Row) (old new : Option (List ℕ)) : Type 0 where
   pub there : AreThere order (book_of rows)
-  pub written : Appends old new (wanted order rows)
+  pub written : Appends old new (wanted order steps rows)
 
 -- how that may end early: `NotRegistered` comes first, then `NoThread` or `Memory` while coefficients are computed,
 -- then `Memory` or `Write` while the text is written
-abbrev pub EndsReporting : Order → List Row → Option (List ℕ) → Option (List ℕ) → RunFault → Type 0
-EndsReporting order rows old new (Line fault) = ⊥
-EndsReporting order rows old new NotRegistered = IsOneAbsent order (book_of rows) × (new ≡ old)
-EndsReporting order rows old new NoThread = IsShared order × (new ≡ old)
-EndsReporting order rows old new Memory =
-    AreThere order (book_of rows) × ((new ≡ old) ⊎ AppendsFront old new (wanted order rows))
-EndsReporting order rows old new Write = AreThere order (book_of rows) × AppendsFront old new (wanted order rows)
+abbrev pub EndsReporting : Order → ℕ → List Row → Option (List ℕ) → Option (List ℕ) → RunFault → Type 0
+EndsReporting order steps rows old new (Line fault) = ⊥
+EndsReporting order steps rows old new NotRegistered = IsOneAbsent order (book_of rows) × (new ≡ old)
+EndsReporting order steps rows old new NoThread = IsShared order × (new ≡ old)
+EndsReporting order steps rows old new Memory =
+    AreThere order (book_of rows) × ((new ≡ old) ⊎ AppendsFront old new (wanted order steps rows))
+EndsReporting order steps rows old new Write = AreThere order (book_of rows) × AppendsFront old new (wanted order steps rows)
 
 -- ---- what is ordered of the book of a command file
 
--- the file has no fault, and its book has these frozen rows
-pub record IsFrozenFile (limits : Limits) (file : CommandFile) (rows : List Row) : Type 0 where
+-- the file has no fault, its book has these frozen rows, and its journal so many steps, one for each command
+pub record IsFrozenFile (limits : Limits) (file : CommandFile) (steps : ℕ) (rows : List Row) : Type 0 where
   pub faultless : file.fault ≡ None
+  pub steps_are : steps ≡ length file.commands
   pub frozen : IsFrozenFrom DEPTH_LIMIT MOST_ANIMALS (run_book limits file.commands) rows
 
 -- a text that an order wants of the book of commands passes a test
@@ -146,7 +154,7 @@ pub record IsReport (limits : Limits) (order : Order) (commands : List Command)
     (Passes : List ℕ → Type 0) : Type 0 where
   pub rows : List Row
   pub frozen : IsFrozenFrom DEPTH_LIMIT MOST_ANIMALS (run_book limits commands) rows
-  pub passes : Passes (wanted order rows)
+  pub passes : Passes (wanted order (length commands) rows)
 
 -- the file has no fault, the animals that must be there are in the book, and what the order wants was written
 pub record IsAnswered (limits : Limits) (order : Order) (file : CommandFile) (old new : Option (List ℕ)) : Type 0 where

@@ -4,5 +4,4 @@ pub mod Field
 pub mod Grammar
 pub mod Columns
 pub mod CommandFile
-pub mod Upcoming
 pub mod CommandReader

@@ -1,11 +1,8 @@
 -- What is printed, as text.
-pub mod Text
 pub mod RefusedText
 pub mod Replies
-pub mod CoefficientText
 pub mod CoefficientLine
 pub mod InbreedingList
-pub mod RecordLine
 pub mod RecordList
 pub mod Registered
 pub mod Ancestors
@@ -13,3 +10,4 @@ pub mod Certificate
 pub mod MatingList
 pub mod InverseList
 pub mod RelationshipList
+pub mod SealedCertificate

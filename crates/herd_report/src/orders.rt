@@ -9,18 +9,20 @@ ghost use Rattle.herd_report.specs.declared.orders.Order.{Order};
 use crate::command_filing::{fault_of_rest, file_commands};
 use crate::reading::command_reader::CommandReader;
 use crate::run_fault::RunFault;
-use crate::work_plan::WorkPlan;
-use crate::writing::certificate::certify;
+use crate::writing::certificate::write_certificates;
 use crate::writing::inbreeding_list::write_inbreeding;
 use crate::writing::inverse_list::write_inverse;
 use crate::writing::mating_list::write_mating;
 use crate::writing::record_list::write_records;
+use crate::writing::registered::are_registered;
 use crate::writing::relationship_list::write_relationships;
 use crate::writing::replies::write_replies;
-use herd_advice::{Coefficients, coefficients_plain};
+use crate::writing::sealed_certificate::write_sealed;
+use herd_advice::{Coefficients, coefficients_of, coefficients_plain};
 use herd_animal::AnimalNumber;
+use herd_certificate::write_seal;
 use herd_frozen::Frozen;
-use herd_pool::PoolFault;
+use herd_pool::{PoolFault, WorkPlan};
 use herd_register::{Limits, Register};
 use std::alloc::{AllocError, Global};
 use std::io::{Read, Write};
@@ -48,6 +50,10 @@ pub enum Order<'a> {
     },
     /// The records of some animals, each of which must be in the book, and where none are named of all.
     Records(&'a [AnimalNumber]),
+    /// The seal of the book.
+    Seal,
+    /// The certificate of an animal, which must be in the book, under the seal of the book.
+    Sealed(AnimalNumber),
 }
 
 /// Files a command file, and writes the reply to each command.
@@ -93,18 +99,19 @@ pub fn run<H: Threads + Wait + Sync, R: Read + Drop, W: Write>(
         (R.remaining reader) (W.contents writer.old) (W.contents writer.new)) }
     ensures fault { IfErr result (CanEndBy order.now) }
 {
-    let frozen = frozen_of_file(alloc, limits, reader)?;
-    write_report(rt, alloc, &frozen, order, writer)
+    let (frozen, steps) = frozen_of_file(alloc, limits, reader)?;
+    write_report(rt, alloc, &frozen, steps, order, writer)
 }
 
-// Files a command file, and freezes its book. Where there is none, nothing is written, whatever is ordered.
+// Files a command file, freezes its book, and counts the steps of its journal. Where there is none, nothing is written,
+// whatever is ordered.
 fn frozen_of_file<R: Read + Drop>(
     alloc: Global,
     limits: Limits,
     reader: R,
-) -> Result<Frozen<Global>, RunFault>
-    ensures ok { IfOk result (λ frozen. IfSome (R.remaining reader)
-        (λ bytes. IsFrozenFile limits (commands bytes limits.steps) frozen)) }
+) -> Result<(Frozen<Global>, u64), RunFault>
+    ensures ok { IfOk result (λ made. IfSome (R.remaining reader)
+        (λ bytes. IsFrozenFile limits (commands bytes limits.steps) made.1 made.0)) }
     ensures err { IfErr result (λ fault. (order : Order) → (text : Option (List ℕ))
         → EndsIfKnown limits order (R.remaining reader) text text fault) }
     ensures fault { IfErr result (λ fault. (order : Order) → CanEndBy order fault) }
@@ -120,30 +127,37 @@ fn frozen_of_file<R: Read + Drop>(
         },
     }
     let frozen = register.pedigree().freeze(alloc)?;
-    Ok(frozen)
+    Ok((frozen, register.journal().len() as u64))
 }
 
-/// Writes what is ordered of a frozen book.
+/// Writes what is ordered of a frozen book, whose journal has so many steps.
 // The order is lent: no proof is had of a function that hands one on and may return before.
 pub fn write_report<H: Threads + Wait + Sync, W: Write>(
     rt: &H,
     alloc: Global,
     frozen: &Frozen<Global>,
+    steps: u64,
     order: &Order<'_>,
     writer: &mut W,
 ) -> Result<(), RunFault>
-    ensures ok { OnOk result (IsReported order.now frozen.now (W.contents writer.old) (W.contents writer.new)) }
+    ensures ok { OnOk result (IsReported order.now steps frozen.now (W.contents writer.old) (W.contents writer.new)) }
     ensures err { IfErr result
-        (EndsReporting order.now frozen.now (W.contents writer.old) (W.contents writer.new)) }
+        (EndsReporting order.now steps frozen.now (W.contents writer.old) (W.contents writer.new)) }
 {
     match *order {
         Order::Inbreeding(plan) => {
             let coefficients = shared_coefficients(rt, alloc, frozen, plan)?;
             Ok(write_inbreeding(alloc, frozen, &coefficients, writer)?)
         }
-        Order::Certificates(numbers) => Ok(certify(alloc, frozen, numbers, writer)?),
+        Order::Certificates(numbers) => {
+            if !are_registered(frozen, numbers) {
+                return Err(RunFault::NotRegistered);
+            }
+            let coefficients = coefficients_of(alloc, frozen, numbers)?;
+            Ok(write_certificates(alloc, frozen, &coefficients, numbers, writer)?)
+        }
         Order::Mating { dam, sires } => {
-            let coefficients = coefficients_plain(alloc, frozen)?;
+            let coefficients = coefficients_of(alloc, frozen, &[dam])?;
             Ok(write_mating(alloc, frozen, &coefficients, dam, sires, writer)?)
         }
         Order::Inverse => {
@@ -151,10 +165,12 @@ pub fn write_report<H: Threads + Wait + Sync, W: Write>(
             Ok(write_inverse(alloc, frozen, &coefficients, writer)?)
         }
         Order::Relationships { numbers, others } => {
-            let coefficients = coefficients_plain(alloc, frozen)?;
+            let coefficients = coefficients_of(alloc, frozen, numbers)?;
             Ok(write_relationships(alloc, frozen, &coefficients, numbers, others, writer)?)
         }
         Order::Records(numbers) => Ok(write_records(alloc, frozen, numbers, writer)?),
+        Order::Seal => Ok(write_seal(alloc, frozen, steps, writer)?),
+        Order::Sealed(number) => Ok(write_sealed(alloc, frozen, steps, number, writer)?),
     }
 }
 

@@ -5,5 +5,4 @@ pub(crate) mod command_file;
 pub(crate) mod command_reader;
 pub(crate) mod field;
 pub(crate) mod line_fault;
-pub(crate) mod records;
 pub(crate) mod version;

@@ -2,8 +2,8 @@ ghost use Rattle.std.specs.Prelude.{◌≡◌};
 
 use crate::reading::line_fault::LineFault;
 use crate::writing::named_animals_fault::NamedAnimalsFault;
-use crate::writing::report_fault::ReportFault;
 use herd_pool::PoolFault;
+use herd_text::ReportFault;
 use std::alloc::AllocError;
 use thiserror::Error;
 

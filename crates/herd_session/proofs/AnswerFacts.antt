@@ -9,9 +9,9 @@ use mathlib.Core.List.{IsPrefix}
 use Rattle.herd_register.specs.Limits.{Limits}
 use Rattle.herd_register.specs.declared.step.Step.{Step}
 use Rattle.herd_office.proofs.Fronts.{prefix_trans}
-use Rattle.herd_report.specs.reading.Grammar.{Fields}
-use Rattle.herd_report.proofs.lemmas.writing.TextFacts.{passes_before, passes_more}
-use Rattle.herd_report.specs.writing.Text.{PassesOn}
+use Rattle.csv_records.specs.Fields.{Fields}
+use Rattle.herd_text.proofs.lemmas.TextFacts.{passes_before, passes_more}
+use Rattle.herd_text.specs.Text.{PassesOn}
 use Rattle.herd_session.specs.Answers.{AreWritten, IsAnswer, IsFaultTold, IsReplyTold, IsReportTold, joined}
 use Rattle.herd_session.specs.Output.{HasAnswers}
 

@@ -10,12 +10,12 @@ use Rattle.herd_register.specs.Run.{IsLegal}
 use Rattle.herd_register.specs.declared.command.Command.{Command}
 use Rattle.herd_register.specs.declared.reply.Reply.{Reply}
 use Rattle.herd_register.specs.declared.step.Step.{Step}
-use Rattle.herd_report.specs.reading.Grammar.{Fields}
+use Rattle.csv_records.specs.Fields.{Fields}
 use Rattle.herd_session.specs.Answers.{IsAnswer, IsAnswered, IsReport, fault_text, reply_text}
 use Rattle.herd_session.specs.Requests.{IsAskedOfDesk, IsAskedOfInspector, IsTagThere}
 use Rattle.herd_session.specs.declared.fault.Fault.{Fault as WhyNot}
 use Rattle.herd_session.specs.declared.question.Question.{Question}
-use Rattle.herd_session.specs.declared.question.Question.TheVariants.{Inbreeding, Inverse, Certificates, Mating, Relationships, Coefficient, Records, Record, Seen}
+use Rattle.herd_session.specs.declared.question.Question.TheVariants.{Inbreeding, Inverse, Certificates, Mating, Relationships, Coefficient, Records, Record, Seal, Sealed, Seen}
 
 -- a reply to a desk's command is an answer
 pub reply_answers : (limits : Limits) (records : Option (List Fields)) (before desk : ℕ) (tag : List ℕ) (wanted : Result Command WhyNot)
@@ -50,6 +50,8 @@ answered_by_report limits history tag (Relationships numbers) text other report 
 answered_by_report limits history tag (Coefficient number) text other report = report
 answered_by_report limits history tag Records text other report = report
 answered_by_report limits history tag (Record number) text other report = report
+answered_by_report limits history tag Seal text other report = report
+answered_by_report limits history tag (Sealed number) text other report = report
 answered_by_report limits history tag Seen text other report = absurd (other refl)
 
 -- what answers an inspector's question is an answer

@@ -1,55 +1,112 @@
 -- How sessions end.
-use Rattle.std.proofs.Common.{◌≡◌, ◌∙◌, inl, inr, Bool, true, false, ℕ, List, [], ◌++◌, Option, Result, Ok, Err, length, refl, ap, sym, subst}
-use Rattle.std.proofs.lemmas.Bool.{false≢true}
+use Rattle.std.proofs.Common.{◌≡◌, ◌∙◌, inl, inr, Bool, true, false, ℕ, List, [], ◌++◌, Option, length, refl, ap, sym, subst}
+use Rattle.std.proofs.KnownBytes.{Appends-nil}
 use Rattle.std.proofs.lemmas.List.{append-nil}
-use Rattle.std.specs.Prelude.{OnErr, OnOk, is_ok}
+use Rattle.std.proofs.lemmas.List.Elements.{All-nil}
 use Rattle.std.specs.Io.KnownBytes.{Appends}
 use mathlib.Core.List.{IsPrefix}
 use Rattle.herd_register.specs.Limits.{Limits}
 use Rattle.herd_register.specs.Register.{Register}
 use Rattle.herd_register.specs.Run.{IsLegal, commands_of, run_book}
 use Rattle.herd_register.specs.declared.step.Step.{Step}
-use Rattle.herd_report.specs.reading.Grammar.{Fields}
-use Rattle.herd_report.proofs.lemmas.writing.TextFacts.{passes_before, passes_more}
-use Rattle.herd_report.specs.writing.Text.{PassesOn}
-use Rattle.herd_session.proofs.AnswerFacts.{nothing_written, written_later}
-use Rattle.herd_session.specs.Answers.{AreWritten, closed_line, joined}
-use Rattle.herd_session.specs.Closing.{Ends, EndsEarly, IsClosedSession, IsOfDesks, last_line}
+use Rattle.csv_records.specs.Fields.{Fields}
+use Rattle.herd_text.proofs.lemmas.TextFacts.{passes_before, passes_more}
+use Rattle.herd_text.specs.Text.{PassesOn}
+use Rattle.herd_office.specs.declared.faults.OpenFault.{OpenFault}
+use Rattle.herd_office.specs.declared.faults.OpenFault.TheVariants as opening
+use Rattle.herd_session.proofs.AnswerFacts.{written_later}
+use Rattle.herd_session.specs.Answers.{AreWritten, IsAnswer, closed_line, joined}
+use Rattle.herd_session.specs.Closing.{CanStop, EndsBy, EndsEarly, EndsUnclosed, IsClosedSession, IsOfDesks, fault_of_opening, last_line}
 use Rattle.herd_session.specs.Output.{HasAnswers}
 use Rattle.herd_session.specs.declared.session_fault.SessionFault.{SessionFault}
+use Rattle.herd_session.specs.declared.session_fault.SessionFault.TheVariants.{Line, Memory, NoPlace, NoThread, Write}
 
--- answers alone were written
-pub ends_early : (limits : Limits) (records : Option (List Fields)) (journal : List Step) (old new : Option (List ℕ)) (rest : List ℕ)
-    → AreWritten limits records journal old new rest → EndsEarly limits records old new
-ends_early limits records journal old new rest are = record {
+-- answers alone were written, but for some rest
+pub ends_early : (limits : Limits) (records : Option (List Fields)) (journal : List Step) (old now new : Option (List ℕ)) (waiting rest : List ℕ)
+    → IsLegal limits journal → AreWritten limits records journal old now waiting → PassesOn now new waiting rest → EndsEarly limits records old new
+ends_early limits records journal old now new waiting rest legal are passed = record {
   journal = journal;
+  legal = legal;
   answers = are.answers;
   each = are.each;
   ending = [];
   last = inl refl;
   rest = rest;
-  written = subst (λ text. PassesOn old new text rest) (sym (append-nil (joined are.answers))) are.written;
+  written =
+      subst (λ text. PassesOn old new text rest) (sym (append-nil (joined are.answers))) (passes_more are.written passed);
 }
 
--- nothing was written
-pub ends_unbegun : (limits : Limits) (records : Option (List Fields)) (known : Option (List ℕ)) → EndsEarly limits records known known
-ends_unbegun limits records known = ends_early limits records [] known known [] (nothing_written limits records [] known)
+-- all that waits stays so
+stays : (known : Option (List ℕ)) (waiting : List ℕ) → PassesOn known known waiting waiting
+stays known waiting = record { front = []; split = refl; written = Appends-nil known }
+
+-- all that waits was written
+whole : (now new : Option (List ℕ)) (waiting : List ℕ) → Appends now new waiting → PassesOn now new waiting []
+whole now new waiting written = record { front = waiting; split = append-nil waiting; written = written }
 
 -- what the writer has is answers
-pub ends_unclosed : (limits : Limits) (records : Option (List Fields)) (journal : List Step) (failed : Bool) (old new : Option (List ℕ))
-    (waiting : List ℕ) → HasAnswers limits records journal failed old new waiting → EndsEarly limits records old new
-ends_unclosed limits records journal false old new waiting are = ends_early limits records journal old new waiting are
-ends_unclosed limits records journal true old new waiting are = ends_early limits records journal old new are.0 are.1
+pub ends_unwritten : (limits : Limits) (records : Option (List Fields)) (journal : List Step) (failed : Bool) (old new : Option (List ℕ))
+    (waiting : List ℕ) → IsLegal limits journal → HasAnswers limits records journal failed old new waiting → EndsEarly limits records old new
+ends_unwritten limits records journal false old new waiting legal are =
+    ends_early limits records journal old new new waiting waiting legal are (stays new waiting)
+ends_unwritten limits records journal true old new waiting legal are =
+    ends_early limits records journal old new new are.0 are.0 legal are.1 (stays new are.0)
+
+-- answers alone were written whole
+ends_unclosed : (limits : Limits) (records : Option (List Fields)) (journal : List Step) (old now new : Option (List ℕ)) (waiting : List ℕ)
+    → IsLegal limits journal → AreWritten limits records journal old now waiting → Appends now new waiting → EndsUnclosed limits records old new
+ends_unclosed limits records journal old now new waiting legal are written =
+    let all = passes_more are.written (whole now new waiting written) in
+    record {
+      journal = journal;
+      legal = legal;
+      answers = are.answers;
+      each = are.each;
+      written = subst (Appends old new) (sym (append-nil all.front) ∙ all.split) all.written;
+    }
+
+-- the work stopped, and what waited was written
+pub ends_stopped : (fault : SessionFault) (limits : Limits) (records : Option (List Fields)) (journal : List Step) (old now new : Option (List ℕ))
+    (waiting : List ℕ)
+    → IsLegal limits journal → AreWritten limits records journal old now waiting → Appends now new waiting → CanStop records fault
+    → EndsBy limits records old new fault
+ends_stopped (Line fault) limits records journal old now new waiting legal are written can =
+    (ends_unclosed limits records journal old now new waiting legal are written, can)
+ends_stopped NoThread limits records journal old now new waiting legal are written can =
+    ends_unclosed limits records journal old now new waiting legal are written
+ends_stopped Memory limits records journal old now new waiting legal are written can =
+    ends_unclosed limits records journal old now new waiting legal are written
+ends_stopped Write limits records journal old now new waiting legal are written can =
+    ends_early limits records journal old now new waiting [] legal are (whole now new waiting written)
+ends_stopped NoPlace limits records journal old now new waiting legal are written can =
+    ends_unclosed limits records journal old now new waiting legal are written
+
+-- nothing was written
+nothing : (limits : Limits) (records : Option (List Fields)) (known : Option (List ℕ)) → EndsUnclosed limits records known known
+nothing limits records known = record {
+  journal = [];
+  legal = refl;
+  answers = [];
+  each = All-nil (IsAnswer limits records []);
+  written = Appends-nil known;
+}
+
+-- the office wasn't opened
+pub ends_unbegun : (cause : OpenFault) (limits : Limits) (records : Option (List Fields)) (known : Option (List ℕ))
+    → EndsBy limits records known known (fault_of_opening cause)
+ends_unbegun opening.Memory limits records known = nothing limits records known
+ends_unbegun opening.NoPlace limits records known = nothing limits records known
 
 -- answers and a front of the last line were written
 pub ends_within : (limits : Limits) (records : Option (List Fields)) (told : List Step) (register : Register) (old now new : Option (List ℕ))
     (waiting rest : List ℕ)
     → AreWritten limits records told old now waiting → IsPrefix told register.journal → register.limits ≡ limits
-    → PassesOn now new (waiting ++ last_line register) rest → EndsEarly limits records old new
-ends_within limits records told register old now new waiting rest are begins same passed =
+    → IsLegal register.limits register.journal → PassesOn now new (waiting ++ last_line register) rest → EndsEarly limits records old new
+ends_within limits records told register old now new waiting rest are begins same legal passed =
     let later = written_later limits records told register.journal old now waiting begins are in
     record {
       journal = register.journal;
+      legal = subst (λ (l : Limits). IsLegal l register.journal) same legal;
       answers = later.answers;
       each = later.each;
       ending = last_line register;
@@ -81,17 +138,3 @@ ends_closed limits records told register old now new waiting are begins same leg
           (λ (l : Limits). Appends old new (joined later.answers ++ closed_line (length register.journal) (length (run_book l (commands_of register.journal)))))
           same (subst (Appends old new) whole all.written);
     }
-
--- the office was closed, and the last line was written or its writing failed
-pub ends_written : {S E T : Type 0} (written : Result S E) (result : Result T SessionFault) (limits : Limits) (records : Option (List Fields))
-    (told : List Step) (register : Register) (old now new : Option (List ℕ)) (waiting : List ℕ) (numbers : List ℕ)
-    → is_ok result ≡ is_ok written → AreWritten limits records told old now waiting
-    → IsPrefix told register.journal → register.limits ≡ limits → IsLegal register.limits register.journal
-    → IsOfDesks records register.journal numbers → OnOk written (PassesOn now new (waiting ++ last_line register) [])
-    → OnErr written ((rest : List ℕ) × PassesOn now new (waiting ++ last_line register) rest) → Ends limits records old new result
-ends_written (Ok one) (Ok done) limits records told register old now new waiting numbers is are begins same legal desks ok err =
-    ends_closed limits records told register old now new waiting are begins same legal numbers desks ok
-ends_written (Err cause) (Err fault) limits records told register old now new waiting numbers is are begins same legal desks ok err =
-    ends_within limits records told register old now new waiting err.0 are begins same err.1
-ends_written (Ok one) (Err fault) limits records told register old now new waiting numbers is are begins same legal desks ok err = absurd (false≢true is)
-ends_written (Err cause) (Ok done) limits records told register old now new waiting numbers is are begins same legal desks ok err = absurd (false≢true (sym is))

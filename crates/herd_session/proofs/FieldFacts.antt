@@ -1,7 +1,7 @@
 -- The fields of a record from a place on.
 use Rattle.std.proofs.Common.{◌≡◌, ℕ, zero, suc, ◌<◌, [], ◌∷◌, length, drop, refl, arith}
 use Rattle.csv.specs.Records.{field_at}
-use Rattle.herd_report.specs.reading.Grammar.{Fields, field}
+use Rattle.csv_records.specs.Fields.{Fields, field}
 
 -- the field at a place, and those behind it
 pub drop_field : (place : ℕ) (fields : Fields) → place < length fields

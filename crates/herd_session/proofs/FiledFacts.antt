@@ -13,14 +13,14 @@ use Rattle.herd_office.proofs.ListFacts.{get_more, sum_by-each-le, sum_by-map}
 use Rattle.herd_office.proofs.Stored.{of_desk_append, of_desk_one}
 use Rattle.herd_office.specs.Beginnings.{BeginsWithAll}
 use Rattle.herd_office.specs.Filing.{EndsWith}
-use Rattle.herd_office.specs.Histories.{of_desk}
+use Rattle.herd_office.specs.Histories.{Apart, of_desk}
 use Rattle.herd_office.specs.declared.desk.Desk.{Desk}
 use Rattle.herd_office.specs.declared.name.OfficeName as office_name
 use Rattle.herd_register.specs.declared.command.Command.{Command}
 use Rattle.herd_register.specs.declared.reply.Reply.{Reply}
 use Rattle.herd_register.specs.declared.step.Step.{Step}
 use Rattle.herd_register.specs.Run.{step_of}
-use Rattle.herd_report.specs.reading.Grammar.{Fields}
+use Rattle.csv_records.specs.Fields.{Fields}
 use Rattle.herd_session.specs.Closing.{IsOfDesks}
 use Rattle.herd_session.specs.Filed.{AreAskedBelow, AreAskedInTurn, AsksFor, HasFiled, HasFiledBelow, HasFiledInTurn, commands_at}
 use Rattle.herd_session.specs.Requests.{IsAskedOfDesk}
@@ -208,8 +208,10 @@ numbered {N} {O} records journal (desk ∷ more) filed counted begins (suc place
 pub journal_of_desks : {N : Type 0} {O : office_name.Ghosts N} (records : Option (List Fields)) (journal : List Step) (desks : List (Desk N O))
     → All (λ d. ∥ HasFiledInTurn records d ∥₁) desks → length journal ≡ sum_by (λ d. d.answered) desks
     → ((place : ℕ) (desk : Desk N O) → slice_get desks place ≡ Some desk → desk.answered ≡ of_desk desk.number journal)
-    → BeginsWithAll (λ d. d.history) desks journal → IsOfDesks records journal (map (λ d. d.number) desks)
-journal_of_desks {N} {O} records journal desks filed sum counted begins = record {
+    → BeginsWithAll (λ d. d.history) desks journal → Apart (map (λ d. d.number) desks)
+    → IsOfDesks records journal (map (λ d. d.number) desks)
+journal_of_desks {N} {O} records journal desks filed sum counted begins apart = record {
+  apart = apart;
   sum =
       sum ∙ sum_by-same (λ (d : Desk N O). d.answered) (λ (d : Desk N O). of_desk d.number journal) desks counted
       ∙ sym (sum_by-map (λ (d : Desk N O). d.number) (λ number. of_desk number journal) desks);

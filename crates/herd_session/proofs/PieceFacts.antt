@@ -5,8 +5,8 @@ use Rattle.std.proofs.lemmas.List.{append-nil}
 use Rattle.std.specs.List.{flat_map}
 use Rattle.std.specs.Prelude.{OnOk}
 use Rattle.std.specs.Io.KnownBytes.{Appends}
-use Rattle.herd_report.proofs.lemmas.writing.TextFacts.{passes_before}
-use Rattle.herd_report.specs.writing.Text.{AppendsFront, PassesOn}
+use Rattle.herd_text.proofs.lemmas.TextFacts.{passes_before}
+use Rattle.herd_text.specs.Text.{AppendsFront, PassesOn}
 
 -- pieces before a place, the one there, and those behind it are all
 pieces_split : (pieces : List (Bor (List ℕ))) (place : ℕ) (other : Bor (List ℕ)) → place < length pieces

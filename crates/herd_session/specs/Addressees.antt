@@ -1,6 +1,6 @@
 -- The request in a record, by whom it is for.
 use Rattle.std.specs.Prelude.{◌≡◌, ◌≢◌, ℕ, codes, IfErr, IfOk, Some, None}
-use Rattle.herd_report.specs.reading.Grammar.{Fields, field}
+use Rattle.csv_records.specs.Fields.{Fields, field}
 use Rattle.herd_session.specs.Questions.{CanBeUnread, IsAskedIn}
 use Rattle.herd_session.specs.Requests.{IsNoNumber, IsNumberOf, command_in}
 use Rattle.herd_session.specs.Tag.{IsTag}

@@ -11,9 +11,9 @@ use Rattle.herd_register.specs.declared.command.Command.{Command}
 use Rattle.herd_register.specs.declared.reply.Reply.{Reply}
 use Rattle.herd_register.specs.declared.step.Step.{Step}
 use Rattle.herd_office.specs.Filing.{EndsWith}
-use Rattle.herd_report.specs.reading.Grammar.{Fields}
+use Rattle.csv_records.specs.Fields.{Fields}
 use Rattle.herd_report.specs.writing.Replies.{reply_line}
-use Rattle.herd_report.specs.writing.Text.{PassesOn}
+use Rattle.herd_text.specs.Text.{PassesOn}
 use Rattle.herd_session.specs.Faults.{fault_name}
 use Rattle.herd_session.specs.Questions.{text_of}
 use Rattle.herd_session.specs.Requests.{IsAskedOfDesk, IsAskedOfInspector, IsTagThere}
@@ -71,7 +71,7 @@ pub record IsReport (limits : Limits) (history : List Step) (tag : List ℕ) (qu
     (text : List ℕ) : Type 0 where
   pub rows : List Row
   pub frozen : IsFrozenFrom DEPTH_LIMIT MOST_ANIMALS (run_book limits (commands_of history)) rows
-  pub told : text ≡ report_text tag (text_of question rows) (length history)
+  pub told : text ≡ report_text tag (text_of question (length history) rows) (length history)
 
 -- the text answers a question behind a tag: from the frozen book of a history, or with its length
 abbrev pub IsAnswered : Limits → List Step → List ℕ → Question → List ℕ → Type 0

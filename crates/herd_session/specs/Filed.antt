@@ -5,7 +5,7 @@ use Rattle.herd_office.specs.declared.desk.Desk.{Desk}
 use Rattle.herd_office.specs.declared.name.OfficeName as office_name
 use Rattle.herd_register.specs.declared.command.Command.{Command}
 use Rattle.herd_register.specs.declared.step.Step.{Step}
-use Rattle.herd_report.specs.reading.Grammar.{Fields}
+use Rattle.csv_records.specs.Fields.{Fields}
 use Rattle.herd_session.specs.Requests.{IsAskedOfDesk}
 
 -- the commands of a desk's steps, in the order of the journal

@@ -5,5 +5,6 @@ pub mod Faults
 pub mod Filed
 pub mod Output
 pub mod Questions
+pub mod Queues
 pub mod Requests
 pub mod Tag

@@ -2,7 +2,7 @@
 use Rattle.std.specs.Prelude.{ℕ, Bool, true, false, List, Option}
 use Rattle.herd_register.specs.Limits.{Limits}
 use Rattle.herd_register.specs.declared.step.Step.{Step}
-use Rattle.herd_report.specs.reading.Grammar.{Fields}
+use Rattle.csv_records.specs.Fields.{Fields}
 use Rattle.herd_session.specs.Answers.{AreWritten}
 
 -- answers were written and nothing else, but for what waits; or once a write has failed, but for some rest of them

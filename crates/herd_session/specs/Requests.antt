@@ -2,7 +2,8 @@
 use Rattle.std.specs.Prelude.{◌≡◌, ◌≢◌, ◌⊎◌, ◌+◌, ◌<◌, ℕ, List, [], codes, decimal, slice_get, IfErr, IfOk, IfSome, Result, Ok, Err, Option, Some, None, option_map}
 use Rattle.csv.specs.Reading.{default_config, records, strip_bom}
 use Rattle.herd_register.specs.declared.command.Command.{Command}
-use Rattle.herd_report.specs.reading.Grammar.{Fields, command_behind, field}
+use Rattle.csv_records.specs.Fields.{Fields, field}
+use Rattle.herd_report.specs.reading.Grammar.{command_behind}
 use Rattle.herd_report.specs.declared.reading.line_fault.LineCause.{LineCause}
 use Rattle.herd_session.specs.Questions.{CanBeUnread, IsAskedIn}
 use Rattle.herd_session.specs.Tag.{IsTag}
@@ -36,26 +37,32 @@ as_asked (Err cause) = Err (fault.Fields cause)
 abbrev pub command_in : Fields → Result Command WhyNot
 command_in fields = as_asked (command_behind 3 fields)
 
--- the record that has so many before it asks this of the desk with this number, or has no command
-pub record IsAskedOfDesk (known : Option (List Fields)) (before desk : ℕ) (tag : List ℕ)
-    (wanted : Result Command WhyNot) : Type 0 where
-  pub fields : Fields
-  pub there : IsRecordAt known before fields
-  pub tag_is : field 0 fields ≡ tag
-  pub addressee : field 1 fields ≡ codes "desk"
-  pub number : field 2 fields ≡ decimal desk
-  pub wanted_is : wanted ≡ command_in fields
+-- the command of a desk's record, or why it has none
+abbrev pub IsCommandIn : Fields → Result Command WhyNot → Type 0
+IsCommandIn fields wanted = wanted ≡ command_in fields
 
--- the record that has so many before it asks this of the inspector with this number, or has no question
-pub record IsAskedOfInspector (known : Option (List Fields)) (before inspector : ℕ) (tag : List ℕ)
-    (wanted : Result Question WhyNot) : Type 0 where
+-- the question of an inspector's record, or why it has none
+abbrev pub IsQuestionIn : Fields → Result Question WhyNot → Type 0
+IsQuestionIn fields wanted = IfOk wanted (IsAskedIn fields) × IfErr wanted (CanBeUnread fields)
+
+-- the record that has so many before it asks this of whom the word and the number name, or doesn't, and why
+pub record IsAskedOf {T : Type 0} (word : List ℕ) (IsWanted : Fields → Result T WhyNot → Type 0)
+    (known : Option (List Fields)) (before number : ℕ) (tag : List ℕ) (wanted : Result T WhyNot) : Type 0 where
   pub fields : Fields
   pub there : IsRecordAt known before fields
   pub tag_is : field 0 fields ≡ tag
-  pub addressee : field 1 fields ≡ codes "inspector"
-  pub number : field 2 fields ≡ decimal inspector
-  pub asked : IfOk wanted (IsAskedIn fields)
-  pub unread : IfErr wanted (CanBeUnread fields)
+  pub word_is : field 1 fields ≡ word
+  pub number_is : field 2 fields ≡ decimal number
+  pub wanted_is : IsWanted fields wanted
+
+-- the same of a desk
+abbrev pub IsAskedOfDesk : Option (List Fields) → ℕ → ℕ → List ℕ → Result Command WhyNot → Type 0
+IsAskedOfDesk known before desk tag wanted = IsAskedOf (codes "desk") IsCommandIn known before desk tag wanted
+
+-- the same of an inspector
+abbrev pub IsAskedOfInspector : Option (List Fields) → ℕ → ℕ → List ℕ → Result Question WhyNot → Type 0
+IsAskedOfInspector known before inspector tag wanted =
+    IsAskedOf (codes "inspector") IsQuestionIn known before inspector tag wanted
 
 -- the text of a tag, or nothing
 abbrev pub tag_text : Option (List ℕ) → List ℕ

@@ -4,8 +4,8 @@ use std::cell::Cell;
 use std::io;
 use std::io::Read;
 
-/// How many bytes a record may have, with the blank lines before it. Some 16,000 more may pass, since the input is read in
-/// parts.
+/// How many bytes a record may have, with the blank lines before it. Some 16,000 more may pass, since the input is read
+/// in parts.
 pub const LONGEST_RECORD: usize = 1_048_576;
 
 /// How many bytes may still be read for a record.

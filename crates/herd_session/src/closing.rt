@@ -4,13 +4,14 @@ ghost use mathlib.Core.List.{IsPrefix};
 ghost use Rattle.herd_register.specs.Run.{IsLegal};
 ghost use Rattle.herd_session.specs.Closing.{Ends, IsOfDesks, last_line};
 ghost use Rattle.herd_session.specs.Filed.{HasFiledInTurn};
-ghost use Rattle.herd_report.specs.writing.Text.{PassesOn};
+ghost use Rattle.herd_text.specs.Text.{PassesOn};
 
 use crate::name::SessionName;
 use crate::output::Output;
-use crate::pieces::write_pieces;
+use crate::pieces::{write_pieces, write_waiting};
 use crate::session_fault::SessionFault;
 use crate::staff::Staff;
+use crate::stop::Stop;
 use herd_office::{Office, Slip};
 use herd_register::Register;
 use herd_report::ReportFault;
@@ -19,11 +20,12 @@ use std::alloc::Global;
 use std::io::Write;
 use std::sync::Wait;
 
-/// Closes the office and writes the last line, unless the work ended early or a write has failed.
+/// Closes the office and writes the last line, unless the work ended early or a write has failed. Else it writes the
+/// answers that wait.
 pub(crate) fn end<N: SessionName, H: Wait, R: Wait + Drop, W: Write + Drop>(
     rt: &H,
     office: Office<N, R>,
-    worked: Result<Staff<N>, SessionFault>,
+    worked: Result<Staff<N>, Stop<N>>,
     output: Output<N, W>,
 ) -> (W, Result<(), SessionFault>)
     requires { IfOk worked (λ back. All (λ desk. ∥ HasFiledInTurn N.records desk ∥₁) back.desks.items) }
@@ -32,31 +34,36 @@ pub(crate) fn end<N: SessionName, H: Wait, R: Wait + Drop, W: Write + Drop>(
     let Output {
         mut writer,
         mut waiting,
-        told,
+        longest_written,
         has_failed,
     } = output;
+    // A slip's history is legal.
+    let _steps = longest_written.steps();
     if has_failed {
         return (writer, Err(SessionFault::Write));
     }
-    match closed(rt, office, worked, &told) {
-        Ok(register) => {
-            let written = write_last_line(&mut writer, &mut waiting, &register);
-            (writer, written.map_err(SessionFault::from))
-        }
-        Err(fault) => (writer, Err(fault)),
+    match closed(rt, office, worked, &longest_written) {
+        Ok(register) => match write_last_line(&mut writer, &mut waiting, &register) {
+            Ok(()) => (writer, Ok(())),
+            Err(_) => (writer, Err(SessionFault::Write)),
+        },
+        Err(stop) => match write_waiting(&mut writer, &mut waiting) {
+            Ok(()) => (writer, Err(stop.fault)),
+            Err(_) => (writer, Err(SessionFault::Write)),
+        },
     }
 }
 
-// Closes the office, once an inspector has learnt the longest history that was told.
+// Closes the office, once an inspector has learnt the longest history that an answer was written of.
 fn closed<N: SessionName, H: Wait, R: Wait + Drop>(
     rt: &H,
     office: Office<N, R>,
-    worked: Result<Staff<N>, SessionFault>,
-    told: &Slip<N>,
-) -> Result<Register<Global>, SessionFault>
+    worked: Result<Staff<N>, Stop<N>>,
+    longest_written: &Slip<N>,
+) -> Result<Register<Global>, Stop<N>>
     requires { IfOk worked (λ back. All (λ desk. ∥ HasFiledInTurn N.records desk ∥₁) back.desks.items) }
     ensures limits { IfOk result (λ register. register.limits ≡ N.limits) }
-    ensures begins { IfOk result (λ register. IsPrefix told.now.history register.journal) }
+    ensures begins { IfOk result (λ register. IsPrefix longest_written.now.history register.journal) }
     ensures desks { IfOk result
         (λ register. (numbers : List ℕ) × IsOfDesks N.records register.journal numbers) }
 {
@@ -65,12 +72,12 @@ fn closed<N: SessionName, H: Wait, R: Wait + Drop>(
         mut inspectors,
     } = worked?;
     if inspectors.is_empty() {
-        return Err(SessionFault::NoPlace);
+        return Err(Stop::unclosed());
     }
-    inspectors[0].learn(told);
+    inspectors[0].learn(longest_written);
     match office.close(rt, desks, inspectors) {
         Ok(register) => Ok(register),
-        Err(unclosed) => Err(SessionFault::from(unclosed.cause)),
+        Err(_) => Err(Stop::unclosed()),
     }
 }
 

@@ -6,10 +6,10 @@ ghost use Rattle.herd_register.specs.Run.{IsLegal};
 ghost use Rattle.herd_session.specs.Filed.{HasFiledBelow};
 
 use crate::fault::Fault;
-use crate::hall::Hall;
 use crate::name::SessionName;
 use crate::queue::{Batch, Outlet};
-use crate::tasks::{DeskTask, Task};
+use crate::shared::Shared;
+use crate::tasks::Task;
 use herd_office::{Desk, Filed};
 use herd_register::Command;
 use herd_report::ReportFault;
@@ -29,9 +29,9 @@ pub(crate) struct Clerk<N: SessionName> {
 pub(crate) fn work_at_desk<N: SessionName, H: Wait, R: Wait + Drop, W: Write>(
     rt: &H,
     alloc: Global,
-    hall: &Hall<N, R, W>,
+    shared: &Shared<N, R, W>,
     desk: Desk<N>,
-    queue: Outlet<DeskTask<N>>,
+    queue: Outlet<Task<N, Command>>,
 ) -> Result<Clerk<N>, ReportFault>
     requires { (desk.answered ≡ 0) × (desk.history ≡ []) }
 {
@@ -41,8 +41,8 @@ pub(crate) fn work_at_desk<N: SessionName, H: Wait, R: Wait + Drop, W: Write>(
         if !queue.take(rt, &mut batch) {
             break;
         }
-        clerk.answer_each(rt, hall, batch.tasks(), &queue)?;
-        hall.backlog.leave(rt, batch.empty());
+        clerk.answer_each(rt, shared, batch.tasks(), &queue)?;
+        shared.backlog.leave(rt, batch.empty());
     }
     Ok(clerk)
 }
@@ -59,13 +59,13 @@ impl<N: SessionName> Clerk<N> {
     fn answer_each<H: Wait, R: Wait + Drop, W: Write>(
         &mut self,
         rt: &H,
-        hall: &Hall<N, R, W>,
-        tasks: &[DeskTask<N>],
-        queue: &Outlet<DeskTask<N>>,
+        shared: &Shared<N, R, W>,
+        tasks: &[Task<N, Command>],
+        queue: &Outlet<Task<N, Command>>,
     ) -> Result<(), ReportFault> {
         for place in 0..tasks.len() {
             let goes_on = place + 1 < tasks.len() || !queue.is_empty();
-            self.answer(rt, hall, &tasks[place], goes_on)?;
+            self.answer(rt, shared, &tasks[place], goes_on)?;
         }
         Ok(())
     }
@@ -75,37 +75,36 @@ impl<N: SessionName> Clerk<N> {
     fn answer<H: Wait, R: Wait + Drop, W: Write>(
         &mut self,
         rt: &H,
-        hall: &Hall<N, R, W>,
-        task: &DeskTask<N>,
+        shared: &Shared<N, R, W>,
+        task: &Task<N, Command>,
         goes_on: bool,
     ) -> Result<(), ReportFault> {
-        let written = match self.file_wanted(rt, hall, task) {
-            Ok(filed) => hall.output.lock(rt).reply(task, &filed, goes_on),
-            Err(fault) => hall.output.lock(rt).fault(task.tag().text(), fault),
-        };
-        hall.passed_on(rt, written)
+        match self.file_wanted(rt, shared, task) {
+            Ok(filed) => shared.reply(rt, task, &filed, goes_on),
+            Err(fault) => shared.fault(rt, task.tag().text(), fault),
+        }
     }
 
     // Files the command of a task.
     fn file_wanted<H: Wait, R: Wait + Drop, W: Write>(
         &mut self,
         rt: &H,
-        hall: &Hall<N, R, W>,
-        task: &DeskTask<N>,
+        shared: &Shared<N, R, W>,
+        task: &Task<N, Command>,
     ) -> Result<Filed<N>, Fault>
         ensures ends { IfOk result (λ f. IfOk task.now.wanted
-            (λ command. EndsWith f.slip.history task.now.desk command f.reply)) }
+            (λ command. EndsWith f.slip.history task.now.number command f.reply)) }
         ensures wanted { OnOk result (IsOk task.now.wanted) }
         ensures serial { IfOk result (λ f. f.serial ≡ length f.slip.history) }
         ensures legal { IfOk result (λ f. IsLegal N.limits f.slip.history) }
     {
         // The queue has no others, though no clause follows a queue.
-        if task.desk != usize::from(self.desk.number()) || task.before < self.next {
+        if task.number != usize::from(self.desk.number()) || task.before < self.next {
             return Err(Fault::NoDesk);
         }
         let command = task.wanted?;
         let Clerk { desk, next } = self;
-        let filed = file(rt, hall, desk, command)?;
+        let filed = file(rt, shared, desk, command)?;
         *next = task.before + 1;
         Ok(filed)
     }
@@ -114,7 +113,7 @@ impl<N: SessionName> Clerk<N> {
 // Files a command, and lets inspectors know.
 fn file<N: SessionName, H: Wait, R: Wait + Drop, W: Write>(
     rt: &H,
-    hall: &Hall<N, R, W>,
+    shared: &Shared<N, R, W>,
     desk: &mut Desk<N>,
     command: Command,
 ) -> Result<Filed<N>, Fault>
@@ -129,7 +128,7 @@ fn file<N: SessionName, H: Wait, R: Wait + Drop, W: Write>(
     ensures not_answered { OnErr result (desk.new.answered ≡ desk.old.answered) }
     ensures not_held { OnErr result (desk.new.history ≡ desk.old.history) }
 {
-    let filed = desk.file(rt, &hall.office, command)?;
-    hall.told.lock(rt).learn(&filed.slip);
+    let filed = desk.file(rt, &shared.office, command)?;
+    shared.longest_answered.lock(rt).learn(&filed.slip);
     Ok(filed)
 }

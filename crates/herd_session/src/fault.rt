@@ -65,7 +65,7 @@ impl From<LineCause> for Fault {
 }
 
 impl From<FileFault> for Fault {
-    ghost from_gives = { λ fault told. told ≡ fault_of_filing fault };
+    ghost from_gives = { λ cause fault. fault ≡ fault_of_filing cause };
 
     fn from(fault: FileFault) -> Fault {
         match fault {
@@ -77,7 +77,7 @@ impl From<FileFault> for Fault {
 }
 
 impl From<FreezeFault> for Fault {
-    ghost from_gives = { λ fault told. told ≡ fault_of_freezing fault };
+    ghost from_gives = { λ cause fault. fault ≡ fault_of_freezing cause };
 
     fn from(fault: FreezeFault) -> Fault {
         match fault {
@@ -88,7 +88,7 @@ impl From<FreezeFault> for Fault {
 }
 
 impl From<AllocError> for Fault {
-    ghost from_gives = { λ _ told. told ≡ Memory };
+    ghost from_gives = { λ _ fault. fault ≡ Memory };
 
     fn from(_refused: AllocError) -> Fault {
         Fault::Memory
@@ -96,7 +96,7 @@ impl From<AllocError> for Fault {
 }
 
 impl<T: Drop> From<AllocFailed<T>> for Fault {
-    ghost from_gives = { λ _ told. told ≡ Memory };
+    ghost from_gives = { λ _ fault. fault ≡ Memory };
 
     fn from(_refused: AllocFailed<T>) -> Fault {
         Fault::Memory

@@ -1,8 +1,8 @@
 //! The thread that tells why requests aren't answered which nobody else answers.
 
-use crate::hall::Hall;
 use crate::name::SessionName;
 use crate::queue::{Batch, Outlet};
+use crate::shared::Shared;
 use crate::tasks::FaultTask;
 use herd_report::ReportFault;
 use std::alloc::Global;
@@ -13,7 +13,7 @@ use std::sync::Wait;
 pub(crate) fn work_on_faults<N: SessionName, H: Wait, R: Wait + Drop, W: Write>(
     rt: &H,
     alloc: Global,
-    hall: &Hall<N, R, W>,
+    shared: &Shared<N, R, W>,
     queue: Outlet<FaultTask<N>>,
 ) -> Result<(), ReportFault> {
     let mut batch = Batch::new(alloc);
@@ -21,8 +21,8 @@ pub(crate) fn work_on_faults<N: SessionName, H: Wait, R: Wait + Drop, W: Write>(
         if !queue.take(rt, &mut batch) {
             break;
         }
-        tell_each(rt, hall, batch.tasks())?;
-        hall.backlog.leave(rt, batch.empty());
+        tell_each(rt, shared, batch.tasks())?;
+        shared.backlog.leave(rt, batch.empty());
     }
     Ok(())
 }
@@ -30,11 +30,11 @@ pub(crate) fn work_on_faults<N: SessionName, H: Wait, R: Wait + Drop, W: Write>(
 // Tells the faults that were taken from the queue.
 fn tell_each<N: SessionName, H: Wait, R: Wait + Drop, W: Write>(
     rt: &H,
-    hall: &Hall<N, R, W>,
+    shared: &Shared<N, R, W>,
     tasks: &[FaultTask<N>],
 ) -> Result<(), ReportFault> {
     for task in tasks {
-        hall.tell(rt, task)?;
+        shared.fault(rt, task.tag(), task.fault)?;
     }
     Ok(())
 }

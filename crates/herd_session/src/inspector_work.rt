@@ -1,11 +1,15 @@
 //! The thread of an inspector.
+ghost use Rattle.std.specs.Prelude.{◌≡◌, IfOk};
+ghost use mathlib.Core.List.{IsPrefix};
+ghost use Rattle.herd_session.specs.Answers.{IsAnswered};
 
 use crate::fault::Fault;
-use crate::hall::Hall;
 use crate::name::SessionName;
-use crate::observer::{Answer, Observer};
+use crate::question::Question;
 use crate::queue::{Batch, Outlet};
-use crate::tasks::{InspectorTask, Task};
+use crate::reporting_inspector::{Answer, ReportingInspector};
+use crate::shared::Shared;
+use crate::tasks::Task;
 use herd_office::Inspector;
 use herd_report::ReportFault;
 use std::alloc::Global;
@@ -13,14 +17,17 @@ use std::io::Write;
 use std::sync::Wait;
 
 /// Answers what an inspector is asked, until nobody can ask it any more or a write fails.
+#[tactic(auto, using(herd_office::proofs::Fronts::prefix_self, herd_office::proofs::Fronts::prefix_trans))]
 pub(crate) fn work_as_inspector<N: SessionName, H: Wait, R: Wait + Drop, W: Write>(
     rt: &H,
     alloc: Global,
-    hall: &Hall<N, R, W>,
+    shared: &Shared<N, R, W>,
     inspector: Inspector<N>,
-    queue: Outlet<InspectorTask<N>>,
-) -> Result<Inspector<N>, ReportFault> {
-    let mut observer = Observer {
+    queue: Outlet<Task<N, Question>>,
+) -> Result<Inspector<N>, ReportFault>
+    ensures { IfOk result (λ back. IsPrefix inspector.history back.history) }
+{
+    let mut reporting = ReportingInspector {
         inspector,
         kept: None,
     };
@@ -29,22 +36,25 @@ pub(crate) fn work_as_inspector<N: SessionName, H: Wait, R: Wait + Drop, W: Writ
         if !queue.take(rt, &mut batch) {
             break;
         }
-        answer_each(rt, alloc, hall, &mut observer, batch.tasks())?;
-        hall.backlog.leave(rt, batch.empty());
+        answer_each(rt, alloc, shared, &mut reporting, batch.tasks())?;
+        shared.backlog.leave(rt, batch.empty());
     }
-    Ok(observer.inspector)
+    Ok(reporting.inspector)
 }
 
 // Answers tasks that were taken from a queue.
+#[tactic(auto, using(herd_office::proofs::Fronts::prefix_self, herd_office::proofs::Fronts::prefix_trans))]
 fn answer_each<N: SessionName, H: Wait, R: Wait + Drop, W: Write>(
     rt: &H,
     alloc: Global,
-    hall: &Hall<N, R, W>,
-    observer: &mut Observer<N>,
-    tasks: &[InspectorTask<N>],
-) -> Result<(), ReportFault> {
+    shared: &Shared<N, R, W>,
+    reporting: &mut ReportingInspector<N>,
+    tasks: &[Task<N, Question>],
+) -> Result<(), ReportFault>
+    ensures { IsPrefix reporting.old.inspector.history reporting.new.inspector.history }
+{
     for task in tasks {
-        answer_question(rt, alloc, hall, observer, task)?;
+        answer_question(rt, alloc, shared, reporting, task)?;
     }
     Ok(())
 }
@@ -53,29 +63,36 @@ fn answer_each<N: SessionName, H: Wait, R: Wait + Drop, W: Write>(
 fn answer_question<N: SessionName, H: Wait, R: Wait + Drop, W: Write>(
     rt: &H,
     alloc: Global,
-    hall: &Hall<N, R, W>,
-    observer: &mut Observer<N>,
-    task: &InspectorTask<N>,
-) -> Result<(), ReportFault> {
-    let written = match answer(rt, alloc, hall, observer, task) {
-        Ok(answer) => hall.output.lock(rt).answer(&answer),
-        Err(fault) => hall.output.lock(rt).fault(task.tag().text(), fault),
-    };
-    hall.passed_on(rt, written)
+    shared: &Shared<N, R, W>,
+    reporting: &mut ReportingInspector<N>,
+    task: &Task<N, Question>,
+) -> Result<(), ReportFault>
+    ensures { IsPrefix reporting.old.inspector.history reporting.new.inspector.history }
+{
+    match answer(rt, alloc, shared, reporting, task) {
+        Ok(answer) => shared.answer(rt, &answer),
+        Err(fault) => shared.fault(rt, task.tag().text(), fault),
+    }
 }
 
 // The answer to a task's question, from a history that begins with each that was answered before.
+#[tactic(auto, using(herd_office::proofs::Fronts::prefix_self))]
 fn answer<N: SessionName, H: Wait, R: Wait + Drop, W: Write>(
     rt: &H,
     alloc: Global,
-    hall: &Hall<N, R, W>,
-    observer: &mut Observer<N>,
-    task: &InspectorTask<N>,
-) -> Result<Answer<N>, Fault> {
+    shared: &Shared<N, R, W>,
+    reporting: &mut ReportingInspector<N>,
+    task: &Task<N, Question>,
+) -> Result<Answer<N>, Fault>
+    ensures seen { IsPrefix reporting.old.inspector.history reporting.new.inspector.history }
+    ensures of { IfOk result (λ answer. answer.of.history ≡ reporting.new.inspector.history) }
+    ensures answer { IfOk result (λ answer. IfOk task.now.wanted
+        (λ question. ∥ IsAnswered N.limits answer.of.history task.now.tag question answer.text.items ∥₁)) }
+{
     match &task.wanted {
         Ok(question) => {
-            let told = hall.told.lock(rt).again();
-            observer.answer(alloc, &told, task, question)
+            let longest = shared.longest_answered.lock(rt).again();
+            reporting.answer(alloc, &longest, task, question)
         }
         Err(fault) => Err(*fault),
     }

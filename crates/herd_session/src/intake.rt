@@ -1,20 +1,22 @@
 //! Reading requests and handing them on.
-ghost use Rattle.std.specs.Prelude.{◌≡◌, ◌-◌, ◌<◌, ◌^◌};
+ghost use Rattle.std.specs.Prelude.{◌≡◌, ◌+◌, ◌-◌, ◌<◌, ◌≤◌, ◌^◌, IfSome, length, min, true};
 ghost use Rattle.csv.specs.Records.{fields_of};
+ghost use Rattle.herd_report.specs.reading.LineCause.{is_interruption};
 ghost use Rattle.herd_session.specs.Requests.{IsRecordAt, records_in};
 
 use crate::backlog::request_bytes;
 use crate::bounded_reader::{Allowance, BoundedReader};
 use crate::fault::Fault;
-use crate::hall::Hall;
 use crate::name::SessionName;
 use crate::queue::{Inlet, Unsent};
 use crate::request::{Asked, Request, request_in};
-use crate::session_fault::SessionFault;
+use crate::shared::Shared;
 use crate::staff::Queues;
-use crate::tasks::{DeskTask, FaultTask, InspectorTask, Task};
+use crate::stop::Stop;
+use crate::tasks::{FaultTask, Task, Wish};
 use csv::ByteRecord;
-use herd_report::{LineCause, LineFault, ReportFault, open_records, read_record};
+use csv_records::{Interruption, open_records, read_record};
+use herd_report::{LineCause, LineFault, ReportFault};
 use std::alloc::Global;
 use std::io::{Read, Write};
 use std::marker::PhantomData;
@@ -23,15 +25,15 @@ use std::sync::Wait;
 // What a record of more bytes and fields took is given back.
 const LONG: usize = 65_536;
 
-/// Reads requests up to the end of the input, and hands each to whom it is for. It ends early at a request that it reads
-/// once a write has failed.
+/// Reads requests up to the end of the input, and hands each to whom it is for. It ends early at a request that it
+/// reads once a write has failed.
 pub(crate) fn take_requests<N: SessionName, H: Wait, R: Wait + Drop, I: Read + Drop, W: Write>(
     rt: &H,
     alloc: Global,
-    hall: &Hall<N, R, W>,
+    shared: &Shared<N, R, W>,
     queues: &Queues<N>,
     reader: I,
-) -> Result<(), SessionFault>
+) -> Result<(), Stop<N>>
     requires { records_in (I.remaining reader) ≡ N.records }
 {
     let allowance = Allowance::new();
@@ -39,18 +41,19 @@ pub(crate) fn take_requests<N: SessionName, H: Wait, R: Wait + Drop, I: Read + D
         inner: reader,
         allowance: &allowance,
     };
-    take_each(rt, alloc, hall, queues, bounded, &allowance)
+    take_each(rt, alloc, shared, queues, bounded, &allowance)
 }
 
 // The same, where a record has what is allowed at most.
+#[tactic(auto, using(crate::proofs::IntakeFacts::begun, crate::proofs::IntakeFacts::within_if_known))]
 fn take_each<N: SessionName, H: Wait, R: Wait + Drop, I: Read + Drop, W: Write>(
     rt: &H,
     alloc: Global,
-    hall: &Hall<N, R, W>,
+    shared: &Shared<N, R, W>,
     queues: &Queues<N>,
     reader: I,
     allowance: &Allowance,
-) -> Result<(), SessionFault>
+) -> Result<(), Stop<N>>
     requires { records_in (I.remaining reader) ≡ N.records }
 {
     let mut records = open_records(alloc, reader);
@@ -58,9 +61,9 @@ fn take_each<N: SessionName, H: Wait, R: Wait + Drop, I: Read + Drop, W: Write>(
     for before in 0..u64::MAX {
         allowance.renew();
         match read_record(&mut records, &mut row) {
-            Ok(true) => hand_on(rt, alloc, hall, queues, before, &row)?,
+            Ok(true) => hand_on(rt, alloc, shared, queues, before, &row)?,
             Ok(false) => break,
-            Err(cause) => return Err(SessionFault::Line(fault_after(before, cause))),
+            Err(interruption) => return Err(broken_off(before, interruption)),
         }
         if row.as_slice().len() > LONG || row.len() > LONG {
             row = ByteRecord::new(alloc);
@@ -69,10 +72,20 @@ fn take_each<N: SessionName, H: Wait, R: Wait + Drop, I: Read + Drop, W: Write>(
     Ok(())
 }
 
+// The input breaks off where so many records were read.
+fn broken_off<N: SessionName>(before: u64, interruption: Interruption) -> Stop<N>
+    requires { IfSome N.records (λ all. before ≤ length all) }
+{
+    Stop::at_line(fault_after(before, interruption))
+}
+
 // The fault of the record that has so many before it.
-fn fault_after(before: u64, cause: LineCause) -> LineFault {
+fn fault_after(before: u64, interruption: Interruption) -> LineFault
+    ensures number { result.record_number ≡ min before (2 ^ 32 - 2) + 1 }
+    ensures cause { is_interruption result.cause ≡ true }
+{
     let number = before.min(u64::from(u32::MAX) - 1) as u32 + 1;
-    cause.at(number)
+    LineCause::from(interruption).at(number)
 }
 
 // Hands the request of a record to whom it is for, or to the thread that tells why it is for nobody, once there is room
@@ -80,7 +93,7 @@ fn fault_after(before: u64, cause: LineCause) -> LineFault {
 fn hand_on<N: SessionName, H: Wait, R: Wait + Drop, W: Write>(
     rt: &H,
     alloc: Global,
-    hall: &Hall<N, R, W>,
+    shared: &Shared<N, R, W>,
     queues: &Queues<N>,
     before: u64,
     row: &ByteRecord,
@@ -89,32 +102,32 @@ fn hand_on<N: SessionName, H: Wait, R: Wait + Drop, W: Write>(
     requires few { before < 2 ^ 64 - 1 }
 {
     let bytes = request_bytes(row);
-    if !hall.backlog.enter(rt, bytes) {
+    if !shared.backlog.enter(rt, bytes) {
         return Err(ReportFault::Write);
     }
     let (desks, inspectors) = (queues.desks.as_slice(), queues.inspectors.as_slice());
     match request_in(alloc, desks.len(), inspectors.len(), row) {
         Request::Desk(place, asked) => {
             let Asked { tag, wanted } = asked;
-            let task = DeskTask {
+            let task = Task {
                 before,
-                desk: place + 1,
+                number: place + 1,
                 tag,
                 wanted,
                 of: PhantomData,
             };
-            send(rt, hall, queues, &desks[place], task, bytes)
+            send(rt, shared, queues, &desks[place], task, bytes)
         }
         Request::Inspector(place, asked) => {
             let Asked { tag, wanted } = asked;
-            let task = InspectorTask {
+            let task = Task {
                 before,
-                inspector: place + 1,
+                number: place + 1,
                 tag,
                 wanted,
                 of: PhantomData,
             };
-            send(rt, hall, queues, &inspectors[place], task, bytes)
+            send(rt, shared, queues, &inspectors[place], task, bytes)
         }
         Request::Nobody(tag, fault) => {
             let task = FaultTask {
@@ -122,18 +135,18 @@ fn hand_on<N: SessionName, H: Wait, R: Wait + Drop, W: Write>(
                 fault,
                 of: PhantomData,
             };
-            send_fault(rt, hall, queues, task, bytes)
+            send_fault(rt, shared, queues, task, bytes)
         }
     }
 }
 
 // Puts a task into a queue. One that nobody works off is that of a thread which met a failed write.
-fn send<N: SessionName, H: Wait, R: Wait + Drop, W: Write, T: Task<N>>(
+fn send<N: SessionName, H: Wait, R: Wait + Drop, W: Write, T: Wish>(
     rt: &H,
-    hall: &Hall<N, R, W>,
+    shared: &Shared<N, R, W>,
     queues: &Queues<N>,
-    queue: &Inlet<T>,
-    task: T,
+    queue: &Inlet<Task<N, T>>,
+    task: Task<N, T>,
     bytes: u64,
 ) -> Result<(), ReportFault> {
     match queue.add(rt, task, bytes) {
@@ -145,15 +158,16 @@ fn send<N: SessionName, H: Wait, R: Wait + Drop, W: Write, T: Task<N>>(
                 fault: Fault::Memory,
                 of: PhantomData,
             };
-            send_fault(rt, hall, queues, refused, bytes)
+            send_fault(rt, shared, queues, refused, bytes)
         }
     }
 }
 
-// Puts a fault into the queue of faults. Where memory is refused even there, the reading thread waits until it is written.
+// Puts a fault into the queue of faults. Where memory is refused even there, the reading thread waits until it is
+// written.
 fn send_fault<N: SessionName, H: Wait, R: Wait + Drop, W: Write>(
     rt: &H,
-    hall: &Hall<N, R, W>,
+    shared: &Shared<N, R, W>,
     queues: &Queues<N>,
     task: FaultTask<N>,
     bytes: u64,
@@ -162,8 +176,8 @@ fn send_fault<N: SessionName, H: Wait, R: Wait + Drop, W: Write>(
         Ok(()) => Ok(()),
         Err(Unsent::Left) => Err(ReportFault::Write),
         Err(Unsent::Memory(task)) => {
-            hall.backlog.leave(rt, bytes);
-            hall.tell(rt, &task)
+            shared.backlog.leave(rt, bytes);
+            shared.fault(rt, task.tag(), task.fault)
         }
     }
 }

@@ -6,11 +6,11 @@
 //! # What follows a request
 //!
 //! No clause follows a value through a queue or a lock, so what is to be known stands on types. A task in a queue
-//! (`DeskTask`, `InspectorTask`) knows that a record of the input asks for it; a `Clerk` takes only tasks for its desk,
+//! (`Task`) knows that a record of the input asks for it; a `Clerk` takes only tasks for its desk,
 //! in the order of the records, and knows that it filed just their commands; an `Answer` knows the history and the book
 //! that it is made of. The `Output` under its lock knows that the writer has answers alone, each of a beginning of the
-//! longest history told, but for those that wait. `SessionName` names what was there before: the records to be read,
-//! and what the writer held.
+//! longest history written of, but for those that wait. `SessionName` names what was there before: the records to be
+//! read, and what the writer held.
 //!
 //! # Who waits for whom
 //!
@@ -19,7 +19,7 @@
 //!   thread with a queue of its own tells why.
 //! - A clerk waits for its queue, from which it takes all that wait, in the office for other clerks, and for the
 //!   writer. Where another task waits already, its reply is written with the next one's.
-//! - An inspector waits for its queue, for the lock of the longest history told, under which histories are only
+//! - An inspector waits for its queue, for the lock of the longest history answered, under which histories are only
 //!   compared, and for the writer's lock.
 //!
 //! # Where it stands
@@ -27,13 +27,15 @@
 //! | | definition (`specs/`) | code (`src/`) | proof (`proofs/`) |
 //! |---|---|---|---|
 //! | requests | `Requests`, `Addressees`, `Tag` | `request`, `tag` | |
-//! | questions, the texts that answer them | `Questions` | `question`, `word`, `reading`, `report_text` | `FieldFacts` |
-//! | faults | `Faults` | `fault`, `fault_work`, `session_fault` | |
-//! | reading requests, queues | `Requests` | `intake`, `bounded_reader`, `backlog`, `queue`, `tasks`, `staff` | `IntakeFacts` |
+//! | questions | `Questions` | `question`, `word` | `FieldFacts` |
+//! | the texts that answer them | `Questions` | `reading`, `report_text` | |
+//! | faults | `Faults` | `fault`, `fault_work`, `session_fault`, `stop` | |
+//! | reading requests | `Requests` | `intake`, `bounded_reader` | `IntakeFacts` |
+//! | queues of requests | `Requests`, `Queues` | `backlog`, `queue`, `tasks`, `staff` | |
 //! | clerks | `Filed` | `desk_work` | `FiledFacts` |
-//! | inspectors | `Answers` | `inspector_work`, `observer` | `AskedFacts` |
+//! | inspectors | `Answers` | `inspector_work`, `reporting_inspector` | `AskedFacts` |
 //! | answers, the writer | `Answers`, `Output` | `answers`, `pieces`, `output` | `AnswerFacts`, `PieceFacts` |
-//! | a whole session, and its end | `Closing` | `holding`, `closing`, `hall`, `plan`, `name` | `ClosingFacts` |
+//! | a whole session, and its end | `Closing` | `running`, `closing`, `shared`, `plan`, `name` | `ClosingFacts` |
 #![tactic(auto)]
 
 mod answers;
@@ -43,12 +45,9 @@ mod closing;
 mod desk_work;
 mod fault;
 mod fault_work;
-mod hall;
-mod holding;
 mod inspector_work;
 mod intake;
 mod name;
-mod observer;
 mod output;
 mod pieces;
 mod plan;
@@ -56,9 +55,13 @@ mod question;
 mod queue;
 mod reading;
 mod report_text;
+mod reporting_inspector;
 mod request;
+mod running;
 mod session_fault;
+mod shared;
 mod staff;
+mod stop;
 mod tag;
 mod tasks;
 mod word;
@@ -66,10 +69,10 @@ mod word;
 pub use backlog::MOST_WAITING;
 pub use bounded_reader::LONGEST_RECORD;
 pub use fault::Fault;
-pub use holding::session;
 pub use plan::SessionPlan;
 pub use question::Question;
 pub use report_text::LONGEST_REPORT;
 pub use request::{Asked, Request, request_in};
+pub use running::session;
 pub use session_fault::SessionFault;
 pub use tag::{LONGEST_TAG, Tag};

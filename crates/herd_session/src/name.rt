@@ -5,7 +5,7 @@ use std::marker::Brand;
 /// Which session it is: which office, and where they are known the records to be read, and what the writer held before.
 pub(crate) trait SessionName: OfficeName {
     ghost use Rattle.std.specs.Prelude.{List, Option, ℕ};
-    ghost use Rattle.herd_report.specs.reading.Grammar.{Fields};
+    ghost use Rattle.csv_records.specs.Fields.{Fields};
 
     ghost records: { Option (List Fields) };
 

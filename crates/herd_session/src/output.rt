@@ -2,7 +2,7 @@
 ghost use Rattle.std.specs.Prelude.{◌≡◌, ◌++◌, IfOk, IsOk, OnOk, flat_map, length};
 ghost use Rattle.herd_office.specs.Filing.{EndsWith};
 ghost use Rattle.herd_register.specs.Run.{IsLegal};
-ghost use Rattle.herd_report.specs.writing.Text.{PassesOn};
+ghost use Rattle.herd_text.specs.Text.{PassesOn};
 ghost use Rattle.herd_session.specs.Answers.{IsAnswer, fault_text, reply_text};
 ghost use Rattle.herd_session.specs.Faults.{fault_name};
 ghost use Rattle.herd_session.specs.Output.{HasAnswers};
@@ -10,11 +10,11 @@ ghost use Rattle.herd_session.specs.Requests.{IsTagThere};
 
 use crate::fault::Fault;
 use crate::name::SessionName;
-use crate::observer::Answer;
 use crate::pieces::write_pieces;
-use crate::tasks::DeskTask;
+use crate::reporting_inspector::Answer;
+use crate::tasks::Task;
 use herd_office::{Filed, Slip};
-use herd_register::Reply;
+use herd_register::{Command, Reply};
 use herd_report::ReportFault;
 use itoa::Buffer;
 use std::alloc::Global;
@@ -27,21 +27,21 @@ pub(crate) struct Output<N: SessionName, W: Write> {
     /// Answers that wait to be written by whoever added the last of them.
     pub(crate) waiting: Vec<u8>,
     /// The longest history that an answer was made of.
-    pub(crate) told: Slip<N>,
+    pub(crate) longest_written: Slip<N>,
     pub(crate) has_failed: bool,
-    pub ghost answers: { ∥ HasAnswers N.limits N.records told.history has_failed N.before (W.contents writer)
+    pub ghost answers: { ∥ HasAnswers N.limits N.records longest_written.history has_failed N.before (W.contents writer)
         waiting.items ∥₁ },
 }
 
 impl<N: SessionName, W: Write> Output<N, W> {
     /// A writer to which no answer was written.
-    pub(crate) fn new(alloc: Global, writer: W, told: Slip<N>) -> Output<N, W>
+    pub(crate) fn new(alloc: Global, writer: W, longest_written: Slip<N>) -> Output<N, W>
         requires { N.before ≡ W.contents writer }
     {
         Output {
             writer,
             waiting: Vec::new(alloc),
-            told,
+            longest_written,
             has_failed: false,
         }
     }
@@ -49,12 +49,12 @@ impl<N: SessionName, W: Write> Output<N, W> {
     /// Writes the reply to a task's command, or lets it wait where the desk goes on with another task.
     pub(crate) fn reply(
         &mut self,
-        task: &DeskTask<N>,
+        task: &Task<N, Command>,
         filed: &Filed<N>,
         goes_on: bool,
     ) -> Result<(), ReportFault>
         requires ends { IfOk task.now.wanted
-            (λ command. EndsWith filed.now.slip.history task.now.desk command filed.now.reply) }
+            (λ command. EndsWith filed.now.slip.history task.now.number command filed.now.reply) }
         requires wanted { IsOk task.now.wanted }
         requires serial { filed.now.serial ≡ length filed.now.slip.history }
         requires legal { IsLegal N.limits filed.now.slip.history }
@@ -94,8 +94,8 @@ impl<N: SessionName, W: Write> Output<N, W> {
     {
         let name = name_bytes(&fault);
         let pieces = [tag, b",fault,", name, b"\n"];
-        let told = self.told.again();
-        self.write(&told, &pieces, false)
+        let longest_written = self.longest_written.again();
+        self.write(&longest_written, &pieces, false)
     }
 
     // Writes an answer of a history, in pieces, or lets it wait.
@@ -107,10 +107,10 @@ impl<N: SessionName, W: Write> Output<N, W> {
         let Output {
             writer,
             waiting,
-            told,
+            longest_written,
             has_failed,
         } = self;
-        told.learn(of);
+        longest_written.learn(of);
         if *has_failed {
             return Err(ReportFault::Write);
         }

@@ -1,7 +1,7 @@
 //! Writing answers, of several pieces each.
 ghost use Rattle.std.specs.Prelude.{◌≡◌, ◌++◌, [], List, OnErr, OnOk, false, flat_map, ℕ};
 ghost use Rattle.std.specs.Io.KnownBytes.{Appends, Keeps};
-ghost use Rattle.herd_report.specs.writing.Text.{PassesOn};
+ghost use Rattle.herd_text.specs.Text.{PassesOn};
 
 use herd_report::{ReportFault, write_all};
 use std::alloc::AllocError;
@@ -56,8 +56,11 @@ fn write_apart<W: Write>(
     flush(writer)
 }
 
-// Writes what waits, and flushes.
-fn write_waiting<W: Write>(writer: &mut W, waiting: &mut Vec<u8>) -> Result<(), ReportFault>
+/// Writes what waits, and flushes.
+pub(crate) fn write_waiting<W: Write>(
+    writer: &mut W,
+    waiting: &mut Vec<u8>,
+) -> Result<(), ReportFault>
     ensures ok { OnOk result (Appends (W.contents writer.old) (W.contents writer.new) waiting.old.items) }
     ensures none_waits { OnOk result (waiting.new.items ≡ []) }
     ensures err { OnErr result ((rest : List ℕ)

@@ -2,13 +2,14 @@
 ghost use Rattle.std.specs.Prelude.{◌≡◌, ◌≢◌, ◌<◌, ◌≤◌, IfErr, IfOk, Some, drop, length};
 ghost use Rattle.herd_animal.specs.AnimalNumber.{IsAnimalNumber};
 ghost use Rattle.csv.specs.Records.{fields_of};
-ghost use Rattle.herd_report.specs.reading.Grammar.{field};
+ghost use Rattle.csv_records.specs.Fields.{field};
 ghost use Rattle.herd_session.specs.Questions.{CanBeUnread, IsAskedIn, IsNumberFault, word_in};
 ghost use Rattle.herd_session.specs.declared.word.Word.TheVariants as word;
 
 use crate::fault::Fault;
 use crate::word::Word;
 use csv::ByteRecord;
+use csv_records::field;
 use herd_animal::AnimalNumber;
 use herd_report::LineCause;
 use std::alloc::Global;
@@ -35,6 +36,10 @@ pub enum Question {
     Records,
     /// What the book keeps of one animal.
     Record(AnimalNumber),
+    /// The seal of the book.
+    Seal,
+    /// The certificate of one animal under the seal of the book.
+    Sealed(AnimalNumber),
     /// How many steps the inspector has seen.
     Seen,
 }
@@ -48,9 +53,11 @@ pub(crate) fn question_in(alloc: Global, row: &ByteRecord) -> Result<Question, F
         Some(Word::Inbreeding) => bare(row, Question::Inbreeding),
         Some(Word::Inverse) => bare(row, Question::Inverse),
         Some(Word::Records) => bare(row, Question::Records),
+        Some(Word::Seal) => bare(row, Question::Seal),
         Some(Word::Seen) => bare(row, Question::Seen),
         Some(Word::Coefficient) => Ok(Question::Coefficient(only_number(row)?)),
         Some(Word::Record) => Ok(Question::Record(only_number(row)?)),
+        Some(Word::Sealed) => Ok(Question::Sealed(only_number(row)?)),
         Some(Word::Certificate) => {
             let numbers = numbers_from(alloc, row, 4, LineCause::Animal)?;
             Ok(Question::Certificates(numbers))
@@ -133,11 +140,4 @@ fn number(text: &[u8], cause: LineCause) -> Result<AnimalNumber, Fault>
     ensures none { IfErr result (λ _. IsAnimalNumber text.now → ⊥) }
 {
     AnimalNumber::parse(text).or(Err(Fault::Fields(cause)))
-}
-
-/// The field at a place, and an empty one where the record has fewer.
-pub(crate) fn field(row: &ByteRecord, place: usize) -> &[u8]
-    ensures { result.now ≡ field place (fields_of row.now) }
-{
-    row.get(place).unwrap_or(&[])
 }

@@ -1,5 +1,7 @@
 //! A queue of tasks, from which all that wait are taken at once.
-ghost use Rattle.std.specs.Prelude.{◌≡◌, ◌+◌, ◌-◌, ◌≤◌, ◌^◌, ◌++◌, ◌∷◌, [], length, min, vec_capacity, IfErr, IfOk, OnErr, OnOk};
+ghost use Rattle.std.specs.Prelude.{◌≡◌, ◌+◌, ◌-◌, ◌≤◌, ◌^◌, ◌++◌, ◌∷◌, [], false, length, min, vec_capacity, IfErr};
+ghost use Rattle.std.specs.Prelude.{IfOk, OnErr, OnOk};
+ghost use Rattle.herd_session.specs.Queues.{GivesBack};
 ghost use Rattle.herd_session.specs.declared.queue.TheConstants.{MANY};
 
 use core::mem;
@@ -18,7 +20,7 @@ const PATIENCE: u64 = 2;
 /// The end of a queue to which tasks are added.
 #[derive(Drop)]
 pub(crate) struct Inlet<T: Drop> {
-    shared: Arc<Shared<T>, Global>,
+    queue: Arc<TaskQueue<T>, Global>,
     // The other end is told of each task that finds the queue empty.
     begun: Sender<()>,
 }
@@ -26,7 +28,7 @@ pub(crate) struct Inlet<T: Drop> {
 /// The end of a queue at which tasks are taken.
 #[derive(Drop)]
 pub(crate) struct Outlet<T: Drop> {
-    shared: Arc<Shared<T>, Global>,
+    queue: Arc<TaskQueue<T>, Global>,
     begun: Receiver<()>,
 }
 
@@ -40,7 +42,7 @@ pub(crate) struct Batch<T> {
 
 // What both ends share.
 #[derive(Drop)]
-struct Shared<T> {
+struct TaskQueue<T> {
     waiting: Mutex<Batch<T>>,
     // how often all that waited was taken
     taken: AtomicU64,
@@ -59,21 +61,21 @@ pub(crate) enum Unsent<T> {
 pub(crate) fn queue<T: Drop>(alloc: Global) -> Result<(Inlet<T>, Outlet<T>), AllocError> {
     // A queue begins anew once it was emptied, so that one word at most is on its way.
     let (tell, begun) = bounded(alloc, 2)?;
-    let shared = Shared {
+    let queue = TaskQueue {
         waiting: Mutex::new(Batch::new(alloc)),
         taken: AtomicU64::new(0),
     };
-    let Ok(one) = Arc::new(alloc, shared) else {
+    let Ok(one) = Arc::new(alloc, queue) else {
         return Err(AllocError);
     };
     let other = Arc::try_clone(&one)?;
     Ok((
         Inlet {
-            shared: one,
+            queue: one,
             begun: tell,
         },
         Outlet {
-            shared: other,
+            queue: other,
             begun,
         },
     ))
@@ -100,7 +102,7 @@ impl<T: Drop> Batch<T> {
 
     /// Lets the tasks go, and tells what they count. Room that many took is given back.
     pub(crate) fn empty(&mut self) -> u64
-        ensures told { result ≡ self.old.bytes }
+        ensures counted { result ≡ self.old.bytes }
         ensures bytes { self.new.bytes ≡ 0 }
         ensures tasks { self.new.tasks.items ≡ [] }
         ensures room { vec_capacity self.new.tasks ≤ MANY }
@@ -134,20 +136,22 @@ impl<T: Drop> Batch<T> {
 
 impl<T: Drop> Inlet<T> {
     /// Adds a task that counts so many bytes. Where many wait it gives the other end a little time.
-    pub(crate) fn add<H: Wait>(&self, rt: &H, task: T, bytes: u64) -> Result<(), Unsent<T>> {
-        let mut waiting = self.shared.waiting.lock(rt);
+    pub(crate) fn add<H: Wait>(&self, rt: &H, task: T, bytes: u64) -> Result<(), Unsent<T>>
+        ensures { IfErr result (GivesBack task) }
+    {
+        let mut waiting = self.queue.waiting.lock(rt);
         let count = match waiting.add(task, bytes) {
             Ok(count) => count,
             Err(task) => return Err(Unsent::Memory(task)),
         };
-        let taken = self.shared.taken.load(Ordering::SeqCst);
+        let taken = self.queue.taken.load(Ordering::SeqCst);
         drop(waiting);
         if count == 1 && self.begun.send(rt, ()).is_err() {
             return Err(Unsent::Left);
         }
         if count % MANY == 0 {
             let low = (taken & 0xffff_ffff) as u32;
-            self.shared
+            self.queue
                 .taken
                 .park_timeout(rt, low, Duration::from_millis(PATIENCE));
         }
@@ -157,14 +161,17 @@ impl<T: Drop> Inlet<T> {
 
 impl<T: Drop> Outlet<T> {
     /// Waits for tasks, and takes all that wait into an empty batch. False where none can be added.
-    pub(crate) fn take<H: Wait>(&self, rt: &H, batch: &mut Batch<T>) -> bool {
+    pub(crate) fn take<H: Wait>(&self, rt: &H, batch: &mut Batch<T>) -> bool
+        ensures tasks { result ≡ false → batch.new.tasks.items ≡ batch.old.tasks.items }
+        ensures bytes { result ≡ false → batch.new.bytes ≡ batch.old.bytes }
+    {
         if self.begun.recv(rt).is_err() {
             return false;
         }
-        mem::swap(&mut *self.shared.waiting.lock(rt), batch);
-        self.shared.taken.fetch_add(1, Ordering::SeqCst);
+        mem::swap(&mut *self.queue.waiting.lock(rt), batch);
+        self.queue.taken.fetch_add(1, Ordering::SeqCst);
         if batch.tasks.len() >= MANY {
-            self.shared.taken.wake_one();
+            self.queue.taken.wake_one();
         }
         true
     }

@@ -1,42 +1,86 @@
 //! A frozen book that is kept for the questions to come.
-ghost use Rattle.std.specs.Prelude.{◌≡◌, ◌↔◌, IfErr, IfOk, IsTrue, OnOk};
+ghost use Rattle.std.specs.Prelude.{◌≡◌, ◌↔◌, IfErr, IfOk, IsSome, IsTrue, OnOk, length};
+ghost use Rattle.std.specs.Option.{ForSome};
 ghost use Rattle.std.specs.Io.KnownBytes.{Appends};
 ghost use mathlib.Core.List.{IsPrefix};
 ghost use Rattle.herd_frozen.specs.freezing.Frozen.{IsFrozenFrom};
 ghost use Rattle.herd_frozen.specs.declared.TheConstants.{DEPTH_LIMIT, MOST_ANIMALS};
 ghost use Rattle.herd_advice.specs.BookCoefficients.{AreBookCoefficients};
 ghost use Rattle.herd_register.specs.Run.{commands_of, run_book};
-ghost use Rattle.herd_session.specs.Questions.{CanBeUnanswered, EndsText, text_of};
+ghost use Rattle.herd_session.specs.Questions.{CanBeUnanswered, EndsText, IsReadyFor, text_of};
 
 use crate::fault::Fault;
 use crate::question::Question;
 use crate::report_text::ReportText;
-use herd_advice::{Coefficients, coefficients_plain};
+use herd_advice::{Coefficients, coefficients_of, coefficients_plain};
 use herd_frozen::Frozen;
 use herd_office::{Inspector, OfficeName, Slip};
 use herd_report::{
     NamedAnimalsFault, ReportFault, write_certificates, write_coefficient, write_inbreeding,
-    write_inverse, write_mating, write_records, write_relationships,
+    write_inverse, write_mating, write_records, write_relationships, write_seal, write_sealed,
 };
 use std::alloc::Global;
 use std::io::Write;
 
-/// A frozen book with its coefficients, and the history that it was made of.
+/// A frozen book, and the history that it was made of.
 #[derive(Drop)]
 pub(crate) struct Reading<N: OfficeName> {
     pub(crate) of: Slip<N>,
     frozen: Frozen<Global>,
-    coefficients: Coefficients<Global>,
+    /// The coefficients of all animals, once a question wants them. One that names animals has theirs alone computed.
+    pub(crate) all: Option<Coefficients<Global>>,
     pub ghost book: { ∥ IsFrozenFrom DEPTH_LIMIT MOST_ANIMALS (run_book N.limits (commands_of of.history))
         frozen ∥₁ },
-    pub ghost known: { AreBookCoefficients DEPTH_LIMIT frozen coefficients },
+    pub ghost known: { ForSome all (AreBookCoefficients DEPTH_LIMIT frozen) },
 }
 
 impl<N: OfficeName> Reading<N> {
+    /// With the coefficients of all animals, where a question wants them.
+    pub(crate) fn ready_for(self, alloc: Global, question: &Question) -> Result<Reading<N>, Fault>
+        ensures of { IfOk result (λ reading. reading.of.history ≡ self.of.history) }
+        ensures frozen { IfOk result (λ reading. reading.frozen ≡ self.frozen) }
+        ensures ready { IfOk result (λ reading. IsReadyFor question.now reading.all) }
+    {
+        match question {
+            Question::Inbreeding | Question::Inverse => self.with_all(alloc),
+            _ => Ok(self),
+        }
+    }
+
+    // With the coefficients of all animals.
+    fn with_all(self, alloc: Global) -> Result<Reading<N>, Fault>
+        ensures of { IfOk result (λ reading. reading.of.history ≡ self.of.history) }
+        ensures frozen { IfOk result (λ reading. reading.frozen ≡ self.frozen) }
+        ensures all { IfOk result (λ reading. IsSome reading.all) }
+    {
+        if self.all.is_some() {
+            return Ok(self);
+        }
+        let all = coefficients_plain(alloc, &self.frozen)?;
+        Ok(Reading {
+            of: self.of,
+            frozen: self.frozen,
+            all: Some(all),
+        })
+    }
+
+    // The coefficients of all animals, which were computed.
+    fn all(&self) -> &Coefficients<Global>
+        requires { IsSome self.now.all }
+        ensures { AreBookCoefficients DEPTH_LIMIT self.now.frozen result.now }
+    {
+        match &self.all {
+            Some(all) => all,
+            None => unreachable!(),
+        }
+    }
+
     /// The text that answers a question.
     pub(crate) fn report(&self, alloc: Global, question: &Question) -> Result<Vec<u8>, Fault>
-        ensures text { IfOk result (λ text. text.items ≡ text_of question.now self.now.frozen) }
-        ensures fault { IfErr result (CanBeUnanswered question.now self.now.frozen) }
+        requires { IsReadyFor question.now self.now.all }
+        ensures text { IfOk result (λ text. text.items
+            ≡ text_of question.now (length self.now.of.history) self.now.frozen) }
+        ensures fault { IfErr result (CanBeUnanswered question.now (length self.now.of.history) self.now.frozen) }
     {
         let mut text = ReportText::new(alloc);
         match self.write(alloc, question, &mut text) {
@@ -56,31 +100,42 @@ impl<N: OfficeName> Reading<N> {
         question: &Question,
         writer: &mut W,
     ) -> Result<(), NamedAnimalsFault>
+        requires { IsReadyFor question.now self.now.all }
         ensures ok { OnOk result
-            (Appends (W.contents writer.old) (W.contents writer.new) (text_of question.now self.now.frozen)) }
+            (Appends (W.contents writer.old) (W.contents writer.new)
+            (text_of question.now (length self.now.of.history) self.now.frozen)) }
         ensures err { IfErr result
-            (EndsText question.now self.now.frozen (W.contents writer.old) (W.contents writer.new)) }
+            (EndsText question.now (length self.now.of.history) self.now.frozen
+            (W.contents writer.old) (W.contents writer.new)) }
     {
-        let (frozen, coefficients) = (&self.frozen, &self.coefficients);
+        let frozen = &self.frozen;
         match question {
-            Question::Inbreeding => write_inbreeding(alloc, frozen, coefficients, writer)?,
-            Question::Inverse => write_inverse(alloc, frozen, coefficients, writer)?,
+            Question::Inbreeding => write_inbreeding(alloc, frozen, self.all(), writer)?,
+            Question::Inverse => write_inverse(alloc, frozen, self.all(), writer)?,
             Question::Certificates(numbers) => {
-                write_certificates(alloc, frozen, coefficients, numbers.as_slice(), writer)?
+                let numbers = numbers.as_slice();
+                let known = coefficients_of(alloc, frozen, numbers)?;
+                write_certificates(alloc, frozen, &known, numbers, writer)?
             }
             Question::Mating { dam, sires } => {
-                let sires = sires.as_slice();
-                write_mating(alloc, frozen, coefficients, *dam, sires, writer)?
+                let known = coefficients_of(alloc, frozen, &[*dam])?;
+                write_mating(alloc, frozen, &known, *dam, sires.as_slice(), writer)?
             }
             Question::Relationships(numbers) => {
                 let numbers = numbers.as_slice();
-                write_relationships(alloc, frozen, coefficients, numbers, &[], writer)?
+                let known = coefficients_of(alloc, frozen, numbers)?;
+                write_relationships(alloc, frozen, &known, numbers, &[], writer)?
             }
             Question::Coefficient(number) => {
-                write_coefficient(alloc, frozen, coefficients, *number, writer)?
+                let known = coefficients_of(alloc, frozen, &[*number])?;
+                write_coefficient(alloc, frozen, &known, *number, writer)?
             }
             Question::Records => write_records(alloc, frozen, &[], writer)?,
             Question::Record(number) => write_records(alloc, frozen, &[*number], writer)?,
+            Question::Seal => write_seal(alloc, frozen, self.of.steps(), writer)?,
+            Question::Sealed(number) => {
+                write_sealed(alloc, frozen, self.of.steps(), *number, writer)?
+            }
             Question::Seen => {}
         }
         Ok(())
@@ -113,7 +168,7 @@ pub(crate) fn current<N: OfficeName>(
     frozen_by(alloc, inspector)
 }
 
-// Freezes the book, and computes its coefficients.
+// Freezes the book.
 fn frozen_by<N: OfficeName>(
     alloc: Global,
     inspector: &mut Inspector<N>,
@@ -122,10 +177,9 @@ fn frozen_by<N: OfficeName>(
     ensures seen { IsPrefix inspector.old.history inspector.new.history }
 {
     let frozen = inspector.freeze(alloc)?;
-    let coefficients = coefficients_plain(alloc, &frozen)?;
     Ok(Reading {
         of: inspector.slip(),
         frozen,
-        coefficients,
+        all: None,
     })
 }

@@ -5,9 +5,10 @@ ghost use Rattle.herd_session.specs.Addressees.{IsRequestIn};
 ghost use Rattle.herd_session.specs.Requests.{IsNoNumber, IsNumberOf, command_in};
 
 use crate::fault::Fault;
-use crate::question::{Question, field, question_in};
+use crate::question::{Question, question_in};
 use crate::tag::Tag;
 use csv::ByteRecord;
+use csv_records::field;
 use herd_register::Command;
 use herd_report::command_behind;
 use itoa::Buffer;

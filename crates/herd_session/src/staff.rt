@@ -4,13 +4,15 @@ ghost use Rattle.herd_session.specs.Filed.{HasFiledInTurn};
 
 use crate::desk_work::{Clerk, work_at_desk};
 use crate::fault_work::work_on_faults;
-use crate::hall::Hall;
 use crate::inspector_work::work_as_inspector;
 use crate::name::SessionName;
+use crate::question::Question;
 use crate::queue::{Inlet, Outlet, queue};
-use crate::session_fault::SessionFault;
-use crate::tasks::{DeskTask, FaultTask, InspectorTask};
+use crate::shared::Shared;
+use crate::stop::Stop;
+use crate::tasks::{FaultTask, Task};
 use herd_office::{Desk, Inspector};
+use herd_register::Command;
 use herd_report::ReportFault;
 use std::alloc::Global;
 use std::io::Write;
@@ -27,8 +29,8 @@ pub(crate) struct Staff<N: SessionName> {
 /// The queues of a session, by the places of desks and inspectors, and that of what nobody of them answers.
 #[derive(Drop)]
 pub(crate) struct Queues<N: SessionName> {
-    pub(crate) desks: Vec<Inlet<DeskTask<N>>>,
-    pub(crate) inspectors: Vec<Inlet<InspectorTask<N>>>,
+    pub(crate) desks: Vec<Inlet<Task<N, Command>>>,
+    pub(crate) inspectors: Vec<Inlet<Task<N, Question>>>,
     pub(crate) faults: Inlet<FaultTask<N>>,
 }
 
@@ -48,16 +50,16 @@ pub(crate) fn start_desks<
     scope: &'s Scope<'s, E>,
     rt: &'s H,
     alloc: Global,
-    hall: &'s Hall<N, R, W>,
+    shared: &'s Shared<N, R, W>,
     desks: Vec<Desk<N>>,
     queues: &mut Queues<N>,
-) -> Result<Vec<DeskThread<N>>, SessionFault>
+) -> Result<Vec<DeskThread<N>>, Stop<N>>
     requires { All (λ desk. (desk.answered ≡ 0) × (desk.history ≡ [])) desks.items }
 {
     let mut started = Vec::new(alloc);
     for desk in desks {
         let (inlet, outlet) = queue(alloc)?;
-        started.push(start_desk(scope, rt, alloc, hall, desk, outlet)?)?;
+        started.push(start_desk(scope, rt, alloc, shared, desk, outlet)?)?;
         queues.desks.push(inlet)?;
     }
     Ok(started)
@@ -75,18 +77,18 @@ fn start_desk<
     scope: &'s Scope<'s, E>,
     rt: &'s H,
     alloc: Global,
-    hall: &'s Hall<N, R, W>,
+    shared: &'s Shared<N, R, W>,
     desk: Desk<N>,
-    tasks: Outlet<DeskTask<N>>,
-) -> Result<DeskThread<N>, SessionFault>
+    tasks: Outlet<Task<N, Command>>,
+) -> Result<DeskThread<N>, Stop<N>>
     requires { (desk.answered ≡ 0) × (desk.history ≡ []) }
 {
     let started = scope.spawn(
         move || -> Result<Clerk<N>, ReportFault>
             requires { (desk.answered ≡ 0) × (desk.history ≡ []) }
-        { work_at_desk(rt, alloc, hall, desk, tasks) },
+        { work_at_desk(rt, alloc, shared, desk, tasks) },
     );
-    started.or(Err(SessionFault::NoThread))
+    started.or(Err(Stop::no_thread()))
 }
 
 /// Starts a thread for each inspector.
@@ -101,14 +103,14 @@ pub(crate) fn start_inspectors<
     scope: &'s Scope<'s, E>,
     rt: &'s H,
     alloc: Global,
-    hall: &'s Hall<N, R, W>,
+    shared: &'s Shared<N, R, W>,
     inspectors: Vec<Inspector<N>>,
     queues: &mut Queues<N>,
-) -> Result<Vec<InspectorThread<N>>, SessionFault> {
+) -> Result<Vec<InspectorThread<N>>, Stop<N>> {
     let mut started = Vec::new(alloc);
     for inspector in inspectors {
         let (inlet, outlet) = queue(alloc)?;
-        started.push(start_inspector(scope, rt, alloc, hall, inspector, outlet)?)?;
+        started.push(start_inspector(scope, rt, alloc, shared, inspector, outlet)?)?;
         queues.inspectors.push(inlet)?;
     }
     Ok(started)
@@ -126,12 +128,12 @@ fn start_inspector<
     scope: &'s Scope<'s, E>,
     rt: &'s H,
     alloc: Global,
-    hall: &'s Hall<N, R, W>,
+    shared: &'s Shared<N, R, W>,
     inspector: Inspector<N>,
-    tasks: Outlet<InspectorTask<N>>,
-) -> Result<InspectorThread<N>, SessionFault> {
-    let started = scope.spawn(move || work_as_inspector(rt, alloc, hall, inspector, tasks));
-    started.or(Err(SessionFault::NoThread))
+    tasks: Outlet<Task<N, Question>>,
+) -> Result<InspectorThread<N>, Stop<N>> {
+    let started = scope.spawn(move || work_as_inspector(rt, alloc, shared, inspector, tasks));
+    started.or(Err(Stop::no_thread()))
 }
 
 /// Starts the thread that tells faults.
@@ -146,11 +148,11 @@ pub(crate) fn start_on_faults<
     scope: &'s Scope<'s, E>,
     rt: &'s H,
     alloc: Global,
-    hall: &'s Hall<N, R, W>,
+    shared: &'s Shared<N, R, W>,
     tasks: Outlet<FaultTask<N>>,
-) -> Result<JoinHandle<Result<(), ReportFault>>, SessionFault> {
-    let started = scope.spawn(move || work_on_faults(rt, alloc, hall, tasks));
-    started.or(Err(SessionFault::NoThread))
+) -> Result<JoinHandle<Result<(), ReportFault>>, Stop<N>> {
+    let started = scope.spawn(move || work_on_faults(rt, alloc, shared, tasks));
+    started.or(Err(Stop::no_thread()))
 }
 
 /// Waits for the desks.
@@ -158,7 +160,7 @@ pub(crate) fn join_desks<N: SessionName, H: Threads>(
     rt: &H,
     started: Vec<DeskThread<N>>,
     desks: &mut Vec<Desk<N>>,
-) -> Result<(), SessionFault>
+) -> Result<(), Stop<N>>
     requires { All (λ desk. ∥ HasFiledInTurn N.records desk ∥₁) desks.old.items }
     ensures { OnOk result (All (λ desk. ∥ HasFiledInTurn N.records desk ∥₁) desks.new.items) }
 {
@@ -174,7 +176,7 @@ pub(crate) fn join_inspectors<N: SessionName, H: Threads>(
     rt: &H,
     started: Vec<InspectorThread<N>>,
     inspectors: &mut Vec<Inspector<N>>,
-) -> Result<(), SessionFault> {
+) -> Result<(), Stop<N>> {
     for thread in started {
         inspectors.push(thread.join(rt)?)?;
     }

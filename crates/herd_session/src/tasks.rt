@@ -1,6 +1,6 @@
 //! What stands in the queues.
 ghost use Rattle.std.specs.Prelude.{◌≡◌, ◌-◌, ◌<◌, ◌^◌};
-ghost use Rattle.herd_session.specs.Requests.{IsAskedOfDesk, IsAskedOfInspector, IsTagThere, tag_text};
+ghost use Rattle.herd_session.specs.Requests.{IsAskedOf, IsTagThere, tag_text};
 
 use crate::fault::Fault;
 use crate::name::SessionName;
@@ -9,29 +9,59 @@ use crate::tag::Tag;
 use herd_register::Command;
 use std::marker::PhantomData;
 
-/// What a record asks of a desk, or why it has no command.
+/// What a record may ask for.
+pub(crate) trait Wish: Drop {
+    ghost use Rattle.std.specs.Prelude.{List, Result, ℕ};
+    ghost use Rattle.csv_records.specs.Fields.{Fields};
+    ghost use Rattle.herd_session.specs.declared.fault.Fault.{Fault};
+
+    /// The word for whom the record asks.
+    ghost word: { List ℕ };
+
+    /// It is what the fields ask for, or why they don't.
+    ghost is_wanted: { Fields → Result Self Fault → Type 0 };
+}
+
+impl Wish for Command {
+    ghost use Rattle.std.specs.Prelude.{codes};
+    ghost use Rattle.herd_session.specs.Requests.{IsCommandIn};
+
+    ghost word = { codes "desk" };
+
+    ghost is_wanted = { IsCommandIn };
+}
+
+impl Wish for Question {
+    ghost use Rattle.std.specs.Prelude.{codes};
+    ghost use Rattle.herd_session.specs.Requests.{IsQuestionIn};
+
+    ghost word = { codes "inspector" };
+
+    ghost is_wanted = { IsQuestionIn };
+}
+
+/// What a record asks of a desk or an inspector, or why it doesn't.
 #[derive(Drop)]
-pub(crate) struct DeskTask<N: SessionName> {
+pub(crate) struct Task<N: SessionName, T: Wish> {
     // how many records are before it
     pub(crate) before: u64,
-    pub(crate) desk: usize,
+    // of the desk or the inspector
+    pub(crate) number: usize,
     pub(crate) tag: Tag,
-    pub(crate) wanted: Result<Command, Fault>,
+    pub(crate) wanted: Result<T, Fault>,
     pub(crate) of: PhantomData<N>,
-    pub ghost asked: { ∥ IsAskedOfDesk N.records before desk tag wanted ∥₁ },
+    pub ghost asked: { ∥ IsAskedOf T.word T.is_wanted N.records before number tag wanted ∥₁ },
     pub ghost few: { before < 2 ^ 64 - 1 },
 }
 
-/// What a record asks of an inspector, or why it has no question.
-#[derive(Drop)]
-pub(crate) struct InspectorTask<N: SessionName> {
-    // how many records are before it
-    pub(crate) before: u64,
-    pub(crate) inspector: usize,
-    pub(crate) tag: Tag,
-    pub(crate) wanted: Result<Question, Fault>,
-    pub(crate) of: PhantomData<N>,
-    pub ghost asked: { ∥ IsAskedOfInspector N.records before inspector tag wanted ∥₁ },
+impl<N: SessionName, T: Wish> Task<N, T> {
+    /// The record's tag.
+    pub(crate) fn tag(&self) -> Tag
+        ensures same { result ≡ self.now.tag }
+        ensures there { ∥ IsTagThere N.records result ∥₁ }
+    {
+        self.tag.again()
+    }
 }
 
 /// Why a record isn't answered, for the thread that tells it.
@@ -53,27 +83,5 @@ impl<N: SessionName> FaultTask<N> {
             Some(tag) => tag.text(),
             None => &[],
         }
-    }
-}
-
-/// What a record asks.
-pub(crate) trait Task<N: SessionName>: Drop {
-    ghost use Rattle.std.specs.Prelude.{◌-◌, ◌<◌, ◌^◌};
-    ghost use Rattle.herd_session.specs.Requests.{IsTagThere};
-
-    /// The record's tag.
-    fn tag(&self) -> Tag
-        ensures { ∥ IsTagThere N.records result ∥₁ };
-}
-
-impl<N: SessionName> Task<N> for DeskTask<N> {
-    fn tag(&self) -> Tag {
-        self.tag.again()
-    }
-}
-
-impl<N: SessionName> Task<N> for InspectorTask<N> {
-    fn tag(&self) -> Tag {
-        self.tag.again()
     }
 }

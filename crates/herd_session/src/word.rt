@@ -11,6 +11,8 @@ pub(crate) enum Word {
     Coefficient,
     Records,
     Record,
+    Seal,
+    Sealed,
     Seen,
 }
 
@@ -38,6 +40,10 @@ impl Word {
             Some(Word::Records)
         } else if text == b"record".as_slice() {
             Some(Word::Record)
+        } else if text == b"seal".as_slice() {
+            Some(Word::Seal)
+        } else if text == b"sealed".as_slice() {
+            Some(Word::Sealed)
         } else if text == b"seen".as_slice() {
             Some(Word::Seen)
         } else {

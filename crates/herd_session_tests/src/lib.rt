@@ -1,4 +1,5 @@
-//! Tests of sessions: the answers of one desk, and an input that breaks off.
+//! Tests of sessions: what desks, inspectors and the thread of faults answer, an input that breaks off, and what a
+//! record asks for.
 #![tactic(auto)]
 
 #[cfg(test)]

@@ -5,10 +5,10 @@ use Rattle.herd_register.specs.declared.command.Command.{Command}
 use Rattle.herd_register.specs.Limits.{Limits}
 use Rattle.herd_report.specs.RunFault.{run_fault_of}
 use Rattle.herd_report.specs.reading.CommandFile.{CommandFile, IsRead}
-use Rattle.herd_report.specs.writing.Text.{AppendsFront}
-use Rattle.herd_report.specs.declared.writing.report_fault.ReportFault.{ReportFault}
-use Rattle.herd_report.specs.declared.writing.report_fault.ReportFault.TheVariants as report
-use Rattle.herdbook.specs.Clerks.{CanEndClerks, EndsClerks, IsTold, office_limits, told_of}
+use Rattle.herd_text.specs.Text.{AppendsFront}
+use Rattle.herd_text.specs.declared.report_fault.ReportFault.{ReportFault}
+use Rattle.herd_text.specs.declared.report_fault.ReportFault.TheVariants as report
+use Rattle.herdbook.specs.Clerks.{CanEndClerks, EndsClerks, IsTold, office_limits, fault_of_clerks}
 use Rattle.herdbook.specs.Summary.{EndsTelling, IsSummaryOf, TellsOf, summary_text}
 use Rattle.herdbook.specs.declared.clerk_fault.ClerkFault.{ClerkFault}
 use Rattle.herdbook.specs.declared.clerk_fault.ClerkFault.TheVariants as clerk
@@ -17,13 +17,13 @@ use Rattle.herdbook.specs.declared.request_fault.RequestFault.TheVariants.{Run}
 
 -- before the summary is there nothing is written
 pub ends-unwritten : (limits : Limits) (desks base : ℕ) (file : CommandFile) (old : Option (List ℕ)) (fault : ClerkFault)
-    → file.fault ≡ None → EndsClerks limits desks base file old old (told_of fault)
+    → file.fault ≡ None → EndsClerks limits desks base file old old (fault_of_clerks fault)
 ends-unwritten limits desks base file old clerk.NoThread faultless = (faultless, refl)
 ends-unwritten limits desks base file old clerk.Memory faultless = (faultless, refl)
 ends-unwritten limits desks base file old clerk.NoRoom faultless = (faultless, refl)
 ends-unwritten limits desks base file old clerk.NoReading faultless = (faultless, refl)
 
-pub can-end-unwritten : (fault : ClerkFault) → CanEndClerks (told_of fault)
+pub can-end-unwritten : (fault : ClerkFault) → CanEndClerks (fault_of_clerks fault)
 can-end-unwritten clerk.NoThread = tt
 can-end-unwritten clerk.Memory = tt
 can-end-unwritten clerk.NoRoom = tt

@@ -1,16 +1,17 @@
 -- What the getters of `clap` tell of the words behind `pedigree`.
-use Rattle.std.proofs.Common.{◌≡◌, Bor, List, Result, Err, Ok}
+use Rattle.std.proofs.Common.{List, Result, Err, Ok}
 use Rattle.std.specs.Prelude.{IfErr, IsErrAnd}
 use Rattle.clap.specs.Words.{Row}
 use Rattle.herdbook.specs.PedigreeWords.{IsPedigreeUnread}
 use Rattle.herdbook.specs.Words.{IsUnread}
 use Rattle.herdbook.specs.declared.arguments.WordsFault.{WordsFault}
-use Rattle.herdbook.specs.declared.arguments.WordsFault.TheVariants.{Words, Number, Misplaced}
+use Rattle.herdbook.specs.declared.arguments.WordsFault.TheVariants.{Words, Number, Misplaced, NoSeal}
 
 unread-memory : (rows : List Row) (fault : WordsFault) → IsUnread (λ _. ⊥) fault → IsPedigreeUnread rows fault
 unread-memory rows (Words error) unread = unread
 unread-memory rows (Number cause) unread = absurd unread
 unread-memory rows Misplaced unread = absurd unread
+unread-memory rows NoSeal unread = absurd unread
 
 -- memory that ran out is told
 pub unread : {T : Type 0} (rows : List Row) (result : Result T WordsFault) → IsErrAnd result (IsUnread (λ _. ⊥)) → IfErr result (IsPedigreeUnread rows)

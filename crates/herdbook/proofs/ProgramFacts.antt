@@ -1,6 +1,9 @@
 -- What the program did for its words.
 use Rattle.std.proofs.Common.{◌≡◌, ℕ, List, [], inl, inr, Option, Some, None, Result, Ok, Err, refl}
-use Rattle.std.specs.Prelude.{IfErr, IfSome, OnOk}
+use Rattle.std.specs.Prelude.{Bool, true, false, IfErr, IfOk, IfSome, OnOk}
+use Rattle.herd_seal.specs.Answer.{EndsTelling, IsTold}
+use Rattle.herd_text.specs.declared.report_fault.ReportFault.{ReportFault}
+use Rattle.herdbook.specs.declared.limits.CheckPlan.{CheckPlan}
 use Rattle.clap.specs.Words.{fault_of, subcommand_of}
 use Rattle.herd_pedigree_report.specs.PedigreeReport.{CanEndBy, EndsBy, IsAnswered}
 use Rattle.herd_pedigree_report.specs.declared.pedigree_order.PedigreeOrder.{PedigreeOrder}
@@ -12,16 +15,16 @@ use Rattle.herd_session.specs.declared.plan.SessionPlan.{SessionPlan}
 use Rattle.herd_session.specs.declared.session_fault.SessionFault.{SessionFault}
 use Rattle.herd_session.specs.declared.session_fault.SessionFault.TheVariants.{Line, NoThread, Memory, Write, NoPlace}
 use Rattle.herdbook.specs.CommandLine.{command_line}
-use Rattle.herdbook.specs.Ending.{Explains, end_of_pedigree, end_of_run, end_of_session}
+use Rattle.herdbook.specs.Ending.{Explains, end_of_check, end_of_pedigree, end_of_run, end_of_session}
 use Rattle.herdbook.specs.Program.{CanEnd, CanEndServing, EndsServing, IsEnded, IsServed}
-use Rattle.herdbook.specs.Sessions.{CanEndSession, told_of}
+use Rattle.herdbook.specs.Sessions.{CanEndSession, fault_of_session}
 use Rattle.herdbook.specs.Words.{IsAsked, IsRefused}
 use Rattle.herdbook.specs.declared.arguments.WordsFault.{WordsFault}
 use Rattle.herdbook.specs.declared.arguments.WordsFault.TheVariants as words_fault
 use Rattle.herdbook.specs.declared.ending.Ending.{Ending}
-use Rattle.herdbook.specs.declared.ending.Ending.TheVariants.{Done, Shown, Usage, NotText, Number, Misplaced, Early}
+use Rattle.herdbook.specs.declared.ending.Ending.TheVariants.{Done, Shown, Usage, NotText, Number, Misplaced, NotSeal, Refused, Early}
 use Rattle.herdbook.specs.declared.arguments.Request.{Request}
-use Rattle.herdbook.specs.declared.arguments.Request.TheVariants.{Pedigree, Session}
+use Rattle.herdbook.specs.declared.arguments.Request.TheVariants.{Check, Pedigree, Session}
 use Rattle.herdbook.specs.declared.limits.PedigreePlan.{PedigreePlan}
 use Rattle.herdbook.specs.declared.request_fault.RequestFault.TheVariants.{Run}
 
@@ -52,12 +55,38 @@ ended-words None words old new fault ending refused explained = tt
 ended-words (Some bytes) words old new (words_fault.Words error) Done refused explained = absurd explained
 ended-words (Some bytes) words old new (words_fault.Number cause) Done refused explained = absurd (cc explained)
 ended-words (Some bytes) words old new words_fault.Misplaced Done refused explained = absurd (cc explained)
+ended-words (Some bytes) words old new words_fault.NoSeal Done refused explained = absurd (cc explained)
+ended-words (Some bytes) words old new (words_fault.Words error) Refused refused explained = absurd explained
+ended-words (Some bytes) words old new (words_fault.Number cause) Refused refused explained = absurd (cc explained)
+ended-words (Some bytes) words old new words_fault.Misplaced Refused refused explained = absurd (cc explained)
+ended-words (Some bytes) words old new words_fault.NoSeal Refused refused explained = absurd (cc explained)
 ended-words (Some bytes) words old new fault (Early told) refused explained = inr (record { fault = fault; refused = refused; explained = explained })
 ended-words (Some bytes) words old new fault (Shown text) refused explained = record { fault = fault; refused = refused; explained = explained }
 ended-words (Some bytes) words old new fault (Usage text) refused explained = record { fault = fault; refused = refused; explained = explained }
 ended-words (Some bytes) words old new fault NotText refused explained = record { fault = fault; refused = refused; explained = explained }
 ended-words (Some bytes) words old new fault (Number cause) refused explained = record { fault = fault; refused = refused; explained = explained }
 ended-words (Some bytes) words old new fault Misplaced refused explained = record { fault = fault; refused = refused; explained = explained }
+ended-words (Some bytes) words old new fault NotSeal refused explained = record { fault = fault; refused = refused; explained = explained }
+
+-- a certificate that was checked ends the program
+pub ended-check : (known : Option (List ℕ)) (words : List (List ℕ)) (old new : Option (List ℕ)) (plan : CheckPlan) (result : Result Bool ReportFault)
+    → fault_of command_line words ≡ [] → IsAsked (subcommand_of command_line words) (Check plan)
+    → IfSome known (λ bytes. IfOk result (IsTold plan.seal bytes old new))
+    → IfSome known (λ bytes. IfErr result (EndsTelling plan.seal bytes old new))
+    → IfSome known (λ bytes. IsEnded words bytes old new (end_of_check result))
+ended-check None words old new plan result taken asked ok err = tt
+ended-check (Some bytes) words old new plan (Ok true) taken asked ok err = record { request = Check plan; taken = taken; asked = asked; holds = ok }
+ended-check (Some bytes) words old new plan (Ok false) taken asked ok err = record { request = Check plan; taken = taken; asked = asked; holds = ok }
+ended-check (Some bytes) words old new plan (Err fault) taken asked ok err =
+    inl (record { request = Check plan; taken = taken; asked = asked; holds = record { fault = fault; is = refl; holds = err } })
+
+-- and whatever is read, that end is one that the words leave open
+pub possible-check : (words : List (List ℕ)) (plan : CheckPlan) (result : Result Bool ReportFault)
+    → fault_of command_line words ≡ [] → IsAsked (subcommand_of command_line words) (Check plan) → CanEnd words (end_of_check result)
+possible-check words plan (Ok true) taken asked = record { request = Check plan; taken = taken; asked = asked; holds = tt }
+possible-check words plan (Ok false) taken asked = record { request = Check plan; taken = taken; asked = asked; holds = tt }
+possible-check words plan (Err fault) taken asked =
+    inl (record { request = Check plan; taken = taken; asked = asked; holds = record { fault = fault; is = refl; holds = tt } })
 
 -- an order of a pedigree that was carried out ends the program
 pub ended-pedigree : {T : Type 0} (known : Option (List ℕ)) (words : List (List ℕ)) (old new : Option (List ℕ)) (plan : PedigreePlan) (order : PedigreeOrder) (result : Result T PedigreeReportFault)
@@ -88,10 +117,10 @@ ended-session None words old new plan result taken asked ends = tt
 ended-session (Some bytes) words old new plan (Ok done) taken asked ends =
     record { request = Session plan; taken = taken; asked = asked; holds = ends }
 ended-session (Some bytes) words old new plan (Err fault) taken asked ends =
-    inl (record { request = Session plan; taken = taken; asked = asked; holds = ends })
+    inl (record { request = Session plan; taken = taken; asked = asked; holds = record { cause = fault; is = refl; holds = ends } })
 
 -- each fault of a session is one that it can end by
-can_end : (fault : SessionFault) → CanEndSession (told_of fault)
+can_end : (fault : SessionFault) → CanEndSession (fault_of_session fault)
 can_end (Line fault) = tt
 can_end NoThread = tt
 can_end Memory = tt

@@ -12,9 +12,9 @@ use Rattle.clap.proofs.WalkLemmas.{first_value-rows, raw_values-rows}
 use Rattle.herd_animal.specs.AnimalNumber.{IsAnimalNumber}
 use Rattle.herd_animal.specs.declared.number.NumberFault.{NumberFault}
 use Rattle.herdbook.specs.declared.arguments.WordsFault.{WordsFault}
-use Rattle.herdbook.specs.declared.arguments.WordsFault.TheVariants.{Words, Number, Misplaced}
-use Rattle.herdbook.specs.Words.{Found, IsMisplaced, IsNumberOr, IsRefused, IsUnread, IsUnreadOf, IsWrongNumber, text_of, texts_of}
-use Rattle.herdbook.specs.CommandLine.{certificate_line, clerks_line, command_line, file_line, inbreeding_line, inverse_line, mating_line, pedigree_line, records_line, relationships_line, runs_line, session_line}
+use Rattle.herdbook.specs.declared.arguments.WordsFault.TheVariants.{Words, Number, Misplaced, NoSeal}
+use Rattle.herdbook.specs.Words.{Found, IsMisplaced, IsNoSeal, IsNumberOr, IsRefused, IsUnread, IsUnreadOf, IsWrongNumber, text_of, texts_of}
+use Rattle.herdbook.specs.CommandLine.{certificate_line, check_line, clerks_line, command_line, file_line, inbreeding_line, inverse_line, mating_line, pedigree_line, records_line, relationships_line, runs_line, seal_line, sealed_line, session_line}
 
 text_or : (found : Option (Bor Text)) (other : Bor Text) → other.now ≡ [] → unwrap_or (option_map (λ text. text.now) found) [] ≡ (unwrap_or found other).now
 text_or None other none = sym none
@@ -88,21 +88,23 @@ pub IsUnreadOf-book : (found : Found) (fault : WordsFault) → IsUnread (IsWrong
 IsUnreadOf-book found (Words error) unread = unread
 IsUnreadOf-book found (Number cause) unread = unread
 IsUnreadOf-book found Misplaced unread = absurd unread
+IsUnreadOf-book found NoSeal unread = absurd unread
 
 -- a request that isn't read is refused
 pub IsRefused-unread : (words : List Text) (found : Found) (fault : WordsFault) → found ≡ subcommand_of command_line words → IsUnreadOf found fault → IsRefused words fault
 IsRefused-unread words found (Words error) same unread = inl unread
 IsRefused-unread words found (Number cause) same unread = subst (λ f. IsWrongNumber f cause) same unread
 IsRefused-unread words found Misplaced same unread = subst IsMisplaced same unread
+IsRefused-unread words found NoSeal same unread = subst IsNoSeal same unread
 
 -- the matches of the command line are exact
 pub is_simple-command_line : is_simple command_line ≡ true
-unfolding digits command_line runs_line file_line inverse_line inbreeding_line certificate_line mating_line relationships_line records_line pedigree_line clerks_line session_line
+unfolding digits command_line runs_line file_line inverse_line inbreeding_line certificate_line mating_line relationships_line records_line seal_line sealed_line check_line pedigree_line clerks_line session_line
 is_simple-command_line = refl
 
 -- and so are its faults
 pub is_free-command_line : is_simple_and_free command_line ≡ true
-unfolding digits command_line runs_line file_line inverse_line inbreeding_line certificate_line mating_line relationships_line records_line pedigree_line clerks_line session_line
+unfolding digits command_line runs_line file_line inverse_line inbreeding_line certificate_line mating_line relationships_line records_line seal_line sealed_line check_line pedigree_line clerks_line session_line
 is_free-command_line = refl
 
 pub IfOk-all : {T E : Type 0} (result : Result T E) (P : Type 0) → P → IfOk result (λ _. P)

@@ -9,7 +9,7 @@ use Rattle.herd_office.specs.declared.faults.OpenFault.TheVariants as opening
 use Rattle.herd_office.specs.declared.faults.FreezeFault.{FreezeFault}
 use Rattle.herd_office.specs.declared.faults.FreezeFault.TheVariants as freezing
 use Rattle.herd_report.specs.reading.CommandFile.{CommandFile, IsReadUpTo}
-use Rattle.herd_report.specs.writing.Text.{AppendsFront}
+use Rattle.herd_text.specs.Text.{AppendsFront}
 use Rattle.herd_report.specs.declared.run_fault.RunFault.TheVariants.{Line, NotRegistered, NoThread, Memory, Write}
 use Rattle.herdbook.specs.Summary.{TellsOf}
 use Rattle.herdbook.specs.declared.clerk_fault.ClerkFault.{ClerkFault}
@@ -34,11 +34,11 @@ fault_of_freezing freezing.Memory = clerk.Memory
 fault_of_freezing freezing.NoReading = clerk.NoReading
 
 -- the fault of a request for one of clerks
-abbrev pub told_of : ClerkFault → RequestFault
-told_of clerk.NoThread = Run NoThread
-told_of clerk.Memory = Run Memory
-told_of clerk.NoRoom = NoPlace
-told_of clerk.NoReading = NoPlace
+abbrev pub fault_of_clerks : ClerkFault → RequestFault
+fault_of_clerks clerk.NoThread = Run NoThread
+fault_of_clerks clerk.Memory = Run Memory
+fault_of_clerks clerk.NoRoom = NoPlace
+fault_of_clerks clerk.NoReading = NoPlace
 
 -- the faults that clerks can end by once the commands are filed, before the summary is written
 abbrev pub CanEndClosing : ClerkFault → Type 0

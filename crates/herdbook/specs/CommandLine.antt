@@ -98,6 +98,23 @@ relationships_line = limited (with_rule (with_rule (new_app (codes "relationship
 unfoldable pub records_line : App
 records_line = limited (with_rule (new_app (codes "records")) (any_rule (codes "NUMBER")))
 
+unfoldable pub seal_line : App
+seal_line = limited (new_app (codes "seal"))
+
+-- an argument of one number
+abbrev pub number_rule : Rule
+number_rule = record (new_rule (codes "NUMBER")) { required = true }
+
+unfoldable pub sealed_line : App
+sealed_line = limited (with_rule (new_app (codes "sealed")) number_rule)
+
+-- the seal under which a certificate is checked
+abbrev pub seal_rule : Rule
+seal_rule = record (new_rule (codes "SEAL")) { required = true }
+
+unfoldable pub check_line : App
+check_line = with_rule (new_app (codes "check")) seal_rule
+
 -- which report of a pedigree is asked for
 abbrev pub report_rule : Rule
 report_rule = record (new_rule (codes "REPORT")) { required = true }
@@ -152,10 +169,14 @@ runs_line =
     line_with
     (line_with
     (line_with
+    (line_with
+    (line_with
     (line_with (line_with (line_with (line_with program file_line) inbreeding_line) certificate_line) mating_line)
     inverse_line)
     relationships_line)
-    records_line
+    records_line)
+    seal_line)
+    sealed_line
 
 abbrev pub session_desks_rule : Rule
 session_desks_rule = number_option (codes "desks") 1 MOST_DESKS 4
@@ -167,4 +188,4 @@ unfoldable pub session_line : App
 session_line = limited (with_rule (with_rule (new_app (codes "session")) session_desks_rule) inspectors_rule)
 
 unfoldable pub command_line : App
-command_line = line_with (line_with (line_with runs_line pedigree_line) clerks_line) session_line
+command_line = line_with (line_with (line_with (line_with runs_line check_line) pedigree_line) clerks_line) session_line

@@ -4,6 +4,7 @@ pub mod Deal
 pub mod Ending
 pub mod FaultText
 pub mod Pedigrees
+pub mod Checks
 pub mod PedigreeWords
 pub mod Program
 pub mod Sessions

@@ -7,11 +7,9 @@ use Rattle.herd_frozen.specs.declared.TheConstants.{MOST_ANIMALS}
 use Rattle.herd_pedigree_file.specs.Number.{rank_in}
 use Rattle.herd_pedigree_report.specs.declared.pedigree_order.PedigreeOrder.{PedigreeOrder}
 use Rattle.herd_pedigree_report.specs.declared.pedigree_order.PedigreeOrder.TheVariants.{Inbreeding, Inverse, Relationships}
-use Rattle.herd_pedigree_report.specs.declared.work_plan.WorkPlan.{WorkPlan}
-use Rattle.herd_pool.specs.declared.limits.TheConstants.{DEFAULT_BLOCK, MOST_WORKERS}
-use Rattle.herdbook.specs.Texts.{IsNumberOr, text_of, texts_of}
+use Rattle.herdbook.specs.Texts.{IsNumberOr, IsWorkPlanOf, text_of, texts_of}
 use Rattle.herdbook.specs.declared.arguments.WordsFault.{WordsFault}
-use Rattle.herdbook.specs.declared.arguments.WordsFault.TheVariants.{Words, Number, Misplaced}
+use Rattle.herdbook.specs.declared.arguments.WordsFault.TheVariants.{Words, Number, Misplaced, NoSeal}
 use Rattle.herdbook.specs.declared.limits.PedigreePlan.{PedigreePlan}
 use Rattle.herdbook.specs.declared.limits.TheConstants.{DEFAULT_ANIMALS}
 
@@ -49,16 +47,10 @@ asks_relationships rows =
 abbrev pub named_in : Text → List Row → List (Option ℕ)
 named_in id rows = map (rank_in MOST_ANIMALS) (texts_of id rows)
 
--- how the words share work; the numbers are those of the command line's rules
-abbrev pub IsPlanIn : List Row → WorkPlan → Type 0
-IsPlanIn rows plan =
-    IsNumberOr 1 MOST_WORKERS 1 (one_of (codes "workers") rows) plan.workers
-    × IsNumberOr 1 MOST_ANIMALS DEFAULT_BLOCK (one_of (codes "block") rows) plan.block
-
 -- what is asked of a pedigree
 abbrev pub IsPedigreeOrdered : List Row → PedigreeOrder → Type 0
 IsPedigreeOrdered rows (Inbreeding plan in_units) =
-    (asks_inbreeding rows ≡ true) × IsPlanIn rows plan × (in_units ≡ wants_units rows)
+    (asks_inbreeding rows ≡ true) × IsWorkPlanOf rows plan × (in_units ≡ wants_units rows)
 IsPedigreeOrdered rows Inverse = asks_inverse rows ≡ true
 IsPedigreeOrdered rows (Relationships animals others in_units) =
     (asks_relationships rows ≡ true) × (animals.now ≡ named_in (codes "ANIMAL") rows)
@@ -74,6 +66,7 @@ abbrev pub IsPedigreeUnread : List Row → WordsFault → Type 0
 IsPedigreeUnread rows (Words error) = kind_of error ≡ OutOfMemory
 IsPedigreeUnread rows (Number fault) = ⊥
 IsPedigreeUnread rows Misplaced = AreMisplaced rows
+IsPedigreeUnread rows NoSeal = ⊥
 
 -- how large the pedigree may be
 abbrev pub IsPedigreePlanOf : List Row → PedigreePlan → Type 0

@@ -7,15 +7,15 @@ use Rattle.herdbook.specs.declared.request_fault.RequestFault.{RequestFault}
 use Rattle.herdbook.specs.declared.request_fault.RequestFault.TheVariants.{Run, Pedigree}
 
 -- the fault of a request for one of an order of a pedigree
-abbrev pub told_of_pedigree : PedigreeReportFault → RequestFault
-told_of_pedigree (Record fault) = Pedigree fault
-told_of_pedigree NotRegistered = Run run.NotRegistered
-told_of_pedigree NoThread = Run run.NoThread
-told_of_pedigree Memory = Run run.Memory
-told_of_pedigree Write = Run run.Write
+abbrev pub fault_of_pedigree : PedigreeReportFault → RequestFault
+fault_of_pedigree (Record fault) = Pedigree fault
+fault_of_pedigree NotRegistered = Run run.NotRegistered
+fault_of_pedigree NoThread = Run run.NoThread
+fault_of_pedigree Memory = Run run.Memory
+fault_of_pedigree Write = Run run.Write
 
 -- it is the fault of a request for one of which something holds
 pub record TellsOf (Holds : PedigreeReportFault → Type 0) (told : RequestFault) : Type 0 where
   pub fault : PedigreeReportFault
-  pub is : told ≡ told_of_pedigree fault
+  pub is : told ≡ fault_of_pedigree fault
   pub holds : Holds fault

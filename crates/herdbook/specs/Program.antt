@@ -1,22 +1,24 @@
 -- How the program ends for its words and the bytes of a command file.
-use Rattle.std.specs.Prelude.{◌≡◌, ◌⊎◌, ℕ, List, [], Option, Some}
+use Rattle.std.specs.Prelude.{◌≡◌, ◌⊎◌, ℕ, true, false, List, [], Option, Some}
 use Rattle.clap.specs.Words.{fault_of, subcommand_of}
 use Rattle.herd_report.specs.reading.CommandFile.{commands}
 use Rattle.herd_report.specs.Run.{CanEndBy, CanEndReplying, EndsBy, EndsReplying, IsAnswered, IsReplied}
 use Rattle.herd_pedigree_report.specs.PedigreeReport.{CanEndBy as CanEndPedigreeBy, EndsBy as EndsPedigreeBy, IsAnswered as IsPedigreeAnswered}
-use Rattle.herd_session.specs.Closing.{EndsEarly, IsClosedSession}
+use Rattle.herd_session.specs.Closing.{EndsBy as EndsSessionBy, IsClosedSession}
 use Rattle.herd_session.specs.Requests.{records_in}
+use Rattle.herd_seal.specs.Answer.{EndsTelling, IsTold}
+use Rattle.herdbook.specs.Checks.{TellsOfReport}
 use Rattle.herdbook.specs.Clerks.{CanEndClerks, EndsClerks, IsFiledBy}
 use Rattle.herdbook.specs.CommandLine.{command_line}
 use Rattle.herdbook.specs.Ending.{Explains}
 use Rattle.herdbook.specs.Pedigrees.{TellsOf}
-use Rattle.herdbook.specs.Sessions.{CanEndSession}
+use Rattle.herdbook.specs.Sessions.{CanEndSession, TellsOfSession}
 use Rattle.herdbook.specs.Words.{IsAsked, IsRefused}
 use Rattle.herdbook.specs.declared.arguments.Request.{Request}
 use Rattle.herdbook.specs.declared.arguments.Request.TheVariants as request
 use Rattle.herdbook.specs.declared.arguments.WordsFault.{WordsFault}
 use Rattle.herdbook.specs.declared.ending.Ending.{Ending}
-use Rattle.herdbook.specs.declared.ending.Ending.TheVariants.{Done, Early}
+use Rattle.herdbook.specs.declared.ending.Ending.TheVariants.{Done, Refused, Early}
 use Rattle.herdbook.specs.declared.request_fault.RequestFault.{RequestFault}
 use Rattle.herdbook.specs.declared.request_fault.RequestFault.TheVariants.{Run, Pedigree, NoPlace}
 
@@ -24,11 +26,22 @@ use Rattle.herdbook.specs.declared.request_fault.RequestFault.TheVariants.{Run, 
 abbrev pub IsServed : Request → List ℕ → Option (List ℕ) → Option (List ℕ) → Type 0
 IsServed (request.File book) bytes old new = IsReplied book.limits (commands bytes book.limits.steps) old new
 IsServed (request.Report book order) bytes old new = IsAnswered book.limits order (commands bytes book.limits.steps) old new
+IsServed (request.Check plan) bytes old new = IsTold plan.seal bytes old new true
 IsServed (request.Pedigree plan order) bytes old new = IsPedigreeAnswered plan.animals order bytes old new
 IsServed (request.Clerks book plan) bytes old new =
     IsFiledBy book.limits plan.desks plan.base (commands bytes book.limits.steps) old new
 IsServed (request.Session plan) bytes old new =
     ∥ IsClosedSession plan.limits (records_in (Some bytes)) old new ∥₁
+
+-- a certificate was refused
+abbrev pub IsRefusedBy : Request → List ℕ → Option (List ℕ) → Option (List ℕ) → Type 0
+IsRefusedBy (request.Check plan) bytes old new = IsTold plan.seal bytes old new false
+IsRefusedBy request bytes old new = ⊥
+
+-- and can be
+abbrev pub CanRefuse : Request → Type 0
+CanRefuse (request.Check plan) = Unit {0}
+CanRefuse request = ⊥
 
 -- how it may end early
 abbrev pub EndsServing : Request → List ℕ → Option (List ℕ) → Option (List ℕ) → RequestFault → Type 0
@@ -40,12 +53,13 @@ EndsServing (request.Report book order) bytes old new (Run fault) =
     EndsBy book.limits order (commands bytes book.limits.steps) old new fault
 EndsServing (request.Report book order) bytes old new (Pedigree fault) = ⊥
 EndsServing (request.Report book order) bytes old new NoPlace = ⊥
+EndsServing (request.Check plan) bytes old new fault = TellsOfReport (EndsTelling plan.seal bytes old new) fault
 EndsServing (request.Pedigree plan order) bytes old new fault =
     TellsOf (EndsPedigreeBy plan.animals order bytes old new) fault
 EndsServing (request.Clerks book plan) bytes old new fault =
     EndsClerks book.limits plan.desks plan.base (commands bytes book.limits.steps) old new fault
 EndsServing (request.Session plan) bytes old new fault =
-    ∥ EndsEarly plan.limits (records_in (Some bytes)) old new ∥₁
+    TellsOfSession (λ cause. ∥ EndsSessionBy plan.limits (records_in (Some bytes)) old new cause ∥₁) fault
 
 -- the faults that it can end by, whatever is read
 abbrev pub CanEndServing : Request → RequestFault → Type 0
@@ -55,6 +69,7 @@ CanEndServing (request.File book) NoPlace = ⊥
 CanEndServing (request.Report book order) (Run fault) = CanEndBy order fault
 CanEndServing (request.Report book order) (Pedigree fault) = ⊥
 CanEndServing (request.Report book order) NoPlace = ⊥
+CanEndServing (request.Check plan) fault = TellsOfReport (λ _. Unit {0}) fault
 CanEndServing (request.Pedigree plan order) fault = TellsOf (CanEndPedigreeBy order) fault
 CanEndServing (request.Clerks book plan) fault = CanEndClerks fault
 CanEndServing (request.Session plan) fault = CanEndSession fault
@@ -75,6 +90,7 @@ pub record AsksNothing (words : List (List ℕ)) (ending : Ending) : Type 0 wher
 -- the program did what the words ask for with these bytes, or it ended early, or the words ask for nothing
 abbrev pub IsEnded : List (List ℕ) → List ℕ → Option (List ℕ) → Option (List ℕ) → Ending → Type 0
 IsEnded words bytes old new Done = Asks words (λ request. IsServed request bytes old new)
+IsEnded words bytes old new Refused = Asks words (λ request. IsRefusedBy request bytes old new)
 IsEnded words bytes old new (Early fault) =
     Asks words (λ request. EndsServing request bytes old new fault) ⊎ AsksNothing words (Early fault)
 IsEnded words bytes old new ending = AsksNothing words ending
@@ -82,12 +98,14 @@ IsEnded words bytes old new ending = AsksNothing words ending
 -- only what was asked for, and memory that ran out, leave it open whether anything was written
 abbrev pub IsUntouchedUnlessAsked : Type 0 → Ending → Type 0
 IsUntouchedUnlessAsked Untouched Done = Unit {0}
+IsUntouchedUnlessAsked Untouched Refused = Unit {0}
 IsUntouchedUnlessAsked Untouched (Early fault) = Unit {0}
 IsUntouchedUnlessAsked Untouched ending = Untouched
 
 -- the ends that the words leave open, whatever is read
 abbrev pub CanEnd : List (List ℕ) → Ending → Type 0
 CanEnd words Done = Asks words (λ _. Unit {0})
+CanEnd words Refused = Asks words CanRefuse
 CanEnd words (Early fault) =
     Asks words (λ request. CanEndServing request fault) ⊎ AsksNothing words (Early fault)
 CanEnd words ending = AsksNothing words ending

@@ -7,9 +7,9 @@ use Rattle.herd_register.specs.declared.command.Command.{Command}
 use Rattle.herd_register.specs.Limits.{Limits}
 use Rattle.herd_register.specs.declared.step.Step.{Step}
 use Rattle.herd_office.specs.Histories.{of_desk}
-use Rattle.herd_report.specs.writing.Text.{AppendsFront}
-use Rattle.herd_report.specs.declared.writing.report_fault.ReportFault.{ReportFault}
-use Rattle.herd_report.specs.declared.writing.report_fault.ReportFault.TheVariants.{Memory, Write}
+use Rattle.herd_text.specs.Text.{AppendsFront}
+use Rattle.herd_text.specs.declared.report_fault.ReportFault.{ReportFault}
+use Rattle.herd_text.specs.declared.report_fault.ReportFault.TheVariants.{Memory, Write}
 use Rattle.herdbook.specs.Deal.{commands_at, dealt}
 use Rattle.herdbook.specs.declared.deal.Deal.{Deal}
 use Rattle.herdbook.specs.declared.summary.DeskCount.{DeskCount}

@@ -5,7 +5,7 @@ use Rattle.clap.specs.Words.{Row, Text, all_of, first_of, one_of}
 use Rattle.herd_office.specs.declared.limits.TheConstants.{MOST_DESKS, MOST_INSPECTORS}
 use Rattle.herd_frozen.specs.declared.TheConstants.{MOST_ANIMALS}
 use Rattle.herd_pool.specs.declared.limits.TheConstants.{DEFAULT_BLOCK, MOST_WORKERS}
-use Rattle.herd_report.specs.declared.work_plan.WorkPlan.{WorkPlan}
+use Rattle.herd_pool.specs.declared.work_plan.WorkPlan.{WorkPlan}
 use Rattle.herd_register.specs.declared.limits.TheConstants.{MOST_STEPS}
 use Rattle.herd_register.specs.Limits.{Limits}
 use Rattle.herd_session.specs.declared.plan.SessionPlan.{SessionPlan}

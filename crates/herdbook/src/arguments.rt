@@ -1,26 +1,33 @@
-//! The words of the command line.
+//! What the words of the command line ask for.
 
-ghost use Rattle.std.specs.Prelude.{◌≡◌, ℕ, ◌≤◌, ◌++◌, [], All, IfErr, IfOk, OnOk, decimal, map, string_bytes};
-ghost use Rattle.clap.specs.Words.{App, Rule, app_of, fault_of, found_of, new_app, one_of, rows_of, subcommand_of, subcommand_rows_of, with_rule};
+ghost use Rattle.std.specs.Prelude.{◌≡◌, ◌≤◌, ◌++◌, [], All, IfErr, IfOk, OnOk, codes, map, string_bytes};
+ghost use Rattle.std.specs.Prelude.{Ok};
+ghost use Rattle.hex.specs.Hex.{decode_sized};
+ghost use Rattle.herdbook.specs.declared.arguments.WordsFault.{WordsFault};
+ghost use Rattle.herdbook.specs.Words.{IsSealText};
+ghost use Rattle.clap.specs.Words.{fault_of, found_of, one_of, rows_of, subcommand_of, subcommand_rows_of};
 ghost use Rattle.herd_animal.specs.AnimalNumber.{IsAnimalNumber};
 ghost use Rattle.herd_animal.specs.NumberFault.{IsNumberFault};
-ghost use Rattle.herdbook.specs.CommandLine.{IsArgumentOf, IsCommandOf, animals_rule, any_rule, certificate_line, clerks_line, command_line, dam_rule, file_line, given_option, inbreeding_line, inverse_line, limited, line_with, mating_line, number_option, partners_rule, program, records_line, relationships_line, runs_line, session_line, several_rule};
-ghost use Rattle.herdbook.specs.Words.{AreLimitsOf, IsAsked, IsDeskPlanOf, IsFirstFault, IsNumberOr, IsRefused, IsSessionPlanOf, IsUnread, IsUnreadOf, IsWorkPlanOf, IsWrongNumber, rows_in, text_of, texts_of};
+ghost use Rattle.herdbook.specs.CommandLine.{command_line};
+ghost use Rattle.herdbook.specs.Words.{AreLimitsOf, IsAsked, IsDeskPlanOf, IsFirstFault, IsNumberOr, IsRefused};
+ghost use Rattle.herdbook.specs.Words.{IsSessionPlanOf, IsUnread, IsUnreadOf, IsWorkPlanOf, rows_in};
+ghost use Rattle.herdbook.specs.Words.{text_of, texts_of};
 
+use crate::command_line::command;
 use crate::deal::DeskPlan;
-use crate::help;
-use crate::limits::{BookPlan, DEFAULT_ANIMALS, DEFAULT_STEPS, PedigreePlan};
-use crate::pedigree_words::{pedigree, pedigree_order_of, pedigree_plan_of};
+use crate::limits::{BookPlan, CheckPlan, DEFAULT_ANIMALS, DEFAULT_STEPS, PedigreePlan};
+use crate::pedigree_words::{pedigree_order_of, pedigree_plan_of};
 use crate::subcommand::Subcommand;
-use clap::{Arg, ArgAction, ArgMatches, Command};
+use clap::ArgMatches;
 use herd_animal::{AnimalNumber, NumberFault};
 use herd_frozen::MOST_ANIMALS;
 use herd_office::{MOST_DESKS, MOST_INSPECTORS};
 use herd_pedigree_report::PedigreeOrder;
-use herd_pool::{DEFAULT_BLOCK, MOST_WORKERS};
+use herd_pool::{DEFAULT_BLOCK, MOST_WORKERS, WorkPlan};
 use herd_register::{Limits, MOST_STEPS};
-use herd_report::{Order, WorkPlan};
+use herd_report::Order;
 use herd_session::SessionPlan;
+use hex::FromHex;
 use std::alloc::{AllocError, Global};
 
 /// What the words ask for.
@@ -30,6 +37,8 @@ pub enum Request<'a> {
     File(BookPlan),
     /// What is ordered of the book.
     Report(BookPlan, Order<'a>),
+    /// Whether a certificate holds under a seal.
+    Check(CheckPlan),
     /// What is ordered of a pedigree.
     Pedigree(PedigreePlan, PedigreeOrder<'a>),
     /// The commands are filed at several desks, each with a clerk in a thread of its own.
@@ -47,6 +56,8 @@ pub enum WordsFault {
     Number(NumberFault),
     /// The words behind `pedigree` ask for no report, or have some that don't belong to it.
     Misplaced,
+    /// The word behind `check` isn't 64 hexadecimal digits.
+    NoSeal,
 }
 
 impl From<clap::Error> for WordsFault {
@@ -139,6 +150,12 @@ fn request_of<'a>(
             add_numbers(given, "NUMBER", list)?;
             Ok(Request::Report(book, Order::Records(list.as_slice())))
         }
+        Subcommand::Seal => Ok(Request::Report(book, Order::Seal)),
+        Subcommand::Sealed => {
+            let number = number_argument(given, "NUMBER")?;
+            Ok(Request::Report(book, Order::Sealed(number)))
+        }
+        Subcommand::Check => Ok(Request::Check(check_plan_of(given)?)),
         Subcommand::Pedigree => {
             let order = pedigree_order_of(given, animals, others)?;
             Ok(Request::Pedigree(pedigree_plan_of(given), order))
@@ -148,7 +165,8 @@ fn request_of<'a>(
     }
 }
 
-fn work_plan_of(given: &ArgMatches<'_>) -> WorkPlan
+/// How workers share the coefficients.
+pub(crate) fn work_plan_of(given: &ArgMatches<'_>) -> WorkPlan
     ensures { IsWorkPlanOf (rows_of (found_of given.now)) result }
 {
     WorkPlan {
@@ -236,6 +254,27 @@ fn add_texts(texts: &[&str], list: &mut Vec<AnimalNumber>) -> Result<(), WordsFa
     Ok(())
 }
 
+// The seal under which a certificate is checked.
+fn check_plan_of(given: &ArgMatches<'_>) -> Result<CheckPlan, WordsFault>
+    ensures read { IfOk result (λ plan. decode_sized (text_of (codes "SEAL") (rows_of (found_of given.now))) 32
+        ≡ Ok plan.seal) }
+    ensures fault { IfErr result (λ fault. (fault ≡ WordsFault.NoSeal)
+        × ¬ (IsSealText (text_of (codes "SEAL") (rows_of (found_of given.now))))) }
+{
+    seal_of_text(given.get_str("SEAL").unwrap_or("").as_bytes())
+}
+
+// The seal that a text is.
+fn seal_of_text(text: &[u8]) -> Result<CheckPlan, WordsFault>
+    ensures read { IfOk result (λ plan. decode_sized text.now 32 ≡ Ok plan.seal) }
+    ensures fault { IfErr result (λ fault. (fault ≡ WordsFault.NoSeal) × ¬ (IsSealText text.now)) }
+{
+    match <[u8; 32]>::from_hex(text) {
+        Ok(seal) => Ok(CheckPlan { seal }),
+        Err(_) => Err(WordsFault::NoSeal),
+    }
+}
+
 // The number under an argument that must be there.
 fn number_argument(given: &ArgMatches<'_>, id: &str) -> Result<AnimalNumber, NumberFault>
     ensures read { IfOk result (λ number. text_of id.now (rows_of (found_of given.now)) ≡ number) }
@@ -243,309 +282,4 @@ fn number_argument(given: &ArgMatches<'_>, id: &str) -> Result<AnimalNumber, Num
     ensures fault { IfErr result (IsNumberFault (text_of id.now (rows_of (found_of given.now)))) }
 {
     AnimalNumber::parse(given.get_str(id).unwrap_or("").as_bytes())
-}
-
-fn command<'a>(alloc: Global) -> Result<Command<'a>, AllocError>
-    ensures { IfOk result (λ command. app_of command ≡ command_line) }
-{
-    let lines = with_subcommand(runs(alloc), pedigree(alloc));
-    with_subcommand(with_subcommand(lines, clerks(alloc)), session(alloc))
-}
-
-// The program with the subcommands of one thread that files.
-fn runs<'a>(alloc: Global) -> Result<Command<'a>, AllocError>
-    ensures { IfOk result (IsCommandOf runs_line) }
-{
-    let replies = with_subcommand(Ok(bare_program(alloc)), file(alloc));
-    let lists = with_subcommand(replies, inbreeding(alloc));
-    let certificates = with_subcommand(lists, certificate(alloc));
-    let advice = with_subcommand(certificates, mating(alloc));
-    let inverses = with_subcommand(advice, inverse(alloc));
-    let pairs = with_subcommand(inverses, relationships(alloc));
-    with_subcommand(pairs, records(alloc))
-}
-
-// A command with one subcommand more. Memory that was refused for either is refused.
-fn with_subcommand<'a>(
-    command: Result<Command<'a>, AllocError>,
-    subcommand: Result<Command<'a>, AllocError>,
-) -> Result<Command<'a>, AllocError>
-    ensures { (line part : App) → IfOk command.entry (IsCommandOf line) → IfOk subcommand.entry (IsCommandOf part)
-        → IfOk result (IsCommandOf (line_with line part)) }
-{
-    command?.subcommand(subcommand?)
-}
-
-/// A command with one argument more. Memory that was refused for the command is refused.
-pub(crate) fn with_argument<'a>(
-    command: Result<Command<'a>, AllocError>,
-    argument: Arg<'a>,
-) -> Result<Command<'a>, AllocError>
-    ensures { (line : App) (rule : Rule) → IfOk command.entry (IsCommandOf line) → IsArgumentOf rule argument.entry
-        → IfOk result (IsCommandOf (with_rule line rule)) }
-{
-    command?.arg(argument)
-}
-
-// The program with no subcommand yet.
-fn bare_program<'a>(alloc: Global) -> Command<'a>
-    ensures { IsCommandOf program result }
-{
-    named(
-        alloc,
-        "herdbook",
-        "Reads the herd book of a breed society, and writes what is asked of it",
-        help::PROGRAM,
-    )
-    .version(help::VERSION)
-    .subcommand_required(true)
-}
-
-fn file<'a>(alloc: Global) -> Result<Command<'a>, AllocError>
-    ensures { IfOk result (IsCommandOf file_line) }
-{
-    let bare = named(
-        alloc,
-        "file",
-        "Files the commands and writes one reply for each",
-        help::FILE,
-    );
-    with_limits(alloc, Ok(bare))
-}
-
-fn inverse<'a>(alloc: Global) -> Result<Command<'a>, AllocError>
-    ensures { IfOk result (IsCommandOf inverse_line) }
-{
-    let bare = named(
-        alloc,
-        "inverse",
-        "Writes what each animal adds to the inverse relationship matrix",
-        help::INVERSE,
-    );
-    with_limits(alloc, Ok(bare))
-}
-
-/// A command with no arguments yet: its name, what it does in a line, and the end of its help.
-pub(crate) fn named<'a>(alloc: Global, name: &'a str, about: &'a str, more: &'a str) -> Command<'a>
-    ensures { IsCommandOf (new_app name.entry.now) result }
-{
-    Command::new(alloc, name).about(about).after_help(more)
-}
-
-/// An option of a number from `least` to `most`, with no help yet: its name, and what help calls its number.
-pub(crate) fn given_option<'a>(
-    alloc: Global,
-    name: &'a str,
-    value: &'a str,
-    least: u32,
-    most: u32,
-) -> Arg<'a>
-    ensures { IsArgumentOf (given_option name.entry.now least most) result }
-{
-    Arg::new(alloc, name)
-        .long(name)
-        .value_name(value)
-        .value_parser(clap::value_parser!(u32).range(least as i64..=most as i64))
-}
-
-// The same with the text of the number where it isn't given.
-fn number_option<'a>(
-    alloc: Global,
-    name: &'a str,
-    value: &'a str,
-    least: u32,
-    most: u32,
-    default: &'a str,
-) -> Arg<'a>
-    ensures { (number : ℕ) → default.entry.now ≡ decimal number
-        → IsArgumentOf (number_option name.entry.now least most number) result }
-{
-    given_option(alloc, name, value, least, most).default_value(default)
-}
-
-fn inbreeding<'a>(alloc: Global) -> Result<Command<'a>, AllocError>
-    ensures { IfOk result (IsCommandOf inbreeding_line) }
-{
-    let workers = number_option(alloc, "workers", "N", 1, MOST_WORKERS, "1").help(
-        "How many threads, from 1 to 16",
-    );
-    let block = number_option(alloc, "block", "N", 1, MOST_ANIMALS, "256").help(
-        "Animals in a block, 1 to 16,000,000",
-    );
-    let bare = named(
-        alloc,
-        "inbreeding",
-        "Writes the inbreeding coefficient of each animal, in age order",
-        help::INBREEDING,
-    );
-    with_limits(
-        alloc,
-        with_argument(with_argument(Ok(bare), workers), block),
-    )
-}
-
-fn certificate<'a>(alloc: Global) -> Result<Command<'a>, AllocError>
-    ensures { IfOk result (IsCommandOf certificate_line) }
-{
-    let bare = named(
-        alloc,
-        "certificate",
-        "Writes certificates of animals with their ancestors",
-        help::CERTIFICATE,
-    );
-    let given = with_argument(
-        Ok(bare),
-        several_argument(alloc, "NUMBER", "The numbers of the animals"),
-    );
-    with_limits(alloc, given)
-}
-
-fn mating<'a>(alloc: Global) -> Result<Command<'a>, AllocError>
-    ensures { IfOk result (IsCommandOf mating_line) }
-{
-    let bare = named(
-        alloc,
-        "mating",
-        "Writes the coefficient that a calf would have by each sire",
-        help::MATING,
-    );
-    let given = with_argument(
-        with_argument(Ok(bare), dam_option(alloc)),
-        several_argument(alloc, "SIRE", "The numbers of the sires"),
-    );
-    with_limits(alloc, given)
-}
-
-fn dam_option<'a>(alloc: Global) -> Arg<'a>
-    ensures { IsArgumentOf dam_rule result }
-{
-    Arg::new(alloc, "dam")
-        .long("dam")
-        .value_name("NUMBER")
-        .required(true)
-        .help("The dam's number")
-}
-
-// An argument of at least one number: its name, and its help.
-fn several_argument<'a>(alloc: Global, name: &'a str, help: &'a str) -> Arg<'a>
-    ensures { IsArgumentOf (several_rule name.entry.now) result }
-{
-    any_argument(alloc, name, help).required(true)
-}
-
-/// An argument of some numbers or none: its name, and its help.
-pub(crate) fn any_argument<'a>(alloc: Global, name: &'a str, help: &'a str) -> Arg<'a>
-    ensures { IsArgumentOf (any_rule name.entry.now) result }
-{
-    Arg::new(alloc, name)
-        .action(ArgAction::Append)
-        .num_args(1..)
-        .help(help)
-}
-
-fn relationships<'a>(alloc: Global) -> Result<Command<'a>, AllocError>
-    ensures { IfOk result (IsCommandOf relationships_line) }
-{
-    let bare = named(
-        alloc,
-        "relationships",
-        "Writes the relationship of each two of some animals",
-        help::RELATIONSHIPS,
-    );
-    let given = with_argument(
-        with_argument(
-            Ok(bare),
-            several_argument(alloc, "NUMBER", "The numbers of the animals"),
-        ),
-        with_option(alloc, "NUMBER"),
-    );
-    with_limits(alloc, given)
-}
-
-/// The option of partners: what help calls one of them.
-pub(crate) fn with_option<'a>(alloc: Global, value: &'a str) -> Arg<'a>
-    ensures { IsArgumentOf partners_rule result }
-{
-    Arg::new(alloc, "with")
-        .long("with")
-        .value_name(value)
-        .action(ArgAction::Append)
-        .num_args(1..)
-        .help("Pairs each with these, not with one another")
-}
-
-fn records<'a>(alloc: Global) -> Result<Command<'a>, AllocError>
-    ensures { IfOk result (IsCommandOf records_line) }
-{
-    let bare = named(
-        alloc,
-        "records",
-        "Writes what the book keeps of some animals, or of all",
-        help::RECORDS,
-    );
-    let given = with_argument(
-        Ok(bare),
-        any_argument(alloc, "NUMBER", "The numbers of the animals; all if none"),
-    );
-    with_limits(alloc, given)
-}
-
-fn clerks<'a>(alloc: Global) -> Result<Command<'a>, AllocError>
-    ensures { IfOk result (IsCommandOf clerks_line) }
-{
-    let desks = number_option(alloc, "desks", "K", 1, MOST_DESKS as u32, "2").help(
-        "How many desks, from 1 to 16",
-    );
-    let base = number_option(alloc, "base", "M", 0, MOST_STEPS, "0").help(
-        "Filed first at desk 1, 0 to 200,000,000",
-    );
-    let bare = named(
-        alloc,
-        "clerks",
-        "Files the commands at several desks, each on a thread",
-        help::CLERKS,
-    );
-    with_limits(alloc, with_argument(with_argument(Ok(bare), desks), base))
-}
-
-fn session<'a>(alloc: Global) -> Result<Command<'a>, AllocError>
-    ensures { IfOk result (IsCommandOf session_line) }
-{
-    let desks = number_option(alloc, "desks", "K", 1, MOST_DESKS as u32, "4").help(
-        "How many desks, from 1 to 16",
-    );
-    let inspectors = number_option(alloc, "inspectors", "I", 1, MOST_INSPECTORS as u32, "4").help(
-        "How many inspectors, from 1 to 16",
-    );
-    let bare = named(
-        alloc,
-        "session",
-        "Answers requests at desks and inspectors until the input ends",
-        help::SESSION,
-    );
-    let staff = with_argument(with_argument(Ok(bare), desks), inspectors);
-    with_limits(alloc, staff)
-}
-
-// A command with the options that limit the book and its journal.
-fn with_limits<'a>(
-    alloc: Global,
-    command: Result<Command<'a>, AllocError>,
-) -> Result<Command<'a>, AllocError>
-    ensures { (line : App) → IfOk command.entry (IsCommandOf line)
-        → IfOk result (IsCommandOf (limited line)) }
-{
-    let steps = number_option(alloc, "limit-steps", "N", 1, MOST_STEPS, "1000000").help(
-        "The most steps, 1 to 200,000,000",
-    );
-    with_argument(with_argument(command, animals_option(alloc)), steps)
-}
-
-/// The option that limits how many animals there may be.
-pub(crate) fn animals_option<'a>(alloc: Global) -> Arg<'a>
-    ensures { IsArgumentOf animals_rule result }
-{
-    number_option(alloc, "limit-animals", "N", 1, MOST_ANIMALS, "60000").help(
-        "The most animals, 1 to 16,000,000",
-    )
 }

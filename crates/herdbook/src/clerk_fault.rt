@@ -1,6 +1,6 @@
 //! Why clerks end early.
 ghost use Rattle.std.specs.Prelude.{◌≡◌, ◌≢◌};
-ghost use Rattle.herdbook.specs.Clerks.{fault_of_filing, fault_of_freezing, fault_of_opening, told_of};
+ghost use Rattle.herdbook.specs.Clerks.{fault_of_filing, fault_of_freezing, fault_of_opening, fault_of_clerks};
 ghost use Rattle.herdbook.specs.declared.clerk_fault.ClerkFault.TheVariants.{Memory};
 
 use crate::request_fault::RequestFault;
@@ -38,7 +38,7 @@ impl ClerkFault {
 }
 
 impl From<ClerkFault> for RequestFault {
-    ghost from_gives = { λ fault told. told ≡ told_of fault };
+    ghost from_gives = { λ cause fault. fault ≡ fault_of_clerks cause };
 
     fn from(fault: ClerkFault) -> RequestFault {
         match fault {
@@ -50,7 +50,7 @@ impl From<ClerkFault> for RequestFault {
 }
 
 impl From<AllocError> for ClerkFault {
-    ghost from_gives = { λ _ told. told ≡ Memory };
+    ghost from_gives = { λ _ fault. fault ≡ Memory };
 
     fn from(_refused: AllocError) -> ClerkFault {
         ClerkFault::Memory
@@ -58,7 +58,7 @@ impl From<AllocError> for ClerkFault {
 }
 
 impl<T: Drop> From<AllocFailed<T>> for ClerkFault {
-    ghost from_gives = { λ _ told. told ≡ Memory };
+    ghost from_gives = { λ _ fault. fault ≡ Memory };
 
     fn from(_refused: AllocFailed<T>) -> ClerkFault {
         ClerkFault::Memory
@@ -66,7 +66,7 @@ impl<T: Drop> From<AllocFailed<T>> for ClerkFault {
 }
 
 impl From<OpenFault> for ClerkFault {
-    ghost from_gives = { λ fault told. told ≡ fault_of_opening fault };
+    ghost from_gives = { λ cause fault. fault ≡ fault_of_opening cause };
 
     fn from(fault: OpenFault) -> ClerkFault {
         match fault {
@@ -77,7 +77,7 @@ impl From<OpenFault> for ClerkFault {
 }
 
 impl From<FileFault> for ClerkFault {
-    ghost from_gives = { λ fault told. told ≡ fault_of_filing fault };
+    ghost from_gives = { λ cause fault. fault ≡ fault_of_filing cause };
 
     fn from(fault: FileFault) -> ClerkFault {
         match fault {
@@ -89,7 +89,7 @@ impl From<FileFault> for ClerkFault {
 }
 
 impl From<FreezeFault> for ClerkFault {
-    ghost from_gives = { λ fault told. told ≡ fault_of_freezing fault };
+    ghost from_gives = { λ cause fault. fault ≡ fault_of_freezing cause };
 
     fn from(fault: FreezeFault) -> ClerkFault {
         match fault {

@@ -1,7 +1,8 @@
 //! How the program ends: with which status, and what it tells on standard error.
 
 ghost use Rattle.std.specs.Prelude.{◌≡◌};
-ghost use Rattle.herdbook.specs.Ending.{Explains, end_of_clerks, end_of_pedigree, end_of_run, end_of_session, end_of_shown, end_of_unread, status_of};
+ghost use Rattle.herdbook.specs.Ending.{Explains, end_of_check, end_of_clerks, end_of_pedigree, end_of_run};
+ghost use Rattle.herdbook.specs.Ending.{end_of_session, end_of_shown, end_of_unread, status_of};
 
 use crate::arguments::WordsFault;
 use crate::fault_text::{NumberFaultText, RequestFaultText};
@@ -9,7 +10,7 @@ use crate::request_fault::RequestFault;
 use clap::error::ErrorKind;
 use herd_animal::NumberFault;
 use herd_pedigree_report::PedigreeReportFault;
-use herd_report::RunFault;
+use herd_report::{ReportFault, RunFault};
 use herd_session::SessionFault;
 use std::fmt;
 
@@ -34,6 +35,10 @@ pub enum Ending {
     Number(NumberFault),
     /// The words behind `pedigree` ask for no report, or have some that don't belong to it.
     Misplaced,
+    /// The word behind `check` is no seal.
+    NotSeal,
+    /// The certificate is refused, which is written.
+    Refused,
     /// What was asked for ended early, or the words couldn't be read or answered for want of memory or a failed write.
     Early(RequestFault),
 }
@@ -62,6 +67,7 @@ impl Ending {
             },
             WordsFault::Number(fault) => Ending::Number(fault),
             WordsFault::Misplaced => Ending::Misplaced,
+            WordsFault::NoSeal => Ending::NotSeal,
         }
     }
 
@@ -72,6 +78,17 @@ impl Ending {
         match ended {
             Ok(()) => Ending::Done,
             Err(fault) => Ending::Early(RequestFault::Run(fault)),
+        }
+    }
+
+    /// The end of a check, which accepted the certificate or didn't.
+    pub fn of_check(ended: Result<bool, ReportFault>) -> Ending
+        ensures { result ≡ end_of_check ended }
+    {
+        match ended {
+            Ok(true) => Ending::Done,
+            Ok(false) => Ending::Refused,
+            Err(fault) => Ending::Early(RequestFault::from(fault)),
         }
     }
 
@@ -123,7 +140,9 @@ impl Ending {
         match self {
             Ending::Done | Ending::Shown(_) => 0,
             Ending::Early(_) => 1,
-            Ending::Usage(_) | Ending::NotText | Ending::Number(_) | Ending::Misplaced => 2,
+            Ending::Usage(_) | Ending::NotText | Ending::Number(_) => 2,
+            Ending::Misplaced | Ending::NotSeal => 2,
+            Ending::Refused => 3,
         }
     }
 }
@@ -136,7 +155,7 @@ impl fmt::Display for Ending {
 
     fn fmt<W: fmt::Write>(&self, f: &mut fmt::Formatter<W>) -> fmt::Result {
         match self {
-            Ending::Done | Ending::Shown(_) => Ok(()),
+            Ending::Done | Ending::Shown(_) | Ending::Refused => Ok(()),
             Ending::Usage(error) => write!(f, "{error}"),
             Ending::NotText => f.write_str("herdbook: a word isn't UTF-8 text\n"),
             Ending::Number(fault) => {
@@ -144,6 +163,7 @@ impl fmt::Display for Ending {
                 write!(f, "herdbook: {text}\n")
             }
             Ending::Misplaced => f.write_str(MISPLACED),
+            Ending::NotSeal => f.write_str("herdbook: a seal has 64 hexadecimal digits\n"),
             Ending::Early(fault) => {
                 let text = RequestFaultText(*fault);
                 write!(f, "herdbook: {text}\n")

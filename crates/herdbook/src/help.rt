@@ -6,9 +6,10 @@ pub const VERSION: &str = "0.12.1";
 
 /// The end of the help of the program: what all subcommands read, and the statuses.
 pub const PROGRAM: &str = "\
-All commands read a command file from standard input: a CSV file with the header
-kind,animal,day,sire,dam,from,to or the same with embryo at its end. Begin with
-`file`: all others skip refused commands without a word.
+All but `check`, `pedigree` and `session` read a command file from standard
+input: a CSV file with the header kind,animal,day,sire,dam,from,to or the same
+with embryo at its end. Begin with `file`: all others skip refused commands
+without a word.
 
 Example:
   herdbook file < book.csv
@@ -17,7 +18,8 @@ Status:
   0  done
   1  a record is faulty, an animal isn't in the book, or memory, a thread or a
      write was refused: standard error tells which
-  2  the words aren't a command line, or one is no animal number";
+  2  the words aren't a command line, or one is no animal number or no seal
+  3  a certificate is refused";
 
 /// The end of the help of `file`.
 pub const FILE: &str = "\
@@ -127,6 +129,51 @@ Status:
      memory or a write was refused
   2  the words aren't a command line, or one is no animal number";
 
+/// The end of the help of `seal`.
+pub const SEAL: &str = "\
+Reads a command file from standard input. Writes SEAL,STEPS,ANIMALS: a digest of
+every record and of the number of commands, as 64 hexadecimal digits, and these
+numbers. Publish the line: who has it can check certificates of `sealed`.
+
+Example:
+  herdbook seal < book.csv
+
+Status:
+  0  the seal is written
+  1  a record is faulty (nothing is written), or memory or a write was refused
+  2  the words aren't a command line";
+
+/// The end of the help of `sealed`.
+pub const SEALED: &str = "\
+Reads a command file from standard input. Writes a certificate of the animal:
+  herdbook-certificate-1,SEAL,STEPS,ANIMALS,PLACE,NUMBER,COEFFICIENT,PERCENT
+then PLACE,SIREPLACE,DAMPLACE and the record, for it and each known ancestor, by
+ascending places, and then the digests that stand for all other animals.
+
+Example:
+  herdbook sealed HOLGBRM000000000001 < book.csv
+
+Status:
+  0  the certificate is written
+  1  the animal isn't in the book or a record is faulty (nothing is written), or
+     memory or a write was refused
+  2  the words aren't a command line, or NUMBER is no animal number";
+
+/// The end of the help of `check`.
+pub const CHECK: &str = "\
+Reads a certificate of `sealed` from standard input, and checks it under SEAL.
+Writes accepted,NUMBER,COEFFICIENT,PERCENT,STEPS,ANIMALS and then the record of
+the animal and of each known ancestor, or refused,FAULT,LINE.
+
+Example:
+  herdbook check SEAL < certificate.txt
+
+Status:
+  0  the certificate is accepted
+  1  memory or a write was refused
+  2  the words aren't a command line, or SEAL isn't 64 hexadecimal digits
+  3  the certificate is refused";
+
 /// The end of the help of `pedigree`.
 pub const PEDIGREE: &str = "\
 Reads a pedigree from standard input: CSV with the header sire,dam, in which the
@@ -169,8 +216,8 @@ Status:
 pub const SESSION: &str = "\
 Reads requests from standard input, one a line, and answers each at once:
   TAG,desk,K,birth,ANIMAL,DAY,SIRE,DAM,,HERD,EMBRYO (and the other commands)
-  TAG,inspector,J,inbreeding (or inverse, records, seen, or with numbers behind
-  commas certificate, coefficient, mating, record, relationships)
+  TAG,inspector,J,inbreeding (or inverse, records, seal, seen, or with numbers
+  behind commas certificate, coefficient, mating, record, relationships, sealed)
 The answers are TAG,SERIAL,accepted or TAG,SERIAL,refused,NUMBER, a report's
 lines behind TAG and then TAG,end,STEPS, or TAG,fault,NAME. A question sees each
 command that was answered before it. The last line is closed,STEPS,ANIMALS.

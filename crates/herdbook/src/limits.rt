@@ -17,6 +17,12 @@ pub struct BookPlan {
     pub limits: Limits,
 }
 
+/// The seal under which a certificate is checked.
+#[derive(Clone, Copy)]
+pub struct CheckPlan {
+    pub seal: [u8; 32],
+}
+
 /// What the words say of a pedigree.
 #[derive(Clone, Copy)]
 pub struct PedigreePlan {

@@ -2,18 +2,22 @@
 //!
 //! The words of the command line are read first. They ask for help or the version, for the replies to a command file or
 //! an order of its book, which `herd_report` carries out; for a report of a pedigree, which `herd_pedigree_report`
-//! writes; for `clerks`: the commands of a file, filed at the desks of
-//! an office by clerks side by side; or for a session, which `herd_session` holds. How the program ends is a value,
-//! made from what was asked and what came of it (`Ending`); only `main` prints it, or tells it on standard error.
+//! writes; for the check of a certificate, which `herd_seal` makes; for `clerks`: the commands of a file, filed at the
+//! desks of an office by clerks side by side; or for a session, which `herd_session` holds. How the program ends is a
+//! value, made from what was asked and what came of it (`Ending`); only `main` prints it, or tells it on standard
+//! error.
 //!
 //! | | definition (`specs/`) | code (`src/`) | proof (`proofs/`) |
 //! |---|---|---|---|
-//! | the words, what they ask for | `CommandLine`, `Subcommand`, `Texts`, `Words` | `arguments`, `subcommand` | `CommandFacts`, `WordsFacts` |
+//! | the command line | `CommandLine`, `Subcommand` | `command_line`, `subcommand` | `CommandFacts` |
+//! | what its words ask for | `Texts`, `Words` | `arguments` | `WordsFacts` |
 //! | the limits where the words don't say them | | `limits` | |
 //! | the texts of help and of the version | | `help` | |
 //! | what the program does for its words | `Program` | `program` | `ProgramFacts` |
 //! | how it ends, what is told on standard error | `Ending`, `FaultText` | `ending`, `request_fault`, `fault_text` | |
-//! | the words behind `pedigree`, how its reports end | `PedigreeWords`, `Pedigrees` | `pedigree_words` | `PedigreeFacts` |
+//! | the words behind `pedigree` | `PedigreeWords` | `pedigree_words` | `PedigreeFacts` |
+//! | how its reports end | `Pedigrees` | | `PedigreeFacts` |
+//! | how a check of a certificate ends | `Checks` | `ending` | `ProgramFacts` |
 //! | clerks, their threads, one at a desk | `Clerks`, `Deal` | `desks`, `crew`, `clerk` | `DealFacts`, `SummaryFacts` |
 //! | the desk of each command, a desk's turn | `Deal` | `deal` | `DealFacts`, `Lists` |
 //! | how clerks end early | `Clerks` | `clerk_fault` | `ClerksFacts` |
@@ -24,6 +28,7 @@
 mod arguments;
 mod clerk;
 mod clerk_fault;
+mod command_line;
 mod crew;
 mod deal;
 mod desks;

@@ -1,25 +1,21 @@
 //! The words behind `pedigree`: how they are read, and which report they ask for.
 
-ghost use Rattle.std.specs.Prelude.{◌≡◌, ◌≤◌, ◌++◌, IfErr, IfOk, OnOk, map};
+ghost use Rattle.std.specs.Prelude.{◌≡◌, ◌++◌, IfErr, IfOk, OnOk, map};
 ghost use Rattle.clap.specs.Words.{found_of, rows_of};
 ghost use Rattle.herd_frozen.specs.declared.TheConstants.{MOST_ANIMALS};
 ghost use Rattle.herd_pedigree_file.specs.Number.{rank_in};
-ghost use Rattle.herdbook.specs.CommandLine.{IsArgumentOf, IsCommandOf, pedigree_line, report_rule, units_rule};
-ghost use Rattle.herdbook.specs.PedigreeWords.{IsPedigreeOrdered, IsPedigreePlanOf, IsPedigreeUnread, IsPlanIn, asks_inbreeding, asks_inverse, asks_relationships, has_plan, is_given, names_animals, says};
+ghost use Rattle.herdbook.specs.PedigreeWords.{IsPedigreeOrdered, IsPedigreePlanOf, IsPedigreeUnread};
+ghost use Rattle.herdbook.specs.PedigreeWords.{asks_inbreeding, asks_inverse, asks_relationships, has_plan, is_given};
+ghost use Rattle.herdbook.specs.PedigreeWords.{names_animals, says};
 ghost use Rattle.herdbook.specs.Words.{texts_of};
 
-use crate::arguments::{
-    WordsFault, animals_option, any_argument, given_option, named, option_or, with_argument,
-    with_option,
-};
-use crate::help;
+use crate::arguments::{WordsFault, option_or, work_plan_of};
 use crate::limits::{DEFAULT_ANIMALS, PedigreePlan};
-use clap::{Arg, ArgAction, ArgMatches, Command};
+use clap::ArgMatches;
 use herd_frozen::MOST_ANIMALS;
 use herd_pedigree_file::rank_in;
-use herd_pedigree_report::{PedigreeOrder, WorkPlan};
-use herd_pool::{DEFAULT_BLOCK, MOST_WORKERS};
-use std::alloc::{AllocError, Global};
+use herd_pedigree_report::PedigreeOrder;
+use std::alloc::AllocError;
 
 /// What the words ask of a pedigree. The lists are given for the animals that the order then lends; what they held is
 /// let go.
@@ -33,7 +29,7 @@ pub(crate) fn pedigree_order_of<'a>(
 {
     let in_units = says(given, "units", "true");
     if asks_inbreeding(given) {
-        let plan = plan_in(given);
+        let plan = work_plan_of(given);
         return Ok(PedigreeOrder::Inbreeding { plan, in_units });
     }
     if asks_inverse(given) {
@@ -49,15 +45,6 @@ pub(crate) fn pedigree_order_of<'a>(
         others: others.as_slice(),
         in_units,
     })
-}
-
-fn plan_in(given: &ArgMatches<'_>) -> WorkPlan
-    ensures { IsPlanIn (rows_of (found_of given.now)) result }
-{
-    WorkPlan {
-        workers: option_or(given, "workers", 1, MOST_WORKERS, 1),
-        block: option_or(given, "block", 1, MOST_ANIMALS, DEFAULT_BLOCK),
-    }
 }
 
 /// How large the pedigree may be.
@@ -137,47 +124,4 @@ fn add_animals(texts: &[&str], list: &mut Vec<Option<u32>>) -> Result<(), AllocE
         list.push(rank_in(text.as_bytes(), MOST_ANIMALS))?;
     }
     Ok(())
-}
-
-/// The subcommand.
-pub(crate) fn pedigree<'a>(alloc: Global) -> Result<Command<'a>, AllocError>
-    ensures { IfOk result (IsCommandOf pedigree_line) }
-{
-    let bare = named(
-        alloc,
-        "pedigree",
-        "Writes a report of any pedigree, given by its animals' parents",
-        help::PEDIGREE,
-    );
-    let animals = any_argument(alloc, "ANIMAL", "The numbers of the animals");
-    let given = with_argument(with_argument(Ok(bare), report_argument(alloc)), animals);
-    let pairs = with_argument(given, with_option(alloc, "ANIMAL"));
-    let workers = given_option(alloc, "workers", "N", 1, MOST_WORKERS).help(
-        "How many threads, from 1 to 16; 1 if none",
-    );
-    let block = given_option(alloc, "block", "N", 1, MOST_ANIMALS).help(
-        "Animals in a block; 256 if none",
-    );
-    let plan = with_argument(with_argument(pairs, workers), block);
-    with_argument(
-        with_argument(plan, units_option(alloc)),
-        animals_option(alloc),
-    )
-}
-
-fn report_argument<'a>(alloc: Global) -> Arg<'a>
-    ensures { IsArgumentOf report_rule result }
-{
-    Arg::new(alloc, "REPORT")
-        .required(true)
-        .help("inbreeding, inverse or relationships")
-}
-
-fn units_option<'a>(alloc: Global) -> Arg<'a>
-    ensures { IsArgumentOf units_rule result }
-{
-    Arg::new(alloc, "units")
-        .long("units")
-        .action(ArgAction::SetTrue)
-        .help("Whole numbers of units of 2^-120")
 }

@@ -8,6 +8,7 @@ use crate::desks::clerks;
 use crate::ending::Ending;
 use herd_pedigree_report::answer_pedigree;
 use herd_report::{answer_file, run};
+use herd_seal::answer_certificate;
 use herd_session::session;
 use std::alloc::Global;
 use std::io::{Read, Write};
@@ -36,6 +37,9 @@ pub fn carry_out<H: Threads + Wait + Sync, R: Read + Drop, W: Write + Send + Dro
         Ok(Request::File(book)) => Ending::of_run(answer_file(alloc, book.limits, reader, writer)),
         Ok(Request::Report(book, order)) => {
             Ending::of_run(run(rt, alloc, book.limits, &order, reader, writer))
+        }
+        Ok(Request::Check(plan)) => {
+            Ending::of_check(answer_certificate(alloc, &plan.seal, reader, writer))
         }
         Ok(Request::Pedigree(plan, order)) => {
             Ending::of_pedigree(answer_pedigree(rt, alloc, plan.animals, &order, reader, writer))

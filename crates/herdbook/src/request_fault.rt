@@ -22,7 +22,7 @@ pub enum RequestFault {
 impl From<LineFault> for RequestFault {
     ghost use Rattle.herd_report.specs.declared.run_fault.RunFault.TheVariants.{Line};
 
-    ghost from_gives = { λ fault told. told ≡ Run (Line fault) };
+    ghost from_gives = { λ cause fault. fault ≡ Run (Line cause) };
 
     fn from(fault: LineFault) -> RequestFault {
         RequestFault::Run(RunFault::Line(fault))
@@ -32,7 +32,7 @@ impl From<LineFault> for RequestFault {
 impl From<ReportFault> for RequestFault {
     ghost use Rattle.herd_report.specs.RunFault.{run_fault_of};
 
-    ghost from_gives = { λ fault told. told ≡ Run (run_fault_of fault) };
+    ghost from_gives = { λ cause fault. fault ≡ Run (run_fault_of cause) };
 
     fn from(fault: ReportFault) -> RequestFault {
         RequestFault::Run(RunFault::from(fault))
@@ -40,9 +40,9 @@ impl From<ReportFault> for RequestFault {
 }
 
 impl From<PedigreeReportFault> for RequestFault {
-    ghost use Rattle.herdbook.specs.Pedigrees.{told_of_pedigree};
+    ghost use Rattle.herdbook.specs.Pedigrees.{fault_of_pedigree};
 
-    ghost from_gives = { λ fault told. told ≡ told_of_pedigree fault };
+    ghost from_gives = { λ cause fault. fault ≡ fault_of_pedigree cause };
 
     fn from(fault: PedigreeReportFault) -> RequestFault {
         match fault {
@@ -56,9 +56,9 @@ impl From<PedigreeReportFault> for RequestFault {
 }
 
 impl From<SessionFault> for RequestFault {
-    ghost use Rattle.herdbook.specs.Sessions.{told_of};
+    ghost use Rattle.herdbook.specs.Sessions.{fault_of_session};
 
-    ghost from_gives = { λ fault told. told ≡ told_of fault };
+    ghost from_gives = { λ cause fault. fault ≡ fault_of_session cause };
 
     fn from(fault: SessionFault) -> RequestFault {
         match fault {

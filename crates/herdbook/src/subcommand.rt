@@ -10,6 +10,9 @@ pub enum Subcommand {
     Inverse,
     Relationships,
     Records,
+    Seal,
+    Sealed,
+    Check,
     Pedigree,
     Clerks,
     Session,
@@ -36,6 +39,12 @@ impl Subcommand {
             Subcommand::Relationships
         } else if name == b"records".as_slice() {
             Subcommand::Records
+        } else if name == b"seal".as_slice() {
+            Subcommand::Seal
+        } else if name == b"sealed".as_slice() {
+            Subcommand::Sealed
+        } else if name == b"check".as_slice() {
+            Subcommand::Check
         } else if name == b"pedigree".as_slice() {
             Subcommand::Pedigree
         } else if name == b"clerks".as_slice() {

@@ -1,7 +1,7 @@
 //! Calls that are to be refused memory or a thread from outside, each growth in turn (`tests/outside/`): reading a
 //! command file and a pedigree file, opening an office, filing in it and freezing its book, and computing coefficients
-//! with two workers. A call that is refused tells it in a line, and is made again; so a run that meets one refusal prints
-//! one fault more. The workers come last: how many growths there are from them on differs from run to run.
+//! with two workers. A call that is refused tells it in a line, and is made again; so a run that meets one refusal
+//! prints one fault more. The workers come last: how many growths there are from them on differs from run to run.
 #![tactic(auto)]
 
 mod founder;

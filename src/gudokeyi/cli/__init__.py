@@ -1,7 +1,8 @@
-"""The command line. Some of its words read or write the book by several threads; others wait for nothing that these need."""
+"""The command line. Some of its words read or write the book by several threads; others wait for nothing that these
+need."""
 import sys
 
-SEVERAL = {"mating", "import", "take", "birth", "parents", "transfer", "exit", "undo", "restore", "open", "serve"}
+SEVERAL = {"mating", "import", "take", "file", "birth", "parents", "transfer", "exit", "undo", "restore", "open", "serve"}
 
 if SEVERAL.intersection(sys.argv[1:2]):
     from gudokeyi.process import without_statistics

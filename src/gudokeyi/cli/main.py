@@ -9,14 +9,17 @@ from typing import NoReturn, TextIO, cast
 
 from gudokeyi.cli.output import Harmless
 from gudokeyi.cli.parser import joined
+from gudokeyi.cli.statuses import Status, status_of
 from gudokeyi.cli.words import words_for
 from gudokeyi.domain.messages import Mistake
+from gudokeyi.domain.mistakes import WrongWords
 from gudokeyi.process import end, is_for_one_change, with_cells_of_any_length, with_short_turns
 
 
 def main(words: list[str]) -> int:
     # most of what a call makes is needed to its end, so looking for what isn't comes rarely
     gc.set_threshold(500_000)
+    status = Status.NOT_DONE
     with_short_turns()
     with_cells_of_any_length()
     is_for_one_change()
@@ -32,7 +35,7 @@ def main(words: list[str]) -> int:
         sys.stdout.flush()
         return int(asked.status)
     except Mistake as mistake:
-        sentences = mistake.sentences
+        status, sentences = status_of(mistake), mistake.sentences
     except BrokenPipeError:
         # whoever read the output has enough of it, which is no mistake; what is left of it goes nowhere
         os.dup2(os.open(os.devnull, os.O_WRONLY), sys.stdout.fileno())
@@ -49,7 +52,7 @@ def main(words: list[str]) -> int:
         )
     for sentence in sentences:
         print(f"gudokeyi: {sentence}", file=sys.stderr)
-    return 1
+    return status
 
 
 def only_text(words: list[str]) -> None:
@@ -57,7 +60,7 @@ def only_text(words: list[str]) -> None:
     the bytes that aren't."""
     for word in words:
         if not word.isascii() and any("\ud800" <= character <= "\udfff" for character in word):
-            raise Mistake(f"{word} isn't UTF-8 text: write it otherwise, or rename the file or folder that it names")
+            raise WrongWords(f"{word} isn't UTF-8 text: write it otherwise, or rename the file or folder that it names")
 
 
 def run() -> NoReturn:

@@ -9,14 +9,14 @@ from collections.abc import Callable
 from typing import TYPE_CHECKING, NoReturn
 
 import gudokeyi
-from gudokeyi.cli.output import tell
-from gudokeyi.domain.messages import Mistake
+from gudokeyi.cli.output import give_json, tell
+from gudokeyi.cli.statuses import ABOUT as STATUSES, Status
+from gudokeyi.domain.mistakes import WrongWords
 from gudokeyi.domain.spelling import closest
-from gudokeyi.services.book_program import BookProgram
-from gudokeyi.services.opening import opened
 
 if TYPE_CHECKING:
     from gudokeyi.packages import Group
+    from gudokeyi.services.book_program import BookProgram
     from gudokeyi.services.opening import Book
 
 # What is told where the words of a call can't be read: argparse's messages in plain sentences.
@@ -67,14 +67,15 @@ EXAMPLES = """examples:
   {called} show HA-17/3                       its record, relatives and history
   {called} certificate HA-17/3                a page for the printer
   {called} mating --dam HA-17/3               each living male, the least related first
-  {called} import --pedigree triples.txt      from `id sire dam`, for geneticists
-  {called} inverse --matrix-market inverse.mtx
+  {called} inbreeding triples.txt             of lines `id sire dam`, for geneticists, without a book
+  {called} inverse triples.txt --out inverse.mtx
 
-The status is 0 where it is done, and 1 after a mistake; nothing is written then. It is 3 where `mating` is asked for
-sires by name and each of them is refused."""
+{statuses}"""
 
 # what a word does, given its options
 Does = Callable[[argparse.Namespace], None]
+# what it answers, which is written as JSON
+Answers = Callable[[argparse.Namespace, "Book", "BookProgram"], object]
 
 
 class Parser(argparse.ArgumentParser):
@@ -86,10 +87,15 @@ class Parser(argparse.ArgumentParser):
             self.error(f"unrecognized arguments: {' '.join(unknown)}")
         return asked
 
-    def error(self, message: str) -> NoReturn:
+    def _get_values(self, action: argparse.Action, arg_strings: list[str]) -> object:
+        # argparse takes `--` out, also as in `--seal=--`, and hands on an empty list
+        if action.option_strings and action.nargs is None and arg_strings == ["--"]:
+            self.error(f"argument {'/'.join(action.option_strings)}: expected one argument")
+        return super()._get_values(action, arg_strings)
 
+    def error(self, message: str) -> NoReturn:
         told = plainly(message)
-        raise Mistake(f"{told}{'' if told[-1] == '?' else ':'} `{self.prog} --help` shows what can be written")
+        raise WrongWords(f"{told}{'' if told[-1] == '?' else ':'} `{self.prog} --help` shows what can be written")
 
 
 class Version(argparse.Action):
@@ -104,52 +110,75 @@ class CommandWords:
     """The words of the command line. Each family adds its own."""
 
     def __init__(self, called: str) -> None:
-        as_written, shown = argparse.RawDescriptionHelpFormatter, EXAMPLES.format(called=called)
+        as_written, shown = argparse.RawDescriptionHelpFormatter, EXAMPLES.format(called=called, statuses=STATUSES)
         self.parser = Parser(prog=called, description=ABOUT, epilog=shown, formatter_class=as_written)
         self.parser.add_argument("--version", action=Version, nargs=0, help="write the version, and nothing else")
         self.words = self.parser.add_subparsers(dest="word", metavar="WORD", required=True)
 
+    def add_without_book(self, name: str, does: Does, help: str, more: str = "") -> Parser:
+        """A word; `does` is called with its options."""
+        one: Parser = self.words.add_parser(name, help=help, description=f"{help[0].upper()}{help[1:]}. {more}".strip(), epilog=STATUSES)
+        one.set_defaults(does=does, status=Status.DONE)
+        return one
+
     def add(self, name: str, does: Does, help: str, more: str = "") -> Parser:
-        """A word with the option `--book`; `does` is called with its options."""
-        one: Parser = self.words.add_parser(name, help=help, description=f"{help[0].upper()}{help[1:]}. {more}".strip())
+        """The same with the option `--book`."""
+        one = self.add_without_book(name, does, help, more)
         one.add_argument(
             "--book", type=pathlib.Path, default=pathlib.Path("book"), metavar="FOLDER",
             help="the book's folder [book]",
         )  # fmt: skip
-        one.set_defaults(does=does, status=0)
         return one
 
     def add_for_book(
         self, name: str, does: Callable[[argparse.Namespace, Book, BookProgram], None], help: str, more: str = "",
-        group: Group | None = None, shows: bool = True,
+        group: Group | None = None, shows: bool = True, answers: Answers | None = None,
     ) -> Parser:  # fmt: skip
-        """A word for a book that is there, with the packages that it needs. Behind what it does is told that the book
-        isn't whole, where it shows something of it, and the book's notes."""
+        """A word for a book that is there, with the packages that it needs. With `answers` it has an option by which
+        these are written as JSON in place of what it does."""
+        one = self.add(name, with_book(does, group, shows, answers), help, more)
+        if answers:
+            one.add_argument("--json", action="store_true", help=f"write JSON as schemas/{name}.json of the package says")
+        return one
 
-        def does_with_book(asked: argparse.Namespace) -> None:
-            if group:
-                from gudokeyi.packages import need
 
-                need(group)
-            program = BookProgram()
-            with opened(asked.book, program) as book:
+def with_book(
+    does: Callable[[argparse.Namespace, Book, BookProgram], None], group: Group | None = None, shows: bool = True,
+    answers: Answers | None = None,
+) -> Does:  # fmt: skip
+    """What a word does with a book that is there. Behind it is told that the book isn't whole, where it shows something
+    of it, and the book's notes."""
+
+    def does_with_book(asked: argparse.Namespace) -> None:
+        if group:
+            from gudokeyi.packages import need
+
+            need(group)
+        from gudokeyi.services.book_program import BookProgram
+        from gudokeyi.services.opening import opened
+
+        program = BookProgram()
+        with opened(asked.book, program) as book:
+            if answers and asked.json:
+                give_json(answers(asked, book, program))
+            else:
                 does(asked, book, program)
-                faults = not_whole(book, program) if shows else ()
-            for note in (*faults, *book.notes):
-                tell(note)
+            faults = not_whole(book, program) if shows else ()
+        for note in (*faults, *book.notes):
+            tell(note)
 
-        return self.add(name, does_with_book, help, more)
+    return does_with_book
 
 
 def not_whole(book: Book, program: BookProgram) -> tuple[str, ...]:
     """What is told where its kept coefficients aren't the program's, or where that isn't known. Whoever asked has the
     answer already."""
-    from gudokeyi.services.verification import told_of_coefficients
+    from gudokeyi.services.verification import told_once
 
     sys.stdout.flush()
     why = program.why_not_there()
     return tuple(f"{one}: whether the book's coefficients are the program's isn't known" for one in why) or (
-        told_of_coefficients(book, program)
+        told_once(book, program)
     )
 
 

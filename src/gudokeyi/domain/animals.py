@@ -6,8 +6,8 @@ from typing import NamedTuple
 from gudokeyi.domain.kinds import Field, Standing
 from gudokeyi.domain.provenance import GIVEN_BIRTH, GIVEN_EXIT, BirthBasis, ExitBasis, OwnerDay, SexSource
 
-# the breed and the country of numbers where none is given
-BREED, COUNTRY = "HOL", "GBR"
+# so many letters of a number are those of breed, country and sex
+LETTERS = 7
 # no field was changed by hand
 NO_FIELDS: frozenset[Field] = frozenset()
 
@@ -30,10 +30,17 @@ class SocietyRecord(NamedTuple):
     # what was filed by hand since the last sheet
     by_hand: frozenset[Field] = NO_FIELDS
     owner_day: OwnerDay = OwnerDay.GIVEN
+    # one of `ExitReason`, empty where nobody said why it left
+    exit_reason: str = ""
 
     @property
     def is_male(self) -> bool:
         return self.registration_number[6] == "M"
+
+    @property
+    def digits(self) -> str:
+        """What stays of its number, whatever its sex, breed and country become: by it the animal is known."""
+        return self.registration_number[LETTERS:]
 
     def written(self, role: str) -> str:
         """What the sheet writes of its `sire` or `dam`, where that isn't the parent's id."""

@@ -60,7 +60,9 @@ class ChangeDetails:
 
 @dataclass(frozen=True, slots=True)
 class Change:
-    """A change as the book has it: after it the journal is that of an edition up to a length."""
+    """A change as the book has it: its number, from 1 on, what it was, when, and who made it. After it the journal is
+    that of an edition up to a length. `source` is the file that it came from, `counts` how much it did of what, and
+    `undone_to` of an undo the change whose state it brought back, 0 for the empty book."""
 
     number: int
     kind: ChangeKind

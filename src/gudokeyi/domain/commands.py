@@ -1,4 +1,4 @@
-"""The command file: its records, and what the book has of each animal after them."""
+"""The command file: its records, and what the register has of an animal."""
 from __future__ import annotations
 
 import csv
@@ -10,19 +10,11 @@ from typing import NamedTuple
 
 from gudokeyi.domain.collections import made
 from gudokeyi.domain.kinds import Role
-from gudokeyi.domain.messages import Message, Mistake, counted
+from gudokeyi.domain.messages import Mistake, counted
 
 # the same days stand in many commands and rows, and books have days of 300 years alone
 day_text = functools.cache(datetime.date.isoformat)
 COLUMNS = ["kind", "animal", "day", "sire", "dam", "from", "to", "embryo"]
-
-
-class CommandFault(Message):
-    UNKNOWN = (
-        "a command of {animal} in the journal is of the kind '{kind}', which this front desk doesn't know: use a newer one"
-    )
-
-
 HEADER = f"{','.join(COLUMNS)}\n".encode()
 
 
@@ -74,39 +66,9 @@ class RegisterRecord(NamedTuple):
         return self.sire if role is Role.SIRE else self.dam
 
 
-def known(parent: str) -> str:
-    return "" if parent == "0" else parent
-
-
-def record_after(record: RegisterRecord | None, command: Command) -> RegisterRecord:
-    """The record after a command that is accepted; a birth is the first. A kind that isn't known here is a mistake."""
-    match command.kind:
-        case "birth":
-            return record_of_birth(command)
-        case "parents" if record:
-            return record._replace(sire=known(command.sire), dam=known(command.dam))
-        case "transfer" if record:
-            day = datetime.date.fromisoformat(command.day)
-            return record._replace(owner_code=int(command.to_owner), since=day, from_owner=int(command.from_owner))
-        case "exit" if record:
-            return record._replace(left=datetime.date.fromisoformat(command.day))
-    raise Mistake(CommandFault.UNKNOWN.said(kind=command.kind, animal=command.animal))
-
-
-def record_of_birth(command: Command) -> RegisterRecord:
-    day = datetime.date.fromisoformat(command.day)
-    sire, dam = known(command.sire), known(command.dam)
-    return made(
-        RegisterRecord, (command.animal, day, sire, dam, command.embryo == "1", int(command.to_owner), day, None, 0)
-    )
-
-
-def replay(commands: Iterable[Command]) -> dict[str, RegisterRecord]:
-    """The records after commands of which none is refused."""
-    records: dict[str, RegisterRecord] = {}
-    for command in commands:
-        records[command.animal] = record_after(records.get(command.animal), command)
-    return records
+def givers_of(commands: Iterable[Command]) -> dict[str, int]:
+    """The herd that gave each animal last, of those that were given on, by commands that are accepted."""
+    return {command.animal: int(command.from_owner) for command in commands if command.kind == "transfer"}
 
 
 def transfers_of(commands: Iterable[Command]) -> dict[str, list[Command]]:

@@ -1,5 +1,5 @@
-"""Exact numbers as decimals: they are rounded where they are shown, and here alone; a half is rounded away from 0, as the
-program does it."""
+"""Exact numbers as decimals: they are rounded where they are shown, and here alone; a half is rounded away from 0, as
+the program does it."""
 from __future__ import annotations
 
 import functools

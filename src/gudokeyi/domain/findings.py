@@ -5,7 +5,6 @@ from __future__ import annotations
 import collections
 import enum
 import pathlib
-import re
 import shlex
 from collections.abc import Hashable, Mapping, Sequence
 from dataclasses import dataclass, replace
@@ -13,7 +12,7 @@ from typing import ClassVar
 
 from gudokeyi.domain.changes import Option
 from gudokeyi.domain.messages import CALLED, Mistake, counted
-from gudokeyi.domain.stored_names import KIND_NAMES
+from gudokeyi.domain.wording import Told
 
 # How much harm comes of a finding that nobody looks at: the report begins with what does most.
 
@@ -34,7 +33,9 @@ class Severity(enum.IntEnum):
 # What to call `import` with in a case: options as data, and the whole command that they make.
 
 # options that may be given several times, and those that take one another back
-REPEATED = ("--columns", "--unknown", "--known", "--sexes", "--owner", "--no-animal", "--animal")
+REPEATED = (
+    "--columns", "--unknown", "--known", "--sexes", "--owner", "--no-animal", "--animal", "--new-tag", "--own",
+)  # fmt: skip
 OPPOSITE = {
     "--known": "--unknown", "--unknown": "--known", "--no-animal": "--animal", "--animal": "--no-animal",
 }  # fmt: skip
@@ -164,29 +165,19 @@ INFERRED = What.INFERRED
 ROW, LINE, CELL = Part.ROW, Part.LINE, Part.CELL
 
 
-def kind_of(kind: type) -> str:
-    """The name of a kind, as `own ancestor` for `OwnAncestor`."""
-    return re.sub("(?<!^)(?=[A-Z])", " ", kind.__name__).lower()
+class Finding(Told):
+    """What an entry tells: each kind is a frozen dataclass of its own, whose fields are the data. A book stores it by
+    its code, which stays whatever the class is called, and its fields by their names or those of `stored_fields`."""
 
-
-class Finding:
-    """What an entry tells: each kind is a frozen dataclass of its own, whose fields are the data."""
-
+    code: ClassVar[str]
+    stored_fields: ClassVar[Mapping[str, str]] = {}
     what: ClassVar[What]
     part: ClassVar[Part | None] = None
     severity: ClassVar[Severity] = Severity.NONE
-    kind_name: ClassVar[str]
 
     def __init_subclass__(cls) -> None:
-        cls.kind_name = KIND_NAMES.get(cls.__name__) or kind_of(cls)
-        KINDS[cls.kind_name] = cls
-
-    @classmethod
-    def kind(cls) -> str:
-        return cls.kind_name
-
-    def words(self) -> str:
-        raise NotImplementedError
+        if "code" in cls.__dict__:
+            KINDS[cls.code] = cls
 
     def suggestions(self) -> tuple[Suggestion, ...]:
         """What to call `import` with, case by case."""
@@ -201,7 +192,7 @@ class Finding:
         return None
 
 
-# the kinds of findings by their names
+# the kinds of findings by their codes
 KINDS: dict[str, type[Finding]] = {}
 
 
@@ -210,16 +201,6 @@ class LeftOut(Finding):
 
     what = What.LEFT_OUT
     severity = Severity.FACTS
-
-    def thing(self) -> str:
-        """What is left out, in words."""
-        raise NotImplementedError
-
-    def why(self) -> str:
-        raise NotImplementedError
-
-    def words(self) -> str:
-        return f"{self.thing()} is left out: {self.why()}"
 
 
 @dataclass(frozen=True, slots=True)
@@ -259,8 +240,8 @@ class Entry:
 
 
 class ImportRefused(Mistake):
-    """What keeps a sheet or a pedigree from being taken, as data; `told` are sentences of what it is about, and those of
-    `entries`."""
+    """What keeps a sheet or a pedigree from being taken, as data; `told` are sentences of what it is about, and those
+    of `entries`."""
 
     def __init__(self, *obstacles: Finding, told: Sequence[str] = (), entries: Sequence[Entry] = ()) -> None:
         self.obstacles, self.entries = obstacles, tuple(entries)

@@ -4,10 +4,12 @@ from __future__ import annotations
 
 import enum
 
+from gudokeyi.domain.messages import Worded
+
 # The kinds of things that a book knows, each a word of its own: what an animal is in it, and what is kept of it.
 
 
-class Standing(enum.Enum):
+class Standing(Worded):
     """What an animal is in the book."""
 
     # it has a row in the last sheet
@@ -21,12 +23,24 @@ class Standing(enum.Enum):
     # it isn't in the book any more; its number is kept
     DROPPED = "dropped"
 
+    def words(self) -> str:
+        return STANDINGS[self]
+
     def had_row(self) -> bool:
         return self in (Standing.ROW, Standing.GONE)
 
     def is_listed(self) -> bool:
         """Is it one of the society's own, which lists and advice name?"""
         return self in (Standing.ROW, Standing.FILED)
+
+
+STANDINGS = {
+    Standing.ROW: "has a row",
+    Standing.GONE: "has no row any more",
+    Standing.PARENT: "a parent without a row",
+    Standing.FILED: "filed by hand",
+    Standing.DROPPED: "dropped",
+}
 
 
 class Field(enum.StrEnum):
@@ -42,6 +56,8 @@ class Field(enum.StrEnum):
     SINCE = "since"
     EXIT = "exit"
     EMBRYO = "embryo"
+    # words such as `lives` and `sold`, beside a column of exits
+    STATUS = "status"
 
 
 class CommandKind(enum.Enum):
@@ -64,6 +80,35 @@ class ChangeKind(enum.Enum):
     RESTORE = "restore"
     # a folder of version 0.11 was taken over
     FOLDER = "folder"
+    # anything of one animal was corrected
+    CORRECTION = "correction"
+    # commands of another program
+    BATCH = "batch"
+    # a note on one, or the values of one in the society's own columns
+    NOTE = "note"
+    OWN_VALUES = "own values"
+    # which such columns there are
+    OWN_COLUMNS = "own columns"
+    # what is known of an owner, two that become one, and what was personal of one is gone
+    MEMBER = "member"
+    MERGE = "merge"
+    ERASURE = "erasure"
+    # the births of one dam on a day
+    LITTER = "litter"
+    # some changes were undone, and none that came later
+    TAKEN_BACK = "taken back"
+
+
+class ExitReason(enum.StrEnum):
+    """Why an animal left, where somebody said it."""
+
+    DIED = "died"
+    SLAUGHTERED = "slaughtered"
+    # to an owner outside of the society
+    SOLD = "sold"
+    LOST = "lost"
+    # it was born dead
+    STILLBORN = "stillborn"
 
 
 class Remembered(enum.Enum):
@@ -101,5 +146,15 @@ class Role(enum.StrEnum):
         return "M" if self is Role.SIRE else "F"
 
 
+class Doing(enum.StrEnum):
+    """The parts of work that aren't those of the breed's measures."""
+
+    COLUMNS = "columns"
+    CHANGES = "changes"
+    TAKING = "taking"
+    COEFFICIENTS = "coefficients"
+    RESTORING = "restoring"
+
+
 # what is kept of the cells of a row, beside its id
-CELL_FIELDS = tuple(field for field in Field if field is not Field.ID)
+CELL_FIELDS = tuple(field for field in Field if field not in (Field.ID, Field.STATUS))

@@ -71,25 +71,32 @@ class MessageText(str):
         return MessageText, (self.sentence, self.values)
 
 
+class Worded(enum.Enum):
+    """An enum whose members are told in words of their own."""
+
+    def words(self) -> str:
+        raise NotImplementedError
+
+
 @dataclass(frozen=True, slots=True)
 class Some:
     """Names, of which the first are told, and how many more there are."""
 
-    texts: Sequence[str]
+    texts: Sequence[object]
     most: int = MOST_NAMED
 
     def __str__(self) -> str:
-        return some_of(self.texts, self.most)
+        return some_of([*map(str, self.texts)], self.most)
 
 
 @dataclass(frozen=True, slots=True)
 class AnyOf:
     """Names of which one is meant."""
 
-    texts: Sequence[str]
+    texts: Sequence[object]
 
     def __str__(self) -> str:
-        return " or ".join(self.texts)
+        return " or ".join(map(str, self.texts))
 
 
 @dataclass(frozen=True, slots=True)

@@ -38,3 +38,15 @@ class MatingImpossible(Mistake):
 
 class ProgramFailed(Mistake):
     """The program herdbook isn't there, or gives no answer."""
+
+
+class WrongWords(Mistake):
+    """The words of a call can't be read, or don't go together."""
+
+
+class RegisterRefused(Mistake):
+    """The program refused what somebody wanted to file."""
+
+
+class BookBusy(BookUnusable):
+    """Somebody else is changing the book, or changed it meanwhile: later it may be done."""

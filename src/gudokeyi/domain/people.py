@@ -27,6 +27,8 @@ class Person:
 
     name: str
     role: AccountRole
+    # a keeper gave the password, which is to be changed before anything else is done
+    for_one_login: bool = False
 
 
 # who works here by a name of the society's own, as those at a desk with accounts; empty for whom the system names

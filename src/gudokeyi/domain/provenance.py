@@ -2,23 +2,41 @@
 from __future__ import annotations
 
 import enum
+from collections.abc import Mapping
 from dataclasses import dataclass
 
+from gudokeyi.domain.messages import Worded
+from gudokeyi.domain.wording import OptionalPart, Text, Told, Word
+
 # how the words for an exit begin where its day isn't known: then the book has no exit
-NO_DAY = "day unknown"
+NO_DAY = Word.NO_DAY.value
 
 
 @dataclass(frozen=True, slots=True)
-class Period:
+class Month(Told):
+    year: str
+    month: str
+
+    message = Text("{year}-{month}")
+
+
+@dataclass(frozen=True, slots=True)
+class Period(Told):
     """A month as `2002-02`, or a year as `2002`, and the day that a cell writes and that there isn't."""
 
     text: str
     no_such_day: str = ""
 
-    def words(self) -> str:
-        kind = "month" if "-" in self.text else "year"
-        since = f", since there is no day {self.no_such_day}" if self.no_such_day else ""
-        return f"the {kind} {self.text}{since}"
+    message = Text("{maybe_month}{maybe_year}{maybe_no_such_day}")
+    parts = {
+        "maybe_month": OptionalPart("the month {month}"),
+        "maybe_year": OptionalPart("the year {year}"),
+        "maybe_no_such_day": OptionalPart(", since there is no day {no_such_day}"),
+    }
+
+    def values(self) -> Mapping[str, object]:
+        year, has_month, month = self.text.partition("-")
+        return {"month": Month(year, month), "year": ""} if has_month else {"month": None, "year": year}
 
 
 class BirthSource(enum.Enum):
@@ -42,11 +60,22 @@ BIRTH_WORDS = {
 
 
 @dataclass(frozen=True, slots=True)
-class BirthBasis:
-    """What a birth day comes from."""
+class BirthBasis(Told):
+    """What a birth day comes from; a message is empty where the sheet gives it."""
 
     source: BirthSource = BirthSource.GIVEN
     period: Period | None = None
+
+    message = Text("{maybe_period}{maybe_reason}")
+    page_message = Text("{source}{maybe_period_text}")
+    parts = {
+        "maybe_period": OptionalPart("from {period}"),
+        "maybe_reason": OptionalPart("{reason}"),
+        "maybe_period_text": OptionalPart(": {period_text}"),
+    }
+
+    def values(self) -> Mapping[str, object]:
+        return {"reason": "" if self.period else BIRTH_WORDS.get(self.source, "")}
 
     @property
     def is_inferred(self) -> bool:
@@ -59,9 +88,6 @@ class BirthBasis:
     def has_year(self) -> bool:
         """Is the birth year known, though the day may not be?"""
         return self.source in (BirthSource.GIVEN, BirthSource.PERIOD)
-
-    def words(self) -> str:
-        return f"from {self.period.words()}" if self.period else BIRTH_WORDS[self.source]
 
     def mark(self) -> str:
         return mark(self.is_inferred, self.is_invented)
@@ -95,7 +121,7 @@ class ExitBasis:
 
     def words(self) -> str:
         if self.day_is_unknown:
-            return f"{NO_DAY}: '{self.text}'"
+            return f"{NO_DAY}: '{self.text}'" if self.text else NO_DAY
         return self.period.words() if self.period else ""
 
     def mark(self) -> str:
@@ -105,7 +131,7 @@ class ExitBasis:
 GIVEN_EXIT = ExitBasis()
 
 
-class SexSource(enum.Enum):
+class SexSource(Worded):
     """What a sex comes from."""
 
     GIVEN = "given"
@@ -149,6 +175,38 @@ class OwnerDay(enum.Enum):
 
     def mark(self) -> str:
         return mark(self.is_inferred)
+
+
+@dataclass(frozen=True, slots=True)
+class MarkedDay(Told):
+    """A day as `2001-03-01`, with a mark behind one that the sheet doesn't give; empty for none."""
+
+    day: str
+    is_inferred: bool = False
+    is_invented: bool = False
+
+    message = Text("{day}{maybe_inferred}{maybe_invented}")
+    parts = {
+        "maybe_inferred": OptionalPart(" (inferred)", when="is_inferred"),
+        "maybe_invented": OptionalPart(" (invented)", when="is_invented"),
+    }
+
+    def values(self) -> Mapping[str, object]:
+        return {"is_inferred": self.is_inferred and not self.is_invented}
+
+
+@dataclass(frozen=True, slots=True)
+class UnknownExitDay(Told):
+    """An exit whose day isn't known, with the cell that tells of it."""
+
+    text: str
+
+    message = Text("day unknown{maybe_text} (inferred)")
+    page_message = Text("has left, day unknown{maybe_text_on_page}")
+    parts = {
+        "maybe_text": OptionalPart(": '{text}'"),
+        "maybe_text_on_page": OptionalPart(" ({text})"),
+    }
 
 
 def mark(is_inferred: bool, is_invented: bool = False) -> str:

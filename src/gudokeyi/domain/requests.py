@@ -37,6 +37,9 @@ class NotSuch(Message):
     LETTERS_OF = "'{text}' isn't three letters A to Z, as the {setting} in numbers has to be"
     LANGUAGE = "'{text}' isn't one of the languages {languages}"
     DAY = "'{text}' isn't a day written as 2001-03-01 or 01.03.2001"
+    DAY_OR_PERIOD = (
+        "'{text}' is no day: write it as 2001-03-01 or 01.03.2001, or a month or year alone as 03.2001 or 2001"
+    )
     DAYS = "'{text}' isn't a number of days"
     SEX = "'{text}' is no word for a sex: write m or f"
     SPAN = "'{text}' isn't written as 2010..2019, 2010.. or 2010-03-01..2010-08-31"
@@ -75,14 +78,15 @@ class Mating(Message):
     NONE_SO_OLD = "none is so old: ask for fewer days by --minimum-age, or for all by --minimum-age 0"
     # what a plan assumes
     ASSUMED_AGE = (
-        "assumed: parents are {days:,} days old at least, as nineteen of twenty of the book's {parents:,} were at their first "
-        "offspring (left out: {count}); --minimum-age says otherwise"
+        "assumed: parents are {days:,} days old at least, as nineteen of twenty of the book's {parents:,} were at their "
+        "first offspring (left out: {count}); --minimum-age says otherwise"
     )
     ASSUMED_YEAR = (
         "assumed: parents are {days:,} days old at least (left out: {count}); --minimum-age says otherwise"
     )
     ASSUMED_MOST = (
-        "assumed: no sire has more than {most:,} dams, twice as many as if all had the same; --most-for-a-sire says otherwise"
+        "assumed: no sire has more than {most:,} dams, twice as many as if all had the same; --most-for-a-sire says "
+        "otherwise"
     )
     ASK_FOR_LEFT = "ask for those that left too"
     NAME_OTHERS = "name others"
@@ -104,11 +108,44 @@ def refuse_long(field: Field, text: str) -> None:
 
 
 @enum.unique
+class OwnFault(Message):
+    """What can't be meant of a note, of the society's own columns, or of an owner."""
+
+    NO_NOTE = "the note is empty: write one"
+    LONG_NOTE = "a note has {most} letters at most, and this one has {count:,}: write two"
+    AS_IT_IS = "the book has it so already: write something else"
+    NO_TITLE = "the title is missing: write one"
+    LONG_TITLE = "a title has {most} letters at most, and this one has {count:,}: write a shorter one"
+    TITLE_TAKEN = "there is a column '{title}' already: write another title"
+    MANY_COLUMNS = "a society has {most} columns of its own at most: let one go"
+    NO_CHOICES = "a column of choices needs these: write one a line"
+    LONG_VALUE = "{title}: a value has {most} letters at most, and this one has {count:,}: write a shorter one"
+    NO_NUMBER = "{title}: '{text}' isn't a number: write one as 12 or 12.5"
+    NO_DAY = "{title}: '{text}' isn't a day written as 2001-03-01 or 01.03.2001"
+    NO_YES_OR_NO = "{title}: '{text}' is neither yes nor no"
+    NO_CHOICE = "{title}: '{text}' isn't one of {choices}"
+    MANY_CHOICES = "the column '{title}' has more than {most} different values: keep it as a text"
+    OWN_OPTION = "'{word}' isn't a column's title with = and one of text, number, day, yes-no, choice or none behind it"
+    NO_OTHER_COLUMN = "the sheet has no other column '{title}'; it has {titles}"
+    CHANGED_MEANWHILE = "{title}: somebody else wrote '{now}' meanwhile: look at it, and send it again"
+    NO_OWNER_NAME = "the owner's name is missing: write one"
+    OWNER_TAKEN = "there is an owner '{name}' already: make one of the two, if they are the same"
+    LONG_MEMBER = "what is kept of an owner has {most} letters at most, and this one has {count:,}: write less"
+    SAME_OWNER = "this is the same owner: choose another one"
+    NO_SUCH_OWNER = "the book has no owner '{name}': choose one of its owners"
+    NOT_MERGED = "the register refuses it, and nothing is changed: correct the owners' days of their animals first"
+    OWNER_CHANGED = "somebody changed this owner meanwhile: look at the record, and send it again"
+    NOTE_CHANGED = "somebody changed this note meanwhile: look at it, and send it again"
+
+
+@enum.unique
 class WebFault(Message):
     # forms
     NO_DAY = "the day is missing, or isn't written as 2001-03-01"
     NO_ANIMAL = "the animal is missing: write its id, name or number"
     NO_SEX = "the sex is missing: choose male or female"
+    ANIMAL_CHANGED = "somebody changed {id} meanwhile: look at what is marked, and send it again"
+    DAY_WITHOUT_EXIT = "the day {day} of an exit is written, and no exit: choose why it left, or leave the day out"
     PARENTS_CHANGED = "somebody gave {id} other parents meanwhile: look at them, and file it again"
     NONE_SHOWN = "these are the parents that {id} has: correct what is wrong, and file it"
     OTHER_SHOWN = "the form showed the parents of {shown}: look at those of {id}, and file it again"
@@ -118,6 +155,9 @@ class WebFault(Message):
     # files and processes
     NOT_KEPT = "the file can't be kept here ({error}): make room on the disk"
     WORK_ENDED = "the work was ended before it was done: try it again"
+    WORK_STOPPED = "it was stopped, and nothing is changed"
+    TOOK_LONG = "it took longer than {minutes} minutes, and was ended: nothing is changed. Ask for less at a time"
+    MUCH_WORK = "you have asked for much that isn't done yet: wait for it, or stop it"
     NO_MEMORY = "there isn't enough memory for it"
     NO_FILE = "a file can't be read or written: {error}"
     NO_PROCESS = "no process can be started ({error}): try again later"

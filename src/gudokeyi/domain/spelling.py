@@ -41,9 +41,9 @@ class SameLetters:
             self.by_letters["".join(sorted(key))][key] = id
 
     def meant(self, text: str) -> str:
-        """The id of the name that has the letters and digits of a text, but for signs and blanks in the same order, also
-        with the letter O for 0, or I or l for 1; or, where it isn't short, with two of them swapped; empty where there is
-        none."""
+        """The id of the name that has the letters and digits of a text, but for signs and blanks in the same order,
+        also with the letter O for 0, or I or l for 1; or, where it isn't short, with two of them swapped; empty where
+        there is none."""
         key = folded(text)
         names = self.by_letters.get("".join(sorted(key)), {}) if key else {}
         if key in names:

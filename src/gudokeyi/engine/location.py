@@ -1,4 +1,5 @@
-"""Where the program is: where the variable HERDBOOK says, beside the package, on the path, or built in the clone.
+"""Where the program is: where the variable HERDBOOK or a file of the machine says, beside the package, on the path, or
+built in the clone.
 
 Only a person who calls `./gudokeyi` at a terminal has it built: all else says what to do."""
 from __future__ import annotations
@@ -19,14 +20,24 @@ NAME = "herdbook"
 PACKAGE = pathlib.Path(__file__).resolve().parents[1]
 # the clone in which this is, if it is one
 CLONE = PACKAGE.parents[1]
+# the file that has the program's path for everybody at a machine
+FOR_ALL = pathlib.Path("/etc/gudokeyi/program")
 # how it is said where the built program is
 SAY = "say where it is, as export HERDBOOK=/home/me/herdbook"
 
 
 def located(asks: bool = True) -> pathlib.Path:
     """The program, or a mistake that says what to do. Nothing is built where nobody may be asked."""
-    named = os.environ.get("HERDBOOK")
+    named = os.environ.get("HERDBOOK") or said_for_all()
     return where_said(pathlib.Path(named).absolute()) if named else beside() or on_path() or built_in_clone(asks)
+
+
+def said_for_all() -> str:
+    """What the machine's administrator says, once for servers and terminals; empty where nothing is said."""
+    try:
+        return FOR_ALL.read_text(encoding="utf-8").strip()
+    except (OSError, UnicodeDecodeError):
+        return ""
 
 
 def where_said(path: pathlib.Path) -> pathlib.Path:
@@ -39,7 +50,9 @@ def where_said(path: pathlib.Path) -> pathlib.Path:
 
 def beside() -> pathlib.Path | None:
     """The program that came with the package: in its folder, or beside a word that is in no clone."""
-    found = [path for path in (PACKAGE / NAME, CLONE / NAME) if path.is_file() and not (is_clone() and path.parent == CLONE)]
+    found = [
+        path for path in (PACKAGE / NAME, CLONE / NAME) if path.is_file() and not (is_clone() and path.parent == CLONE)
+    ]
     return found[0] if found else None
 
 
@@ -58,13 +71,16 @@ def on_path() -> pathlib.Path | None:
 
 def told_of(command: list[str]) -> str:
     try:
-        return subprocess.run(command, stdin=subprocess.DEVNULL, capture_output=True, text=True, errors="replace").stdout
+        return subprocess.run(
+            command, stdin=subprocess.DEVNULL, capture_output=True, text=True, errors="replace"
+        ).stdout
     except OSError:
         return ""
 
 
 def built_in_clone(asks: bool) -> pathlib.Path:
-    """The program that the clone's script has built of what is there now. The script asks a person at a terminal first."""
+    """The program that the clone's script has built of what is there now. The script asks a person at a terminal
+    first."""
     script = CLONE / NAME
     if not is_clone() or not script.is_file():
         raise ProgramFailed(ProgramFault.NOT_FOUND.said(version=gudokeyi.__version__, hint=SAY))

@@ -16,17 +16,18 @@ class ProgramFault(Message):
         "the program herdbook isn't built, for the reason told above: mend that, or if you have it built, {hint}"
     )
     NOT_BUILT_HERE = (
-        "the program herdbook isn't built of what is here: call {script} --version at a terminal, which proves and builds "
-        "it, or if you have it built, {hint}"
+        "the program herdbook isn't built of what is here: call {script} --version at a terminal, which proves and "
+        "builds it, or if you have it built, {hint}"
     )
     NOT_FOUND = (
         "the program herdbook {version} is neither beside this package nor on the path: install the package gudokeyi, "
         "which has it, or {hint}"
     )
     CANT_RUN = "{path} can't be run ({error}): {hint}"
+    OTHER = "{path} should answer '{wanted}' to --version, and answers '{told}': install the one that belongs to it, or {hint}"
     TOO_LONG = (
-        "the program `herdbook {word}` was ended, since it wasn't done after {minutes} minutes: is {path} the right one, "
-        "and has the machine nothing else to do? Nothing is changed"
+        "the program `herdbook {word}` was ended, since it wasn't done after {minutes} minutes: is {path} the right "
+        "one, and has the machine nothing else to do? Nothing is changed"
     )
     CANT_DO = "the program `herdbook {word}` can't do it: {told}{hint}"
     REPLIES_LACK = "the program answered {replies} of {commands}: is {path} the right one?"

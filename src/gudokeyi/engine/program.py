@@ -13,16 +13,19 @@ import signal
 import subprocess
 from collections.abc import Iterable
 
+import gudokeyi
 from gudokeyi.background import Background
 from gudokeyi.domain.commands import Command, text_of
 from gudokeyi.domain.messages import Count, Mistake
 from gudokeyi.domain.mistakes import ProgramFailed
 from gudokeyi.domain.refusals import Refusal
-from gudokeyi.engine.location import SAY, located
+from gudokeyi.engine.location import NAME, SAY, located
 from gudokeyi.engine.messages import ProgramFault
 
 # so much memory and time a run may use
 MOST_BYTES, MOST_SECONDS = 4 << 30, 1200
+# so long it may take to say its version
+SECONDS_TO_ANSWER = 30
 # so much a pipe may hold, if the system allows it
 PIPE_BYTES = 1 << 20
 
@@ -48,10 +51,10 @@ def give(file: io.FileIO, pieces: Iterable[bytes]) -> None:
             write_all(file, piece)
 
 
-def text_in(file: io.FileIO) -> str:
+def bytes_in(file: io.FileIO) -> bytes:
     """All that was written into a file in memory."""
     file.seek(0)
-    return file.read().decode()
+    return file.read()
 
 
 def limit(process: subprocess.Popen[bytes], most_bytes: int, most_seconds: int | None) -> None:
@@ -83,6 +86,20 @@ class Herdbook:
         """Finds it at once, or a mistake says what to do: a desk that is open asks nobody at the terminal."""
         assert self.path
 
+    def refuse_other(self) -> None:
+        """A mistake where the program doesn't answer, or is of another version than the front desk."""
+        wanted = f"{NAME} {gudokeyi.__version__}"
+        try:
+            done = subprocess.run(
+                [str(self.path), "--version"], stdin=subprocess.DEVNULL, capture_output=True, text=True, errors="replace",
+                timeout=SECONDS_TO_ANSWER,
+            )  # fmt: skip
+            told = done.stdout.strip() or f"status {done.returncode}"
+        except (OSError, subprocess.TimeoutExpired) as error:
+            told = str(error)
+        if told != wanted:
+            raise ProgramFailed(ProgramFault.OTHER.said(path=self.path, told=told, wanted=wanted, hint=SAY))
+
     def start(
         self, words: list[str], given: int, errors: int | None, most_bytes: int = MOST_BYTES,
         most_seconds: int | None = MOST_SECONDS, answers: int = subprocess.PIPE,
@@ -98,17 +115,24 @@ class Herdbook:
 
     def run(self, words: list[str], book: bytes) -> str:
         """What it writes of a command file."""
+        return self.run_bytes(words, (book,)).decode()
+
+    def run_bytes(self, words: list[str], pieces: Iterable[bytes]) -> bytes:
+        """What it writes of a file that is given in pieces."""
         # through pipes much of it would go in small pieces, each of which waits until Python has time
         with in_memory() as given, in_memory() as answers:
             try:
-                write_all(given, book)
+                for piece in pieces:
+                    write_all(given, piece)
                 given.seek(0)
             except OSError as error:
                 told = error.strerror or str(error)
-                raise ProgramFailed(ProgramFault.CANT_DO.said(word=words[0], told=told, hint=": nothing is changed")) from None
+                raise ProgramFailed(
+                    ProgramFault.CANT_DO.said(word=words[0], told=told, hint=": nothing is changed")
+                ) from None
             running = self.start(words, given.fileno(), subprocess.PIPE, answers=answers.fileno())
             self.ended(running, self.waited_for(running, words), words)
-            return text_in(answers)
+            return bytes_in(answers)
 
     def run_meanwhile(self, words: list[str], pieces: Iterable[bytes]) -> str:
         """The same, while the pieces of the command file are still found. What goes wrong with these is raised, and not
@@ -124,7 +148,7 @@ class Herdbook:
                 giving.value()
             self.ended(running, err, words)
             giving.value()
-            return text_in(answers)
+            return bytes_in(answers).decode()
 
     def waited_for(self, running: subprocess.Popen[bytes], words: list[str]) -> bytes:
         """What it told beside its answers, once it has ended."""

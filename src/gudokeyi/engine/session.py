@@ -3,6 +3,7 @@ collected by their tags."""
 from __future__ import annotations
 
 import contextlib
+import io
 import itertools
 import queue
 import subprocess
@@ -10,11 +11,16 @@ import threading
 from collections.abc import Iterable, Iterator
 from dataclasses import dataclass, field
 
+from gudokeyi.background import Background
 from gudokeyi.domain.refusals import Refusal
 from gudokeyi.engine.program import Herdbook
 
 # so much memory it may use, and so long an answer may take
 MOST_BYTES, MOST_SECONDS = 2 << 30, 300
+# so much of many replies is read at once
+PIECE = 1 << 18
+# what stands before each command of a journal that is replayed, and how the answer to one that is accepted ends
+JOURNAL, ACCEPTED = b"journal,desk,1,", b",accepted\n"
 
 
 @dataclass(frozen=True)
@@ -70,10 +76,52 @@ class Session:
         self.tags = itertools.count(1)
         self.waiting: dict[str, tuple[Answer, bool]] = {}
         self.has_ended = False
-        self.free: queue.SimpleQueue[int] = queue.SimpleQueue()
+        # the one that answered last comes first: it has frozen the book that is asked of most likely
+        self.free: queue.LifoQueue[int] = queue.LifoQueue()
         for inspector in range(1, places.inspectors + 1):
             self.free.put(inspector)
+        self.collects = False
+
+    def begin_to_collect(self) -> None:
+        with self.lock:
+            if self.collects:
+                return
+            self.collects = True
         threading.Thread(target=self.collect, daemon=True).start()
+
+    def replay(self, lines: bytes, count: int) -> dict[int, Refusal]:
+        """Files a journal, which has so many lines, in a session of which nothing was asked yet. Answers the refusals:
+        for each its place, from 0 on. So many replies are read here, one after the other, in a fraction of the time
+        that answers take which are collected by their tags."""
+        assert self.process.stdout and not self.collects
+        ends = threading.Timer(MOST_SECONDS, self.process.kill)
+        ends.start()
+        try:
+            text = JOURNAL + lines.rstrip(b"\n").replace(b"\n", b"\n" + JOURNAL) + b"\n"
+            writing = Background(lambda: self.write(text if count else b""))
+            replies = self.read_lines(count)
+            writing.value()
+        except (OSError, ValueError):
+            raise SessionEnded from None
+        finally:
+            ends.cancel()
+        self.begin_to_collect()
+        if replies.count(ACCEPTED) == count:
+            return {}
+        told = enumerate(replies.decode("ascii", "replace").splitlines())
+        return {at: refusal for at, line in told if (refusal := refusal_in(line))}
+
+    def read_lines(self, count: int) -> bytes:
+        """The next lines, of which there are so many. Nothing else is asked for behind them yet."""
+        assert isinstance(self.process.stdout, io.BufferedReader)
+        found, left = list[bytes](), count
+        while left > 0:
+            piece = self.process.stdout.read1(PIECE)
+            if not piece:
+                raise SessionEnded
+            found.append(piece)
+            left -= piece.count(b"\n")
+        return b"".join(found)
 
     def collect(self) -> None:
         """Gives each line to the request whose tag it has, until the process ends."""
@@ -92,6 +140,7 @@ class Session:
 
     def send(self, requests: Iterable[str], answer: Answer, of_desk: bool) -> Answer:
         """Asks, and waits until all is answered."""
+        self.begin_to_collect()
         tag = f"t{next(self.tags)}"
         with self.lock:
             if self.has_ended:
@@ -157,6 +206,14 @@ class Session:
 def is_told(answer: Answer, of_desk: bool) -> bool:
     """Was all of it told before the process ended?"""
     return bool(answer.fault) or (len(answer.lines) == answer.count if of_desk else answer.steps > 0)
+
+
+def refusal_in(line: str) -> Refusal | None:
+    """That of a journal's command; a fault where it isn't one."""
+    _, _, reply = line.partition(",")
+    if reply.startswith("fault,"):
+        raise SessionFault(reply.partition(",")[2])
+    return refusal_of(reply)
 
 
 def refusal_of(reply: str) -> Refusal | None:

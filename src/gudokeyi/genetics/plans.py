@@ -28,7 +28,7 @@ SINK = "sink"
 
 @dataclass(frozen=True)
 class Flow:
-    """Each sender sends one to a to_owner that it has a cost with; a to_owner takes so many at most. Costs are
+    """Each sender sends one to a receiver that it has a cost with; a receiver takes so many at most. Costs are
     whole."""
 
     senders: Sequence[str]
@@ -63,8 +63,7 @@ def cheapest_flow(flow: Flow) -> dict[str, str]:
 
 # A plan of matings: for each dam the sire, so that the mean coefficient of the offspring is least. That is a transport
 # problem: each dam sends one offspring, each sire takes so many. It is solved in whole numbers by the network simplex
-# method
-# (networkx), so that the plan is the best that there is.
+# method (networkx), so that the plan is the best that there is.
 
 # a dam's and a sire's number, or any other names of the two
 Pair = tuple[str, str]

@@ -10,14 +10,17 @@ from gudokeyi.domain.kinds import CELL_FIELDS, Field
 from gudokeyi.domain.provenance import ExitBasis, ExitSource
 from gudokeyi.domain.requests import MOST_IN_NAME, MOST_IN_OWNER
 from gudokeyi.ingest.animals import SheetAnimal
-from gudokeyi.ingest.day_cells import DayCell, DayCells
+from gudokeyi.ingest.day_cells import DayCell, DayCells, ExitCell
+from gudokeyi.ingest.day_forms import DayForms, Readings
 from gudokeyi.ingest.days import ANY_DAY, DayFault, Span
 from gudokeyi.ingest.encodings import Letters
 from gudokeyi.ingest.findings.cells import (
     DayLeftOut, EmbryoUnread, ErrorValue, ExitInferred, ExitsInOtherWords, ExitsWithoutDay, SexUnread, TextTooLong,
 )  # fmt: skip
 from gudokeyi.ingest.findings.columns import SheetFinding
+from gudokeyi.ingest.findings.rows import SoldWithin
 from gudokeyi.ingest.findings.sheets import MOST_TEXTS, Cells, CellsUnread, ErrorCells, ErrorColumn, TextCount
+from gudokeyi.ingest.rows_as_meant import Takers
 from gudokeyi.ingest.sexes import Sexes
 from gudokeyi.ingest.sheets import Sheet
 from gudokeyi.ingest.unknown_parents import UnknownParents, names_no_owner
@@ -139,10 +142,12 @@ class AnimalCells:
     """Makes animals of the cells of their rows, by the fields of these. What can't be read is counted and told."""
 
     def __init__(
-        self, unknown: UnknownParents, sexes: Sexes, unread: Unread, report: Report, month_first: bool
-    ) -> None:
+        self, unknown: UnknownParents, sexes: Sexes, unread: Unread, report: Report, month_first: bool,
+        forms: DayForms | None = None,
+    ) -> None:  # fmt: skip
         self.unknown, self.sexes, self.unread, self.report = unknown, sexes, unread, report
-        self.days, self.letters = DayCells(unknown, month_first), Letters()
+        self.days, self.letters = DayCells(unknown, month_first, forms), Letters()
+        self.readings, self.takers = Readings(unread.titles), Takers(())
 
     def animal(self, line: int, id: str, cells: dict[str, str]) -> SheetAnimal:
         """The animal of a row, by the cells of its other columns."""
@@ -159,10 +164,10 @@ class AnimalCells:
         self.read_sex(animal, sex)
         if birth:
             animal.birth = self.span(animal, Field.BIRTH, birth, self.days.day(Field.BIRTH, birth)) or ANY_DAY
-        if exit:
-            self.read_exit(animal, exit)
         if since:
             animal.since = self.span(animal, Field.SINCE, since, self.days.day(Field.SINCE, since))
+        if exit:
+            self.read_exit(animal, exit)
         if embryo:
             animal.embryo = self.is_embryo(animal, embryo)
         return animal
@@ -204,11 +209,13 @@ class AnimalCells:
             self.leave_out(animal, field, text, day.fault)
         elif day.fault:
             self.not_taken(animal, field, day.fault)
+        if day.reading and day.span:
+            self.readings.add(field, day.reading, animal.line, text, day.span)
         return day.span
 
     def read_exit(self, animal: SheetAnimal, text: str) -> None:
         exit = self.days.exit(text)
-        if exit is None:
+        if exit is None or (not exit.is_span and self.is_sold_within(animal, text, exit)):
             return
         left = self.span(animal, Field.EXIT, text, exit.day)
         if left and left.last < animal.birth.first:
@@ -227,6 +234,17 @@ class AnimalCells:
                 self.report.add(animal.line, animal.id, inferred)
         elif Field.EXIT in animal.unread and not exit.is_later:
             animal.exit_basis = ExitBasis(ExitSource.UNKNOWN_DAY, text=text)
+
+    def is_sold_within(self, animal: SheetAnimal, text: str, exit: ExitCell) -> bool:
+        """Was it sold to an owner of the list? Then it has him, since the day that the text has."""
+        owner = self.takers.of(text)
+        if not owner:
+            return False
+        self.unread.read[Field.EXIT] += 1
+        before = animal.owner if animal.owner != owner else ""
+        animal.owner, animal.owner_before, animal.since = owner, before, exit.day.span or animal.since
+        self.report.add(animal.line, animal.id, SoldWithin(owner, before, text))
+        return True
 
     def is_embryo(self, animal: SheetAnimal, text: str) -> bool:
         is_told = text not in self.unknown or text.casefold() in KNOWN_NO

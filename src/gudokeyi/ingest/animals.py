@@ -6,12 +6,13 @@ import operator
 from collections.abc import Collection
 from dataclasses import dataclass, field
 
+from gudokeyi.domain.animals import SocietyRecord
+from gudokeyi.domain.commands import RegisterRecord
 from gudokeyi.domain.findings import Report
 from gudokeyi.domain.kinds import Role
 from gudokeyi.domain.messages import MessageText
 from gudokeyi.domain.provenance import GIVEN_BIRTH, GIVEN_EXIT, BirthBasis, ExitBasis, OwnerDay, SexSource
-from gudokeyi.ingest.days import ANY_DAY, Precision, Span
-from gudokeyi.ingest.findings.cells import IdUsedAgain
+from gudokeyi.ingest.days import ANY_DAY, Precision, Span, span_of_period
 from gudokeyi.ingest.messages import Where
 
 SIRE, DAM, DAY = Role.SIRE, Role.DAM, Precision.DAY
@@ -49,6 +50,8 @@ class SheetAnimal:
     named_in: int = 0
     # the fields whose cells can't be read
     unread: list[str] = field(default_factory=list)
+    # the owner of its row, where a word for its exit names one of the list to whom it was sold
+    owner_before: str = ""
 
     def parents(self) -> list[tuple[Role, str]]:
         """The known parents, each with its role."""
@@ -102,6 +105,13 @@ def parents_of_all(animals: dict[str, SheetAnimal]) -> dict[str, list[str]]:
     return {id: animal.parent_ids() for id, animal in animals.items()}
 
 
+def birth_in_book(known: SocietyRecord, record: RegisterRecord) -> Span:
+    """The days that the book leaves open for a birth: one, those of a month or a year that somebody said, or all."""
+    if known.birth.period:
+        return span_of_period(known.birth.period)
+    return ANY_DAY if known.birth.is_inferred else Span(record.born, record.born)
+
+
 # an animal that is born so many days later may be another one
 YEARS_LATER = 700
 
@@ -114,6 +124,9 @@ def lines_that_name(animals: dict[str, SheetAnimal], another: SheetAnimal) -> tu
 
 def tell_used_again(animals: dict[str, SheetAnimal], others: list[SheetAnimal], report: Report) -> None:
     """The animals of a sheet, and those that have the id of another one there."""
+    # what is filed by hand asks for no sheet's findings
+    from gudokeyi.ingest.findings.cells import IdUsedAgain
+
     for other in others:
         first = animals[other.id]
         lines = lines_that_name(animals, other)

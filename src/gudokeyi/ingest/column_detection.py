@@ -8,7 +8,7 @@ from typing import TYPE_CHECKING, Container, NamedTuple
 
 from gudokeyi.domain.kinds import Field
 from gudokeyi.domain.spelling import closest
-from gudokeyi.ingest.days import Unreadable, read_span
+from gudokeyi.ingest.days import DayFault, Unreadable, read_span
 from gudokeyi.ingest.findings.columns import IdsCountRows, IdsFromOther, IdsMoved, LikelyColumn
 from gudokeyi.ingest.titles import KNOWN_TITLES
 from gudokeyi.ingest.words import KNOWN_EXITS, KNOWN_SEXES, KNOWN_STAYS, has_word, nearly, plain, sex_word
@@ -111,14 +111,15 @@ class IdColumn:
         others = [at for at, title in enumerate(columns.sheet.titles) if title and columns.is_free(at)]
         others = [at for at in others if at not in usual and at not in parents]
         best = max(fits, default=None, key=lambda fit: fit[:3])
-        # parents that are written by name are found by the names, where the animals have ids besides
-        others += [name] if name is not None and not (best and best.is_no_row_number) else []
         more = [self.fit(at, -len(usual)) for at in others if self.are_different(at)]
         other = max(more, default=None, key=lambda fit: fit[:3])
         if other and 2 * other.found > self.links(other) and other.found > 9 * (best.found if best else 0):
             best = other
         if best and usual and best.at != usual[0]:
             columns.notes.append(IdsFromOther(columns.title(best.at), best.found, columns.title(usual[0])))
+        # names are no ids unless somebody says so
+        if name is not None and self.are_different(name):
+            more.append(self.fit(name, -len(usual)))
         texts = [fit.at for fit in more if fit.is_no_row_number and "" not in columns.cells(fit.at)]
         if best and not best.is_no_row_number and not best.found and texts:
             columns.notes.append(IdsCountRows(columns.title(best.at), columns.title(texts[0])))
@@ -201,7 +202,8 @@ class LikelyColumns:
         return max(likely, key=lambda at: days[at]) if likely else None
 
     def of_parents(self, id: int, columns: list[int]) -> list[int]:
-        """The columns most of whose cells are ids of other rows, in their order; none where the ids aren't different."""
+        """The columns most of whose cells are ids of other rows, in their order; none where the ids aren't
+        different."""
         ids = [nearly(cell) for cell in self.columns.cells(id)]
         known = {*ids}
         if "" in known or len(known) < len(ids):
@@ -237,6 +239,6 @@ class LikelyColumns:
 def is_day(text: str) -> bool:
     try:
         read_span(text, legible=False)
-    except Unreadable:
-        return False
+    except Unreadable as error:
+        return error.fault is DayFault.TWO_DIGITS
     return True

@@ -9,15 +9,17 @@ from typing import Container
 
 from gudokeyi.domain.kinds import Field
 from gudokeyi.domain.spelling import closest
-from gudokeyi.ingest.column_detection import IdColumn, LikelyColumns
+from gudokeyi.ingest.column_detection import MOST_COMPARED, IdColumn, LikelyColumns
 from gudokeyi.ingest.days import is_span
 from gudokeyi.ingest.encodings import Letters, decoded_twice
 from gudokeyi.ingest.findings.columns import (
     ColumnLost, ColumnsLack, LikelierColumn, NamedColumnLacks, SheetFinding, TellsNoExits, TitleTwice,
 )  # fmt: skip
+from gudokeyi.ingest.findings.rows import StatusUnread
+from gudokeyi.ingest.findings.sheets import MOST_SHOWN
 from gudokeyi.ingest.sheets import Sheet
 from gudokeyi.ingest.titles import KNOWN_DOUBTFUL, KNOWN_PAIRS, KNOWN_TITLES, NEEDED, TITLES
-from gudokeyi.ingest.words import KNOWN_EXITS, KNOWN_STAYS, has_word, plain
+from gudokeyi.ingest.words import DEAD, KNOWN_EXITS, KNOWN_STAYS, LETTER, TELLING_EXITS, has_word, plain
 
 PARENTS = Field.SIRE, Field.DAM
 # so many columns of one title are looked at
@@ -90,6 +92,9 @@ def find_columns(
             usual_column(columns, name)
     parents = [name for name in PARENTS if name not in named and name not in columns.found]
     IdColumn(columns, parents, unknown, ids, before.get(Field.ID, "")).find()
+    if Field.STATUS in columns.found and Field.EXIT not in columns.found and named.get(Field.EXIT) != "":
+        columns.found[Field.EXIT] = columns.found.pop(Field.STATUS)
+    tell_unread_statuses(columns, named)
     tell_likelier(columns, given, before)
     likely = LikelyColumns(columns, unknown)
     tell_missing(columns, named, likely)
@@ -112,20 +117,50 @@ def name_column(columns: Columns, name: str, named: Mapping[str, str]) -> None:
 
 def usual_column(columns: Columns, name: str) -> None:
     titled = columns.titled(KNOWN_TITLES[name])
+    if name == Field.EXIT:
+        # words that tell of exits are read beside a column of days, also where that has nothing yet
+        of_days = [at for at in titled if plain(columns.title(at)) not in KNOWN_DOUBTFUL]
+        titled = of_days or titled
     # one that has nothing is read where no other has its field
     for at in sorted(titled, key=lambda one: not any(columns.cells(one))):
-        if plain(columns.title(at)) not in KNOWN_DOUBTFUL or tells_exits(columns, at):
+        is_doubtful = name == Field.STATUS or plain(columns.title(at)) in KNOWN_DOUBTFUL
+        if not is_doubtful or tells_exits(columns, at, is_told=name != Field.STATUS):
             columns.found[name] = at
             return
 
 
-def tells_exits(columns: Columns, at: int) -> bool:
+def tells_exits(columns: Columns, at: int, is_told: bool = True) -> bool:
     """Do most cells of the column tell that an animal left, or that it lives?"""
     cells = [cell for cell in columns.cells(at) if cell]
     known = sum(is_span(cell) or has_word(cell, KNOWN_EXITS) or has_word(cell, KNOWN_STAYS) for cell in cells)
-    if 2 * known <= len(cells) and known:
+    known += sum(map(is_cross, cells))
+    if is_told and 2 * known <= len(cells) and known:
         columns.notes.append(TellsNoExits(columns.title(at)))
     return 2 * known > len(cells)
+
+
+def is_cross(cell: str) -> bool:
+    """Is it a sign of a death alone?"""
+    return not LETTER.search(cell) and DEAD.search(cell) is not None
+
+
+# so many cells show what a column tells, and so many columns and different cells are looked at
+SOME, MOST_DIFFERENT = 3, 2000
+
+
+def tell_unread_statuses(columns: Columns, named: Mapping[str, str]) -> None:
+    """A column that isn't read, and whose cells mostly tell that animals live or left."""
+    of = Field.EXIT if Field.EXIT not in columns.found else Field.STATUS
+    if of in columns.found or named.get(of) == "":
+        return
+    for at in [at for at, title in enumerate(columns.sheet.titles) if title and columns.is_free(at)][:MOST_COMPARED]:
+        cells = collections.Counter(cell for cell in columns.cells(at) if cell)
+        if cells.total() < SOME or len(cells) > MOST_DIFFERENT:
+            continue
+        telling = [cell for cell in cells if has_word(cell, TELLING_EXITS | KNOWN_STAYS) or is_cross(cell)]
+        count = sum(cells[cell] for cell in telling)
+        if 2 * count > cells.total():
+            columns.notes.append(StatusUnread(columns.title(at), count, tuple(telling[:MOST_SHOWN]), of))
 
 
 def find_pair(columns: Columns, wanted: list[Field]) -> None:

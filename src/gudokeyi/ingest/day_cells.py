@@ -11,10 +11,12 @@ from typing import Container, NamedTuple
 from gudokeyi.domain.collections import made
 from gudokeyi.domain.kinds import Field
 from gudokeyi.domain.provenance import GIVEN_EXIT, ExitBasis, ExitSource
+from gudokeyi.ingest.day_forms import DayForms, last_month
 from gudokeyi.ingest.days import (
     DayFault, Precision, Span, Unreadable, behind_since, is_span, read_span, span_within, usual_day,
 )  # fmt: skip
 from gudokeyi.ingest.findings.cells import DayLeftOut
+from gudokeyi.ingest.findings.days import DayReading
 from gudokeyi.ingest.findings.sheets import NoOrderShown, Place, WrongOrder
 from gudokeyi.ingest.words import exit_word, lives, word_fault
 
@@ -70,6 +72,8 @@ class DayCell(NamedTuple):
     says_something: bool = True
     fault: DayLeftOut | None = None
     is_unread: bool = False
+    # how a text is read that has a day in no usual form
+    reading: DayReading | None = None
 
 
 SAYS_NOTHING = DayCell(says_something=False)
@@ -95,8 +99,9 @@ class DayCells:
     """Reads the texts of days. An exit is a day, a text with a day, or a word, such as `sold`: then the animal has left
     on a day that isn't known."""
 
-    def __init__(self, unknown: Container[str], month_first: bool) -> None:
+    def __init__(self, unknown: Container[str], month_first: bool, forms: DayForms | None = None) -> None:
         self.unknown, self.month_first, self.today = unknown, month_first, datetime.date.today()
+        self.forms = forms or DayForms((), (), month_first)
         self.day = functools.cache(self.read_day)
         # nothing for an animal that lives
         self.exit = functools.cache(self.read_exit)
@@ -106,7 +111,8 @@ class DayCells:
         if not is_day and lives(text):
             return None
         day = self.day(Field.EXIT, text)
-        return ExitCell(day, is_day or is_span(text), day.fault is not None and self.is_later(text))
+        is_no_more = is_day or is_span(text) or (day.reading is not None and not exit_word(text))
+        return ExitCell(day, is_no_more, day.fault is not None and self.is_later(text))
 
     def read_day(self, field: Field, text: str) -> DayCell:
         if (day := usual_day(text)) and text not in self.unknown:
@@ -116,6 +122,10 @@ class DayCells:
         if said in self.unknown and not has_left:
             return SAYS_NOTHING
         try:
+            if (form := self.forms.read(said)) and (not is_exit or form[1] is not DayReading.WITHIN or form[0].text):
+                span, reading = form
+                read = self.possible(field, text, last_month(span) if is_exit else span)
+                return read._replace(reading=None if is_exit and reading is DayReading.WITHIN else reading)
             within = span_within(text, self.month_first) if is_exit and not is_span(text) else None
             span = within or read_span(said, self.month_first, legible=not is_exit)
         except Unreadable as error:
@@ -123,7 +133,9 @@ class DayCells:
             if error.fault is DayFault.WRONG_ORDER:
                 return DayCell()
             told = (word_fault(text), text) if has_left else (error.fault, text if error.text == said else error.text)
-            return DayCell(fault=DayLeftOut(field, *told, is_exit), is_unread=True)
+            # a year that a book can't have is read, and told by itself
+            is_unread = error.fault is not DayFault.YEAR
+            return DayCell(fault=DayLeftOut(field, *told, is_exit), is_unread=is_unread)
         return self.possible(field, text, span)
 
     def possible(self, field: Field, text: str, span: Span) -> DayCell:
@@ -133,7 +145,7 @@ class DayCells:
             return DayCell(span)
         if span.first > self.today:
             return DayCell(fault=DayLeftOut(field, DayFault.AFTER_TODAY, text))
-        return made(DayCell, (span.until(self.today), True, None, False))
+        return made(DayCell, (span.until(self.today), True, None, False, None))
 
     def is_later(self, text: str) -> bool:
         """Is it a day after today?"""

@@ -9,6 +9,7 @@ import re
 import unicodedata
 from typing import NamedTuple
 
+from gudokeyi.domain.messages import Worded
 from gudokeyi.domain.provenance import Period
 
 # The names of the months in English, German and French, and their usual abbreviations.
@@ -51,27 +52,24 @@ TIME = r"(?:(?: +|T)\d{1,2}:\d{2}(?::\d{2}(?:[.,]\d+)?)?(?: ?[AaPp][Mm])?(?: ?(?
 DAY = r"(?P<day>\d{1,2})"
 YEAR = r"(?P<year>\d{4})"
 NAMED = f"(?P<name>{NAME})"
-FORMS = [
-    re.compile(form, re.IGNORECASE)
-    for form in (
-        r"(?P<year>\d{4})-(?P<month>\d{1,2})-(?P<day>\d{1,2})" + TIME,
-        r"(?P<day>\d{1,2})\. ?(?P<month>\d{1,2})\. ?(?P<year>\d{4})" + TIME,
-        r"(?P<day>\d{1,2})(?P<slash>[/-])(?P<month>\d{1,2})(?P=slash)(?P<year>\d{4})" + TIME,
-        r"(?P<year>\d{4})/(?P<month>\d{1,2})/(?P<day>\d{1,2})" + TIME,
-        # `3. April 2010`, `08 January 2005`, `03-Mar-2005`, `1er mars 2005`, `2nd of May 2004`
-        DAY + r"(?:\.|er|st|nd|rd|th)?[ ./-]*(?:of |de |d')?" + NAMED + "[ ./,-]*" + YEAR + TIME,
-        # `January 8, 2005`, `2005-Mar-03`
-        NAMED + "[ ./-]*" + DAY + "(?:st|nd|rd|th)?(?:, ?| )" + YEAR + TIME,
-        YEAR + "[ ./-]" + NAMED + "[ ./-]" + DAY,
-        NAMED + "[ ./,-]*" + YEAR,
-        r"(?P<year>\d{4})[-/](?P<month>\d{1,2})",
-        r"(?P<month>\d{1,2})[./] ?(?P<year>\d{4})",
-        r"(?P<year>\d{4})",
-    )
-]
+FORMS = (
+    r"(?P<year>\d{4})-(?P<month>\d{1,2})-(?P<day>\d{1,2})" + TIME,
+    r"(?P<day>\d{1,2})\. ?(?P<month>\d{1,2})\. ?(?P<year>\d{4})" + TIME,
+    r"(?P<day>\d{1,2})(?P<slash>[/-])(?P<month>\d{1,2})(?P=slash)(?P<year>\d{4})" + TIME,
+    r"(?P<year>\d{4})/(?P<month>\d{1,2})/(?P<day>\d{1,2})" + TIME,
+    # `3. April 2010`, `08 January 2005`, `03-Mar-2005`, `1er mars 2005`, `2nd of May 2004`
+    DAY + r"(?:\.|er|st|nd|rd|th)?[ ./-]*(?:of |de |d')?" + NAMED + "[ ./,-]*" + YEAR + TIME,
+    # `January 8, 2005`, `2005-Mar-03`
+    NAMED + "[ ./-]*" + DAY + "(?:st|nd|rd|th)?(?:, ?| )" + YEAR + TIME,
+    YEAR + "[ ./-]" + NAMED + "[ ./-]" + DAY,
+    NAMED + "[ ./,-]*" + YEAR,
+    r"(?P<year>\d{4})[-/](?P<month>\d{1,2})",
+    r"(?P<month>\d{1,2})[./] ?(?P<year>\d{4})",
+    r"(?P<year>\d{4})",
+)
 # `20010315`, also as a program writes a number; within a text such a number may be another one
 DIGITS = re.compile(r"(?P<year>(?:19|20|21)\d{2})(?P<month>0\d|1[0-2])(?P<day>[0-2]\d|3[01])(?:\.0+)?", re.ASCII)
-TWO_DIGITS = re.compile(rf"\d{{1,2}}[ ./-]+(?:\d{{1,2}}|{NAME})[ ./-]+'?\d{{2}}", re.IGNORECASE)
+TWO_DIGITS = rf"\d{{1,2}}[ ./-]+(?:\d{{1,2}}|{NAME})[ ./-]+'?\d{{2}}"
 # a year within a text
 SOME_YEAR = re.compile(r"(?<!\d)(?:19|20|21)\d{2}(?!\d)")
 # a year that isn't the one that is meant
@@ -83,7 +81,13 @@ NOT_THAT_YEAR = re.compile(
 SINCE = re.compile(r"(?:since|from|seit|ab|depuis|dès|à partir d[eu]):?(?: the| dem| le)? +(?=\S)", re.IGNORECASE)
 
 
-class DayFault(enum.Enum):
+@functools.cache
+def forms() -> tuple[re.Pattern[str], ...]:
+    """Compiled for the first text that isn't written as most programs write days: a call that has none doesn't wait."""
+    return tuple(re.compile(form, re.IGNORECASE) for form in FORMS)
+
+
+class DayFault(Worded):
     """Why a text is no day that can be taken."""
 
     NO_DAY = "no day"
@@ -99,8 +103,9 @@ class DayFault(enum.Enum):
     WORD_ALONE = "word alone"
     WORD_WITH_NUMBERS = "word with numbers"
 
-    def words(self, text: str) -> str:
-        return FAULT_WORDS[self].format(text=text)
+    def words(self) -> str:
+        """With a place for the text."""
+        return FAULT_WORDS[self]
 
 
 FAULT_WORDS = {
@@ -121,7 +126,7 @@ class Unreadable(ValueError):
     """A text is no day. The text is the part that shows it."""
 
     def __init__(self, fault: DayFault, text: str) -> None:
-        super().__init__(fault.words(text))
+        super().__init__(fault.words().format(text=text))
         self.fault, self.text = fault, text
 
 
@@ -187,11 +192,11 @@ def read_span(text: str, month_first: bool = False, legible: bool = True) -> Spa
     `Unreadable`."""
     if day := usual_day(text):
         return Span(day, day)
-    for form in (DIGITS, *FORMS):
+    for form in (DIGITS, *forms()):
         found = form.fullmatch(text)
         if found:
             return span_of(found.groupdict(), text, month_first)
-    if TWO_DIGITS.fullmatch(text):
+    if re.fullmatch(TWO_DIGITS, text, re.IGNORECASE):
         raise Unreadable(DayFault.TWO_DIGITS, text)
     if re.fullmatch(r"\d{5}(\.\d+)?", text):
         raise Unreadable(DayFault.NUMBER, text)
@@ -221,17 +226,19 @@ def usual_day(text: str) -> datetime.date | None:
 @functools.lru_cache(maxsize=50_000)
 def is_span(text: str) -> bool:
     """Is it written as a day, a month or a year?"""
-    return usual_day(text) is not None or any(form.fullmatch(text) for form in (DIGITS, *FORMS))
+    return usual_day(text) is not None or any(form.fullmatch(text) for form in (DIGITS, *forms()))
 
 
 def span_within(text: str, month_first: bool = False) -> Span | None:
     """The only day, month or year within a text, if there is one."""
     found = list[re.Match[str]]()
-    for form in FORMS[:-1]:
+    for form in forms()[:-1]:
         # a form may fit a part of what an earlier one fits
-        found += [one for one in within(form, text, r"(?!\d|[./-]\d)") if not any(overlap(one, other) for other in found)]
+        found += [
+            one for one in within(form, text, r"(?!\d|[./-]\d)") if not any(overlap(one, other) for other in found)
+        ]
     # a year alone ends the text: other numbers may be prices
-    found = found or within(FORMS[-1], text, r"(?=[).]*$)")
+    found = found or within(forms()[-1], text, r"(?=[).]*$)")
     said = {span_said(one, month_first) for one in found}
     return said.pop() if len(said) == 1 else None
 

@@ -4,12 +4,14 @@ from __future__ import annotations
 import functools
 import pathlib
 import re
-from typing import NamedTuple
+from typing import TYPE_CHECKING, NamedTuple
 
 from gudokeyi.domain.messages import Mistake
-from gudokeyi.ingest.findings.columns import SheetFinding
-from gudokeyi.ingest.findings.files import DecodedTwice, LettersLost, StrayBytes, TextInLine
 from gudokeyi.ingest.messages import OtherKind, SheetFault
+
+if TYPE_CHECKING:
+    from gudokeyi.ingest.findings.columns import SheetFinding
+    from gudokeyi.ingest.findings.files import StrayBytes
 
 # how files begin that are no text
 NOT_TEXT = {
@@ -83,6 +85,8 @@ def stray(data: bytes) -> list[int]:
 
 def stray_bytes(path: pathlib.Path, data: bytes, error: UnicodeDecodeError) -> StrayBytes:
     """Where the first byte stands that isn't UTF-8, and how many more there are."""
+    from gudokeyi.ingest.findings.files import StrayBytes
+
     # a byte-order mark isn't counted in the place of the error
     bare = data.removeprefix(b"\xef\xbb\xbf")
     lines = re.split(rb"\r\n|\n|\r", bare[: error.start])
@@ -126,6 +130,8 @@ class Letters:
             self.twice.setdefault(text, (line, mended))
 
     def told(self) -> list[SheetFinding]:
+        from gudokeyi.ingest.findings.files import DecodedTwice, LettersLost, TextInLine
+
         found: list[SheetFinding] = []
         if self.twice:
             found.append(

@@ -4,7 +4,7 @@ from __future__ import annotations
 
 import itertools
 import pathlib
-from collections.abc import Sequence
+from collections.abc import Callable, Sequence
 from dataclasses import dataclass, field
 from typing import BinaryIO
 
@@ -22,10 +22,19 @@ MOST_BACKUP_BYTES = 500_000_000
 
 
 def read_bytes(path: pathlib.Path) -> bytes:
-    """All that a file has, which may be a pipe."""
+    """All that a file of a society has, which may be a pipe."""
+    return read_by(path, lambda file: bounded(path, file))
+
+
+def read_all(path: pathlib.Path) -> bytes:
+    """All that a file has, however large."""
+    return read_by(path, lambda file: file.read())
+
+
+def read_by(path: pathlib.Path, read: Callable[[BinaryIO], bytes]) -> bytes:
     try:
         with open(path, "rb") as file:
-            return bounded(path, file)
+            return read(file)
     except IsADirectoryError:
         raise Mistake(SheetFault.IS_FOLDER.said(path=path)) from None
     except OSError as error:
@@ -42,8 +51,8 @@ def bounded(path: pathlib.Path, file: BinaryIO) -> bytes:
 
 
 def check_bounds(path: pathlib.Path, rows: Sequence[tuple[int, list[str]]], titles: int) -> None:
-    """A mistake where rows, each with its line, are more than a sheet of a society has. The first ones, up to the titles,
-    don't count."""
+    """A mistake where rows, each with its line, are more than a sheet of a society has. The first ones, up to the
+    titles, don't count."""
     if len(rows) - titles > MOST_ROWS:
         raise Mistake(SheetFault.TOO_MANY_ROWS.said(path=path, rows=len(rows) - titles, most=MOST_ROWS))
     if sum(len(cells) for _, cells in rows) > MOST_CELLS:

@@ -13,8 +13,8 @@ class SheetFault(Message):
     EMPTY = "{path} is empty: its first row has to have the titles of the columns"
     NO_TITLES = "{path} has no titles: its first row has to have the titles of the columns"
     TOO_MANY_ROWS = (
-        "{path} has {rows:,} rows, and {most:,} are taken at most: leave out animals that aren't ancestors of those that you "
-        "need. To leave out ancestors, such as the oldest animals, changes coefficients"
+        "{path} has {rows:,} rows, and {most:,} are taken at most: leave out animals that aren't ancestors of those "
+        "that you need. To leave out ancestors, such as the oldest animals, changes coefficients"
     )
     TOO_MANY_CELLS = (
         "{path} has more than {most:,} cells, or some far from the others: delete the rows and columns without animals, "
@@ -29,8 +29,8 @@ class SheetFault(Message):
     IS_FOLDER = "{path} is a folder: name the sheet's file"
     CANT_BE_READ = "{path} can't be read: {error}. Is the name right?"
     OPEN_QUOTE = (
-        "line {line}: a cell begins with a quotation mark (\") and doesn't end with one, or has one within. Close it, or "
-        "write two of them for one within"
+        "line {line}: a cell begins with a quotation mark (\") and doesn't end with one, or has one within. Close it, "
+        "or write two of them for one within"
     )
     NO_OPENPYXL = "{path} is an .xlsx file, and openpyxl, which reads these, isn't installed: save the sheet as CSV, and take that"
     NO_WORKBOOK = "{path} can't be read as an .xlsx file ({error}): save the sheet as CSV, and take that"

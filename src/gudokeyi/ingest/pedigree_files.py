@@ -12,11 +12,10 @@ from typing import NamedTuple
 from gudokeyi.domain.cells import from_spreadsheets, may_have_texts
 from gudokeyi.domain.findings import ImportRefused
 from gudokeyi.domain.kinds import Field
-from gudokeyi.domain.messages import Mistake
+from gudokeyi.domain.messages import Mistake, counted
 from gudokeyi.domain.spelling import closest
 from gudokeyi.ingest.encodings import decoded
-from gudokeyi.ingest.files import MOST_LETTERS, GivenFile, bounded, read_bytes, read_file
-from gudokeyi.ingest.findings.columns import LikelyColumn, NamedColumnLacks, PedigreeTitlesLack
+from gudokeyi.ingest.files import MOST_LETTERS, GivenFile, bounded, read_all, read_bytes, read_file
 from gudokeyi.ingest.messages import SheetFault
 from gudokeyi.ingest.titles import KNOWN_TITLES
 from gudokeyi.ingest.words import composed, listed, plain
@@ -49,8 +48,13 @@ def read_lines(file: GivenFile) -> list[Line]:
     text, _ = decoded(file.path, file.data)
     numbered = enumerate((TITLES_OF_PLINK.sub("", line) if line[:1] == "#" else line for line in text.splitlines()), 1)
     lines = [(number, part) for number, part in numbered if part.strip() and not part.lstrip().startswith("#")]
-    separator = next((one for one in ";\t," if lines and one in lines[0][1]), None)
+    separator = separator_of(lines[0][1]) if lines else None
     return [Line(number, cells_of(number, part, separator)) for number, part in lines]
+
+
+def separator_of(first: str) -> str | None:
+    """What stands between the cells of a file, by its first line; nothing where blanks do."""
+    return next((one for one in ";\t," if one in first), None)
 
 
 def cells_of(number: int, part: str, separator: str | None) -> list[str]:
@@ -75,8 +79,10 @@ def unquoted(cell: str) -> str:
     return inner.replace('\\"', '"').strip()
 
 
-def given_file(path: pathlib.Path, is_pedigree: bool) -> GivenFile:
+def given_file(path: pathlib.Path, is_pedigree: bool, any_size: bool = False) -> GivenFile:
     """The file of a sheet or of a pedigree, which may come from standard input."""
+    if any_size:
+        return GivenFile(path, sys.stdin.buffer.read() if path == STANDARD_INPUT else read_all(path))
     return GivenFile(path, given_bytes(path)) if is_pedigree else read_file(path)
 
 
@@ -118,7 +124,7 @@ TITLES = {
 # titles that are read beside others alone: an animal may have such an id
 SHORT = {Field.SIRE: "s, f, p", Field.DAM: "d, m"}
 # of a column of families, each with ids of its own, as PLINK and kinship2 have them
-FAMILIES = ("fid", "famid", "family", "familyid", "pedid")
+FAMILIES = ("fid", "famid", "family", "familyid", "pedid", "ped", "pedigree", "pedigreeid")
 NEEDED = (Field.ID, Field.SIRE, Field.DAM)
 READ = (*NEEDED, Field.SEX, Field.BIRTH)
 OF_FIELD = {
@@ -129,6 +135,7 @@ SHORT_OF_FIELD = {field: [plain(title) for title in listed(titles)] for field, t
 KNOWN = {title for titles in OF_FIELD.values() for title in titles}
 
 Columns = dict[Field, int]
+WITHOUT_TITLES: Columns = {Field.ID: 0, Field.SIRE: 1, Field.DAM: 2}
 
 
 def are_titles(cells: list[str], given: Mapping[Field, str]) -> bool:
@@ -152,6 +159,8 @@ def find_pedigree_columns(line: int, cells: list[str], given: Mapping[Field, str
             found[field] = at
     missing = [field for field in NEEDED if field not in found]
     if missing:
+        from gudokeyi.ingest.findings.columns import LikelyColumn, PedigreeTitlesLack
+
         free = [cell for at, cell in enumerate(cells) if at not in found.values() and cell]
         likely = (
             [LikelyColumn(field, title) for field, title in zip(missing, free)] if len(free) >= len(missing) else []
@@ -169,6 +178,8 @@ def given_place(line: int, cells: list[str], field: Field, given: Mapping[Field,
     places = [at for at, cell in enumerate(cells) if cell == title]
     places += [at for at, cell in enumerate(cells) if plain(cell) == plain(title)]
     if not places:
+        from gudokeyi.ingest.findings.columns import NamedColumnLacks
+
         meant = closest(title, [cell for cell in cells if cell and cell not in given.values()], 1)
         raise ImportRefused(NamedColumnLacks(line, field, title, tuple(cells), meant[0] if meant else ""))
     return places[0]
@@ -178,6 +189,23 @@ def columns_read(cells: list[str], columns: Columns) -> str:
     used = [f"{field.value} from '{cells[at]}'" for field, at in columns.items()]
     unread = [f"'{cell}'" for at, cell in enumerate(cells) if cell and at not in columns.values()]
     return f"columns: {', '.join(used)}" + (f"; not read: {', '.join(unread)}" if unread else "")
+
+
+def check_cells(line: Line, titles: Line | None, last: int) -> None:
+    """A line has a cell for each column that is read, and none without a title."""
+    count = len(line.cells)
+    if count <= last:
+        raise Mistake(f"{line} has {counted(count, 'cell')}: write an id, its sire and its dam, 0 for an unknown one")
+    if titles is None and any(line.cells[3:]):
+        raise Mistake(
+            f"{line} has {count} cells, and without titles each line has an id, its sire and its dam alone: "
+            "write a first line with the titles of all columns, as `row id sire dam`"
+        )
+    if titles and any(line.cells[len(titles.cells) :]):
+        raise Mistake(
+            f"{line} has {count} cells, and line {titles.number} has {len(titles.cells)} titles: write one for each "
+            "column (R writes such a file without row.names = FALSE), or an id with blanks in quotation marks"
+        )
 
 
 # Lists of animals, as options name them: a file with one id a line.

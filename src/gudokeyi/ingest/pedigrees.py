@@ -10,7 +10,7 @@ from typing import Container
 from gudokeyi.domain.commands import COLUMNS
 from gudokeyi.domain.findings import ImportRefused, Report
 from gudokeyi.domain.kinds import Field
-from gudokeyi.domain.messages import Mistake, counted
+from gudokeyi.domain.messages import Mistake
 from gudokeyi.domain.requests import MOST_IN_ID
 from gudokeyi.ingest.animals import SheetAnimal
 from gudokeyi.ingest.days import ANY_DAY, Unreadable, read_span
@@ -18,12 +18,12 @@ from gudokeyi.ingest.files import GivenFile, check_bounds
 from gudokeyi.ingest.findings.cells import DayLeftOut, LineAgain, SexUnread
 from gudokeyi.ingest.findings.files import ParentsInColumn
 from gudokeyi.ingest.pedigree_files import (
-    STANDARD_INPUT, Columns, Line, are_titles, columns_read, family_column, find_pedigree_columns, read_lines,
+    STANDARD_INPUT, WITHOUT_TITLES, Columns, Line, are_titles, check_cells, columns_read, family_column,
+    find_pedigree_columns, read_lines,
 )  # fmt: skip
 from gudokeyi.ingest.sexes import Sexes
 from gudokeyi.ingest.words import composed
 
-WITHOUT_TITLES: Columns = {Field.ID: 0, Field.SIRE: 1, Field.DAM: 2}
 # the sexes of PLINK and of R's kinship2; other numbers stand for an unknown sex there
 SEX_CODES = {"1": "M", "2": "F"}
 UNKNOWN_CODES = ("0", "3", "4", "9")
@@ -47,8 +47,8 @@ def read_triples(
         lines = [Line(number, [cell if cell in known else composed(cell) for cell in cells]) for number, cells in lines]
     if lines and lines[0].cells in (COLUMNS, COLUMNS[:-1]):
         raise Mistake(
-            f"{file.path} is a command file, whose animals are numbers and no ids: take what `export --triples` writes of "
-            "its book"
+            f"{file.path} is a command file, whose animals are numbers and no ids: take what `export --triples` writes "
+            "of its book"
         )
     has_titles = bool(lines) and are_titles(lines[0].cells, given)
     check_bounds(file.path, lines, int(has_titles))
@@ -77,8 +77,8 @@ def read_triples(
 
 
 class Reader:
-    """Reads the animals line by line. In the column `family`, if there is one, are the families whose ids may be those of
-    others too."""
+    """Reads the animals line by line. In the column `family`, if there is one, are the families whose ids may be those
+    of others too."""
 
     def __init__(
         self, columns: Columns, unknown: Container[str], sexes: Sexes, report: Report, family: int | None
@@ -102,8 +102,8 @@ class Reader:
         first, family = self.animals.get(id), self.family_of(line)
         if first and family != self.families[id]:
             raise Mistake(
-                f"line {line.number}: the id '{id}' is that of line {first.line} too, which has another family: give each "
-                f"animal an id of its own, also where it is a parent, as {family}-{id}"
+                f"line {line.number}: the id '{id}' is that of line {first.line} too, which has another family: give "
+                f"each animal an id of its own, also where it is a parent, as {family}-{id}"
             )
         if first:
             self.report.add(line.number, id, LineAgain(first.line, (first.sire, first.dam), (sire, dam), ()))
@@ -145,23 +145,6 @@ def check_comments(animals: Mapping[str, SheetAnimal]) -> None:
                 f"line {animal.line}: the parent '{lost[0]}' of {animal.id} has no line, since a line that begins with "
                 "# is a comment: put its id into quotation marks where its line begins, or write it otherwise"
             )
-
-
-def check_cells(line: Line, titles: Line | None, last: int) -> None:
-    """A line has a cell for each column that is read, and none without a title."""
-    count = len(line.cells)
-    if count <= last:
-        raise Mistake(f"{line} has {counted(count, 'cell')}: write an id, its sire and its dam, 0 for an unknown one")
-    if titles is None and any(line.cells[3:]):
-        raise Mistake(
-            f"{line} has {count} cells, and without titles each line has an id, its sire and its dam alone: "
-            "write a first line with the titles of all columns, as `row id sire dam`"
-        )
-    if titles and any(line.cells[len(titles.cells) :]):
-        raise Mistake(
-            f"{line} has {count} cells, and line {titles.number} has {len(titles.cells)} titles: write one for each "
-            "column (R writes such a file without row.names = FALSE), or an id with blanks in quotation marks"
-        )
 
 
 def refuse_other_column(

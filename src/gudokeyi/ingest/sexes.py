@@ -12,7 +12,8 @@ from gudokeyi.ingest.words import KNOWN_CASTRATED, KNOWN_SEXES, has_word, plain,
 
 
 class Meaning(NamedTuple):
-    """The sex of a text, empty where it isn't known, and the word for which the text is taken where it is none itself."""
+    """The sex of a text, empty where it isn't known, and the word for which the text is taken where it is none
+    itself."""
 
     sex: str
     is_castrated: bool

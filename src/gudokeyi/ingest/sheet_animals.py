@@ -6,7 +6,7 @@ import collections
 import datetime
 import operator
 import re
-from collections.abc import Callable, Iterable, Iterator, Mapping, Sequence
+from collections.abc import Callable, Collection, Iterable, Iterator, Mapping, Sequence
 from typing import Container
 
 from gudokeyi.domain.findings import Report
@@ -15,12 +15,14 @@ from gudokeyi.domain.requests import MOST_IN_ID
 from gudokeyi.ingest.animal_cells import AnimalCells, ErrorValues, Unread
 from gudokeyi.ingest.animals import ROLES, YEARS_LATER, SheetAnimal, tell_used_again
 from gudokeyi.ingest.day_cells import Order
+from gudokeyi.ingest.day_forms import DayForms
 from gudokeyi.ingest.days import Span, Unreadable, read_span
 from gudokeyi.ingest.findings.cells import (
     DAYS, IdAgain, IdAlone, IdTooLong, LikeASum, NoAnimal, NoId, TitlesAgain, TooManyCells,
 )  # fmt: skip
 from gudokeyi.ingest.findings.columns import SheetFinding
 from gudokeyi.ingest.findings.sheets import CutNumber, FormulaCell, Place
+from gudokeyi.ingest.rows_as_meant import Takers
 from gudokeyi.ingest.sexes import Sexes
 from gudokeyi.ingest.sheets import Sheet, SheetRow
 from gudokeyi.ingest.spellings import CUT
@@ -141,7 +143,8 @@ class SameIds:
 
 # how a spreadsheet shows a formula in place of its value, and a sign that it has, as a number that is cut has one
 PLUS = "+"
-FORMULA, EQUALS = re.compile(r"=.+", re.DOTALL), "="
+# a name may begin with the sign; a formula names a cell or a function, or computes
+FORMULA, EQUALS = re.compile(r"=.*(?:\(|\$?[A-Za-z]{1,3}\$?\d|\d\s*[-+*/&]|[-+*/&]\s*\d).*", re.DOTALL), "="
 
 CELLS_OF = operator.attrgetter("cells")
 
@@ -167,6 +170,7 @@ class Rows:
         month_first: bool = False,
         born: Mapping[str, datetime.date] | None = None,
         no_animals: Sequence[str] = (),
+        owners: Collection[str] = (),
     ) -> None:
         self.sheet, self.columns, self.unknown, self.report = sheet, columns, unknown, report
         self.no_animals = NoAnimals(no_animals)
@@ -177,7 +181,9 @@ class Rows:
         self.errors = ErrorValues(sheet, columns)
         self.sexes = Sexes(self.texts(Field.SEX), sexes)
         self.unread = Unread({name: sheet.titles[at] for name, at in columns.items()})
-        self.cells = AnimalCells(unknown, self.sexes, self.unread, report, month_first)
+        self.forms = DayForms(self.texts(Field.BIRTH), (born or {}).values(), month_first)
+        self.cells = AnimalCells(unknown, self.sexes, self.unread, report, month_first, self.forms)
+        self.cells.takers = Takers({*owners, *self.texts(Field.OWNER)})
         self.same_ids = SameIds(unknown, month_first, born or {})
         # what keeps the sheet from being taken, and what may be wrong
         self.faults: list[SheetFinding] = []
@@ -278,7 +284,7 @@ class Rows:
         fault, note = order.fault(self.month_first), order.note(self.month_first)
         self.faults += [*([fault] if fault else []), *self.cut_numbers(), *self.unread.mostly(), *self.errors.mostly()]
         self.notes += [*self.cells.letters.told(), *self.errors.told(), *([note] if note else [])]
-        self.notes += [*self.unread.found(), *self.sexes.told()]
+        self.notes += [*self.cells.readings.told(), *self.unread.found(), *self.sexes.told()]
 
     def slashed_days(self) -> Iterator[Place]:
         """The cells of days that may show their order, each with its place."""
@@ -294,12 +300,15 @@ class Rows:
         """Ids that the spreadsheet has cut, and formulas in place of their values."""
         ids = [self.columns[name] for name in (Field.ID, *ROLES) if name in self.columns]
         cut = self.cells_like(CUT, PLUS, ids)
-        formulas = self.cells_like(FORMULA, EQUALS, [*self.columns.values()])
+        # a file that says whether a cell is a formula has texts that only look like one
+        is_typed = self.sheet.formulas is not None
+        formulas = [] if is_typed else self.cells_like(FORMULA, EQUALS, [*self.columns.values()])
         found: list[SheetFinding] = [CutNumber(*cell, len(cut)) for cell in cut[:1]]
         return found + [FormulaCell(*cell, len(formulas)) for cell in formulas[:1]]
 
     def cells_like(self, pattern: re.Pattern[str], sign: str, columns: list[int]) -> list[tuple[int, str]]:
-        """The cells of some columns that a pattern fits, each with its line. Few sheets and few rows have the sign of one."""
+        """The cells of some columns that a pattern fits, each with its line. Few sheets and few rows have the sign of
+        one."""
         rows = self.sheet.rows if sign in self.sheet.together else []
         rows = [row for row in rows if sign in "\t".join(row.cells)]
         places = [(line, cells[at]) for line, cells in rows for at in columns if at < len(cells)]

@@ -6,6 +6,7 @@ import functools
 import io
 import itertools
 import operator
+import re
 import unicodedata
 from collections.abc import Callable
 from dataclasses import dataclass, field
@@ -19,7 +20,7 @@ from gudokeyi.ingest.files import MOST_LETTERS, GivenFile, check_bounds
 from gudokeyi.ingest.findings.columns import SheetFinding
 from gudokeyi.ingest.messages import SheetFault
 from gudokeyi.ingest.words import clean
-from gudokeyi.ingest.workbooks import read_workbook
+from gudokeyi.ingest.workbooks import Formulas, read_workbook
 
 SEPARATORS = ";\t,"
 # blanks that cells are read without
@@ -48,6 +49,8 @@ class Sheet:
     faults: list[SheetFinding]
     # the columns that were asked for, by their places
     kept: dict[int, list[str]] = field(default_factory=dict)
+    # its formulas without a value; none where the file doesn't say whether a cell is a text or a formula
+    formulas: Formulas | None = None
 
     def column(self, at: int) -> list[str]:
         """The cells of a column; a row that ends before it has an empty one."""
@@ -70,15 +73,17 @@ def column_of(rows: list[SheetRow], at: int) -> list[str]:
 
 
 def read_sheet(file: GivenFile, score: Score, worksheet: str = "") -> Sheet:
-    """The rows of a file. `score` says how many titles of a row are known: the separator that gives most is taken, and the
-    worksheet where none is named."""
+    """The rows of a file. `score` says how many titles of a row are known: the separator that gives most is taken, and
+    the worksheet where none is named."""
     path, data = file.path, file.data
     faults: list[SheetFinding]
+    formulas: Formulas | None = None
     if file.is_zipped() and not file.is_workbook():
         raise Mistake(SheetFault.ODS.said(path=path))
     if file.is_workbook():
         found = read_workbook(path, data, score, BEGINNING, worksheet)
         rows, how, faults = [SheetRow(*one) for one in found.rows], found.how, found.faults
+        formulas = found.formulas
     else:
         if worksheet:
             raise Mistake(SheetFault.NO_WORKSHEETS.said(path=path))
@@ -91,7 +96,7 @@ def read_sheet(file: GivenFile, score: Score, worksheet: str = "") -> Sheet:
     at = title_row([row.cells for row in rows[:BEGINNING]], score)
     line, titles = rows[at]
     check_bounds(path, rows, at + 1)
-    return Sheet(line, titles, rows[at + 1 :], how, faults)
+    return Sheet(line, titles, rows[at + 1 :], how, faults, formulas=formulas)
 
 
 def title_row(rows: list[list[str]], score: Score) -> int:
@@ -149,6 +154,19 @@ def read_records(text: str, separator: str) -> list[SheetRow]:
 
 
 def cleaned_records(text: str, separator: str) -> list[SheetRow]:
+    """A quotation mark alone in a cell, which people write for the cell above, is one where the text can't be read
+    otherwise."""
+    try:
+        return records_of(text, separator)
+    except Mistake:
+        alone = re.compile(rf'(?<=[{separator}\n])"(?=[{separator}\r\n])')
+        doubled = alone.sub('""""', text)
+        if doubled == text:
+            raise
+        return records_of(doubled, separator)
+
+
+def records_of(text: str, separator: str) -> list[SheetRow]:
     reader = csv.reader(io.StringIO(text, newline=""), delimiter=separator, strict=True)
     rows, begins, cleaned = [], 1, Cleaned()
     try:

@@ -1,5 +1,5 @@
-"""How else an id may be written: with other signs, zeros, capitals or letters that look alike, or as another form of the
-same number."""
+"""How else an id may be written: with other signs, zeros, capitals or letters that look alike, or as another form of
+the same number."""
 from __future__ import annotations
 
 import collections
@@ -109,8 +109,8 @@ def number_of(text: str) -> str:
 
 
 def without_signs(text: str) -> tuple[str, str]:
-    """The letters in their small form, and the digits: without zeros before a number, and before what is one without the
-    signs."""
+    """The letters in their small form, and the digits: without zeros before a number, and before what is one without
+    the signs."""
     folded = text.casefold()
     return SIGNS.sub("", ZEROS.sub("", folded)), ZEROS.sub("", SIGNS.sub("", folded))
 

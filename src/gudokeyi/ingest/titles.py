@@ -64,15 +64,22 @@ TITLES = {
     "exit, left, departure, Abgang, abgegangen, sortie, "
     "date of death, Todesdatum, gestorben am, verstorben am, date de décès, mort le, décédé le, died, death, "
     "gestorben, verstorben, mort, décès, "
-    "Verbleib, fate, whereabouts, disposal, devenir, status, Tierstatus, statut, état",
+    "Verbleib, fate, whereabouts, disposal, devenir, status, Tierstatus, statut, état, Zustand, Lebensstatus, "
+    "Lebenszustand, situation",
     Field.EMBRYO: "embryo, embryo calf, stored embryo, embryo transfer, et, et calf, Embryotransfer, ET-Kalb, "
     "Embryokalb, embryon, transfert d'embryon",
+    Field.STATUS: "status, Tierstatus, statut, état, Verbleib, fate, whereabouts, disposal, devenir, Zustand, "
+    "Lebensstatus, Lebenszustand, Abgangsgrund, exit reason, reason for leaving, motif de sortie, situation, lebt, "
+    "lebend, aktiv, im Bestand, alive, living, active, vivant, en vie, actif",
 }  # fmt: skip
 # the sire and the dam of a sheet that has one column for each of a pair, and none of the titles above
 PAIRS = {Field.SIRE: "dog, stallion, ram, buck, bull, Rüde, Hengst, Bock, Bulle, étalon, bélier, chien",
          Field.DAM: "bitch, mare, ewe, doe, cow, Hündin, Stute, Aue, Ziege, Kuh, jument, brebis, chienne"}  # fmt: skip
 # titles whose columns may have something else than exits
-DOUBTFUL_EXITS = "Verbleib, fate, whereabouts, disposal, devenir, status, Tierstatus, statut, état"
+DOUBTFUL_EXITS = (
+    "Verbleib, fate, whereabouts, disposal, devenir, status, Tierstatus, statut, état, Zustand, Lebensstatus, "
+    "Lebenszustand, situation"
+)
 # Columns that a sheet has to have; `--columns sire=` says that there is none.
 NEEDED = (Field.ID, Field.BIRTH, Field.SIRE, Field.DAM)
 
@@ -117,8 +124,8 @@ def title_list(titles: Iterable[str]) -> str:
 
 
 def parts_of(words: list[str]) -> list[str]:
-    """The parts between commas; one that has a comma itself stands in quotation marks. An end of a line is a blank, as it
-    is in a sheet's cells."""
+    """The parts between commas; one that has a comma itself stands in quotation marks. An end of a line is a blank, as
+    it is in a sheet's cells."""
     lines = (" ".join(composed(word).splitlines()) for word in words)
     return [part for line in lines for part in next(csv.reader([line], skipinitialspace=True), [""])]
 

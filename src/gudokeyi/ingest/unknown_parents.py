@@ -5,9 +5,11 @@ import functools
 import re
 from collections.abc import Collection
 
+from gudokeyi.domain.cells import FIRST_LETTER
 from gudokeyi.ingest.words import UNKNOWN, is_error_value, listed
 
-# signs alone, as `?`, `*` and `---`, zeros alone, as `00` and `0.0`, and the usual numbers as pandas writes them, as `-9.0`
+# signs alone, as `?`, `*` and `---`, zeros alone, as `00` and `0.0`, and the usual numbers as pandas writes them, as
+# `-9.0`
 SIGNS = re.compile(r"[-–—?.*/_~+]+|[-+]?0[0.,]*|-(?:1|9{1,4})[.,]0+")
 BEGIN_OF_SIGNS = frozenset("-–—?.*/_~+0")
 POINTS = re.compile(r"\.\s*")
@@ -27,6 +29,9 @@ def compared(text: str) -> str:
 KNOWN_UNKNOWN = {compared(word) for word in listed(UNKNOWN)}
 # how texts begin, in small letters, that may stand for an unknown parent: these words, signs and error values
 BEGINNINGS = BEGIN_OF_SIGNS | {word[0] for word in KNOWN_UNKNOWN} | {"#", "e"}
+FIRST_LETTERS = {"", *BEGINNINGS, *(letter.upper() for letter in BEGINNINGS)}
+# a text with a number, but for the error values of spreadsheets and numbers below 0, is none of them
+NUMBERED = re.compile(r"(?![-+#Ee–—])[^1-9]*[1-9]")
 
 
 def unknown_words(more: list[str]) -> set[str]:
@@ -40,16 +45,25 @@ INITIALS = 2
 
 class UnknownParents:
     """The texts that stand for an unknown parent: the usual ones, those that the society names besides, and not those
-    that it says are known."""
+    that it says are known: each some texts, or one."""
 
     def __init__(self, more: Collection[str] = (), known: Collection[str] = ()) -> None:
-        self.more = {word.casefold() for one in more for word in listed(one)}
-        self.known = {word.casefold() for one in known for word in listed(one)}
+        self.more, self.known = (
+            {word.casefold() for one in ([given] if isinstance(given, str) else given) for word in listed(one)}
+            for given in (more, known)
+        )
         # the same texts stand in many cells
         self.is_one = functools.cache(self.is_unknown)
 
     def __contains__(self, text: object) -> bool:
         return isinstance(text, str) and self.is_one(text)
+
+    def among(self, texts: Collection[str]) -> set[str]:
+        """Those of very many texts: few begin so that they may be some."""
+        are_likely = not FIRST_LETTERS.isdisjoint({*map(FIRST_LETTER, texts)})
+        likely = [one for one in texts if one[:1] in FIRST_LETTERS and not NUMBERED.match(one)] if are_likely else []
+        named = {text for text in texts if text.casefold() in self.more} if self.more else set[str]()
+        return named.union(filter(self.is_unknown, {*likely}))
 
     def is_unknown(self, text: str) -> bool:
         folded = text.casefold()

@@ -13,8 +13,8 @@ from gudokeyi.ingest.days import DayFault
 # The words that cells of sheets have, in English, German and French, and how texts are compared.
 
 UNKNOWN = (
-    "na, <na>, nan, n/a, nn, none, null, unknown, unk, not known, not recorded, not available, unknown sire, unknown dam, "
-    "unbekannt, unbek, nicht bekannt, nb, ka, keine angabe, keine angaben, fehlt, inconnu, inconnue, non connu, "
+    "na, <na>, nan, n/a, nn, none, null, unknown, unk, not known, not recorded, not available, unknown sire, unknown "
+    "dam, unbekannt, unbek, nicht bekannt, nb, ka, keine angabe, keine angaben, fehlt, inconnu, inconnue, non connu, "
     "non connue, pas connu, non renseigné, non renseignée, nc, nr, -1, -9, -99, -999, -9999"
 )
 # `M` is male in all three languages, and `W` is weiblich; single letters that mean two things aren't here.
@@ -44,12 +44,12 @@ STAYS = (
     "présente"
 )
 EXITS = (
-    "ja, yes, oui, x, verkauft, verk, Verkauf, geschlachtet, Schlachtung, geschl, gestorben, verstorben, verendet, "
-    "tot, Tod, abgegangen, Abgang, ausgeschieden, exportiert, gekeult, euthanasiert, notgetötet, eingeschläfert, "
-    "getötet, verunglückt, abgegeben, verliehen, ausgeliehen, gestohlen, gerissen, weg, inaktiv, sold, sale, slaughtered, slaughter, dead, died, death, deceased, culled, exported, gone, left, lost, "
-    "stolen, killed, euthanised, euthanized, rehomed, "
-    "vendu, vendue, vente, abattu, abattue, abattage, mort, morte, décédé, décédée, réformé, réformée, réforme, sorti, "
-    "sortie, exporté, exportée, volé, volée, euthanasié, euthanasiée, inactif, inactive"
+    "ja, yes, oui, x, verkauft, verk, Verkauf, geschlachtet, Schlachtung, geschl, gestorben, verstorben, verendet, tot, "
+    "Tod, abgegangen, Abgang, ausgeschieden, exportiert, gekeult, euthanasiert, notgetötet, eingeschläfert, getötet, "
+    "verunglückt, abgegeben, verliehen, ausgeliehen, gestohlen, gerissen, weg, inaktiv, sold, sale, slaughtered, "
+    "slaughter, dead, died, death, deceased, culled, exported, gone, left, lost, stolen, killed, euthanised, "
+    "euthanized, rehomed, vendu, vendue, vente, abattu, abattue, abattage, mort, morte, décédé, décédée, réformé, "
+    "réformée, réforme, sorti, sortie, exporté, exportée, volé, volée, euthanasié, euthanasiée, inactif, inactive"
 )
 # with one of these a word for a living animal tells of one that has left
 NEGATIONS = "nicht, kein, keine, nimmer, not, no, never, pas, plus, non"

@@ -13,7 +13,7 @@ import xml.parsers.expat
 import zipfile
 import zlib
 from collections import Counter
-from collections.abc import Callable
+from collections.abc import Callable, Collection, Mapping
 from typing import Any, NamedTuple
 
 from gudokeyi.domain.cells import from_spreadsheets
@@ -138,12 +138,25 @@ QUOTED = re.compile(r'"[^"]*"|\[[^\]]*\]|\\.')
 Score = Callable[[list[str]], int]
 
 
+class Formulas(NamedTuple):
+    """The cells with a formula that has no value, by the places of their columns, from 0 on."""
+
+    worksheet: str = ""
+    cells: Mapping[int, list[str]] = {}
+
+    def told(self, columns: Collection[int]) -> list[SheetFinding]:
+        """What keeps a sheet from being taken of which these columns are read."""
+        found = [cell for at in columns for cell in self.cells.get(at, [])]
+        return [FormulasWithoutValue(self.worksheet, len(found), found[0])] if found else []
+
+
 class Worksheet(NamedTuple):
     """The rows of a worksheet that have a cell with text, each with its number, and which one it is, in words."""
 
     rows: list[tuple[int, list[str]]]
     how: str
     faults: list[SheetFinding]
+    formulas: Formulas
 
 
 def read_workbook(path: pathlib.Path, data: bytes, score: Score, most: int, named: str) -> Worksheet:
@@ -157,7 +170,7 @@ def read_workbook(path: pathlib.Path, data: bytes, score: Score, most: int, name
     rows = as_texts(path, values)
     others = [f"'{title}'" for title in titles if title != titles[at]]
     how = f"the worksheet '{titles[at]}' of an .xlsx file" + (f"; not read: {', '.join(others)}" if others else "")
-    return Worksheet(rows, how if others else "an .xlsx file", faults(values, texts))
+    return Worksheet(rows, how if others else "an .xlsx file", faults(texts), formulas(values, texts))
 
 
 def opened(path: pathlib.Path, data: bytes, values: bool) -> Any:
@@ -210,11 +223,20 @@ def as_texts(path: pathlib.Path, sheet: Any, last: int | None = None) -> list[tu
     for (row, column), cell in sheet._cells.items():
         if (last is None or row <= last) and (text := cell_text(cell)):
             rows.setdefault(row, {})[column] = text
+    fill_merged(sheet, rows)
     width = max((max(cells) for cells in rows.values()), default=0)
     if len(rows) * width > MOST_CELLS:
         raise Mistake(SheetFault.TOO_MANY_CELLS.said(path=path, most=MOST_CELLS))
     columns = range(1, width + 1)
     return [(row, [cells.get(column, "") for column in columns]) for row, cells in sorted(rows.items())]
+
+
+def fill_merged(sheet: Any, rows: dict[int, dict[int, str]]) -> None:
+    """A cell that is merged with those below it stands for each of them, where their rows have cells too."""
+    for range in sheet.merged_cells.ranges:
+        text = rows.get(range.min_row, {}).get(range.min_col, "")
+        for row in [row for row in rows if range.min_row < row <= range.max_row] if text else ():
+            rows[row].setdefault(range.min_col, text)
 
 
 def chosen(path: pathlib.Path, workbook: Any, score: Score, most: int, named: str) -> str:
@@ -234,20 +256,20 @@ def best_score(path: pathlib.Path, sheet: Any, score: Score, most: int) -> int:
     return max((score(cells) for _, cells in as_texts(path, sheet, most)), default=0)
 
 
-def faults(values: Any, texts: Any) -> list[SheetFinding]:
-    """Formulas without a value, and long numbers that have lost digits."""
-    without, long = [], []
+def faults(texts: Any) -> list[SheetFinding]:
+    """Long numbers that have lost digits."""
+    numbers = [cell for _, cell in sorted(texts._cells.items()) if isinstance(cell.value, (int, float))]
+    long = [cell.coordinate for cell in numbers if abs(cell.value) >= TOO_LONG]
+    return [DigitsLost(texts.title, len(long), long[0])] if long else []
+
+
+def formulas(values: Any, texts: Any) -> Formulas:
+    """Those without a value."""
+    found: dict[int, list[str]] = {}
     for place, cell in sorted(texts._cells.items()):
         if cell.data_type == "f" and (place not in values._cells or values._cells[place].value is None):
-            without.append(cell.coordinate)
-        elif isinstance(cell.value, (int, float)) and abs(cell.value) >= TOO_LONG:
-            long.append(cell.coordinate)
-    found: list[SheetFinding] = []
-    if without:
-        found.append(FormulasWithoutValue(values.title, len(without), without[0]))
-    if long:
-        found.append(DigitsLost(values.title, len(long), long[0]))
-    return found
+            found.setdefault(cell.column - 1, []).append(cell.coordinate)
+    return Formulas(texts.title, found)
 
 
 def cell_text(cell: Any) -> str:

@@ -2,15 +2,12 @@
 parents without one."""
 from __future__ import annotations
 
-from gudokeyi.domain.animals import SocietyRecord
-from gudokeyi.domain.commands import RegisterRecord
 from gudokeyi.domain.findings import ImportRefused, Report
 from gudokeyi.domain.kinds import Role, Standing
 from gudokeyi.domain.messages import Mistake
 from gudokeyi.domain.pedigree_order import ancestors
-from gudokeyi.ingest.animals import SheetAnimal
+from gudokeyi.ingest.animals import SheetAnimal, birth_in_book
 from gudokeyi.ingest.columns import Columns
-from gudokeyi.ingest.days import ANY_DAY, Span, span_of_period
 from gudokeyi.reconcile.birth_days import find_days
 from gudokeyi.reconcile.exits import exit_in_book
 from gudokeyi.reconcile.findings.animals import RowIsGone
@@ -18,9 +15,11 @@ from gudokeyi.reconcile.guards import Guards
 from gudokeyi.reconcile.ids import NearIds, leave_out_used_tags
 from gudokeyi.reconcile.import_options import ImportOptions
 from gudokeyi.reconcile.messages import ImportFault
+from gudokeyi.reconcile.new_tags import tell_new_tags
 from gudokeyi.reconcile.next_book import NextBook
 from gudokeyi.reconcile.parents import Names, keep_parents_named, try_parents_again
-from gudokeyi.reconcile.sexes import find_sexes, leave_out_unread_sexes
+from gudokeyi.reconcile.parents_in_texts import ParentsInTexts
+from gudokeyi.reconcile.sexes import find_sexes, leave_out_unread_sexes, mend_sexes
 from gudokeyi.reconcile.values_from_book import keep_values
 from gudokeyi.store.book import Book
 
@@ -29,33 +28,26 @@ from gudokeyi.store.book import Book
 
 def animals_of_book(book: Book, animals: dict[str, SheetAnimal]) -> dict[str, SheetAnimal]:
     """The animals of the book that have no row, each as the book has it."""
-    ids = {known.registration_number: id for id, known in book.known.items()}
+    ids = {in_book.registration_number: id for id, in_book in book.society_records.items()}
     gone = {}
-    for id, known in book.known.items():
+    for id, in_book in book.society_records.items():
         if id in animals:
             continue
-        record = book.records[known.registration_number]
-        animal = SheetAnimal(id, 0, known.name, "" if known.sex.is_inferred else known.registration_number[6])
-        animal.birth = birth_in_book(known, record)
+        record = book.records[in_book.registration_number]
+        animal = SheetAnimal(id, 0, in_book.name, "" if in_book.sex.is_inferred else in_book.registration_number[6])
+        animal.birth = birth_in_book(in_book, record)
         animal.sire, animal.dam = ids.get(record.sire, ""), ids.get(record.dam, "")
         animal.owner, animal.embryo = book.owner_of(record.owner_code), record.embryo
-        animal.castrated = known.castrated
-        animal.left, animal.exit_basis = exit_in_book(known, record, animal.birth.first)
+        animal.castrated = in_book.castrated
+        animal.left, animal.exit_basis = exit_in_book(in_book, record, animal.birth.first)
         gone[id] = animal
     return gone
-
-
-def birth_in_book(known: SocietyRecord, record: RegisterRecord) -> Span:
-    """The days that the book leaves open for a birth: one, those of a month or a year that a sheet said, or all."""
-    if known.birth.period:
-        return span_of_period(known.birth.period)
-    return ANY_DAY if known.birth.is_inferred else Span(record.born, record.born)
 
 
 def add_gone(
     animals: dict[str, SheetAnimal], gone: dict[str, SheetAnimal], book: Book, drop: bool, report: Report
 ) -> None:
-    """Adds those of the book, or drops them but for the ancestors of an animal that has a row."""
+    """Adds those of the book, or drops them but for the ancestors of an animal that has a row, and tells of them."""
 
     def gone_parents(id: str) -> list[str]:
         return [parent for parent in (animals.get(id) or gone[id]).parent_ids() if parent in gone]
@@ -63,7 +55,7 @@ def add_gone(
     if not gone:
         return
     # those that were filed by hand had no row in any sheet yet
-    filed = {id for id in gone if book.known[id].standing is Standing.FILED}
+    filed = {id for id in gone if book.society_records[id].standing is Standing.FILED}
     kept = filed | ancestors([*animals, *filed], gone_parents) if drop else set(gone)
     parents = {parent for animal in (*animals.values(), *gone.values()) for _, parent in animal.parents()}
     for id, animal in gone.items():
@@ -71,7 +63,7 @@ def add_gone(
             animals[id] = animal
         if id in filed:
             continue
-        had_row = book.known[id].standing.had_row()
+        had_row = book.society_records[id].standing.had_row()
         if id not in kept or had_row or id not in parents:
             report.add(0, id, RowIsGone(had_row, is_dropped=id not in kept))
 
@@ -92,13 +84,20 @@ def add_others(next_book: NextBook, drop_gone: bool) -> None:
     all_animals = animals | gone
     keep_parents_named(next_book, all_animals)
     if not next_book.is_pedigree:
+        mend_sexes(next_book, gone)
+        ParentsInTexts(animals, all_animals, book).find(report)
         near = NearIds(animals, all_animals, book)
         near.find_parents(report)
         near.tell_alike(report)
     Names(all_animals, report).find_parents(animals, book)
     try_parents_again(next_book, gone, all_animals)
+    if not next_book.is_pedigree:
+        tell_new_tags(next_book, gone)
     animals |= {id: gone.pop(id) for id in next_book.used_again}
-    add_gone(animals, gone, book, drop_gone, report)
+    if next_book.appends:
+        animals |= gone
+    else:
+        add_gone(animals, gone, book, drop_gone, report)
     leave_out_unread_sexes(next_book)
     names = Names(animals, report)
     names.advise_unknown(next_book.is_pedigree)
@@ -119,7 +118,8 @@ def complete(next_book: NextBook, columns: Columns, import_options: ImportOption
     """Adds what the book and the parents' cells have besides, and finds sexes and days; a mistake where the sheet
     looks like another one, and it isn't wished anyway."""
     guards = Guards(next_book.book, dict(next_book.animals), columns)
-    found = guards.of_rows()
+    next_book.appends = import_options.append
+    found = guards.of_rows(import_options.append)
     if not import_options.anyway:
         next_book.used_again = leave_out_used_tags(next_book.animals, next_book.book, next_book.report)
     add_others(next_book, import_options.drop_gone)

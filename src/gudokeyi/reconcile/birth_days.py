@@ -7,6 +7,7 @@ import heapq
 import itertools
 
 from gudokeyi.domain.findings import Report
+from gudokeyi.domain.kinds import Field
 from gudokeyi.domain.pedigree_order import Waiting, offspring_by_parent
 from gudokeyi.domain.provenance import GIVEN_BIRTH, BirthBasis, BirthSource
 from gudokeyi.ingest.animals import SheetAnimal, parents_of_all
@@ -15,19 +16,30 @@ from gudokeyi.reconcile.findings.animals import BirthDayInferred
 from gudokeyi.reconcile.impossible_parents import cut_cycles
 from gudokeyi.reconcile.next_book import NextBook
 
-# Days for animals without one, each between its parents' and its offspring's.
-
 # days between a parent's birth and an offspring's, where only one of the two is known
 GENERATION = 730
 FROM_OFFSPRING, FROM_PARENTS = BirthBasis(BirthSource.OFFSPRING), BirthBasis(BirthSource.PARENTS)
+
+
+# Days for animals without one, each between its parents' and its offspring's.
+
+
+def unread_cell(animal: SheetAnimal) -> str:
+    """What the cell of its birth day has where nobody could read it; a day that can't be is told by itself."""
+    cell = animal.cells.get(Field.BIRTH, "") if Field.BIRTH in animal.unread else ""
+    try:
+        datetime.date.fromisoformat(cell)
+    except ValueError:
+        return cell
+    return ""
 
 
 def find_days(next_book: NextBook) -> None:
     """Birth days of all animals, of which none is its own ancestor any more."""
     book, animals, report = next_book.book, next_book.animals, next_book.report
     undated = cut_cycles(animals, report, next_book.has_in_book)
-    inferred = [(id, known) for id, known in book.known.items() if known.birth.is_inferred]
-    kept = {id: (book.records[known.registration_number].born.toordinal(), known.birth) for id, known in inferred}
+    inferred = [(id, in_book) for id, in_book in book.society_records.items() if in_book.birth.is_inferred]
+    kept = {id: (book.records[in_book.registration_number].born.toordinal(), in_book.birth) for id, in_book in inferred}
     Days(animals, undated, kept).infer(report)
 
 
@@ -65,12 +77,13 @@ class Days:
             animal.born, animal.birth_basis = self.day_for(animal)
             is_kept = self.stays(animal, animal.born.toordinal())
             text = "" if is_kept else animal.birth.text
-            found = BirthDayInferred(animal.born, animal.birth_basis, is_kept, animal.named_in, text)
+            unread = unread_cell(animal)
+            found = BirthDayInferred(animal.born, animal.birth_basis, is_kept, animal.named_in, text, unread)
             report.add(animal.line, id, found)
 
     def stays(self, animal: SheetAnimal, day: int) -> bool:
-        """Is it the day that was inferred for the book, where no cell has a month or a year, or one has this day as a list
-        marks it?"""
+        """Is it the day that was inferred for the book, where no cell has a month or a year, or one has this day as a
+        list marks it?"""
         kept, basis = self.kept.get(animal.id, (0, GIVEN_BIRTH))
         if kept != day or not animal.line or animal.birth == ANY_DAY:
             return kept == day

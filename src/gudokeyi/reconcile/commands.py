@@ -17,7 +17,8 @@ from gudokeyi.reconcile.findings.animals import NewAnimal, ValueChanged
 from gudokeyi.reconcile.findings.rows import CommandLeftOut
 from gudokeyi.reconcile.messages import ImportFault
 from gudokeyi.reconcile.next_book import NextBook
-from gudokeyi.reconcile.owner_days import OwnerDays, owner_day_known
+from gudokeyi.reconcile.owner_day_known import owner_day_known
+from gudokeyi.reconcile.owner_days import OwnerDays
 from gudokeyi.store.journal import Filed, Step, alike
 
 YES = {True: "yes", False: ""}
@@ -79,9 +80,9 @@ class Filing:
 
     def more(self) -> list[Command] | None:
         """The commands that the book lacks, or none where what stands in it has to be corrected."""
-        if not self.book.known:
+        if not self.book.society_records:
             return self.anew()
-        if self.book.known.keys() - self.next_book.animals.keys():
+        if self.book.society_records.keys() - self.next_book.animals.keys():
             return None
         births, corrections, transfers, exits = [], [], [], []
         for animal in self.next_book.by_birth:
@@ -117,19 +118,19 @@ class Filing:
 
     def tell_changes(self) -> None:
         report = self.next_book.report
-        for animal in self.next_book.animals.values() if self.book.known else ():
-            record, known = self.next_book.record(animal.id), self.book.known.get(animal.id)
-            if record and known:
-                for found in self.changes(animal, record, known):
+        for animal in self.next_book.animals.values() if self.book.society_records else ():
+            record, in_book = self.next_book.record(animal.id), self.book.society_records.get(animal.id)
+            if record and in_book:
+                for found in self.changes(animal, record, in_book):
                     report.add(animal.line, animal.id, found)
             elif animal.line:
                 report.add(animal.line, animal.id, NewAnimal(animal.registration_number))
 
-    def changes(self, animal: SheetAnimal, record: RegisterRecord, known: SocietyRecord) -> list[ValueChanged]:
-        owner, exit = self.book.owner_of(record.owner_code), exit_words(record.left, known.exit)
+    def changes(self, animal: SheetAnimal, record: RegisterRecord, in_book: SocietyRecord) -> list[ValueChanged]:
+        owner, exit = self.book.owner_of(record.owner_code), exit_words(record.left, in_book.exit)
         sire, dam = self.next_book.id_of(record.sire), self.next_book.id_of(record.dam)
         pairs: list[tuple[str, object, object]] = [
-            ("name", known.name, animal.name),
+            ("name", in_book.name, animal.name),
             ("birth day", record.born, animal.born),
             ("number", record.registration_number, animal.registration_number),
             ("sire", sire, animal.sire),
@@ -137,13 +138,13 @@ class Filing:
             ("owner", owner, animal.owner),
             ("exit", exit, exit_words(animal.left, animal.exit_basis)),
             ("stored embryo", YES[record.embryo], YES[animal.embryo]),
-            ("castrated", YES[known.castrated], YES[animal.castrated]),
+            ("castrated", YES[in_book.castrated], YES[animal.castrated]),
         ]
         if animal.id in self.owners.other_days:
-            since = record.since if owner_day_known(self.book, known, record.from_owner, record.since) else ""
+            since = record.since if owner_day_known(self.book, in_book, record.from_owner, record.since) else ""
             pairs.append(("owner since", since, self.owners.other_days[animal.id]))
         found = [ValueChanged(name, str(after), str(before)) for name, before, after in pairs if before != after]
-        if known.birth.is_invented and animal.birth_basis.is_invented:
+        if in_book.birth.is_invented and animal.birth_basis.is_invented:
             # invented days are invented anew each time
             return [one for one in found if one.name != "birth day"]
         return found

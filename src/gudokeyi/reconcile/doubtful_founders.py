@@ -1,18 +1,20 @@
-"""Parents of a pedigree without a line that may be no founders: words that may mean unknown parents, ids of which a part
-lacks, and very many of them."""
+"""Parents of a pedigree without a line that may be no founders: words that may mean unknown parents, ids of which a
+part lacks, and very many of them."""
 from __future__ import annotations
 
 import collections
 import functools
+import itertools
 import re
-from collections.abc import Callable, Collection, Mapping, Sequence
+from collections.abc import Callable, Collection, Iterable, Mapping, Sequence
+from dataclasses import dataclass
 
 from gudokeyi.domain.findings import Obstacle
 from gudokeyi.domain.messages import some_of
 from gudokeyi.ingest.animals import SheetAnimal, links_outside
 from gudokeyi.ingest.spellings import NUMBER
 from gudokeyi.ingest.unknown_parents import UnknownParents
-from gudokeyi.reconcile.findings.obstacles import ManyWithoutLine, ParentsCut, ParentsInPart, WordsAsParents
+from gudokeyi.reconcile.findings.founders import ManyWithoutLine, ParentsCut, ParentsInPart, WordsAsParents
 
 # one in so many parents may have no line
 TENTH = 10
@@ -20,27 +22,41 @@ TENTH = 10
 FEW = 3
 
 
+@dataclass(frozen=True)
+class Counts:
+    """How many animals a pedigree has, how many of them have a parent, and how many parents there are."""
+
+    animals: int
+    with_parents: int
+    parents: int
+
+    @classmethod
+    def of(cls, animals: Collection[SheetAnimal]) -> Counts:
+        with_parents = [parents for animal in animals if (parents := animal.parent_ids())]
+        return cls(len(animals), len(with_parents), len({parent for its in with_parents for parent in its}))
+
+
 def founders_in_doubt(
-    animals: Mapping[str, SheetAnimal], ids: Collection[str], unknown: UnknownParents
+    animals: Iterable[SheetAnimal], counted: Counts, ids: Collection[str], unknown: UnknownParents
 ) -> list[Obstacle]:
-    """What is asked before parents that aren't among some ids are taken as founders. Words that are said to be known are
-    animals."""
+    """What is asked before parents that aren't among some ids are taken as founders, of the animals that have such ones
+    at least. Words that are said to be known are animals."""
     progeny: dict[str, dict[str, SheetAnimal]] = {}
-    for offspring, _, parent in links_outside(animals.values(), ids):
+    for offspring, _, parent in links_outside([*animals], ids):
         progeny.setdefault(parent, {})[offspring.id] = offspring
     known = {parent for parent in progeny if parent.casefold() in unknown.known}
     counts = {parent: len(its) for parent, its in progeny.items() if parent not in known}
-    words = UnknownWords(animals, ids, unknown).among(counts)
+    words = UnknownWords(counted, ids, unknown).among(counts)
     others = known.union(words)
     lacking = [parent for parent in progeny if parent not in others]
-    all_parents = {parent for animal in animals.values() for parent in animal.parent_ids()} - others
+    parents = counted.parents - len(others)
     found: list[Obstacle] = []
     if words:
         found.append(WordsAsParents(tuple(words), some_of([place(one, progeny[one]) for one in words])))
-    if TENTH * len(lacking) > len(all_parents) > len(lacking):
+    if TENTH * len(lacking) > parents > len(lacking):
         first = some_of([place(one, progeny[one]) for one in lacking])
-        found.append(ManyWithoutLine(len(lacking), len(all_parents), first))
-    in_part = ids_in_part(lacking, animals, progeny) if len(lacking) == len(all_parents) else []
+        found.append(ManyWithoutLine(len(lacking), parents, first))
+    in_part = ids_in_part(lacking, ids, progeny) if len(lacking) == parents else []
     return found + (in_part or ids_cut(lacking, ids, progeny))
 
 
@@ -68,8 +84,8 @@ AROUND = re.compile(r"^[\d\W_]+|[\d\W_]+$")
 class UnknownWords:
     """Tells words for unknown parents from the ids of animals."""
 
-    def __init__(self, animals: Mapping[str, SheetAnimal], ids: Collection[str], unknown: UnknownParents) -> None:
-        self.animals, self.ids, self.unknown = animals, ids, unknown
+    def __init__(self, counted: Counts, ids: Collection[str], unknown: UnknownParents) -> None:
+        self.counted, self.ids, self.unknown = counted, ids, unknown
 
     def among(self, counts: Mapping[str, int]) -> list[str]:
         """Those of parents without a line, each with how many offspring it has."""
@@ -100,11 +116,8 @@ class UnknownWords:
 
     def has_very_many(self, count: int) -> bool:
         """Have more than a tenth of all animals with a parent it as theirs, though founders have lines?"""
-        return count >= VERY_MANY and TENTH * count > self.with_parents and self.with_parents < len(self.animals)
-
-    @functools.cached_property
-    def with_parents(self) -> int:
-        return sum(any(animal.parent_ids()) for animal in self.animals.values())
+        of_all = self.counted.with_parents
+        return count >= VERY_MANY and TENTH * count > of_all and of_all < self.counted.animals
 
     @functools.cached_property
     def texts_of_numbers(self) -> list[str]:
@@ -127,14 +140,16 @@ class UnknownWords:
 
 # so many letters a beginning or an end has that many ids have, and so many digits where it has nothing else
 LONGEST, LEAST_DIGITS = 12, 3
+# of more ids than these a part tells how they begin and end
+MOST_LOOKED_AT = 50_000
 
 
 def ids_in_part(
-    lacking: Sequence[str], animals: Mapping[str, SheetAnimal], progeny: Mapping[str, Mapping[str, SheetAnimal]]
+    lacking: Sequence[str], ids: Collection[str], progeny: Mapping[str, Mapping[str, SheetAnimal]]
 ) -> list[Obstacle]:
     """Where no parent has a line: most of them have the digits of an id, as where a country is left out."""
-    ids = {digits_of(id): id for id in animals}
-    meant = {parent: ids[digits] for parent in lacking if (digits := digits_of(parent)) and digits in ids}
+    whole = {digits_of(id): id for id in ids}
+    meant = {parent: whole[digits] for parent in lacking if (digits := digits_of(parent)) and digits in whole}
     if len(meant) < FEW or 2 * len(meant) <= len(lacking):
         return []
     first = some_of([place_with(id, parent, progeny[parent]) for parent, id in meant.items()])
@@ -165,11 +180,12 @@ def ids_cut(
 
 
 def common(ids: Collection[str], part: Callable[[str, int], str]) -> list[str]:
-    """How more than a tenth of some ids begin, or end."""
+    """How more than a tenth of some ids begin, or end; of very many some are looked at."""
+    some = [*itertools.islice(ids, 0, None, 1 + len(ids) // MOST_LOOKED_AT)]
     found: list[str] = []
     for length in range(1, LONGEST + 1):
-        counts = collections.Counter(part(id, length) for id in ids if len(id) > length)
-        found += [text for text, count in counts.items() if is_common(text, count, len(ids))]
+        counts = collections.Counter(part(id, length) for id in some if len(id) > length)
+        found += [text for text, count in counts.items() if is_common(text, count, len(some))]
     return found
 
 

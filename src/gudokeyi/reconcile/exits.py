@@ -30,11 +30,11 @@ class Exit(NamedTuple):
     basis: ExitBasis
 
 
-def exit_in_book(known: SocietyRecord, record: RegisterRecord, born: datetime.date) -> Exit:
+def exit_in_book(in_book: SocietyRecord, record: RegisterRecord, born: datetime.date) -> Exit:
     """The exit that an animal has in the book, or that was left out, since a sheet made it impossible, and can be with
     this birth day."""
-    day = given_day(known.exit)
-    return Exit(day, GIVEN_EXIT) if day and day >= born else Exit(record.left, known.exit)
+    day = given_day(in_book.exit)
+    return Exit(day, GIVEN_EXIT) if day and day >= born else Exit(record.left, in_book.exit)
 
 
 def given_day(basis: ExitBasis) -> datetime.date | None:
@@ -90,10 +90,10 @@ def tells_of_exit(entry: Entry, animal: SheetAnimal) -> bool:
 
 def is_left_out_already(next_book: NextBook, animal: SheetAnimal) -> bool:
     """Is the exit left out in the book too, for the same birth day?"""
-    known = next_book.book.known.get(animal.id)
-    if known is None:
+    in_book = next_book.book.society_records.get(animal.id)
+    if in_book is None:
         return False
-    return (known.exit, next_book.book.records[known.registration_number].born) == (animal.exit_basis, animal.born)
+    return (in_book.exit, next_book.book.records[in_book.registration_number].born) == (animal.exit_basis, animal.born)
 
 
 # Changes of many animals at once, which are taken, and told in a sentence: exits that are taken back, and what most
@@ -108,9 +108,10 @@ LOOKED_AT = ("name", "owner", "exit")
 
 
 def tell_withdrawn_exits(next_book: NextBook) -> None:
-    book, animals = next_book.book, next_book.animals.values() if next_book.book.known else ()
+    book, animals = next_book.book, next_book.animals.values() if next_book.book.society_records else ()
     living = [animal for animal in animals if not animal.left and not animal.exit_basis.is_inferred]
-    withdrawn = [animal for animal in living if (known := book.known.get(animal.id)) and book.has_left(known)]
+    before = ((animal, book.society_records.get(animal.id)) for animal in living)
+    withdrawn = [animal for animal, in_book in before if in_book and book.has_left(in_book)]
     if len(withdrawn) >= SEVERAL_WITHDRAWN:
         first = tuple(RowOf(animal.id, animal.line) for animal in withdrawn[:FIRST])
         next_book.report.add(0, "", ExitsWithdrawn(len(withdrawn), first))
@@ -118,10 +119,10 @@ def tell_withdrawn_exits(next_book: NextBook) -> None:
 
 def tell_most_changed(next_book: NextBook) -> None:
     """What most rows of animals that the book has have otherwise; an exit that is taken back is told by itself."""
-    report, known = next_book.report, next_book.book.known
-    if not known:
+    report, before = next_book.report, next_book.book.society_records
+    if not before:
         return
-    both = sum(animal.line > 0 and animal.id in known for animal in next_book.animals.values())
+    both = sum(animal.line > 0 and animal.id in before for animal in next_book.animals.values())
     changed = [one.finding for one in report.entries if one.line and isinstance(one.finding, ValueChanged)]
     counts = collections.Counter(one.name for one in changed if one.name != "exit" or one.after)
     for name in LOOKED_AT:

@@ -41,39 +41,40 @@ class OtherAnimals:
     @functools.cached_property
     def both(self) -> list[tuple[SheetAnimal, SocietyRecord]]:
         """The rows of animals that the book has, with what it knows of them."""
-        return [(row, known) for id, row in self.rows.items() if (known := self.book.known.get(id))]
+        return [(row, in_book) for id, row in self.rows.items() if (in_book := self.book.society_records.get(id))]
 
     def other_animals(self) -> Guard | None:
         """Animals that have another birth day than in the book, or the name of another one: an ordinary correction is
         of a few, and columns that were sorted one without the other change many."""
-        days = [row for row, known in self.both if self.has_other_day(row, known)]
-        ids = {known.name.casefold(): known.id for known in self.book.known.values() if known.name}
-        named = [row for row, known in self.both if ids.get(row.name.casefold(), known.id) != known.id]
-        named = [row for row in named if row.name.casefold() != self.book.known[row.id].name.casefold()]
-        renamed = [row for row in days if row.name.casefold() not in ("", self.book.known[row.id].name.casefold())]
+        days = [row for row, in_book in self.both if self.has_other_day(row, in_book)]
+        ids = {in_book.name.casefold(): in_book.id for in_book in self.book.society_records.values() if in_book.name}
+        named = [row for row, in_book in self.both if ids.get(row.name.casefold(), in_book.id) != in_book.id]
+        named = [row for row in named if row.name.casefold() != self.book.society_records[row.id].name.casefold()]
+        names = {row.id: self.book.society_records[row.id].name.casefold() for row in days}
+        renamed = [row for row in days if row.name.casefold() not in ("", names[row.id])]
         if self.are_many(days):
             what = Changed.NAMES_AND_BIRTH_DAYS if self.are_many(renamed) else Changed.BIRTH_DAYS
             return self.of_many(what, days)
         return self.of_many(Changed.NAMES, named) if self.are_many(named) else None
 
-    def has_other_day(self, row: SheetAnimal, known: SocietyRecord) -> bool:
+    def has_other_day(self, row: SheetAnimal, in_book: SocietyRecord) -> bool:
         """Do both say another day? One that was inferred says nothing."""
-        born = self.book.records[known.registration_number].born
-        return row.has_day() and not known.birth.is_inferred and row.birth.first != born
+        born = self.book.records[in_book.registration_number].born
+        return row.has_day() and not in_book.birth.is_inferred and row.birth.first != born
 
     def other_sexes(self) -> Guard | None:
-        pairs = [(row, known) for row, known in self.both if row.sex and not known.sex.is_inferred]
-        changed = [row for row, known in pairs if row.sex != known.registration_number[6]]
+        pairs = [(row, in_book) for row, in_book in self.both if row.sex and not in_book.sex.is_inferred]
+        changed = [row for row, in_book in pairs if row.sex != in_book.registration_number[6]]
         return self.of_many(Changed.SEXES, changed) if self.are_many(changed) else None
 
     def other_parents(self) -> Guard | None:
         """Animals that have another animal with a row as a parent than in the book, or none. A parent that is added or
         that had no row, and one whose cell can't be read, are ordinary."""
-        with_row = (known for known in self.book.known.values() if known.standing.had_row())
-        had_row = {known.registration_number: known.id for known in with_row}
+        with_row = (in_book for in_book in self.book.society_records.values() if in_book.standing.had_row())
+        had_row = {in_book.registration_number: in_book.id for in_book in with_row}
         changed = []
-        for row, known in self.both:
-            record = self.book.records[known.registration_number]
+        for row, in_book in self.both:
+            record = self.book.records[in_book.registration_number]
             read = [role for role in Role if role in self.given and role not in row.unread]
             pairs = [(had_row.get(record.parent(role)), row.parent(role)) for role in read]
             if any(before and before != now and (not now or now in self.rows) for before, now in pairs):
@@ -97,9 +98,9 @@ class Guards(OtherAnimals):
         super().__init__(book, rows, columns.found)
         self.columns = columns
 
-    def of_rows(self) -> list[Guard]:
-        """The ids, and what animals are as the rows have them."""
-        found = [self.missing_column(), self.gone()]
+    def of_rows(self, appends: bool = False) -> list[Guard]:
+        """The ids, and what animals are as the rows have them; of a sheet that has new rows alone none is gone."""
+        found = [self.missing_column(), None if appends else self.gone()]
         return [guard for guard in found if guard] + self.of_both()
 
     def missing_column(self) -> Guard | None:
@@ -108,7 +109,7 @@ class Guards(OtherAnimals):
 
     def had_row(self) -> list[str]:
         """The animals that had a row in the last sheet."""
-        return [id for id, known in self.book.known.items() if known.standing is Standing.ROW]
+        return [id for id, in_book in self.book.society_records.items() if in_book.standing is Standing.ROW]
 
     def gone(self) -> Guard | None:
         had_row = self.had_row()
@@ -118,7 +119,7 @@ class Guards(OtherAnimals):
         return ManyGone(len(gone), len(had_row), self.like())
 
     def like(self) -> LooksLike:
-        in_book = [id for id in self.rows if id in self.book.known]
+        in_book = [id for id in self.rows if id in self.book.society_records]
         if self.are_written_otherwise():
             return LooksLike.IDS_OTHERWISE
         if len(in_book) == len(self.rows):
@@ -129,21 +130,21 @@ class Guards(OtherAnimals):
 
     def are_written_otherwise(self) -> bool:
         """Have most animals that lack a row one whose id differs in case, blanks or zeros alone?"""
-        rows = {nearly(id) for id in self.rows if id not in self.book.known}
+        rows = {nearly(id) for id in self.rows if id not in self.book.society_records}
         lacking = [id for id in self.had_row() if id not in self.rows]
         return 2 * sum(nearly(id) in rows for id in lacking) > len(lacking)
 
     def is_older(self) -> bool:
         """Are the animals that lack younger than those of the sheet?"""
         born = self.book.records
-        lacking = [born[self.book.known[id].registration_number].born for id in self.had_row() if id not in self.rows]
-        here = [born[self.book.known[id].registration_number].born for id in self.rows]
+        numbers = {id: one.registration_number for id, one in self.book.society_records.items()}
+        lacking = [born[numbers[id]].born for id in self.had_row() if id not in self.rows]
+        here = [born[numbers[id]].born for id in self.rows]
         return bool(lacking) and max(here) <= max(lacking)
 
     def are_same_animals(self) -> bool:
         """Have most rows the name and the birth day of an animal of the book?"""
-        known = self.book.known.values()
-        with_day = [one for one in known if not one.birth.is_inferred]
+        with_day = [in_book for in_book in self.book.society_records.values() if not in_book.birth.is_inferred]
         days = {(one.name.casefold(), self.book.records[one.registration_number].born) for one in with_day}
         here = [(row.name.casefold(), row.birth.first) for row in self.rows.values() if row.has_day()]
         return bool(here) and 2 * sum(one in days for one in here) > len(here)
@@ -156,7 +157,7 @@ class Guards(OtherAnimals):
 
     def dropped(self, animals: dict[str, SheetAnimal]) -> Guard | None:
         """More animals are dropped than may be gone, though not all at once."""
-        had_row = [id for id, known in self.book.known.items() if known.standing.had_row()]
+        had_row = [id for id, in_book in self.book.society_records.items() if in_book.standing.had_row()]
         dropped = [id for id in had_row if id not in animals]
         if not are_too_many(len(dropped), len(had_row)) or self.gone():
             return None
@@ -165,7 +166,7 @@ class Guards(OtherAnimals):
     def parents(self) -> Guard | None:
         """Most parents have neither a row nor a place in the book."""
         outside = links_outside(self.rows.values(), self.rows)
-        lost = [parent for *_, parent in outside if parent not in self.book.known]
+        lost = [parent for *_, parent in outside if parent not in self.book.society_records]
         if len(set(lost)) < FEW_PARENTS:
             return None
         links = [parent for row in self.rows.values() for parent in row.parent_ids()]

@@ -9,25 +9,28 @@ import operator
 from gudokeyi.domain.animals import SocietyRecord
 from gudokeyi.domain.commands import RegisterRecord
 from gudokeyi.domain.findings import Report
+from gudokeyi.domain.kinds import CELL_FIELDS, Field
 from gudokeyi.domain.settings import Setting
 from gudokeyi.ingest.animals import YEARS_LATER, SheetAnimal, lines_that_name, links_outside
 from gudokeyi.ingest.findings.cells import IdUsedAgain
 from gudokeyi.ingest.words import nearly, nearly_all
+from gudokeyi.reconcile.findings.animals import FormerId
+from gudokeyi.reconcile.findings.obstacles import LettersUnsaid
 from gudokeyi.reconcile.findings.parents import FoundByNearId
 from gudokeyi.reconcile.findings.plausibility import IdsAlike
 from gudokeyi.reconcile.findings.rows import BornAfterOffspring
 from gudokeyi.reconcile.next_book import NextBook
 from gudokeyi.reconcile.parents import can_be, ids_given
 from gudokeyi.store.book import Book
-from gudokeyi.store.conditions import with_id_like
-from gudokeyi.store.settings import letters_for, settings_of
+from gudokeyi.store.former_ids import ids_now
+from gudokeyi.store.settings import letters_for, letters_said, settings_of
 
 # Ids that differ in case, blanks or leading zeros alone: of a parent's cell, and of two rows.
 
 
 class NearIds:
-    """The animals that have a row, had one, or were filed by hand, by what their ids have but for case, blanks and zeros.
-    `animals` are those of the sheet and of the book."""
+    """The animals that have a row, had one, or were filed by hand, by what their ids have but for case, blanks and
+    zeros. `animals` are those of the sheet and of the book."""
 
     def __init__(self, rows: dict[str, SheetAnimal], animals: dict[str, SheetAnimal], book: Book) -> None:
         self.rows, self.animals = rows, animals
@@ -66,11 +69,24 @@ class NearIds:
         return self.animals[id].line, id
 
 
-def id_alike(book: Book, id: str) -> list[IdsAlike]:
-    """The animal of the book whose id differs so from that of one that is filed by hand."""
-    likely = book.rows(with_id_like(id))
-    alike = sorted(row.id for row in likely if row.id != id and nearly(row.id) == nearly(id))
-    return [IdsAlike(one, 0) for one in alike[:1]]
+# Ids that animals had before theirs were corrected.
+
+
+def call_as_now(animals: dict[str, SheetAnimal], book: Book, report: Report) -> None:
+    """Rows with ids that animals of the book had before theirs were corrected are these animals, unless the sheet has a
+    row with the id of now too; so are parents with such ids that no row has."""
+    now = (ids_now(book) if book.society_records else {}) | book.new_tags
+    now = {former: id for former, id in now.items() if former not in animals or id not in animals}
+    for former, id in now.items():
+        if former in animals:
+            animal = animals.pop(former)
+            animal.id = id
+            animals[id] = animal
+            report.add(animal.line, id, FormerId(former))
+    for offspring in animals.values() if now else ():
+        for role, parent in offspring.parents():
+            if parent in now:
+                offspring.set_parent(role, now[parent])
 
 
 # Ids that are used again for other animals, born years apart: the row is left out, and the animal of the book stays.
@@ -83,14 +99,15 @@ def leave_out_used_tags(
     """Leaves out rows of animals that can't be those of the book which have their ids; answers these ids. It is told as
     `another`, or as `after` of one that would be younger than its offspring."""
     found = set()
-    apart = [(animal, known) for animal, known in animals_of_book(animals, book) if are_years_apart(animal, known, book)]
+    both = animals_of_book(animals, book)
+    apart = [(animal, in_book) for animal, in_book in both if are_years_apart(animal, in_book, book)]
     progeny = earliest_offspring(book) if apart else {}
-    for animal, known in apart:
-        id, number = animal.id, known.registration_number
+    for animal, in_book in apart:
+        id, number = animal.id, in_book.registration_number
         born, offspring = book.records[number].born, progeny.get(number)
-        if is_another(animal, known):
+        if is_another(animal, in_book):
             lines = lines_that_name(animals, animal)
-            report.add(animal.line, id, another(born, known.name, animal.birth.first, animal.name, lines))
+            report.add(animal.line, id, another(born, in_book.name, animal.birth.first, animal.name, lines))
         elif offspring and offspring.born <= animal.birth.first:
             first = book.by_number()[offspring.registration_number].id
             report.add(animal.line, id, after(born, animal.birth.first, first, offspring.born))
@@ -103,8 +120,8 @@ def leave_out_used_tags(
 
 def animals_of_book(animals: dict[str, SheetAnimal], book: Book) -> list[tuple[SheetAnimal, SocietyRecord]]:
     """Those that the book has, each with what it knows of it."""
-    known = book.known
-    return [(animal, known[id]) for id, animal in animals.items() if id in known] if known else []
+    before = book.society_records
+    return [(animal, before[id]) for id, animal in animals.items() if id in before] if before else []
 
 
 def earliest_offspring(book: Book) -> dict[str, RegisterRecord]:
@@ -117,17 +134,24 @@ def earliest_offspring(book: Book) -> dict[str, RegisterRecord]:
     return found
 
 
-def are_years_apart(animal: SheetAnimal, known: SocietyRecord, book: Book) -> bool:
+def are_years_apart(animal: SheetAnimal, in_book: SocietyRecord, book: Book) -> bool:
     """Was it born years before or after the animal of the book? A day that was inferred tells nothing."""
-    if not animal.has_day() or known.birth.is_inferred:
+    if not animal.has_day() or in_book.birth.is_inferred or has_corrected_birth(animal, in_book, book):
         return False
-    return abs((animal.birth.first - book.records[known.registration_number].born).days) >= YEARS_LATER
+    return abs((animal.birth.first - book.records[in_book.registration_number].born).days) >= YEARS_LATER
 
 
-def is_another(animal: SheetAnimal, known: SocietyRecord) -> bool:
+def has_corrected_birth(animal: SheetAnimal, in_book: SocietyRecord, book: Book) -> bool:
+    """Was its birth day corrected by hand, and says the cell what it said before?"""
+    cells = book.cells.get((animal.id,))
+    before = cells[1 + CELL_FIELDS.index(Field.BIRTH)] if cells else None
+    return Field.BIRTH in in_book.by_hand and before is not None and before == animal.cells.get(Field.BIRTH)
+
+
+def is_another(animal: SheetAnimal, in_book: SocietyRecord) -> bool:
     """Has it another name or another sex than the animal of the book?"""
-    has_other_name = animal.name and known.name and animal.name.casefold() != known.name.casefold()
-    has_other_sex = animal.sex and not known.sex.is_inferred and animal.sex != known.registration_number[6]
+    has_other_name = animal.name and in_book.name and animal.name.casefold() != in_book.name.casefold()
+    has_other_sex = animal.sex and not in_book.sex.is_inferred and animal.sex != in_book.registration_number[6]
     return bool(has_other_name or has_other_sex)
 
 
@@ -135,22 +159,31 @@ def is_another(animal: SheetAnimal, known: SocietyRecord) -> bool:
 
 
 def numbers_begin(next_book: NextBook, breed: str, country: str) -> str:
-    """With what numbers begin in a book that had no animal, where nobody said it. A state that was undone may have given
-    them other letters than new ones have."""
+    """With what numbers begin in a book that had no animal, where nobody said it. A state that was undone may have
+    given them other letters than new ones have."""
     book, first = next_book.book, next(iter(next_book.animals.values()), None)
     settings = settings_of(book)
     begin, is_set = first.registration_number[:6] if first else "", settings[Setting.BREED] + settings[Setting.COUNTRY]
-    is_said = bool(breed and country) or begin == is_set
+    is_said = bool(breed and country) or begin == is_set or not all(letters_said(book, breed, country))
     return "" if book.records or next_book.is_pedigree or is_said else begin
+
+
+def letters_unsaid(next_book: NextBook, breed: str, country: str) -> LettersUnsaid | None:
+    """That nobody said with what new numbers begin, if there are any."""
+    book = next_book.book
+    has_breed, has_country = map(bool, letters_said(book, breed, country))
+    if has_breed and has_country or all(id in book.society_records for id in next_book.animals):
+        return None
+    return LettersUnsaid(has_breed, has_country)
 
 
 def give_numbers(next_book: NextBook, breed: str, country: str) -> None:
     """An animal that is or was in the book keeps its twelve digits; new ones go on from the greatest that there ever
-    was, by birth day and id, so that no number is given to another animal. Breed and country stay as they are, or become
-    those that are given; new ones have those that are set else, or those of the book."""
+    was, by birth day and id, so that no number is given to another animal. Breed and country stay as they are, or
+    become those that are given; new ones have those that are set else, or those of the book."""
     book, animals = next_book.book, next_book.animals
-    former = book.former_numbers() | {id: known.registration_number for id, known in book.dropped.items()}
-    numbers = {id: known.registration_number for id, known in book.known.items()}
+    former = book.former_numbers() | {id: in_book.registration_number for id, in_book in book.dropped.items()}
+    numbers = {id: in_book.registration_number for id, in_book in book.society_records.items()}
     for id, number in (former | numbers).items():
         animal = animals.get(id)
         if animal:

@@ -4,22 +4,23 @@ from __future__ import annotations
 
 import datetime
 import pathlib
-from collections.abc import Collection, Iterable
+from collections.abc import Collection, Iterable, Mapping
 from dataclasses import dataclass, field, replace
+from typing import Any
 
 from gudokeyi.domain.changes import Option
 from gudokeyi.domain.findings import Call, quoted
 from gudokeyi.domain.kinds import Field, Remembered
 from gudokeyi.domain.messages import Mistake
+from gudokeyi.domain.options import AS_STORED, IMPORT, Described, Kind
 from gudokeyi.domain.requests import refuse_long
 from gudokeyi.domain.settings import Setting
 from gudokeyi.ingest.titles import parts_of
 from gudokeyi.ingest.unknown_parents import UnknownParents
 from gudokeyi.ingest.words import clean, listed, plain
+from gudokeyi.reconcile.limits import APART, YOUNGEST, Limits
 from gudokeyi.reconcile.messages import ImportFault
-from gudokeyi.reconcile.plausibility import APART, YOUNGEST, Limits
 from gudokeyi.store.book import Book
-from gudokeyi.store.exports import SEMICOLONS
 from gudokeyi.store.settings import settings_of
 from gudokeyi.store.state import Meaning, renamings
 
@@ -28,8 +29,9 @@ from gudokeyi.store.state import Meaning, renamings
 
 @dataclass(frozen=True)
 class ImportOptions:
-    """The options of an import, as the word `import` has them: `gudokeyi import --help` says what each does. Texts are those
-    that stand behind the words, days and bounds are days and numbers of them."""
+    """The options of an import, as the word `import` has them: `gudokeyi import --help` says what each does. Texts are
+    those that stand behind the words, days and bounds are days and numbers of them. `gudokeyi.Book` sets `book` and
+    `preview` itself."""
 
     book: pathlib.Path = pathlib.Path("book")
     columns: list[str] = field(default_factory=list)
@@ -62,25 +64,29 @@ class ImportOptions:
     # words of rows that are no animals, and of those that are
     no_animal: list[str] = field(default_factory=list)
     animal: list[str] = field(default_factory=list)
+    # the sheet has new rows alone
+    append: bool = False
+    # ids that animals of the book have from now on
+    new_tags: list[str] = field(default_factory=list)
+    # other columns that are kept, as `CAE=choice`
+    own: list[str] = field(default_factory=list)
+
+    @classmethod
+    def of(cls, book: pathlib.Path, given: Mapping[str, Any]) -> ImportOptions:
+        """Those of a book's folder by the names of the options; what is none isn't given."""
+        return cls(book, **{IMPORT[name].attribute: value for name, value in given.items() if value is not None})
 
     def options(self) -> tuple[Option, ...]:
         """The options as they were given, but for the book."""
-        repeated = {
-            "--columns": self.columns, "--unknown": self.unknown, "--known": self.known, "--sexes": self.sexes,
-            "--owner": self.owners, "--no-animal": self.no_animal, "--animal": self.animal,
-        }  # fmt: skip
-        texts = {
-            "--breed": self.breed, "--country": self.country, "--day": self.day, "--keep": self.keep,
-            "--worksheet": self.worksheet, "--youngest": self.youngest, "--apart": self.apart,
-        }  # fmt: skip
-        flags = {
-            "--strict": self.strict, "--drop-gone": self.drop_gone, SEMICOLONS: self.semicolons,
-            "--leave-out": self.leave_out, "--month-first": self.month_first, "--day-first": self.day_first,
-            "--anyway": self.anyway, "--preview": self.preview,
-        }  # fmt: skip
-        found = [Option(name, word) for name, words in repeated.items() for word in words]
-        found += [Option(name, str(text)) for name, text in texts.items() if text not in (None, "")]
-        return tuple(found + [Option(name) for name, is_given in flags.items() if is_given])
+        return tuple(option for name in AS_STORED for option in self.given(IMPORT[name]))
+
+    def given(self, one: Described) -> list[Option]:
+        """What was given of an option."""
+        value = getattr(self, one.attribute)
+        if one.kind is Kind.FLAG:
+            return [Option(one.option)] * value
+        words = value if isinstance(value, list) else [] if value in (None, "") else [value]
+        return [Option(one.option, str(word)) for word in words]
 
     def call(self, *file: str) -> Call:
         return Call(file, self.book, self.options())
@@ -171,6 +177,8 @@ def rename_owners(book: Book, import_options: ImportOptions) -> None:
     """Owners are written otherwise from now on, as `--owner 'Meier=Meyer'` says."""
     for word in import_options.owners:
         before, now = owner_pair(word)
+        if not book.owners:
+            raise Mistake(ImportFault.NO_OWNERS.said(word=word))
         if before not in book.owners:
             raise Mistake(ImportFault.OWNER_LACKS.said(word=word, before=before, owners=names(book)))
         if now in book.owners:
@@ -205,7 +213,7 @@ def rename(book: Book, before: str, now: str) -> None:
 
 
 def names(book: Book) -> str:
-    return ", ".join(f"'{owner}'" for owner in sorted(book.owners)[:9]) or "none"
+    return ", ".join(f"'{owner}'" for owner in sorted(book.owners)[:9])
 
 
 # Which texts stand for an unknown parent in a book: the same for its sheets, its pedigrees and commands by hand.

@@ -227,9 +227,9 @@ def tell_left_out(next_book: NextBook, animal: SheetAnimal, role: Role, refusal:
     next_book.texts.setdefault(animal.id, (animal.sire, animal.dam))
 
 
-def tried_again(book: Book, known: SocietyRecord, role: Role, parent: str) -> str:
-    """The parent that an animal has in the book; where it has none, the one by hand that is left out, since a sheet made it
-    impossible: a later sheet may say otherwise."""
-    left_out = known.written(role)
-    is_by_hand = not parent and Field(role.value) in known.by_hand and left_out in book.known
+def tried_again(book: Book, in_book: SocietyRecord, role: Role, parent: str) -> str:
+    """The parent that an animal has in the book; where it has none, the one by hand that is left out, since a sheet
+    made it impossible: a later sheet may say otherwise."""
+    left_out = in_book.written(role)
+    is_by_hand = not parent and Field(role.value) in in_book.by_hand and left_out in book.society_records
     return left_out if is_by_hand else parent

@@ -14,8 +14,9 @@ from gudokeyi.domain.findings import Finding, Report
 from gudokeyi.domain.kinds import Field, Role, Standing
 from gudokeyi.ingest.animals import SheetAnimal
 from gudokeyi.ingest.day_cells import DayCell, DayCells
-from gudokeyi.ingest.words import KNOWN_YES, clean, nearly
+from gudokeyi.ingest.words import KNOWN_CASTRATED, KNOWN_SEXES, KNOWN_YES, clean, nearly, sex_word
 from gudokeyi.store.book import Book
+from gudokeyi.store.state import Rows, Table
 
 # What cells mean, however they are written: a day in another form, a parent by its id or by its name, an unknown one.
 
@@ -43,12 +44,15 @@ class Meanings:
         if field is Field.EXIT:
             exit = self.days.exit(text)
             return days_of(exit.day, text) if exit else ""
+        if field is Field.SEX:
+            word = sex_word(text)
+            return (KNOWN_SEXES[word], word in KNOWN_CASTRATED) if word in KNOWN_SEXES else clean(text)
         return text.casefold() in KNOWN_YES if field is Field.EMBRYO else clean(text)
 
     def parent(self, offspring: str, text: str) -> str:
         """The animal that a text means, by its id, or where it is the only one by its name or an id that is nearly
         this."""
-        if text in self.days.unknown or text in self.animals or text in self.book.known:
+        if text in self.days.unknown or text in self.animals or text in self.book.society_records:
             return "" if text in self.days.unknown else text
         for ids in (self.near.get(nearly(text), set()), self.named.get(text.casefold(), set())):
             if len(ids - {offspring}) == 1:
@@ -58,7 +62,7 @@ class Meanings:
     @functools.cached_property
     def near(self) -> Mapping[str, set[str]]:
         near = collections.defaultdict[str, set[str]](set)
-        for id in self.animals.keys() | self.book.known.keys():
+        for id in self.animals.keys() | self.book.society_records.keys():
             near[nearly(id)].add(id)
         return near
 
@@ -67,7 +71,7 @@ class Meanings:
         """The animals by their names of now and of before, in small letters."""
         named = collections.defaultdict[str, set[str]](set)
         now = [(one.name, id) for id, one in self.animals.items()]
-        before = [(one.name, id) for id, one in self.book.known.items()]
+        before = [(one.name, id) for id, one in self.book.society_records.items()]
         for name, id in now + before:
             named[name.casefold()].add(id)
         return named
@@ -98,6 +102,8 @@ class NextBook:
         self.roles: dict[str, Role] = {}
         # the ids of rows that are left out, since the book has them for other animals, which stay
         self.used_again: set[str] = set()
+        # rows of tables beside the animals'
+        self.others: list[tuple[Table, Rows]] = []
         # why it isn't taken but by --anyway
         self.obstacles: list[Finding] = []
         # the sire and the dam as the sheet writes them, by an animal's id; empty where it has no such column
@@ -110,10 +116,12 @@ class NextBook:
         self.kept_owners: set[str] = set()
         # the ids of animals whose exits are those of the book, or were left out there
         self.exits_of_book: set[str] = set()
+        # the sheet has new rows alone: the others of the book stay what they are in it
+        self.appends = False
 
     def record(self, id: str) -> RegisterRecord | None:
-        known = self.book.known.get(id)
-        return self.book.records[known.registration_number] if known else None
+        in_book = self.book.society_records.get(id)
+        return self.book.records[in_book.registration_number] if in_book else None
 
     def id_of(self, number: str) -> str:
         return self.names[number].id if number else ""
@@ -162,19 +170,19 @@ NOTHING_WRITTEN = ("", "")
 
 def known_after(next_book: NextBook) -> dict[str, SocietyRecord]:
     """What is known of the animals of the next book, and of those that are dropped."""
-    return known_animals(next_book) | dropped_animals(next_book)
+    return kept_animals(next_book) | dropped_animals(next_book)
 
 
 def dropped_animals(next_book: NextBook) -> dict[str, SocietyRecord]:
-    before = next_book.book.dropped | dict(next_book.book.known)
-    dropped = [known for id, known in before.items() if id not in next_book.animals]
-    return {known.id: known._replace(standing=Standing.DROPPED) for known in dropped}
+    before = next_book.book.dropped | dict(next_book.book.society_records)
+    dropped = [in_book for id, in_book in before.items() if id not in next_book.animals]
+    return {in_book.id: in_book._replace(standing=Standing.DROPPED) for in_book in dropped}
 
 
-def known_animals(next_book: NextBook) -> dict[str, SocietyRecord]:
-    kept, written, known = {}, written_parents(next_book), next_book.book.known
+def kept_animals(next_book: NextBook) -> dict[str, SocietyRecord]:
+    kept, written, society_records = {}, written_parents(next_book), next_book.book.society_records
     for id, animal in next_book.animals.items():
-        before = known.get(id)
+        before = society_records.get(id)
         by_hand = before.by_hand - next_book.overridden.get(id, NO_FIELDS) if before else NO_FIELDS
         sire, dam = written.get(id, NOTHING_WRITTEN)
         values = (
@@ -190,6 +198,7 @@ def known_animals(next_book: NextBook) -> dict[str, SocietyRecord]:
             dam,
             by_hand,
             animal.owner_day,
+            before.exit_reason if before and (animal.left or animal.exit_basis.day_is_unknown) else "",
         )
         kept[id] = made(SocietyRecord, values)
     return kept
@@ -198,7 +207,7 @@ def known_animals(next_book: NextBook) -> dict[str, SocietyRecord]:
 def standing_of(next_book: NextBook, animal: SheetAnimal, before: SocietyRecord | None) -> Standing:
     """That of an animal without a row."""
     # a row that is left out, since it is another animal's, makes no other of the one that the book has
-    if before and (animal.id in next_book.used_again or before.standing is Standing.FILED):
+    if before and (next_book.appends or animal.id in next_book.used_again or before.standing is Standing.FILED):
         return before.standing
     return Standing.GONE if before and before.standing.had_row() else Standing.PARENT
 
@@ -208,12 +217,12 @@ def written_parents(next_book: NextBook) -> dict[str, tuple[str, str]]:
     of the book where the sheet doesn't give the parent."""
     book, animals = next_book.book, next_book.animals
     found: dict[tuple[str, Role], str] = {}
-    before = [(known, role) for known in book.known.values() for role in Role if known.written(role)]
-    for known, role in before:
-        animal, record = animals.get(known.id), book.records[known.registration_number]
+    before = [(in_book, role) for in_book in book.society_records.values() for role in Role if in_book.written(role)]
+    for in_book, role in before:
+        animal, record = animals.get(in_book.id), book.records[in_book.registration_number]
         if animal and not (animal.line and role in next_book.given):
             if animal.parent(role) == next_book.id_of(record.parent(role)):
-                found[known.id, role] = known.written(role)
+                found[in_book.id, role] = in_book.written(role)
     for id, (sire, dam) in next_book.texts.items():
         animal = animals.get(id)
         if animal and (animal.sire != sire or animal.dam != dam):

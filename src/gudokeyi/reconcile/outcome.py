@@ -92,12 +92,13 @@ class Outcome:
     """What a preview tells, and what an import did. A terminal shows it by `screen`, a page as it likes:
 
     - `call`: how `import` was called; `call.command(suggestion)` is a whole command to be typed;
-    - `understood`: the rows of a sheet, and which columns have what; none of a pedigree, or where a sheet can't be read;
+    - `understood`: the rows of a sheet, and which columns have what; none of a pedigree, or where a sheet can't be
+      read;
     - `about`: how the file was read, in sentences;
     - `obstacles`: why nothing is taken, each a finding with `words()` and `suggestions()`; where there is one, an
       import wrote nothing, and a preview tells what would be taken all the same, if the sheet can be read;
-    - `report.entries`: what was found, each with the sheet's line, the animal's id and a finding; `by_kind()` sorts them
-      by what they are about, and `finding.does()` tells how grave each is;
+    - `report.entries`: what was found, each with the sheet's line, the animal's id and a finding; `by_kind()` sorts
+      them by what they are about, and `finding.does()` tells how grave each is;
     - `after`: the book after it, none where the sheet can't be read."""
 
     folder: pathlib.Path

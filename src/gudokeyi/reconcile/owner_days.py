@@ -6,43 +6,24 @@ import functools
 from collections.abc import Iterator, Sequence
 from typing import NamedTuple
 
-from gudokeyi.domain.animals import NO_OWNER, SocietyRecord
+from gudokeyi.domain.animals import NO_OWNER
 from gudokeyi.domain.collections import made
 from gudokeyi.domain.commands import Command, RegisterRecord, first_owner_codes, transfer, transfers_of
 from gudokeyi.domain.findings import Finding, Report
 from gudokeyi.domain.kinds import Field
 from gudokeyi.domain.provenance import OwnerDay
 from gudokeyi.ingest.animals import SheetAnimal
-from gudokeyi.ingest.days import DayFault, Span, Unreadable, behind_since, read_span
+from gudokeyi.ingest.days import DayFault, Span
 from gudokeyi.ingest.findings.cells import DayLeftOut
 from gudokeyi.ingest.unknown_parents import names_no_owner
 from gudokeyi.ingest.words import clean, plain
 from gudokeyi.reconcile.findings.rows import OwnerDayBack, OwnerDayInferred, OwnerDayMoved, OwnerDayOfOther
 from gudokeyi.reconcile.next_book import Meanings
+from gudokeyi.reconcile.owner_day_known import has_period
 from gudokeyi.store.book import Book
-from gudokeyi.store.given_days import Said, all_cells, given_days, last_cell, renamed_ever, told_of_kind
+from gudokeyi.store.given_days import Said, all_cells, given_days, renamed_ever, told_of_kind
 from gudokeyi.store.history import changes_behind
 from gudokeyi.store.journal import accepted_commands
-
-# Whether a book knows since when an owner has an animal.
-
-
-def owner_day_known(book: Book, known: SocietyRecord, from_owner: int | None, since: object) -> bool:
-    """Is the day known since which the owner has it? A sheet gives the owner of today: only a change of owners has a
-    day, which may be inferred where there is one before, or where the sheet says its month or year."""
-    if not from_owner or (from_owner == NO_OWNER and known.owner_day.is_inferred):
-        return bool(from_owner) and has_period(book, known.id, datetime.date.fromisoformat(str(since)))
-    return True
-
-
-def has_period(book: Book, id: str, since: datetime.date) -> bool:
-    """Says the animal's last cell a month or a year in which this day is?"""
-    try:
-        span = read_span(behind_since(last_cell(book, id)))
-    except Unreadable:
-        return False
-    return not span.is_day and span.has(since)
-
 
 # The days on which owners change that were given, where imports moved them since: what made them impossible may be
 # mended.
@@ -83,7 +64,7 @@ class GivenDays:
     def moved(self) -> dict[str, list[Said]]:
         """The days that imports moved, by the animals' ids."""
         found: dict[str, list[Said]] = {}
-        for change, place, id, fields in told_of_kind(self.book, OwnerDayMoved.kind()):
+        for change, place, id, fields in told_of_kind(self.book, OwnerDayMoved.code):
             owner_code = self.owner_codes.get(fields["owner"])
             if owner_code and change in self.changes:
                 found.setdefault(id, []).append(Said(change, place, owner_code, fields["now"], fields["before"]))
@@ -160,12 +141,12 @@ class Owners(NamedTuple):
 
     first_herd: int
     transfers: list[Command]
-    known: int
+    known_count: int
     is_corrected: bool
 
     @property
     def new(self) -> list[Command]:
-        return self.transfers[self.known :]
+        return self.transfers[self.known_count :]
 
 
 class OwnerDays:
@@ -209,15 +190,15 @@ class OwnerDays:
         return owners[owner]
 
     def of(self, animal: SheetAnimal) -> Owners:
-        known = self.book.known.get(animal.id)
-        if known is None:
+        in_book = self.book.society_records.get(animal.id)
+        if in_book is None:
             return self.of_new(animal)
-        record = self.book.records[known.registration_number]
+        record = self.book.records[in_book.registration_number]
         first, before = record.owner_code, list[Command]()
         if record.from_owner:
             number = record.registration_number
             first, before = self.before[0][number], self.before[1].get(number, [])
-        animal.owner_day = known.owner_day
+        animal.owner_day = in_book.owner_day
         has_other_owner = self.has_other_owner(animal, record)
         since = None if has_other_owner else self.other_days_of(animal, record)
         if not (before or has_other_owner or since):
@@ -260,6 +241,8 @@ class OwnerDays:
     def of_new(self, animal: SheetAnimal) -> Owners:
         """A new animal has its owner from its birth on, but where the sheet says since when."""
         owner_code = self.herd_of(animal.owner)
+        if animal.owner_before and animal.owner and not self.is_later(animal):
+            return self.of_sold(animal, owner_code)
         if animal.since is None or owner_code == NO_OWNER or self.is_later(animal):
             return made(Owners, (owner_code, [], 0, False))
         if animal.since.first <= animal.born:
@@ -268,6 +251,15 @@ class OwnerDays:
             return made(Owners, (owner_code, [], 0, False))
         only = [transfer(animal.registration_number, self.day_said(animal, animal.since), NO_OWNER, owner_code)]
         return Owners(NO_OWNER, self.in_order(animal, only, animal.since), 0, False)
+
+    def of_sold(self, animal: SheetAnimal, owner_code: int) -> Owners:
+        """A new animal that its first owner sold."""
+        first = self.herd_of(animal.owner_before)
+        day, animal.owner_day = self.day, self.source
+        if animal.since:
+            day = self.day_said(animal, animal.since)
+        only = [transfer(animal.registration_number, day, first, owner_code)]
+        return Owners(first, self.in_order(animal, only, animal.since), 0, False)
 
     def has_other_owner(self, animal: SheetAnimal, record: RegisterRecord) -> bool:
         if not animal.owner or self.herd_of(animal.owner) == record.owner_code:
@@ -279,8 +271,8 @@ class OwnerDays:
         return True
 
     def other_days_of(self, animal: SheetAnimal, record: RegisterRecord) -> Span | None:
-        """The days of the sheet since which the owner that the book has has it, where the book's isn't among them. Of an
-        owner from the birth on only later ones are said."""
+        """The days of the sheet since which the owner that the book has has it, where the book's isn't among them. Of
+        an owner from the birth on only later ones are said."""
         since = animal.since
         if since is None or not animal.owner or self.is_later(animal):
             return None

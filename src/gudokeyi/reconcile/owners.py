@@ -4,13 +4,11 @@ from __future__ import annotations
 import collections
 import difflib
 import re
-from collections.abc import Iterator
 
-from gudokeyi.domain.spelling import closest
 from gudokeyi.ingest.animals import SheetAnimal
 from gudokeyi.ingest.words import plain
 from gudokeyi.reconcile.findings.animals import (
-    OwnerMeant, OwnerMistyped, OwnerRenamed, OwnerRespelt, OwnersAlike, Spelling,
+    OwnerMistyped, OwnerRenamed, OwnerRespelt, OwnersAlike, Spelling,
 )  # fmt: skip
 from gudokeyi.reconcile.next_book import NextBook
 from gudokeyi.store.book import Book
@@ -32,7 +30,7 @@ def tell_respelt_owners(next_book: NextBook, owners_before: set[str]) -> None:
     """`owners_before` are those that the book had before this import. A row in whose place one by hand stays tells
     nothing."""
     taken, kept = collections.defaultdict[str, collections.Counter[str]](collections.Counter), next_book.kept_owners
-    for animal in next_book.animals.values() if next_book.book.known else ():
+    for animal in next_book.animals.values() if next_book.book.society_records else ():
         record = next_book.record(animal.id)
         if record and animal.line and animal.id not in kept and (before := next_book.book.owner_of(record.owner_code)):
             taken[before][animal.owner] += 1
@@ -117,21 +115,3 @@ def differ_by_one(one: str, other: str) -> bool:
 def is_in_word(text: str, begin: int, end: int) -> bool:
     """Has the word at a place other letters beside it?"""
     return text[max(begin - 1, 0) : begin].isalpha() or text[end : end + 1].isalpha()
-
-
-# An owner whom a book doesn't have, in a command that somebody files by hand: it is filed, and told where another owner
-# may be meant.
-
-
-def new_owner(book: Book, owner: str) -> Iterator[OwnerMeant]:
-    meant = owner_meant(book, owner) if owner and owner not in book.owners else ""
-    if meant:
-        yield OwnerMeant(owner, meant)
-
-
-def owner_meant(book: Book, owner: str) -> str:
-    """The owner of the book whose name is nearest, empty where none is near. Numbers tell owners apart, as in `Hof 2`."""
-    numbers = re.findall(r"\d+", owner)
-    by_letters = {plain(name): name for name in sorted(book.owners) if re.findall(r"\d+", name) == numbers}
-    near = closest(plain(owner), [*by_letters], 1)
-    return by_letters[near[0]] if near else ""

@@ -14,7 +14,7 @@ from gudokeyi.domain.spelling import SameLetters
 from gudokeyi.ingest.animals import Link, SheetAnimal, links_outside
 from gudokeyi.ingest.findings.cells import TextTooLong
 from gudokeyi.ingest.words import nearly
-from gudokeyi.reconcile.findings.parents import AddedAsParent, FoundByName, FoundByNearId, FoundInBook
+from gudokeyi.reconcile.findings.parents import AddedAsParent, FoundByName, FoundByNearId, FoundInBook, FoundWithin
 from gudokeyi.reconcile.findings.plausibility import MayBeUnknown, MoreMayBeUnknown
 from gudokeyi.reconcile.next_book import NextBook
 from gudokeyi.store.book import Book
@@ -50,17 +50,17 @@ class Names:
         """A parent that is no animal's id, but the name of one alone, is taken for that one where it can be it. What is
         the parent in the book stays it, whatever other animals have its name."""
         with_id = rows.keys() | ids_given(book)
-        ids = {known.registration_number: id for id, known in book.known.items()}
+        ids = {in_book.registration_number: id for id, in_book in book.society_records.items()}
         links = links_outside(rows.values(), with_id)
         links = [(offspring, role, text) for offspring, role, text in links if text.casefold() in self.named]
         others = {
             (role, text.casefold()) for offspring, role, text in links if not self.possible(offspring, role, text)
         }
         for offspring, role, text in links:
-            known = book.known.get(offspring.id)
-            in_book = ids.get(book.records[known.registration_number].parent(role)) if known else None
+            in_book = book.society_records.get(offspring.id)
+            former = ids.get(book.records[in_book.registration_number].parent(role)) if in_book else None
             possible = self.possible(offspring, role, text)
-            meant = [one for one in possible if one.id == in_book]
+            meant = [one for one in possible if one.id == former]
             # where it can't be the parent of one offspring there is another animal of this name, which may be that of
             # all
             if not meant and (role, text.casefold()) not in others and len(self.others(offspring, text)) == 1:
@@ -150,7 +150,7 @@ def may_be_unknown(report: Report) -> list[Finding]:
 def ids_given(book: Book) -> set[str]:
     """The ids that animals of the book were given, by a row or by hand; that of a parent without one is the text of a
     cell."""
-    return {id for id, known in book.known.items() if known.standing is not WITHOUT_ROW}
+    return {id for id, in_book in book.society_records.items() if in_book.standing is not WITHOUT_ROW}
 
 
 def can_be(parent: SheetAnimal, role: Role, offspring: SheetAnimal) -> bool:
@@ -165,11 +165,11 @@ def keep_parents_named(next_book: NextBook, animals: dict[str, SheetAnimal]) -> 
     """A text that is no animal's id, and by which the book has a parent, means this one where it can be it, whatever
     it is called now. `animals` are those of the sheet and of the book."""
     rows, book = next_book.animals, next_book.book
-    for offspring, role, text in links_outside(rows.values(), rows) if book.known else ():
-        known = book.known.get(offspring.id)
-        if known is None or known.written(role) != text or is_id(book, text):
+    for offspring, role, text in links_outside(rows.values(), rows) if book.society_records else ():
+        in_book = book.society_records.get(offspring.id)
+        if in_book is None or in_book.written(role) != text or is_id(book, text):
             continue
-        parent = animals.get(next_book.id_of(book.records[known.registration_number].parent(role)))
+        parent = animals.get(next_book.id_of(book.records[in_book.registration_number].parent(role)))
         if parent and can_be(parent, role, offspring):
             offspring.set_parent(role, parent.id)
             next_book.report.add(offspring.line, offspring.id, found(parent, role, text))
@@ -177,13 +177,15 @@ def keep_parents_named(next_book: NextBook, animals: dict[str, SheetAnimal]) -> 
 
 def is_id(book: Book, text: str) -> bool:
     """Is it the id of an animal of the book, which somebody gave to it?"""
-    return text in book.known and book.known[text].standing is not Standing.PARENT
+    return text in book.society_records and book.society_records[text].standing is not Standing.PARENT
 
 
 def found(parent: SheetAnimal, role: Role, text: str) -> Finding:
     """By what a text means the parent."""
     if nearly(parent.id) == nearly(text):
         return FoundByNearId(role, text, parent.id)
+    if nearly(parent.id) in nearly(text):
+        return FoundWithin(role, text, parent.id)
     is_name = parent.name.casefold() == text.casefold()
     return FoundByName(role, text, parent.id) if is_name else FoundInBook(role, text, parent.id)
 
@@ -201,10 +203,10 @@ def try_parents_again(
     the sheet and of the book."""
     tried = Tried(next_book, animals)
     for id, offspring in without_row.items():
-        known = next_book.book.known[id]
-        left_out = [role for role in Role if known.written(role) and not offspring.parent(role)]
+        in_book = next_book.book.society_records[id]
+        left_out = [role for role in Role if in_book.written(role) and not offspring.parent(role)]
         for role in left_out:
-            parent = animals.get(next_book.meanings.parent(id, known.written(role)))
+            parent = animals.get(next_book.meanings.parent(id, in_book.written(role)))
             if parent and tried.is_possible(parent, role, offspring):
                 offspring.set_parent(role, parent.id)
                 next_book.tried.add((id, role))

@@ -43,19 +43,30 @@ def keep_with_ancestors(animals: dict[str, SheetAnimal], path: pathlib.Path) -> 
 # changes coefficients.
 
 
-def refuse_alike(animals: Mapping[str, SheetAnimal], ids: Collection[str], book: Book) -> None:
-    """A mistake where a parent is none of the ids, and differs from one in how it is written alone, or is the name of an
-    animal of the book; and where a number is shortened."""
-    lacking: dict[str, SheetAnimal] = {}
-    for offspring, _, parent in links_outside(animals.values(), ids):
-        lacking.setdefault(parent, offspring)
+def refuse_alike(animals: Mapping[str, SheetAnimal], ids: Collection[str]) -> None:
+    """A mistake where a parent is none of the ids, and differs from one in how it is written alone; and where a number
+    is shortened."""
+    lacking = parents_outside(animals, ids)
     find = Spellings(ids)
     alike = {parent: id for parent in lacking if (id := find.meant(parent))}
     if alike:
         raise ImportRefused(ParentsAlike(len(alike), told_elsewhere(alike, lacking), any(map(is_as_number, alike))))
     refuse_shortened(animals)
     refuse_twice(animals, ids)
-    names = {known.name.casefold(): known.id for known in book.known.values()}
+
+
+def parents_outside(animals: Mapping[str, SheetAnimal], ids: Collection[str]) -> dict[str, SheetAnimal]:
+    """The known parents that are none of the ids, each with its first offspring."""
+    found: dict[str, SheetAnimal] = {}
+    for offspring, _, parent in links_outside(animals.values(), ids):
+        found.setdefault(parent, offspring)
+    return found
+
+
+def refuse_named(animals: Mapping[str, SheetAnimal], ids: Collection[str], book: Book) -> None:
+    """A mistake where a parent is none of the ids, and the name of an animal of the book."""
+    lacking = parents_outside(animals, ids)
+    names = {in_book.name.casefold(): in_book.id for in_book in book.society_records.values()}
     named = {parent: names[parent.casefold()] for parent in lacking if parent.casefold() in names}
     if named:
         raise ImportRefused(ParentsNamed(len(named), told_elsewhere(named, lacking)))

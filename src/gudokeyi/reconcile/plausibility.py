@@ -1,30 +1,28 @@
 """What may be wrong of animals that are taken as they stand: ages, births of one dam, sires that left or are castrated,
-and columns that were swapped."""
+animals that are there twice or must have left, and columns that were swapped. The rules are those of sheets, forms and
+words alike."""
 from __future__ import annotations
 
 import collections
 import datetime
 import operator
-from collections.abc import Iterator
-from dataclasses import dataclass
+from collections.abc import Collection
+from typing import TYPE_CHECKING
 
-from gudokeyi.domain.animals import SocietyRecord
 from gudokeyi.domain.findings import Report
-from gudokeyi.domain.kinds import Field, Remembered, Role
+from gudokeyi.domain.kinds import Field
 from gudokeyi.ingest.animals import DAM, SIRE, YEARS_LATER, SheetAnimal
-from gudokeyi.reconcile.findings.parents import ParentRefused
 from gudokeyi.reconcile.findings.plausibility import (
-    BirthsTooNear, CastratedSire, ColumnsSwapped, ManyOldAsLiving, OldAsLiving, SireLeftLongBefore, YoungParent,
+    BirthsTooNear, CastratedSire, ColumnsSwapped, ManyOldAsLiving, NameAndDayTwice, OldAsLiving, SireLeftLongBefore,
+    YoungParent,
 )  # fmt: skip
-from gudokeyi.reconcile.findings.rows import BirthMovedByYears
-from gudokeyi.reconcile.next_book import NextBook
-from gudokeyi.reconcile.outcome import Understood
+from gudokeyi.reconcile.limits import Limits
 from gudokeyi.store.book import Book
 
-# What may be wrong of animals that are taken as they stand: ages, births of one dam, sires that left or are castrated,
-# and animals that must have left.
+if TYPE_CHECKING:
+    from gudokeyi.reconcile.next_book import NextBook
+    from gudokeyi.reconcile.outcome import Understood
 
-YOUNGEST, APART = 180, 100
 # births of one litter or of twins may be so many days from one another
 LITTER = 3
 YEAR = 365
@@ -36,38 +34,43 @@ FEW_OLD = 3
 FEW_OLD_ONES = 10
 
 
-@dataclass(frozen=True, slots=True)
-class Limits:
-    """How many days old a parent is at least, and how far the births of one dam are from one another."""
-
-    youngest: int = YOUNGEST
-    apart: int = APART
-
-
 class PlausibilityChecks:
-    """Looks at all animals, whose days and parents are found. Days that were inferred tell nothing."""
+    """Looks at all animals, whose days and parents are found. Days that were inferred tell nothing. What is told is
+    about animals of the sheet, or about those that somebody files, whose ids are `filed`."""
 
-    def __init__(self, animals: dict[str, SheetAnimal], limits: Limits, report: Report) -> None:
-        self.animals, self.limits, self.report = animals, limits, report
-        self.youngest = datetime.timedelta(limits.youngest)
+    def __init__(
+        self, animals: dict[str, SheetAnimal], limits: Limits, report: Report, filed: Collection[str] = ()
+    ) -> None:
+        self.animals, self.limits, self.report, self.filed = animals, limits, report, filed
+
+    def is_new(self, animal: SheetAnimal) -> bool:
+        return bool(animal.line) or animal.id in self.filed
 
     def tell_births(self, book: Book) -> None:
         """Birth days that are years from those of the book."""
-        for animal in self.animals.values() if book.known else ():
-            known = book.known.get(animal.id) if animal.line and animal.has_day() else None
-            if known and not known.birth.is_inferred:
-                before = book.records[known.registration_number].born
+        # of sheets alone
+        from gudokeyi.reconcile.findings.rows import BirthMovedByYears
+
+        for animal in self.animals.values() if book.society_records else ():
+            in_book = book.society_records.get(animal.id) if animal.line and animal.has_day() else None
+            if in_book and not in_book.birth.is_inferred:
+                before = book.records[in_book.registration_number].born
                 if abs((animal.born - before).days) >= YEARS_LATER:
                     self.report.add(animal.line, animal.id, BirthMovedByYears(before, animal.born))
 
     def tell(self, exits_are_given: bool) -> None:
+        self.tell_families()
+        if exits_are_given:
+            self.look_at_living()
+
+    def tell_families(self) -> None:
+        """What is told of parents, offspring, and animals that are there twice."""
         for animal in self.animals.values():
-            if animal.line:
+            if self.is_new(animal):
                 self.look_at_parents(animal)
         self.look_at_dams()
         self.look_at_castrated()
-        if exits_are_given:
-            self.look_at_living()
+        self.look_at_names()
 
     def look_at_parents(self, offspring: SheetAnimal) -> None:
         if not offspring.has_day():
@@ -76,8 +79,8 @@ class PlausibilityChecks:
             if not id:
                 continue
             parent = self.animals[id]
-            if offspring.born - parent.born < self.youngest and parent.has_day():
-                days = (offspring.born - parent.born).days
+            days = (offspring.born - parent.born).days
+            if 0 < days < self.limits.youngest and parent.has_day():
                 found = YoungParent(role, id, parent.line, days, self.limits.youngest)
                 self.report.add(offspring.line, offspring.id, found)
             if role is SIRE and parent.left and offspring.born > parent.left + datetime.timedelta(YEAR):
@@ -94,7 +97,7 @@ class PlausibilityChecks:
             its.sort(key=by_age)
             for before, offspring in zip(its, its[1:]):
                 days = (offspring.born - before.born).days
-                if LITTER < days < self.limits.apart and (offspring.line or before.line):
+                if LITTER < days < self.limits.apart and (self.is_new(offspring) or self.is_new(before)):
                     found = BirthsTooNear(dam, before.id, before.line, days, self.limits.apart)
                     self.report.add(offspring.line, offspring.id, found)
 
@@ -108,6 +111,17 @@ class PlausibilityChecks:
             animal = self.animals[sire]
             found = CastratedSire(animal.cells.get(Field.SEX, ""), len(its), its[0].id, its[0].line)
             self.report.add(animal.line, sire, found)
+
+    def look_at_names(self) -> None:
+        """Animals with one name and birth day. Many sheets have names that stand for none, as `Lamm`, at each."""
+        alike = collections.defaultdict[tuple[str, datetime.date], list[SheetAnimal]](list)
+        for animal in self.animals.values():
+            if animal.name and animal.has_day():
+                alike[animal.name.casefold(), animal.born].append(animal)
+        for pair in alike.values():
+            if len(pair) == 2 and any(map(self.is_new, pair)):
+                first, second = sorted(pair, key=self.is_new)
+                self.report.add(second.line, second.id, NameAndDayTwice(first.id, first.line))
 
     def look_at_living(self) -> None:
         # an import of a sheet without exits would wait for it
@@ -127,28 +141,6 @@ class PlausibilityChecks:
             self.report.add(animal.line, animal.id, found)
 
 
-# Parents that were very young at a birth which somebody files by hand: it is filed, and told as a sheet's is.
-
-
-def young_parents(
-    book: Book, born: datetime.date, sire: SocietyRecord | None, dam: SocietyRecord | None
-) -> Iterator[YoungParent]:
-    """Those that were at least a day old, as the program refuses others, and younger than the book says. Days that were
-    inferred tell nothing."""
-    limit = youngest_of(book)
-    for role, parent in ((Role.SIRE, sire), (Role.DAM, dam)):
-        if parent and not parent.birth.is_inferred:
-            days = (born - book.records[parent.registration_number].born).days
-            if 0 < days < limit:
-                yield YoungParent(role, parent.id, 0, days, limit)
-
-
-def youngest_of(book: Book) -> int:
-    """How many days old a parent is at least."""
-    said = [one.word for one in book.remembered if one.what is Remembered.YOUNGEST]
-    return int(said[-1]) if said else YOUNGEST
-
-
 # Sires and dams in each other's columns: most parents would be of the wrong sex.
 
 # so few parents of the wrong sex are mistakes of their own
@@ -157,6 +149,9 @@ FEW_REFUSED = 5
 
 def tell_swapped_columns(next_book: NextBook, understood: Understood) -> None:
     """The parents that are refused for their sex are told one by one; that they are most of all is told besides."""
+    # of sheets alone
+    from gudokeyi.reconcile.findings.parents import ParentRefused
+
     findings = [entry.finding for entry in next_book.report.entries]
     refused = sum(isinstance(one, ParentRefused) and one.is_of_sex() for one in findings)
     titles = {one.field: one.title for one in understood.columns}

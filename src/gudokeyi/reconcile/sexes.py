@@ -3,14 +3,18 @@ are invented so that nothing is refused for them."""
 from __future__ import annotations
 
 import collections
+from collections.abc import Mapping
+from typing import NamedTuple
 
 from gudokeyi.domain.findings import Report
-from gudokeyi.domain.kinds import Role
+from gudokeyi.domain.kinds import Field, Role
 from gudokeyi.domain.provenance import SexSource
 from gudokeyi.ingest.animals import DAM_OF, SIRE_OF, SheetAnimal
 from gudokeyi.reconcile.findings.animals import SexInferred, SexNotKnown
 from gudokeyi.reconcile.findings.parents import Couple, NoSexesFit, ParentsSwapped
+from gudokeyi.reconcile.findings.same_animals import SexAgainstOffspring
 from gudokeyi.reconcile.next_book import NextBook
+from gudokeyi.reconcile.plausibility import FEW_REFUSED
 
 # Sexes of animals whose rows don't say them: as parents they are, or as in the book.
 
@@ -24,17 +28,91 @@ def leave_out_unread_sexes(next_book: NextBook) -> None:
     for parent in sires.keys() & dams.keys():
         roles[parent] = role_of_both(next_book, parent, sires[parent], dams[parent])
     for id, animal in list(animals.items()):
-        if "sex" in animal.unread and not roles.get(id) and not next_book.book.known.get(id):
+        if "sex" in animal.unread and not roles.get(id) and not next_book.book.society_records.get(id):
             next_book.report.add(animal.line, id, SexNotKnown())
             del animals[id]
 
 
 def role_of_both(next_book: NextBook, id: str, sires: int, dams: int) -> Role:
     """Of an animal that is both what it is in the book is preferred, and then what it is more often."""
-    known = next_book.book.known.get(id)
-    if known:
-        return Role.SIRE if known.is_male else Role.DAM
+    in_book = next_book.book.society_records.get(id)
+    if in_book:
+        return Role.SIRE if in_book.is_male else Role.DAM
     return Role.SIRE if sires >= dams else Role.DAM
+
+
+class Contradiction(NamedTuple):
+    """The offspring that speak against the cell of a sex, and whether the book does too."""
+
+    animal: SheetAnimal
+    role: Role
+    progeny: set[str]
+    in_book: bool
+
+
+def mend_sexes(next_book: NextBook, gone: Mapping[str, SheetAnimal]) -> None:
+    """Where more speaks against the cell of a sex than for it, that is what may be wrong: the parent stays one. Each
+    offspring, and the book, speak as much as the cell."""
+    # most sheets have nothing of the kind, and large ones aren't looked at closer
+    evidence = progeny_by_role(next_book, gone) if may_disagree(next_book, gone) else {}
+    found = [one for id, by_role in evidence.items() if (one := contradiction(next_book, id, by_role))]
+    # sires in the column of dams are told as such
+    new = sum(len(one.progeny) for one in found if not one.in_book)
+    if new > FEW_REFUSED and 2 * new > sum(len(its) for by_role in evidence.values() for its in by_role.values()):
+        found = [one for one in found if one.in_book]
+    for animal, role, its, in_book in found:
+        written = animal.cells.get(Field.SEX, "") or animal.sex
+        told = SexAgainstOffspring(written, role.sex, role, len(its), min(its), in_book)
+        next_book.report.add(animal.line, animal.id, told)
+        animal.sex, animal.sex_source, animal.castrated = role.sex, SexSource(role.value), False
+
+
+def contradiction(next_book: NextBook, id: str, by_role: Mapping[Role, set[str]]) -> Contradiction | None:
+    """What speaks against the sex of an animal's cell, where that is more than what speaks for it."""
+    animal, in_book = next_book.animals.get(id), next_book.book.society_records.get(id)
+    if animal is None or not animal.sex or not animal.line or animal.sex_source.is_inferred:
+        return None
+    role, own = (Role.DAM, Role.SIRE) if animal.sex == Role.SIRE.sex else (Role.SIRE, Role.DAM)
+    in_book_too = in_book is not None and in_book.registration_number[6] == role.sex
+    is_known = in_book is not None and not in_book.sex.is_inferred
+    against = len(by_role[role]) + (in_book_too and is_known)
+    for_it = 1 + len(by_role[own]) + (is_known and not in_book_too)
+    return Contradiction(animal, role, by_role[role], in_book_too) if by_role[role] and against > for_it else None
+
+
+def may_disagree(next_book: NextBook, gone: Mapping[str, SheetAnimal]) -> bool:
+    """Is any animal named as a parent of the other sex, or of another one in the book?"""
+    all_animals, known = [*next_book.animals.values(), *gone.values()], next_book.book.society_records
+    parents = (Role.SIRE, SIRE_OF), (Role.DAM, DAM_OF)
+    texts = {role.sex: {text.casefold() for text in {*map(parent_of, all_animals)}} for role, parent_of in parents}
+    for animal in next_book.animals.values():
+        if animal.sex:
+            others = texts["F" if animal.sex == "M" else "M"]
+            if animal.id.casefold() in others or (animal.name and animal.name.casefold() in others):
+                return True
+            if animal.id in known and known[animal.id].registration_number[6] != animal.sex:
+                return True
+    return False
+
+
+def progeny_by_role(next_book: NextBook, gone: Mapping[str, SheetAnimal]) -> dict[str, dict[Role, set[str]]]:
+    """The offspring of each animal in each role, as cells name it by its id or by a name that it has alone; where a
+    cell names none so, as the book has it."""
+    animals, book = next_book.animals, next_book.book
+    names = collections.Counter(one.name.casefold() for one in (*animals.values(), *gone.values()) if one.name)
+    named = {one.name.casefold(): id for id, one in (*animals.items(), *gone.items()) if names[one.name.casefold()] == 1}
+    found: dict[str, dict[Role, set[str]]] = {}
+    for offspring in (*animals.values(), *gone.values()):
+        in_book = book.society_records.get(offspring.id)
+        record = book.records[in_book.registration_number] if in_book else None
+        for role in Role:
+            text = offspring.parent(role)
+            parent = text if text in animals or text in gone else named.get(text.casefold(), "") if text else ""
+            if not parent and text and record:
+                parent = next_book.id_of(record.parent(role))
+            if parent:
+                found.setdefault(parent, {Role.SIRE: set(), Role.DAM: set()})[role].add(offspring.id)
+    return found
 
 
 def find_sexes(next_book: NextBook) -> None:
@@ -45,18 +123,18 @@ def find_sexes(next_book: NextBook) -> None:
     for id, animal in next_book.animals.items():
         if animal.sex:
             continue
-        role, known = next_book.roles.get(id), next_book.book.known.get(id)
+        role, in_book = next_book.roles.get(id), next_book.book.society_records.get(id)
         if role:
             animal.sex, animal.sex_source = role.sex, SexSource(role.value)
-        elif known and known.sex is not SexSource.NOTHING:
-            animal.sex, animal.sex_source = known.registration_number[6], SexSource.BOOK
+        elif in_book and in_book.sex is not SexSource.NOTHING:
+            animal.sex, animal.sex_source = in_book.registration_number[6], SexSource.BOOK
         else:
             animal.sex, animal.sex_source = "F", SexSource.NOTHING
         if animal.line:
             found = SexInferred(animal.sex, animal.sex_source, "sex" in animal.unread)
             next_book.report.add(animal.line, id, found)
-        is_invented = known is not None and known.sex is SexSource.INVENTED
-        if known and is_invented and known.registration_number[6] == animal.sex and id not in parents_of_rows:
+        is_invented = in_book is not None and in_book.sex is SexSource.INVENTED
+        if in_book and is_invented and in_book.registration_number[6] == animal.sex and id not in parents_of_rows:
             animal.sex_source = SexSource.INVENTED
 
 
@@ -132,8 +210,8 @@ class Sexes:
                     reached.append(mate)
 
     def place_parents(self, animal: SheetAnimal, report: Report) -> None:
-        """Puts the male parent in the sire's place and the female one in the dam's. One whose sex isn't invented is left
-        to the program, which refuses it."""
+        """Puts the male parent in the sire's place and the female one in the dam's. One whose sex isn't invented is
+        left to the program, which refuses it."""
         if not all(self.fits(role, parent) for role, parent in animal.parents()):
             return
         sexes = [self.animals[parent].sex for _, parent in animal.parents()]

@@ -1,4 +1,4 @@
-"""What an import tells as a book stores it: each entry by the name of its kind, with its data as texts, and back."""
+"""What an import tells as a book stores it: each entry by the code of its kind, with its data as texts, and back."""
 from __future__ import annotations
 
 import dataclasses
@@ -17,7 +17,6 @@ import gudokeyi.ingest.findings
 import gudokeyi.reconcile.findings
 from gudokeyi.domain.changes import StoredFinding
 from gudokeyi.domain.findings import KINDS, Entry, Finding
-from gudokeyi.domain.stored_names import FIELD_NAMES
 
 # the value of a name, from the texts of all names
 Reader = Callable[[str, dict[str, str]], Any]
@@ -26,7 +25,7 @@ YES, NO = "yes", "no"
 
 def told_of(entry: Entry) -> StoredFinding:
     fields = tuple(texts_of("", entry.finding))
-    return StoredFinding(entry.finding.kind(), entry.part or "", entry.line, entry.id, fields)
+    return StoredFinding(entry.finding.code, entry.part or "", entry.line, entry.id, fields)
 
 
 def entry_of(told: StoredFinding) -> Entry:
@@ -94,7 +93,7 @@ def stored_parts(kind: Any) -> list[tuple[str, str]]:
 
 
 def stored_name(kind: Any, part: str) -> str:
-    return FIELD_NAMES.get(kind.__name__, {}).get(part, part)
+    return str(getattr(kind, "stored_fields", {}).get(part, part))
 
 
 @functools.cache
@@ -123,7 +122,11 @@ def reader_of(kind: Any) -> Reader:
         parts = [(part, reader_of(kinds[field])) for field, part in stored_parts(kind)]
         later = later_parts(kind)
         return lambda name, texts: kind(
-            *[read(within(name, part), texts) for part, read in parts if part not in later or within(name, part) in texts]
+            *[
+                read(within(name, part), texts)
+                for part, read in parts
+                if part not in later or within(name, part) in texts
+            ]
         )
     parameters = typing.get_args(kind)
     if not parameters:

@@ -9,8 +9,8 @@ from gudokeyi.domain.commands import RegisterRecord
 from gudokeyi.domain.findings import Entry
 from gudokeyi.domain.kinds import CELL_FIELDS, Field, Role
 from gudokeyi.domain.provenance import Period
-from gudokeyi.ingest.animals import SheetAnimal
-from gudokeyi.ingest.days import DayFault, Span
+from gudokeyi.ingest.animals import SheetAnimal, birth_in_book
+from gudokeyi.ingest.days import ANY_DAY, DayFault, Span
 from gudokeyi.ingest.findings.cells import DayLeftOut, ExitInferred
 from gudokeyi.reconcile.exits import Exit, exit_in_book, given_day
 from gudokeyi.reconcile.findings.animals import KeptByHand, KeptFromBook
@@ -26,9 +26,9 @@ def keep_values(next_book: NextBook) -> None:
     """Gives the animals of the rows what the book has of them and the sheet doesn't say."""
     book, keeping = next_book.book, Keeping(next_book)
     for id, animal in next_book.animals.items():
-        known = book.known.get(id)
-        if known is not None:
-            keeping.keep(animal, known, book.records[known.registration_number])
+        in_book = book.society_records.get(id)
+        if in_book is not None:
+            keeping.keep(animal, in_book, book.records[in_book.registration_number])
     keeping.take_back_exits()
 
 
@@ -42,21 +42,21 @@ class Keeping:
         # the lines of animals whose exits keep the book's days
         self.kept_exits: set[int] = set()
 
-    def keep(self, animal: SheetAnimal, known: SocietyRecord, record: RegisterRecord) -> None:
-        if known.by_hand:
-            self.keep_by_hand(animal, known, record)
+    def keep(self, animal: SheetAnimal, in_book: SocietyRecord, record: RegisterRecord) -> None:
+        if in_book.by_hand:
+            self.keep_by_hand(animal, in_book, record)
         if "name" not in self.given or Field.NAME in animal.unread:
-            animal.name = known.name
+            animal.name = in_book.name
         for role in Role:
             if role not in self.given or role in animal.unread:
                 animal.set_parent(role, self.next_book.id_of(record.parent(role)))
-        exit = exit_in_book(known, record, animal.birth.first)
+        exit = exit_in_book(in_book, record, animal.birth.first)
         if "exit" not in self.given or ("exit" in animal.unread and self.may_keep_exit(animal, exit)):
             self.keep_exit(animal, exit)
             if exit.day:
                 self.tell_kept(animal, Field.EXIT, str(exit.day))
-        elif animal.exit_basis.period and has_day_within(animal.exit_basis.period, record, known):
-            animal.left, animal.exit_basis = record.left, known.exit
+        elif animal.exit_basis.period and has_day_within(animal.exit_basis.period, record, in_book):
+            animal.left, animal.exit_basis = record.left, in_book.exit
             self.kept_exits.add(animal.line)
             self.tell_kept(animal, Field.EXIT, str(record.left))
         if "embryo" not in self.given or "embryo" in animal.unread:
@@ -67,12 +67,12 @@ class Keeping:
             self.tell_kept(animal, Field.OWNER, owner)
         self.days_of_others.leave_out(animal, record)
         is_within = not animal.has_day() and animal.birth.first <= record.born <= animal.birth.last
-        if is_within and not known.birth.is_inferred:
+        if is_within and not in_book.birth.is_inferred:
             animal.birth = Span(record.born, record.born)
             self.tell_kept(animal, Field.BIRTH, str(record.born))
         if Field.SEX not in self.given or not animal.cells.get(Field.SEX):
-            animal.castrated = known.castrated
-        if not animal.sex and not known.sex.is_inferred:
+            animal.castrated = in_book.castrated
+        if not animal.sex and not in_book.sex.is_inferred:
             animal.sex = record.registration_number[6]
             self.tell_kept(animal, Field.SEX, animal.sex)
 
@@ -104,27 +104,32 @@ class Keeping:
     def is_taken_back(self, entry: Entry) -> bool:
         return entry.line in self.kept_exits and isinstance(entry.finding, ExitInferred)
 
-    def keep_by_hand(self, animal: SheetAnimal, known: SocietyRecord, record: RegisterRecord) -> None:
+    def keep_by_hand(self, animal: SheetAnimal, in_book: SocietyRecord, record: RegisterRecord) -> None:
         """What was filed by hand stays where the cell says what it said in the last sheet."""
         values, owner = values_of(animal), self.book.owner_of(record.owner_code)
-        given = frozenset(one for one in known.by_hand if one in self.given)
-        as_before = self.as_before(animal, known.by_hand | {Field.SINCE})
+        given = frozenset(one for one in in_book.by_hand if one in self.given)
+        as_before = self.as_before(animal, in_book.by_hand | {Field.SINCE})
         stays = given & as_before
         # a sheet that has the owner by hand says nothing otherwise, and his day is still by hand
         agreeing = {Field.OWNER} if animal.owner == owner else set[Field]()
         self.next_book.overridden[animal.id] = given - stays - agreeing
+        # what these cells don't say comes from the book anyway
+        if Field.BIRTH in stays and animal.cells.get(Field.BIRTH):
+            animal.birth = birth_in_book(in_book, record)
+        if Field.SEX in stays and animal.cells.get(Field.SEX):
+            animal.sex, animal.castrated = record.registration_number[6], in_book.castrated
         for role in Role:
             if Field(role.value) in stays:
-                in_book = self.next_book.id_of(record.parent(role))
-                animal.set_parent(role, tried_again(self.book, known, role, in_book))
-        if Field.OWNER in known.by_hand:
+                parent = self.next_book.id_of(record.parent(role))
+                animal.set_parent(role, tried_again(self.book, in_book, role, parent))
+        if Field.OWNER in in_book.by_hand:
             self.keep_owner(animal, owner, Field.OWNER in stays, Field.SINCE in as_before)
         if Field.EXIT in stays:
-            self.keep_exit(animal, exit_in_book(known, record, animal.birth.first))
+            self.keep_exit(animal, exit_in_book(in_book, record, animal.birth.first))
         if Field.EMBRYO in stays:
             animal.embryo = record.embryo
         if Field.NAME in stays:
-            animal.name = known.name
+            animal.name = in_book.name
         self.tell_by_hand(animal, values)
 
     def as_before(self, animal: SheetAnimal, fields: frozenset[Field]) -> frozenset[Field]:
@@ -150,14 +155,21 @@ class Keeping:
                 self.report.add(animal.line, animal.id, KeptByHand(one, value))
 
 
-def has_day_within(period: Period, record: RegisterRecord, known: SocietyRecord) -> bool:
+def has_day_within(period: Period, record: RegisterRecord, in_book: SocietyRecord) -> bool:
     """Has the book the day of an exit of which a cell says the month or the year?"""
-    return not known.exit.is_inferred and str(record.left).startswith(period.text)
+    return not in_book.exit.is_inferred and str(record.left).startswith(period.text)
+
+
+def span_text(span: Span) -> str:
+    """The day, month or year, empty for none."""
+    return "" if span == ANY_DAY else span.first.isoformat() if span.is_day else span.period().text
 
 
 def values_of(animal: SheetAnimal) -> dict[Field, str]:
     return {
         Field.NAME: animal.name,
+        Field.SEX: animal.sex,
+        Field.BIRTH: span_text(animal.birth),
         Field.SIRE: animal.sire,
         Field.DAM: animal.dam,
         Field.OWNER: animal.owner,

@@ -6,11 +6,11 @@ from collections.abc import Iterator, Mapping, Sequence
 from gudokeyi.domain.animals import SocietyRecord
 from gudokeyi.domain.kinds import Role, Standing
 from gudokeyi.domain.messages import counted
-from gudokeyi.reconcile.owner_days import owner_day_known
-from gudokeyi.render.history import STANDINGS, history_of
+from gudokeyi.reconcile.owner_day_known import owner_day_known
+from gudokeyi.render.history import told_of_animal
 from gudokeyi.services.animals import Relatives, relatives_of
 from gudokeyi.services.lists import exit_of
-from gudokeyi.store.animal_rows import AnimalRow, known_of
+from gudokeyi.store.animal_rows import AnimalRow, society_record_of
 from gudokeyi.store.book import Book
 from gudokeyi.store.coefficients import Coefficient, kept_coefficients
 
@@ -22,14 +22,14 @@ MOST_SHOWN = 25
 class AnimalView:
     """What is shown of an animal, line by line."""
 
-    def __init__(self, book: Book, known: SocietyRecord, shows_all: bool) -> None:
-        self.book, self.known, self.shows_all = book, known, shows_all
+    def __init__(self, book: Book, animal: SocietyRecord, shows_all: bool) -> None:
+        self.book, self.animal, self.shows_all = book, animal, shows_all
         self.coefficients: Mapping[str, Coefficient] = kept_coefficients(book)
-        self.row = book.row(known)
+        self.row = book.row(animal)
 
     def lines(self) -> Iterator[str]:
-        relatives = relatives_of(self.book, self.known)
-        yield f"{self.known.id}  {self.known.name}".rstrip()
+        relatives = relatives_of(self.book, self.animal)
+        yield f"{self.animal.id}  {self.animal.name}".rstrip()
         for what, fact in self.facts(relatives):
             yield f"  {what:<13} {fact}"
         yield from self.of_offspring(relatives.offspring)
@@ -37,36 +37,36 @@ class AnimalView:
         for role in Role:
             yield from self.kind(f"half sibs by the {role}", relatives.half_sibs[role])
         yield "history"
-        yield from (f"  {line}" for line in history_of(self.book.connection, self.known.id))
+        yield from (f"  {line}" for line in told_of_animal(self.book, self.animal.id))
 
     def facts(self, relatives: Relatives) -> list[tuple[str, str]]:
-        known, row = self.known, self.row
-        coefficient = self.coefficients[known.registration_number]
+        animal, row = self.animal, self.row
+        coefficient = self.coefficients[animal.registration_number]
         owner = self.book.owner_of(row.owner_code or 0)
-        is_said = owner_day_known(self.book, known, row.from_owner, row.owned_since)
-        since = f", since {row.owned_since}{known.owner_day.mark()}" if is_said else ""
+        is_said = owner_day_known(self.book, animal, row.from_owner, row.owned_since)
+        since = f", since {row.owned_since}{animal.owner_day.mark()}" if is_said else ""
         found = [
-            ("number", known.registration_number),
-            ("sex", SEXES[known.registration_number[6]] + known.sex.mark() + ", castrated" * known.castrated),
-            ("born", f"{row.born}{basis(known.birth.words())}" + ", from a stored embryo" * bool(row.embryo)),
+            ("number", animal.registration_number),
+            ("sex", SEXES[animal.registration_number[6]] + animal.sex.mark() + ", castrated" * animal.castrated),
+            ("born", f"{row.born}{basis(animal.birth.words())}" + ", from a stored embryo" * bool(row.embryo)),
             ("exit", exit_of_row(row) or "none"),
             ("owner", f"{owner}{since}" if owner else "not known"),
             ("coefficient", f"{coefficient.fraction} = {coefficient.decimal()} ({coefficient.percent}%)"),
         ]
         found += [(role.value, self.parent(role, relatives.parents[role])) for role in Role]
-        if known.standing is not Standing.ROW:
-            found.append(("in the book", STANDINGS[known.standing]))
+        if animal.standing is not Standing.ROW:
+            found.append(("in the book", animal.standing.words()))
         return found
 
     def parent(self, role: Role, row: AnimalRow | None) -> str:
-        written = self.known.written(role)
+        written = self.animal.written(role)
         in_sheet = f" (in the sheet: {written})" if written else ""
-        return (self.animal(row) if row else "unknown") + in_sheet
+        return (self.line(row) if row else "unknown") + in_sheet
 
-    def animal(self, row: AnimalRow) -> str:
+    def line(self, row: AnimalRow) -> str:
         """Another animal in a line."""
-        known, coefficient = known_of(row), self.coefficients[row.registration_number]
-        facts = [f"born {row.born}{known.birth.mark()}", SEXES[row.registration_number[6]]]
+        animal, coefficient = society_record_of(row), self.coefficients[row.registration_number]
+        facts = [f"born {row.born}{animal.birth.mark()}", SEXES[row.registration_number[6]]]
         facts += [f"F {coefficient.percent}%"] * coefficient.is_inbred
         facts += [f"exit {exit_of_row(row)}"] * bool(exit_of_row(row))
         return f"{f'{row.id}  {row.name}'.rstrip()}  ({', '.join(facts)})"
@@ -82,18 +82,18 @@ class AnimalView:
             yield f"  by {self.partner(partner)}"
             shown = rows if left is None else rows[:left]
             left = None if left is None else left - len(shown)
-            yield from (f"    {self.animal(row)}" for row in shown)
+            yield from (f"    {self.line(row)}" for row in shown)
         yield from self.more(count, "  ")
 
     def partner(self, number: str) -> str:
         if not number:
             return "an unknown partner"
-        known = self.book.by_number()[number]
-        return f"{known.id}  {known.name}".rstrip()
+        animal = self.book.by_number()[number]
+        return f"{animal.id}  {animal.name}".rstrip()
 
     def kind(self, what: str, rows: Sequence[AnimalRow]) -> Iterator[str]:
         yield f"{what}: {len(rows)}"
-        yield from (f"  {self.animal(row)}" for row in (rows if self.shows_all else rows[:MOST_SHOWN]))
+        yield from (f"  {self.line(row)}" for row in (rows if self.shows_all else rows[:MOST_SHOWN]))
         yield from self.more(len(rows), "  ")
 
     def more(self, count: int, indent: str) -> Iterator[str]:

@@ -1,8 +1,9 @@
 """Plots of a breed's state as pictures that can be read in black and white: lines differ in their dashes and dots."""
 from __future__ import annotations
 
+import itertools
 import math
-from collections.abc import Sequence
+from collections.abc import Collection, Sequence
 from dataclasses import dataclass
 
 from gudokeyi.render.drawing import GREY, INBRED_INK, INK, PAPER, escape, text_at
@@ -14,10 +15,10 @@ BARS = "#c3d0dd"
 
 @dataclass(frozen=True)
 class Line:
-    """A line of a plot: its name, its values by place, and how it is drawn."""
+    """A line of a plot: its name, its values by place, and how it is drawn. It is interrupted where there is none."""
 
     name: str
-    values: Sequence[float]
+    values: Sequence[float | None]
     colour: str = INK
     dashes: str = ""
     is_filled: bool = True
@@ -40,11 +41,13 @@ def y_of(part: float) -> float:
 
 def line_plot(title: str, names: Sequence[str], lines: Sequence[Line], unit: str) -> str:
     """Lines over the same places, each with its name."""
-    most = scale_end(max(max(line.values) for line in lines))
+    most = scale_end(max(value for line in lines for value in line.values if value is not None))
     parts = frame(title, names, most, unit)
     for at, line in enumerate(lines):
-        points = [(x_of(place, len(names)), y_of(value / most)) for place, value in enumerate(line.values)]
-        parts.append(drawn(line, points))
+        for is_there, part in itertools.groupby(enumerate(line.values), lambda one: one[1] is not None):
+            if is_there:
+                points = [(x_of(place, len(names)), y_of((value or 0) / most)) for place, value in part]
+                parts.append(drawn(line, points))
         parts += [text_at(LEFT + 40 + 260 * at, 42, line.name, line.colour, 14)]
         parts.append(drawn(line, [(LEFT + 4 + 260 * at, 37), (LEFT + 34 + 260 * at, 37)]))
     return picture(title, parts)
@@ -58,15 +61,20 @@ def drawn(line: Line, points: list[tuple[float, float]]) -> str:
     return f'<polyline points="{path}" fill="none" stroke="{line.colour}" stroke-width="2"{dashes}/>{dots}'
 
 
-def bar_plot(title: str, names: Sequence[str], values: Sequence[float], unit: str) -> str:
+def bar_plot(
+    title: str, names: Sequence[str], values: Sequence[float], unit: str, light: Collection[int] = ()
+) -> str:
+    """Bars over places, those of some lighter; none over a place with nothing."""
     most = scale_end(max(values))
     parts = frame(title, names, most, unit)
     width = max(1.0, 0.7 * (WIDTH - LEFT - RIGHT) / len(names))
     for place, value in enumerate(values):
+        if not value:
+            continue
         x, y = x_of(place, len(names)), y_of(value / most)
         tip = f"<title>{escape(f'{names[place]}: {value:.4g}{unit}')}</title>"
         size = f'x="{x - width / 2:.1f}" y="{y:.1f}" width="{width:.1f}" height="{y_of(0) - y:.1f}"'
-        parts.append(f'<rect {size} fill="{BARS}" stroke="{GREY}">{tip}</rect>')
+        parts.append(f'<rect {size} fill="{PAPER if place in light else BARS}" stroke="{GREY}">{tip}</rect>')
     return picture(title, parts)
 
 

@@ -90,9 +90,9 @@ def contributions_table(contributions: Iterable[Contribution], breed: Breed, by_
     so_far = Fraction(0)
     for one in sorted(contributions, key=lambda one: -one.share) if by_share else contributions:
         so_far += one.share
-        known = breed.rows[one.rank]
+        animal = breed.rows[one.rank]
         who = "unknown parent of" if one.is_parent_of else ""
-        rows.append((known.id, who, decimal(one.share), str(one.share), decimal(so_far)))
+        rows.append((animal.id, who, decimal(one.share), str(one.share), decimal(so_far)))
     return ("id", "is", "contribution", "exact", "contribution_so_far"), rows
 
 
@@ -105,12 +105,12 @@ def animals_table(state: State, breed: Breed) -> Table:
     indices, generations = maccluer_indices(state.pedigree), state.generations
     rows = []
     for rank, kinship in state.mean_kinships:
-        known = breed.known(rank)
+        animal = breed.animal(rank)
         coefficient = Fraction(state.pedigree.coefficients[rank], 1 << COEFFICIENT_BITS)
         rows.append(
             (
-                known.id, known.name, known.registration_number, known.registration_number[6],
-                f"{breed.born(rank)}{known.birth.mark()}", str(coefficient), decimal(kinship), str(kinship),
+                animal.id, animal.name, animal.registration_number, animal.registration_number[6],
+                f"{breed.born(rank)}{animal.birth.mark()}", str(coefficient), decimal(kinship), str(kinship),
                 decimal(generations.equivalent(rank)), generations.full[rank], generations.greatest[rank],
                 decimal(indices[rank]),
             )

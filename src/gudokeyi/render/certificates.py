@@ -2,37 +2,44 @@
 from __future__ import annotations
 
 import datetime
-from collections.abc import Mapping, Sequence
-from dataclasses import dataclass
+import functools
+import itertools
+from collections.abc import Callable, Iterator, Mapping, Sequence
+from dataclasses import dataclass, field
 
 from gudokeyi.domain.animals import SocietyRecord
 from gudokeyi.domain.kinds import Role
-from gudokeyi.reconcile.owner_days import owner_day_known
+from gudokeyi.reconcile.owner_day_known import owner_day_known
 from gudokeyi.render.drawing import DAM, FONT, GREY, INBRED, INBRED_INK, INK, LINE, PAPER, SIRE, rendered
-from gudokeyi.render.languages import Language, Mark, mark_of
-from gudokeyi.render.pedigree_boxes import common_ancestors, letters_named
-from gudokeyi.services.animals import certificate_facts
+from gudokeyi.render.languages import MARKS, Language, Mark, mark_of
+from gudokeyi.render.pedigree_boxes import COMMON_NOTE, common_ancestors, letters_named
+from gudokeyi.render.seals import seal_view
+from gudokeyi.services.certificates import GENERATIONS, MOST_GENERATIONS, Certified, coefficient_in
+from gudokeyi.services.seals import LastSealed
+from gudokeyi.render.own_values import own_said
+from gudokeyi.services.own_columns import certified_values
 from gudokeyi.store.book import Book
-from gudokeyi.store.coefficients import Coefficient, kept_coefficients
 
-# the fourteen ancestors, line by line of the drawn pedigree: each stands in the line where it begins
-LINES = [
-    ["S", "SS", "SSS"],
-    ["SSD"],
-    ["SD", "SDS"],
-    ["SDD"],
-    ["D", "DS", "DSS"],
-    ["DSD"],
-    ["DD", "DDS"],
-    ["DDD"],
-]
-DRAWN = [letters for line in LINES for letters in line]
 # those that have a word of their own
-RELATIONS = ("S", "D", "SS", "SD", "DS", "DD")
-# what each generation is called in the style, and over how many lines its cells go
-GENERATIONS = {1: ("one", 4), 2: ("two", 2), 3: ("three", 1)}
-# of so many animals and more all that the book has is read at once
-MANY = 100
+RELATIONS = {
+    "S": "Sire", "D": "Dam", "SS": "Sire's sire", "SD": "Sire's dam", "DS": "Dam's sire", "DD": "Dam's dam",
+}  # fmt: skip
+# what stands at the end of a page
+NOTE = "An unknown parent counts as unrelated to all animals. Coefficients are Wright's, computed exactly."
+OF_PROGRAM = (
+    "Numbers, sexes, days, parents and coefficients are lines of the proved program herdbook; all else is what the "
+    "society wrote."
+)
+MARK_NOTES = {
+    Mark.INFERRED: (
+        "(inferred): not known for certain; inferred from the year, the parents, the offspring or a name when the "
+        "sheet was taken."
+    ),
+    Mark.IN_SHEET: "(in the sheet: ..): this animal can't be the parent, and was left out.",
+    Mark.INVENTED: "(invented): the pedigree has neither birth days nor sexes; these were invented.",
+}
+# what each generation is called in the style
+CALLED = ("one", "two", "three", "four", "five")
 # the colours and letters of all pages and pictures, as the style names them
 WARNING = {
     "font": FONT, "ink": INK, "grey": GREY, "line": LINE, "paper": PAPER, "sire": SIRE, "dam": DAM, "inbred": INBRED,
@@ -42,12 +49,13 @@ WARNING = {
 
 @dataclass(frozen=True, slots=True)
 class DrawnAnimal:
-    """An ancestor as its cell shows it. What an animal hasn't is empty, as `percent` of one that isn't inbred."""
+    """An ancestor as its cell shows it. What an animal hasn't is empty."""
 
     id: str
     name: str
     born: str
     percent: str
+    is_inbred: bool
     # of one that is an ancestor on both sides
     letter: str
 
@@ -76,119 +84,170 @@ class CertificateView:
     facts: list[tuple[str, str]]
     lines: list[list[Cell]]
     notes: list[str]
+    # was it in the book whose seal is shown?
+    is_sealed: bool
+    # the address of its file, empty where the page has none
+    file: str
 
 
 @dataclass(frozen=True, slots=True)
 class Issue:
-    """What is the same on all certificates that are issued at once: the society and the day. An empty title is the
-    usual one."""
+    """What is the same on all certificates that are issued at once: the society, the day, the seal that was published
+    last, if one was, and how many generations are drawn. An empty title is the usual one. `address_of` answers the
+    address of the file of an animal by its number, where the page is shown in a browser."""
 
     title: str
     society: str
     address: str
     day: datetime.date
+    sealed: LastSealed | None = None
+    address_of: Callable[[str], str] | None = None
+    generations: int = GENERATIONS
+    # the addresses of the same with as many generations, likewise
+    others: Mapping[int, str] = field(default_factory=dict)
 
 
 class Certificate:
-    """What a certificate is made of: what the book has of an animal and its ancestors, and the coefficients."""
+    """What a certificate is made of: the program's lines of an animal and its ancestors, and beside these what the
+    society calls them."""
 
     def __init__(
-        self, book: Book, known: SocietyRecord, coefficients: Mapping[str, Coefficient], language: Language
+        self, book: Book, animal: SocietyRecord, certified: Certified, language: Language, issue: Issue
     ) -> None:
-        self.book, self.known, self.coefficients = book, known, coefficients
-        self.language, self.texts = language, language.texts
+        self.book, self.animal, self.certified = book, animal, certified
+        self.language, self.issue = language, issue
         self.names = book.by_number()
-        self.told = certificate_facts(book, known.registration_number, coefficients)
-        drawn = [self.told[letters] for letters in DRAWN if self.told[letters] != "0"]
-        self.common = common_ancestors(book, known.registration_number, drawn)
+        self.told = certified.facts(animal.registration_number)
+        # by the letters of each that is known
+        self.ancestors = certified.ancestors(animal.registration_number, issue.generations)
+        self.lines = lines_of(issue.generations)
+        self.letters = [letters for line in self.lines for letters in line]
+        drawn = [self.ancestors[letters] for letters in self.letters if letters in self.ancestors]
+        self.common = common_ancestors(book, animal.registration_number, drawn)
 
     def shown(self) -> CertificateView:
-        fraction, percent = self.told["inbreeding"].split(" ")
-        own = Coefficient(fraction, percent)
+        own, issue, number = coefficient_in(self.told), self.issue, self.animal.registration_number
         return CertificateView(
-            self.known.id,
-            self.known.name,
+            self.animal.id,
+            self.animal.name,
             self.language.percent(own.percent),
             own.fraction,
             self.language.decimal(own.decimal()),
             self.facts(),
-            [[self.cell(letters) for letters in line] for line in LINES],
+            [[self.cell(letters) for letters in line] for line in self.lines],
             self.notes(),
+            issue.sealed is not None and number in issue.sealed.numbers,
+            issue.address_of(number) if issue.address_of else "",
         )
 
     def facts(self) -> list[tuple[str, str]]:
         """The animal's record. The owner has no name where the sheet gave none."""
-        told, texts = self.told, self.texts
-        left = texts["unknown day"] if self.known.exit.day_is_unknown else texts["not left"]
+        told, gettext = self.told, self.language.gettext
         if told["left"] != "-":
-            left = self.day(told["left"], mark_of(self.known.exit))
-        pairs = {
-            "number": told["animal"],
-            "sex": self.language.marked(texts[told["sex"]], mark_of(self.known.sex)),
-            "born": self.day(told["born"], mark_of(self.known.birth)),
-            "left": left,
-            "owner": self.book.owner_of(int(told["herd"])) or texts["no owner"],
-            "since": texts["no owner"],
-        }
-        if self.knows_owner_day():
-            pairs["since"] = self.day(told["since"], mark_of(self.known.owner_day))
-        return [(texts[what], fact) for what, fact in pairs.items()]
+            left = self.day(told["left"], mark_of(self.animal.exit))
+        else:
+            left = gettext("has left, day unknown") if self.animal.exit.day_is_unknown else gettext("has not left")
+        since = self.day(told["since"], mark_of(self.animal.owner_day)) if self.knows_owner_day else ""
+        sex = gettext("male") if told["sex"] == "male" else gettext("female")
+        return [
+            (gettext("Number"), told["animal"]),
+            (gettext("Sex"), self.language.marked(sex, mark_of(self.animal.sex))),
+            (gettext("Born"), self.day(told["born"], mark_of(self.animal.birth))),
+            (gettext("Left"), left),
+            (gettext("Owner"), self.book.owner_of(int(told["herd"])) or gettext("not known")),
+            (gettext("Owner since"), since or gettext("not known")),
+            *self.own_facts(),
+        ]
 
+    def own_facts(self) -> list[tuple[str, str]]:
+        """The values of the society's own columns that stand on certificates."""
+        values = certified_values(self.book, self.animal)
+        return [(one.column.title, own_said(one.column.kind, one.value, self.language)) for one in values]
+
+    @functools.cached_property
     def knows_owner_day(self) -> bool:
-        record = self.book.records[self.known.registration_number]
-        return owner_day_known(self.book, self.known, record.from_owner, record.since)
+        from_owner = self.book.records[self.animal.registration_number].from_owner
+        return owner_day_known(self.book, self.animal, from_owner, self.told["since"])
 
     def day(self, day: object, mark: Mark | None = None) -> str:
         return self.language.marked(self.language.day(day), mark)
 
     def cell(self, letters: str) -> Cell:
-        number, role, written = self.told[letters], role_of(letters), self.written(letters)
-        relation = self.texts[letters] if letters in RELATIONS else ""
-        generation, rows = GENERATIONS[len(letters)]
-        if number != "0":
-            return Cell(generation, rows, role, relation, self.drawn(number, bool(written)), "")
-        in_sheet = f" ({self.texts['in sheet'].format(written)})" if written else ""
-        return Cell(generation, rows, role, relation, None, self.texts[f"unknown {role}"] + in_sheet)
+        number, role, written = self.ancestors.get(letters), role_of(letters), self.written(letters)
+        relation = self.language.gettext(RELATIONS[letters]) if letters in RELATIONS else ""
+        generation, rows = CALLED[len(letters) - 1], 1 << (self.issue.generations - len(letters))
+        if number:
+            return Cell(generation, rows, role, relation, self.drawn(number, bool(written), len(letters)), "")
+        in_sheet = f" ({self.language.gettext(MARKS[Mark.IN_SHEET], written)})" if written else ""
+        unknown = self.language.pgettext(f"unknown {role}", "unknown")
+        return Cell(generation, rows, role, relation, None, unknown + in_sheet)
 
-    def drawn(self, number: str, is_written_otherwise: bool) -> DrawnAnimal:
-        known, coefficient = self.names[number], self.coefficients[number]
-        id = self.language.marked(known.id, Mark.INFERRED if is_written_otherwise else None)
-        born = self.day(self.book.records[number].born, mark_of(known.birth))
-        percent = self.language.percent_of(coefficient) if coefficient.is_inbred else ""
-        return DrawnAnimal(id, known.name, born, percent, self.common.get(number, ""))
+    def drawn(self, number: str, is_written_otherwise: bool, generation: int) -> DrawnAnimal:
+        animal, told = self.names[number], self.certified.facts(number)
+        coefficient = coefficient_in(told)
+        id = self.language.marked(animal.id, Mark.INFERRED if is_written_otherwise else None)
+        born = self.born(told["born"], mark_of(animal.birth), generation)
+        percent, letter = self.language.coefficient(coefficient), self.common.get(number, "")
+        return DrawnAnimal(id, animal.name, born, percent, coefficient.is_inbred, letter)
+
+    def born(self, day: str, mark: Mark | None, generation: int) -> str:
+        """The birth day of an ancestor. Where there is less room a marked one has its year alone, and the furthest of
+        five generations have the year, where it has no mark."""
+        is_most = self.issue.generations == MOST_GENERATIONS
+        if is_most and generation > GENERATIONS:
+            return day[:4] * (mark is None)
+        has_room = generation < GENERATIONS + (not is_most)
+        return self.day(day, mark) if mark is None or has_room else self.language.marked(day[:4], mark)
 
     def written(self, letters: str) -> str:
         """What the sheet writes for an ancestor, where that isn't its id or it is left out."""
-        # the animal of which it is a parent; `0` where that is unknown
-        offspring = self.names.get(self.told.get(letters[:-1], self.told["animal"]))
-        return offspring.written(role_of(letters)) if offspring else ""
+        # the animal of which it is a parent
+        offspring = self.ancestors.get(letters[:-1], "") if letters[:-1] else self.told["animal"]
+        return self.names[offspring].written(role_of(letters)) if offspring else ""
 
     def notes(self) -> list[str]:
         """What stands at the end: each mark that the page has is explained."""
-        ancestors = [self.names[self.told[letters]] for letters in DRAWN if self.told[letters] != "0"]
-        marks = {mark_of(one.birth) for one in (self.known, *ancestors)}
-        marks |= {mark_of(self.known.exit), mark_of(self.known.sex)}
-        marks |= {mark_of(self.known.owner_day)} if self.knows_owner_day() else set()
-        written = [letters for letters in DRAWN if self.written(letters)]
-        marks |= {Mark.IN_SHEET if self.told[letters] == "0" else Mark.INFERRED for letters in written}
-        common = [self.texts["common note"].format(letters_named(self.common))] * bool(self.common)
-        return [self.texts["note"], *common, *(self.texts[f"{mark.value} note"] for mark in Mark if mark in marks)]
+        ancestors = [self.names[number] for number in self.ancestors.values()]
+        marks = {mark_of(one.birth) for one in (self.animal, *ancestors)}
+        marks |= {mark_of(self.animal.exit), mark_of(self.animal.sex)}
+        marks |= {mark_of(self.animal.owner_day)} if self.knows_owner_day else set()
+        written = [letters for letters in self.letters if self.written(letters)]
+        marks |= {Mark.INFERRED if letters in self.ancestors else Mark.IN_SHEET for letters in written}
+        gettext = self.language.gettext
+        common = [gettext(COMMON_NOTE, letters_named(self.common))] * bool(self.common)
+        told = (gettext(MARK_NOTES[mark]) for mark in Mark if mark in marks)
+        return [gettext(NOTE), gettext(OF_PROGRAM), *common, *told]
 
 
-def certificates_page(book: Book, animals: Sequence[SocietyRecord], language: Language, issue: Issue) -> str:
+def certificates_page(
+    book: Book, animals: Sequence[SocietyRecord], certified: Certified, language: Language, issue: Issue
+) -> str:
     """A page for each of the animals, in a file."""
-    coefficients, texts = kept_coefficients(book), language.texts
-    if len(animals) > MANY:
-        # all are read at once
-        len(book.records), len(book.by_number()), len(coefficients)
-    title = issue.title or texts["title"]
-    one = animals[0].id if len(animals) == 1 else texts["certificates"].format(len(animals))
+    gettext = language.gettext
+    title = issue.title or gettext("Certificate of pedigree")
+    one = animals[0].id if len(animals) == 1 else gettext("{} certificates", len(animals))
     return rendered(
         "certificate.html",
-        language=language.name, look=WARNING, texts=texts, title=title, heading=f"{title}: {one}",
-        society=issue.society, address=issue.address, issued=texts["issued"].format(language.day(issue.day)),
-        pages=[Certificate(book, known, coefficients, language).shown() for known in animals],
+        language=language.name, look=WARNING, _=gettext, title=title, heading=f"{title}: {one}",
+        society=issue.society, address=issue.address, issued=gettext("Issued on {}", language.day(issue.day)),
+        seal=seal_view(issue.sealed.published, language) if issue.sealed else None,
+        generations=issue.generations, others=issue.others,
+        pages=views(book, animals, certified, language, issue),
     )  # fmt: skip
+
+
+def views(
+    book: Book, animals: Sequence[SocietyRecord], certified: Certified, language: Language, issue: Issue
+) -> Iterator[CertificateView]:
+    """What stands on each page, made as the page is: those of many animals aren't there all at once."""
+    return (Certificate(book, animal, certified, language, issue).shown() for animal in animals)
+
+
+def lines_of(generations: int) -> list[list[str]]:
+    """The letters of the ancestors, line by line of the drawn pedigree: each stands in the line where it begins."""
+    last = ["".join(letters) for letters in itertools.product("SD", repeat=generations)]
+    counts = range(1, generations + 1)
+    return [[letters[:count] for count in counts if set(letters[count:]) <= {"S"}] for letters in last]
 
 
 def role_of(letters: str) -> Role:

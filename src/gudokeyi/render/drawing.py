@@ -4,6 +4,7 @@ from __future__ import annotations
 import bisect
 import hashlib
 import html
+import itertools
 import pathlib
 import unicodedata
 from collections.abc import Callable
@@ -124,9 +125,9 @@ def shortened(text: str, most: int) -> str:
     return text if len(text) <= most else text[: most - 1] + "…"
 
 
-def year_of(book: Book, known: SocietyRecord, language: Language) -> str:
+def year_of(book: Book, animal: SocietyRecord, language: Language) -> str:
     """The birth year, with a mark where the day was inferred."""
-    return language.marked(str(book.records[known.registration_number].born.year), mark_of(known.birth))
+    return language.marked(str(book.records[animal.registration_number].born.year), mark_of(animal.birth))
 
 
 def file_name(kind: str, id: str, suffix: str) -> str:
@@ -163,5 +164,10 @@ ENVIRONMENT = jinja2.Environment(
 )
 
 
+# so many pieces of a text are joined at once: certificates of many animals have millions
+PIECES = 10_000
+
+
 def rendered(template: str, **values: object) -> str:
-    return ENVIRONMENT.get_template(template).render(**values)
+    pieces = ENVIRONMENT.get_template(template).generate(**values)
+    return "".join(map("".join, iter(lambda: list(itertools.islice(pieces, PIECES)), [])))

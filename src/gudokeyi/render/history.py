@@ -1,26 +1,24 @@
-"""The history of a book in words: its changes, what each did animal by animal, and what it has of one animal."""
+"""The history of a book as a terminal has it: its changes, and what each did, animal by animal."""
 from __future__ import annotations
 
-import sqlite3
 from collections.abc import Iterator
 
-from gudokeyi.domain.animals import NO_OWNER
 from gudokeyi.domain.cells import in_a_line
 from gudokeyi.domain.changes import Change
-from gudokeyi.domain.findings import Entry, What
-from gudokeyi.domain.kinds import ChangeKind, Standing
+from gudokeyi.domain.kinds import ChangeKind
 from gudokeyi.domain.messages import counted
-from gudokeyi.reconcile.findings.rows import OwnerDayBack
-from gudokeyi.reconcile.stored_findings import entry_of
-from gudokeyi.store.animal_rows import AnimalRow, known_of
-from gudokeyi.store.changed_animals import (
-    names_around, names_of_parents, renamed_by, rows_by_change, rows_by_id, rows_of_owner_codes, told_of_animal,
-)  # fmt: skip
-from gudokeyi.store.history import change_numbered, taken_back_by, told_by
-from gudokeyi.store.journal import edition_of
-from gudokeyi.store.state import names_now
-
-# The history of a book in words: its changes, and what each did, animal by animal.
+from gudokeyi.domain.wording import ENGLISH
+from gudokeyi.services.facts import Fact, Facts
+from gudokeyi.services.history import (
+    AnimalChange,
+    animals_changed,
+    edition_after,
+    entries_of,
+    history_of,
+    numbers_taken_back,
+    taken_back_by,
+)
+from gudokeyi.store.book import Book
 
 KINDS = {
     ChangeKind.TAKE: "took the sheet {file}",
@@ -32,20 +30,24 @@ KINDS = {
     ChangeKind.UNDO: "brought back the state after change {undone_to}",
     ChangeKind.RESTORE: "restored the backup {file}",
     ChangeKind.FOLDER: "took over the folder of version 0.11",
-}
-STANDINGS = {
-    Standing.ROW: "has a row",
-    Standing.GONE: "has no row any more",
-    Standing.PARENT: "a parent without a row",
-    Standing.FILED: "filed by hand",
-    Standing.DROPPED: "dropped",
+    ChangeKind.CORRECTION: "corrected an animal",
+    ChangeKind.BATCH: "filed commands of another program",
+    ChangeKind.NOTE: "wrote a note",
+    ChangeKind.OWN_VALUES: "wrote own columns",
+    ChangeKind.OWN_COLUMNS: "set up own columns",
+    ChangeKind.MEMBER: "changed an owner's record",
+    ChangeKind.MERGE: "made one owner of two",
+    ChangeKind.ERASURE: "erased what was personal of an owner",
+    ChangeKind.LITTER: "filed a litter",
+    ChangeKind.TAKEN_BACK: "took back change {taken_back}",
 }
 
 
 def heading(change: Change) -> str:
     """A change in a line: its number and time, who made it, what it did, and how much of each it told."""
     file = in_a_line(change.source.name) if change.source else ""
-    what = KINDS[change.kind].format(file=file, undone_to=change.undone_to)
+    taken_back = ", ".join(numbers_taken_back(change))
+    what = KINDS[change.kind].format(file=file, undone_to=change.undone_to, taken_back=taken_back)
     if change.kind is ChangeKind.UNDO and not change.undone_to:
         what = "brought back the empty book"
     counts = ", ".join(f"{count} {what}" for what, count in change.counts.items() if count)
@@ -53,104 +55,53 @@ def heading(change: Change) -> str:
     return f"{change.number}  {time}  {change.login}: {what}" + (f" ({counts})" if counts else "")
 
 
-def details(connection: sqlite3.Connection, change: Change) -> Iterator[str]:
+def details(book: Book, change: Change) -> Iterator[str]:
     """What is kept of a change, what it changed of each animal, and what it told."""
     yield heading(change)
-    if by := taken_back_by(connection, change.number):
+    if by := taken_back_by(book, change.number):
         yield f"it was taken back by change {by}"
     if change.source:
         yield f"file: {in_a_line(change.source.path)}, SHA-256 {change.source.digest}"
     if change.options:
         yield in_a_line(f"options: {' '.join(f'{one.option} {one.word}'.strip() for one in change.options)}")
-    _, predecessor, keeps = edition_of(connection, change.edition)
+    _, predecessor, keeps = edition_after(book, change)
     kept = f", which keeps {counted(keeps, 'command')} of edition {predecessor}" if predecessor else ""
     yield f"journal: {counted(change.length, 'command')} of edition {change.edition}{kept}"
-    yield from animals_changed(connection, change.number)
-    told = told_by(connection, change.number)
-    if told:
+    count, changed = animals_changed(book, change.number)
+    yield f"animals changed: {count}"
+    yield from (f"  {one.id}: {difference(one)}" for one in changed)
+    if entries := entries_of(book, change.number):
         yield "told:"
-    for one in told:
-        yield f"  {entry_of(one).sentence()}"
+        yield from (f"  {entry.sentence()}" for entry in entries)
 
 
-def animals_changed(connection: sqlite3.Connection, number: int) -> Iterator[str]:
-    """Each animal that a change changed, with what was before and after."""
-    before, after = (rows_by_id(connection, column, number) for column in ("until", "since"))
-    names = names_around(connection, number)
-    owners = names_now(connection) | {NO_OWNER: ""}
-    former, then = renamed_by(connection, number)
-    same = {row.id: row for row in rows_of_owner_codes(connection, [*then], number)}
-    before, after = same | before, same | after
-    ids = sorted(before.keys() | after.keys())
-    yield f"animals changed: {len(ids)}"
-    for id in ids:
-        yield f"  {id}: {difference(before.get(id), after.get(id), names, owners | former, owners | then)}"
-
-
-def difference(
-    before: AnimalRow | None, after: AnimalRow | None, names: dict[str, str], owners: dict[
-        int, str
-    ], owners_after: dict[int, str]
-) -> str:
-    if after is None:
+def difference(one: AnimalChange) -> str:
+    """What a change did of an animal."""
+    if one.after is None:
         return "isn't in the book any more"
-    said = facts(after, names, owners_after)
-    if before is None:
-        return "new: " + "; ".join(f"{what} {value}" for what, value in said.items() if value)
-    former = facts(before, names, owners)
-    changed = [what for what in said if said[what] != former[what]]
-    return "; ".join(f"{what} {said[what] or 'none'}, before {former[what] or 'none'}" for what in changed)
+    others = [f"{said.title or 'note'} {in_a_line(said.after) or 'none'}" for said in one.others]
+    if one.before is None:
+        said = ((fact, value_said(one.after, fact)) for fact in one.changed())
+        return "new: " + "; ".join([*(f"{fact} {value}" for fact, value in said if value), *others])
+    before, after = one.before, one.after
+    others = [f"{told}, before {in_a_line(said.before) or 'none'}" for told, said in zip(others, one.others)]
+    facts = [
+        f"{fact} {value_said(after, fact) or 'none'}, before {value_said(before, fact) or 'none'}"
+        for fact in one.changed()
+    ]
+    return "; ".join(facts + others)
 
 
-def facts(row: AnimalRow, names: dict[str, str], owners: dict[int, str]) -> dict[str, str]:
-    """What the book has of an animal, in words."""
-    known = known_of(row)
-    departed = row.departed or known.exit.words()
-    return {
-        "standing": STANDINGS[known.standing],
-        "number": row.registration_number,
-        "name": row.name,
-        "birth day": f"{row.born or ''}{known.birth.mark()}",
-        "sire": names.get(row.sire or "", row.sire or ""),
-        "dam": names.get(row.dam or "", row.dam or ""),
-        "owner": owners.get(row.owner_code or NO_OWNER, str(row.owner_code)),
-        "owner since": f"{row.owned_since or ''}{known.owner_day.mark() * bool(row.from_owner)}",
-        "exit": f"{departed}{known.exit.mark()}" if departed else "",
-        "stored embryo": "yes" if row.embryo else "",
-        "castrated": "yes" if known.castrated else "",
-        "basis of the birth day": known.birth.words(),
-        "basis of the sex": known.sex.words(),
-        "sire in the sheet": row.written_sire,
-        "dam in the sheet": row.written_dam,
-        "filed by hand": row.by_hand,
-    }
+def value_said(facts: Facts, fact: Fact) -> str:
+    return str(ENGLISH.shown(fact, facts[fact]))
 
 
-# What the history of a book has of one animal.
-
-# what the rows before and after a change say too
-SAID_BY_ROWS = (What.NEW, What.CHANGED)
-
-
-def history_of(connection: sqlite3.Connection, id: str) -> Iterator[str]:
+def told_of_animal(book: Book, id: str) -> Iterator[str]:
     """Each change that changed the animal or told of it, with what it did and told."""
-    began, ended = rows_by_change(connection, id, "since"), rows_by_change(connection, id, "until")
-    told = told_of_animal(connection, id)
-    owners = names_now(connection) | {NO_OWNER: ""}
-    names = names_of_parents(connection, [*began.values(), *ended.values()])
-    for number in sorted(began.keys() | ended.keys() | told.keys()):
-        change = change_numbered(connection, number)
-        assert change is not None
+    for change, did, entries in history_of(book, id):
         yield heading(change)
-        if number in began or number in ended:
-            yield f"  {difference(ended.get(number), began.get(number), names, owners, owners)}"
-        for one in told.get(number, []):
-            entry = entry_of(one)
-            if not is_said_by_rows(entry):
-                said = entry.why if entry.part else f"{entry.what}: {entry.why}"
-                yield f"  {f'line {one.line}: ' if one.line else ''}{said}"
-
-
-def is_said_by_rows(entry: Entry) -> bool:
-    """Do the rows before and after say it? They have no owners before the last."""
-    return entry.what in SAID_BY_ROWS and not isinstance(entry.finding, OwnerDayBack)
+        if did:
+            yield f"  {difference(did)}"
+        for entry in entries:
+            said = entry.why if entry.part else f"{entry.what}: {entry.why}"
+            yield f"  {f'line {entry.line}: ' if entry.line else ''}{said}"

@@ -15,9 +15,9 @@ from gudokeyi.domain.findings import (
 from gudokeyi.domain.kinds import Field
 from gudokeyi.domain.messages import MOST_NAMED, Mistake
 from gudokeyi.domain.refusals import Refusal
+from gudokeyi.domain.wording import SEXES
 from gudokeyi.ingest.findings.cells import CellLeftOut, ErrorValue, ExitsWithoutDay
 from gudokeyi.ingest.findings.sheets import CellsUnread, ErrorCells
-from gudokeyi.reconcile.findings.animals import SEXES
 from gudokeyi.reconcile.findings.parents import WRONG, ParentRefused
 from gudokeyi.reconcile.findings.plausibility import BirthsTooNear, YoungParent
 from gudokeyi.reconcile.outcome import Outcome
@@ -77,7 +77,9 @@ def sentence_of_all(entries: list[Entry]) -> str:
     lines = ", ".join(str(entry.line) for entry in entries[:MOST_LINES])
     more = f" and {len(entries) - MOST_LINES} more" if len(entries) > MOST_LINES else ""
     where = f"line {found.line}: " if found.line else ""
-    source = f"; its sex is inferred: {SEXES[found.sex]}, {found.sex_source.words()}" * found.sex_source.is_inferred
+    source = (
+        f"; its sex is inferred: {SEXES[found.sex].value}, {found.sex_source.words()}" * found.sex_source.is_inferred
+    )
     return (
         f"{where}{found.parent}: {WRONG[found.refusal]} (refusal {found.refusal}){source}: it is left out as the "
         f"{found.role} of {len(entries)} animals (lines {lines}{more}): if it is, mend its sex"
@@ -243,8 +245,9 @@ def about(outcome: Outcome) -> list[str]:
     if outcome.after.numbers_begin:
         begin = outcome.after.numbers_begin
         lines.append(
-            f"the animals' numbers begin with {begin} (breed {begin[:3]}, country {begin[3:]}), since --breed and --country "
-            "aren't both given: given later they change each number, which begins a new edition of the journal"
+            f"the animals' numbers begin with {begin} (breed {begin[:3]}, country {begin[3:]}), since --breed and "
+            "--country aren't both given: given later they change each number, which begins a new edition of the "
+            "journal"
         )
     return lines
 

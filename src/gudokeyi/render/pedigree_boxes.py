@@ -28,8 +28,8 @@ def common_ancestors(book: Book, number: str, drawn: Sequence[str]) -> dict[str,
     def parents(one: str) -> list[str]:
         """Those that may be drawn, or have ancestors that are."""
         record = book.records[one]
-        known = (record.sire, record.dam)
-        return [parent for parent in known if parent and book.records[parent].born >= oldest]
+        animal = (record.sire, record.dam)
+        return [parent for parent in animal if parent and book.records[parent].born >= oldest]
 
     sides = []
     for role in Role:
@@ -44,6 +44,12 @@ def letters() -> Iterator[str]:
     for length in itertools.count(1):
         for one in itertools.product(string.ascii_uppercase, repeat=length):
             yield "".join(one)
+
+
+COMMON_NOTE = (
+    "{}: an ancestor on the sire's and on the dam's side; the same letter is the same animal, and one that stands here "
+    "once is further back on the other side."
+)
 
 
 def letters_named(found: dict[str, str]) -> str:
@@ -119,7 +125,7 @@ class Drawn:
     """An animal as its box shows it. `letter` is that of a common ancestor, `page` that on which it goes on; each is
     empty for none."""
 
-    known: SocietyRecord
+    animal: SocietyRecord
     coefficient: Coefficient
     times: int
     letter: str
@@ -147,36 +153,37 @@ class Box:
         coefficient, is_line = self.drawn.coefficient, self.place.height < TWO_LINES
         if not coefficient.is_inbred or (is_line and self.drawn.page):
             return ""
-        return self.language.percent(coefficient.percent) if is_line else self.language.percent_of(coefficient)
+        return self.language.percent(coefficient.percent) if is_line else self.language.coefficient(coefficient)
 
     @property
     def round_by(self) -> float:
-        return min(3.0 if self.drawn.known.is_male else 14.0, self.place.height / 2)
+        return min(3.0 if self.drawn.animal.is_male else 14.0, self.place.height / 2)
 
     @property
     def inset(self) -> float:
         """A badge keeps away from a round corner."""
         has_badge = self.drawn.letter or self.drawn.page
-        return 0.0 if self.drawn.known.is_male or not has_badge else self.round_by * 0.6
+        return 0.0 if self.drawn.animal.is_male or not has_badge else self.round_by * 0.6
 
     def frame(self) -> str:
         """A male has corners, a female is round; a common ancestor has a thick edge."""
-        at, known, letter, is_inbred = self.place, self.drawn.known, self.drawn.letter, self.drawn.coefficient.is_inbred
-        fill, edge = (INBRED, INBRED_INK) if is_inbred else (SIRE if known.is_male else DAM, LINE)
+        at, animal, letter = self.place, self.drawn.animal, self.drawn.letter
+        is_inbred = self.drawn.coefficient.is_inbred
+        fill, edge = (INBRED, INBRED_INK) if is_inbred else (SIRE if animal.is_male else DAM, LINE)
         edge, thick = (INK, 2.6) if letter else (edge, 2.0 if is_inbred else 1.2)
         return (
-            f'<rect x="{at.x:.1f}" y="{at.y:.1f}" width="{at.width:.1f}" height="{at.height:.1f}" rx="{self.round_by:.1f}" '
-            f'fill="{fill}" stroke="{edge}" stroke-width="{thick}"/>'
+            f'<rect x="{at.x:.1f}" y="{at.y:.1f}" width="{at.width:.1f}" height="{at.height:.1f}" '
+            f'rx="{self.round_by:.1f}" fill="{fill}" stroke="{edge}" stroke-width="{thick}"/>'
         )
 
     def tip(self) -> str:
         """What is told of it where the pointer rests."""
-        known, texts = self.drawn.known, self.language.texts
-        born = self.book.records[known.registration_number].born
-        day = self.language.marked(self.language.day(born), mark_of(known.birth))
-        name = f"{known.id} {known.name}".strip()
-        born_on, coefficient = texts["born on"].format(day), self.drawn.coefficient.fraction
-        return f"{name}, {known.registration_number}, {born_on}, F {coefficient}"
+        animal = self.drawn.animal
+        born = self.book.records[animal.registration_number].born
+        day = self.language.marked(self.language.day(born), mark_of(animal.birth))
+        name = f"{animal.id} {animal.name}".strip()
+        born_on, coefficient = self.language.gettext("born {}", day), self.drawn.coefficient.fraction
+        return f"{name}, {animal.registration_number}, {born_on}, F {coefficient}"
 
     def badge(self) -> str:
         """The letter of a common ancestor, and behind it where its ancestors are drawn."""
@@ -201,7 +208,7 @@ class Box:
         return text_at(PADDING, y, fitted(what, self.place.width - 2 * PADDING - less, size), GREY, size)
 
     def id_line(self, y: float, size: float) -> str:
-        id = fitted_id(self.drawn.known.id, self.place.width - 2 * PADDING - self.taken, size, True)
+        id = fitted_id(self.drawn.animal.id, self.place.width - 2 * PADDING - self.taken, size, True)
         return text_at(PADDING, y, id, INK, size, weight="bold")
 
     def coefficient(self, y: float, size: float, less: float = 0.0) -> str:
@@ -213,28 +220,28 @@ class Box:
 
     def facts(self) -> str:
         times = self.drawn.times
-        drawn_times = [self.language.texts["drawn times"].format(times)] if times > 1 else []
-        return ", ".join([year_of(self.book, self.drawn.known, self.language), *drawn_times])
+        drawn_times = [self.language.gettext("drawn {} times", times)] if times > 1 else []
+        return ", ".join([year_of(self.book, self.drawn.animal, self.language), *drawn_times])
 
     def id_size(self, most: float, least: float, less: float = 0.0) -> float:
         """So large that the id fits, within bounds, in a line that is so much shorter."""
         room = self.place.width - 2 * PADDING - self.taken - less
-        return max(least, min(most, most * room / max(width_of(self.drawn.known.id, most, True), 1.0)))
+        return max(least, min(most, most * room / max(width_of(self.drawn.animal.id, most, True), 1.0)))
 
     def three(self) -> list[str]:
-        known = self.drawn.known
+        animal = self.drawn.animal
         middle, size = self.place.height / 2, self.id_size(14, 9)
         return [
             self.id_line(middle - 11, size),
-            self.text(known.name, middle + 6, 12, self.room_for_percent(12.5)),
+            self.text(animal.name, middle + 6, 12, self.room_for_percent(12.5)),
             self.coefficient(middle + 6, 12.5),
             self.text(self.facts(), middle + 22, 12),
         ]
 
     def two(self) -> list[str]:
-        known = self.drawn.known
+        animal = self.drawn.animal
         middle, size = self.place.height / 2, self.id_size(12, 8.5)
-        facts = f"{known.name}, {self.facts()}" if known.name else self.facts()
+        facts = f"{animal.name}, {self.facts()}" if animal.name else self.facts()
         return [
             self.id_line(middle - 4, size),
             self.text(facts, middle + 10.5, 10, self.room_for_percent(10.5)),
@@ -242,16 +249,16 @@ class Box:
         ]
 
     def one(self) -> list[str]:
-        known = self.drawn.known
+        animal = self.drawn.animal
         y, less = self.place.height / 2 + 3.5, self.taken + self.room_for_percent(9)
         most = min(10.0, self.place.height * 0.62)
         size = self.id_size(most, min(most, 7.5), self.room_for_percent(9))
-        id = fitted_id(known.id, self.place.width - 2 * PADDING - less, size, True)
+        id = fitted_id(animal.id, self.place.width - 2 * PADDING - less, size, True)
         used = width_of(id, size, True) + 5
-        name = known.name if id == known.id else ""
+        name = animal.name if id == animal.id else ""
         room = self.place.width - 2 * PADDING - less - used
         found = [text_at(PADDING, y, id, INK, size, weight="bold"), self.coefficient(y, 9, self.taken)]
         if room > 25:
-            facts = f"{name}, {year_of(self.book, known, self.language)}".removeprefix(", ")
+            facts = f"{name}, {year_of(self.book, animal, self.language)}".removeprefix(", ")
             found.append(text_at(PADDING + used, y, fitted(facts, room, size * 0.92), GREY, size * 0.92))
         return found

@@ -5,7 +5,7 @@ from __future__ import annotations
 import collections
 import functools
 import math
-from collections.abc import Mapping
+from collections.abc import Callable, Mapping
 
 from gudokeyi.domain.animals import SocietyRecord
 from gudokeyi.render.drawing import (
@@ -13,7 +13,7 @@ from gudokeyi.render.drawing import (
 )  # fmt: skip
 from gudokeyi.render.languages import Language
 from gudokeyi.render.pedigree_boxes import (
-    Box, Drawn, Node, Place, common_ancestors, depth_of, grow, letters_named, nodes_of,
+    COMMON_NOTE, Box, Drawn, Node, Place, common_ancestors, depth_of, grow, letters_named, nodes_of,
 )  # fmt: skip
 from gudokeyi.store.book import Book
 from gudokeyi.store.coefficients import Coefficient
@@ -25,6 +25,10 @@ HEAD, FOOT, MARGIN = 64, 72, 24
 COLUMN, BETWEEN, ROW, BOX_HEIGHT = 236.0, 36.0, 72.0, 62.0
 # so many generations behind an animal stand on a page
 ON_A_PAGE = 5
+TREE_KEY = "inbred, with its coefficient; males have corners, females are round"
+# how many ancestors are drawn, and how many aren't
+ANCESTORS = "{} known ancestor", "{} known ancestors"
+HIDDEN = "; {} more lies further back and isn't drawn", "; {} more lie further back and aren't drawn"
 
 
 class Pedigree:
@@ -32,21 +36,22 @@ class Pedigree:
     many generations each has at most."""
 
     def __init__(
-        self, book: Book, known: SocietyRecord, coefficients: Mapping[
-            str, Coefficient
-        ], generations: int, language: Language
-    ) -> None:
-        self.book, self.known, self.coefficients, self.language = book, known, coefficients, language
-        whole = grow(book, known.registration_number, 0, generations, 0.0)[0]
+        self, book: Book, animal: SocietyRecord, coefficients: Mapping[str, Coefficient], generations: int,
+        language: Language, address: Callable[[str], str] | None = None,
+    ) -> None:  # fmt: skip
+        """`address` is that of an animal's page, to which its box leads."""
+        self.address = address
+        self.book, self.animal, self.coefficients, self.language = book, animal, coefficients, language
+        whole = grow(book, animal.registration_number, 0, generations, 0.0)[0]
         nodes = nodes_of(whole)
         self.times = collections.Counter(node.number for node in nodes)
         pages = math.ceil(min(generations, depth_of(whole)) / ON_A_PAGE)
         self.most = generations if pages < 2 else math.ceil(generations / pages)
         # the letters begin on the first page
         in_order = sorted(nodes[1:], key=lambda node: node.generation > self.most)
-        self.letters = common_ancestors(book, known.registration_number, [node.number for node in in_order])
+        self.letters = common_ancestors(book, animal.registration_number, [node.number for node in in_order])
         last = [node for node in nodes if node.generation == self.most and node.parents]
-        self.tops = list(dict.fromkeys([known.registration_number, *(node.number for node in last)]))
+        self.tops = list(dict.fromkeys([animal.registration_number, *(node.number for node in last)]))
         self.left = generations - self.most
 
     def text(self) -> str:
@@ -55,7 +60,7 @@ class Pedigree:
             width, height, parts = self.page(0)
             return svg(round(width), round(height), parts)
         pages = "".join(self.section(at) for at in range(len(self.tops)))
-        title = escape(self.language.texts["pedigree of"].format(self.known.id))
+        title = escape(self.language.gettext("Pedigree of {}", self.animal.id))
         return (
             f'<!DOCTYPE html>\n<html lang="{self.language.name}" xmlns="http://www.w3.org/1999/xhtml">\n<head>\n'
             '<meta charset="utf-8"/>\n<meta name="viewport" content="width=device-width, initial-scale=1"/>\n'
@@ -101,16 +106,19 @@ class Pedigree:
             self.letters.get(number, ""),
             page,
         )
-        return Box(self.book, drawn, place, self.language).picture()
+        picture = Box(self.book, drawn, place, self.language).picture()
+        if self.address is None or not node.generation:
+            return picture
+        return f'<a href="{escape(self.address(number))}">{picture}</a>'
 
     def head(self, at: int, width: float, height: float, nodes: list[Node]) -> list[str]:
         """The title, and below the tree what the marks mean."""
-        texts, top = self.language.texts, self.book.by_number()[self.tops[at]]
-        title = texts["pedigree of"].format(top.id) + (f", {top.name}" if top.name else "")
-        y, page = height - 46, texts["page"].format(at + 1, len(self.tops)) if self.is_long else ""
+        gettext, top = self.language.gettext, self.book.by_number()[self.tops[at]]
+        title = gettext("Pedigree of {}", top.id) + (f", {top.name}" if top.name else "")
+        y, page = height - 46, gettext("page {} of {}", at + 1, len(self.tops)) if self.is_long else ""
         here = {self.letters[node.number]: node.number for node in nodes if node.number in self.letters}
         letters = {number: letter for letter, number in sorted(here.items(), key=lambda pair: (len(pair[0]), pair[0]))}
-        common = texts["common note"].format(letters_named(letters)) if letters else ""
+        common = gettext(COMMON_NOTE, letters_named(letters)) if letters else ""
         first, second = in_two_lines(common, width - 2 * MARGIN, 10)
         return [
             text_at(
@@ -119,7 +127,7 @@ class Pedigree:
             text_at(width - MARGIN, 36, page, GREY, 13, "end"),
             f'<rect x="{MARGIN}" y="{y - 11:.1f}" width="20" height="14" rx="3" fill="{INBRED}" stroke="{INBRED_INK}" '
             'stroke-width="2"/>',
-            text_at(MARGIN + 28, y, texts["tree key"], GREY, 13),
+            text_at(MARGIN + 28, y, gettext(TREE_KEY), GREY, 13),
             text_at(MARGIN, y + 18, self.note + ".", GREY, 13),
             text_at(MARGIN, y + 31, first, GREY, 10),
             text_at(MARGIN, y + 42, second, GREY, 10),
@@ -128,9 +136,9 @@ class Pedigree:
     @functools.cached_property
     def note(self) -> str:
         """How many ancestors are drawn, and how many aren't."""
-        hidden = len(ancestors_of(self.book, self.known.registration_number) - set(self.times))
-        more = self.language.counted("hidden", hidden) if hidden else ""
-        return self.language.counted("ancestors", len(self.times) - 1) + more
+        hidden = len(ancestors_of(self.book, self.animal.registration_number) - set(self.times))
+        more = self.language.ngettext(*HIDDEN, hidden) if hidden else ""
+        return self.language.ngettext(*ANCESTORS, len(self.times) - 1) + more
 
 
 STYLE = f"""
@@ -155,6 +163,7 @@ def link(child: Place, parent: Place) -> str:
     x = child.x + child.width
     middle = (x + parent.x) / 2
     return (
-        f'<path d="M{x:.1f} {child.y + child.height / 2:.1f}H{middle:.1f}V{parent.y + parent.height / 2:.1f}H{parent.x:.1f}" '
-        f'fill="none" stroke="{LINE}" stroke-width="1.5"/>'
+        f'<path d="M{x:.1f} '
+        f'{child.y + child.height / 2:.1f}H{middle:.1f}V{parent.y + parent.height / 2:.1f}H{parent.x:.1f}" fill="none" '
+        f'stroke="{LINE}" stroke-width="1.5"/>'
     )

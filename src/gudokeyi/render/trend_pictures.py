@@ -1,42 +1,25 @@
 """A picture of the mean coefficient of inbreeding by birth year, with how many animals each year has."""
 from __future__ import annotations
 
-import collections
 import math
-from collections.abc import Callable, Mapping
-from fractions import Fraction
-from typing import NamedTuple
+from collections.abc import Callable, Mapping, Sequence
 
 from gudokeyi.domain.decimals import percent
 from gudokeyi.domain.messages import Mistake
 from gudokeyi.render.drawing import GREY, INBRED_INK, INK, PAPER, escape, svg, text_at
 from gudokeyi.render.languages import Language
+from gudokeyi.services.trends import TrendYear, trend_of
 from gudokeyi.store.book import Book
 from gudokeyi.store.coefficients import Coefficient
 
 WIDTH, HEIGHT = 1000, 520
 LEFT, RIGHT, TOP, BOTTOM = 70, 70, 84, 92
 BARS = "#d5dfe9"
-
-
-class Year(NamedTuple):
-    year: int
-    animals: int
-    mean: Fraction
-
-
-def years_of(book: Book, coefficients: Mapping[str, Coefficient]) -> tuple[list[Year], int]:
-    """The years that have animals, and how many animals have no known year."""
-    names = book.by_number()
-    values: dict[int, list[Fraction]] = collections.defaultdict(list)
-    without = 0
-    for number, coefficient in coefficients.items():
-        if names[number].birth.has_year():
-            values[book.records[number].born.year].append(coefficient.value)
-        else:
-            without += 1
-    means = {year: sum(those, Fraction(0)) / len(those) for year, those in values.items()}
-    return [Year(year, len(values[year]), mean) for year, mean in sorted(means.items())], without
+# how many animals are drawn, and how many aren't
+BY_YEAR = "{} animal by birth year", "{} animals by birth year"
+NO_YEAR = (
+    "; {} more has no known birth year and isn't drawn", "; {} more have no known birth year and aren't drawn",
+)  # fmt: skip
 
 
 def scale_for(value: float, least: float, steps: tuple[float, ...]) -> float:
@@ -47,7 +30,8 @@ def scale_for(value: float, least: float, steps: tuple[float, ...]) -> float:
 
 
 def trend_picture(book: Book, coefficients: Mapping[str, Coefficient], language: Language) -> str:
-    years, without = years_of(book, coefficients)
+    trend = trend_of(book, coefficients)
+    years = trend.years
     if not years:
         raise Mistake(
             "no animal of the book has a known birth year, so there is no trend to draw: take a sheet with birth days"
@@ -66,7 +50,7 @@ def trend_picture(book: Book, coefficients: Mapping[str, Coefficient], language:
     parts += year_names(first, last, x, step)
     at = {year.year: (x(year.year), y_of(float(year.mean) * 100 / most_percent)) for year in years}
     parts += curve(years, at, language)
-    return picture(parts, sum(year.animals for year in years), without, language)
+    return picture(parts, sum(year.animals for year in years), trend.without_year, language)
 
 
 def y_of(part: float) -> float:
@@ -74,7 +58,7 @@ def y_of(part: float) -> float:
     return HEIGHT - BOTTOM - part * (HEIGHT - TOP - BOTTOM)
 
 
-def curve(years: list[Year], at: dict[int, tuple[float, float]], language: Language) -> list[str]:
+def curve(years: Sequence[TrendYear], at: dict[int, tuple[float, float]], language: Language) -> list[str]:
     """The means, with a line between two years of which one follows the other."""
     lines, dots = [], []
     for one in years:
@@ -83,7 +67,7 @@ def curve(years: list[Year], at: dict[int, tuple[float, float]], language: Langu
             ends = f'x1="{x1:.1f}" y1="{y1:.1f}" x2="{x2:.1f}" y2="{y2:.1f}"'
             lines.append(f'<line {ends} stroke="{INBRED_INK}" stroke-width="2.5"/>')
         mean = language.percent(percent(one.mean))
-        tip = f"{one.year}: {language.texts['mean of'].format(mean, language.count(one.animals))}"
+        tip = f"{one.year}: {language.gettext('{} in the mean of {}', mean, language.count(one.animals))}"
         dots.append(dot(x1, y1, f"<title>{escape(tip)}</title>"))
     return lines + dots
 
@@ -107,9 +91,9 @@ def dot(x: float, y: float, within: str) -> str:
     )
 
 
-def bar(year: Year, x: float, top: float, bottom: float, step: float, language: Language) -> str:
+def bar(year: TrendYear, x: float, top: float, bottom: float, step: float, language: Language) -> str:
     width = max(1.0, step * 0.7)
-    tip = f"{year.year}: {language.counted('animals', year.animals)}"
+    tip = f"{year.year}: {language.ngettext('{} animal', '{} animals', year.animals)}"
     return (
         f'<rect x="{x - width / 2:.1f}" y="{top:.1f}" width="{width:.1f}" height="{bottom - top:.1f}" fill="{BARS}">'
         f"<title>{escape(tip)}</title></rect>"
@@ -124,15 +108,15 @@ def year_names(first: int, last: int, x: Callable[[int], float], step: float) ->
 
 
 def picture(parts: list[str], count: int, without: int, language: Language) -> str:
-    texts = language.texts
-    note = language.counted("by year", count) + (language.counted("no year", without) if without else "")
+    gettext = language.gettext
+    note = language.ngettext(*BY_YEAR, count) + (language.ngettext(*NO_YEAR, without) if without else "")
     head = [
-        text_at(LEFT, 34, texts["trend"], INK, 21, weight="bold"),
+        text_at(LEFT, 34, gettext("Mean coefficient of inbreeding by birth year"), INK, 21, weight="bold"),
         dot(LEFT + 6, 57, ""),
-        text_at(LEFT + 18, 62, texts["mean"], INBRED_INK, 15),
+        text_at(LEFT + 18, 62, gettext("mean coefficient, in percent (left)"), INBRED_INK, 15),
         f'<rect x="{LEFT + 340}" y="50" width="14" height="14" fill="{BARS}"/>',
-        text_at(LEFT + 362, 62, texts["born there"], GREY, 15),
+        text_at(LEFT + 362, 62, gettext("animals born (right)"), GREY, 15),
         text_at(LEFT, HEIGHT - 34, f"{note}.", GREY, 14),
-        text_at(LEFT, HEIGHT - 14, texts["trend note"], GREY, 14),
+        text_at(LEFT, HEIGHT - 14, gettext("An unknown parent counts as unrelated."), GREY, 14),
     ]
     return svg(WIDTH, HEIGHT, head + parts)

@@ -1,133 +1,207 @@
-"""What a book answers to programs: values that don't change, and that nothing of a database stands behind any more."""
+"""What a program asks a book by a word with `--json`: each answer is a value of its own, and SCHEMAS names its kind."""
 from __future__ import annotations
 
-import datetime
-from collections.abc import Mapping
-from dataclasses import dataclass, field
-from fractions import Fraction
+from collections.abc import Mapping, Sequence
+from dataclasses import dataclass
+from typing import TYPE_CHECKING
 
+from gudokeyi.domain.batches import Answer
 from gudokeyi.domain.changes import Change
-from gudokeyi.domain.findings import Entry, Finding
-from gudokeyi.domain.kinds import Standing
-from gudokeyi.domain.provenance import BirthBasis, ExitBasis, SexSource
-from gudokeyi.domain.refusals import MatingFault, Refusal
-from gudokeyi.store.coefficients import Coefficient
+from gudokeyi.domain.findings import Entry
+from gudokeyi.domain.refusals import MatingFault
+from gudokeyi.domain.seals import PublishedSeal, PublishedSeals, Seal
+from gudokeyi.services.facts import Facts
+from gudokeyi.services.library_answers import animals_of
+from gudokeyi.services.library_values import (
+    Animal, BreedState, Certificate, Imported, Kinship, MatingAdvice, MatingPlan, PlannedMating,
+)  # fmt: skip
+from gudokeyi.services.search import find
+from gudokeyi.services.trends import Trend
+from gudokeyi.store.animal_rows import AnimalRow
+from gudokeyi.store.book import Book
+from gudokeyi.store.conditions import among
+
+if TYPE_CHECKING:
+    from gudokeyi.services.matings import Candidates
+    from gudokeyi.services.relationships import Pairs
 
 
 @dataclass(frozen=True, slots=True)
-class Animal:
-    """An animal as the book has it now.
+class Listed:
+    """Animals in age order, or in that in which they were named."""
 
-    `id` is the society's, `registration_number` the international one of nineteen characters. `sire` and `dam` are ids,
-    empty for an unknown parent; `owner` is a name, empty where none is known. A day that no sheet gave is inferred, as
-    its basis says. `left` is the day of the exit; of an animal that left on a day that nobody knows it is none, and
-    `has_left` is true. `coefficient` is that of inbreeding.
-    """
-
-    id: str
-    registration_number: str
-    name: str
-    sex: str
-    born: datetime.date
-    sire: str
-    dam: str
-    owner: str
-    owner_since: datetime.date
-    left: datetime.date | None
-    has_left: bool
-    is_embryo: bool
-    is_castrated: bool
-    standing: Standing
-    coefficient: Coefficient
-    birth_basis: BirthBasis
-    exit_basis: ExitBasis
-    sex_source: SexSource
+    animals: tuple[Animal, ...]
 
 
 @dataclass(frozen=True, slots=True)
-class Certificate:
-    """An animal with three generations of its ancestors.
-
-    `ancestors` are by the way to them from the animal on: `S` is the sire, `D` the dam, `SD` the sire's dam, and so on,
-    14 in all; none stands for one that isn't known.
-    """
+class Shown:
+    """An animal, the ids that it had before, its relatives in age order, and each change that changed it or told of
+    it."""
 
     animal: Animal
-    ancestors: Mapping[str, Animal | None]
+    former_ids: tuple[str, ...]
+    offspring: tuple[Animal, ...]
+    full_sibs: tuple[Animal, ...]
+    half_sibs: tuple[Animal, ...]
+    history: tuple[OwnHistory, ...]
 
 
 @dataclass(frozen=True, slots=True)
-class Mating:
-    """A sire, by his id, number and name, and the coefficient of inbreeding that an offspring of his would have."""
+class OwnHistory:
+    """A change, and of one animal what it had before and after, and what was told; none where it isn't in the book, or
+    nothing changed."""
 
-    sire: str
-    registration_number: str
-    name: str
-    coefficient: Coefficient
+    change: Change
+    before: Facts | None
+    after: Facts | None
+    told: tuple[Entry, ...]
 
 
 @dataclass(frozen=True, slots=True)
-class MatingAdvice:
-    """The matings of a dam, the least coefficient first, and of the same by the sires' ids; the sires that the program
-    refuses, each with its fault; and who was passed over: castrated males, males without a row, and how many left."""
+class Related:
+    """The pairs of animals."""
+
+    pairs: tuple[Kinship, ...]
+
+
+@dataclass(frozen=True, slots=True)
+class Certificates:
+    """Animals with three generations of ancestors."""
+
+    certificates: tuple[Certificate, ...]
+
+
+@dataclass(frozen=True, slots=True)
+class Pedigree:
+    """An animal with its known ancestors, by the way to them from the animal on: `S` is the sire, `SD` its dam."""
+
+    animal: Animal
+    ancestors: Mapping[str, Animal]
+
+
+@dataclass(frozen=True, slots=True)
+class History:
+    """All changes, the first one first."""
+
+    changes: tuple[Change, ...]
+
+
+@dataclass(frozen=True, slots=True)
+class ChangedAnimal:
+    """What the book had of an animal before a change and after it; none where it isn't in the book."""
+
+    id: str
+    before: Facts | None
+    after: Facts | None
+
+
+@dataclass(frozen=True, slots=True)
+class ChangeShown:
+    """A change, what it did of each animal, and what it told."""
+
+    change: Change
+    animals: tuple[ChangedAnimal, ...]
+    told: tuple[Entry, ...]
+
+
+@dataclass(frozen=True, slots=True)
+class Verified:
+    """Whether the book is whole: how much it has, and each fault, of which there is none in one that is."""
+
+    is_whole: bool
+    changes: int
+    commands: int
+    animals: int
+    faults: tuple[str, ...] = ()
+
+
+@dataclass(frozen=True, slots=True)
+class RefusedPair:
+    """A dam and a sire by their ids, and why the register would refuse their offspring."""
 
     dam: str
-    matings: tuple[Mating, ...]
-    refused: Mapping[str, MatingFault]
-    castrated: tuple[str, ...] = ()
-    without_row: tuple[str, ...] = ()
-    left: int = 0
+    sire: str
+    fault: MatingFault
 
 
 @dataclass(frozen=True, slots=True)
-class Kinship:
-    """Two animals by their ids, and their entry of the numerator relationship matrix; of an animal with itself that is
-    1 and its coefficient of inbreeding. Their kinship is half of it."""
+class Matings:
+    """Pairs of dams and sires, of each dam the least coefficient first; the pairs that the register would refuse; and
+    the ids of who was passed over, being castrated or without a row."""
 
-    one: str
-    other: str
-    relationship: Fraction
-
-    @property
-    def kinship(self) -> Fraction:
-        return self.relationship / 2
+    matings: tuple[PlannedMating, ...]
+    refused: tuple[RefusedPair, ...]
+    castrated: tuple[str, ...]
+    without_row: tuple[str, ...]
 
 
-@dataclass(frozen=True, slots=True)
-class Filed:
-    """A command that was filed: the change that it made, and why the program refused it, if it did. A refused one stands
-    in the history too, and leaves the animals as they were. `findings` are what is to be seen of one that was accepted;
-    `notes` are sentences on what else happened."""
-
-    change: Change
-    id: str
-    registration_number: str
-    refusal: Refusal | None = None
-    findings: tuple[Finding, ...] = ()
-    notes: tuple[str, ...] = ()
-
-    @property
-    def is_accepted(self) -> bool:
-        return self.refusal is None
+# the answers by the names of their schemas, which are those of the words
+SCHEMAS: dict[str, object] = {
+    "list": Listed, "find": Listed, "export": Listed, "show": Shown, "kinship": Related, "mating": MatingAdvice,
+    "certificate": Certificates, "breed": BreedState, "plan": MatingPlan, "history": History, "change": ChangeShown,
+    "pedigree": Pedigree, "verify": Verified, "import": Imported, "file": Answer,
+    "matings": Matings, "trend": Trend, "seal": Seal | PublishedSeal | PublishedSeals,
+}  # fmt: skip
 
 
-@dataclass(frozen=True, slots=True)
-class Imported:
-    """What an import made of the book, or for a preview would make: the number of its change, 0 for a preview; how many
-    animals the book has then, and how many of them are new; and what was found, in the order of the lines. `obstacles`
-    keep a preview's sheet from being taken. `notes` are sentences on what else happened."""
-
-    change: int
-    animals: int = 0
-    new: int = 0
-    findings: tuple[Entry, ...] = ()
-    obstacles: tuple[Finding, ...] = ()
-    notes: tuple[str, ...] = ()
+def listed(book: Book, rows: Sequence[AnimalRow]) -> Listed:
+    return Listed(animals_of(book, rows))
 
 
-@dataclass(frozen=True, slots=True)
-class Restored:
-    """The change that tells of a restoring, and sentences on what else happened."""
+def shown(book: Book, word: str) -> Shown:
+    from gudokeyi.services.animals import former_ids, relatives_of
+    from gudokeyi.services.history import history_of
 
-    change: Change
-    notes: tuple[str, ...] = field(default=())
+    known = find(book, word)
+    its = relatives_of(book, known)
+    some = [row for rows in its.offspring.values() for row in rows]
+    half = [row for rows in its.half_sibs.values() for row in rows]
+    offspring, full_sibs, half_sibs = (
+        animals_of(book, sorted(rows, key=lambda row: (row.born or "", row.registration_number)))
+        for rows in (some, its.full_sibs, half)
+    )
+    history = tuple(
+        OwnHistory(one.change, *((one.did.before, one.did.after) if one.did else (None, None)), tuple(one.told))
+        for one in history_of(book, known.id)
+    )
+    animal = animals_of(book, [book.row(known)])[0]
+    return Shown(animal, tuple(former_ids(book, known)), offspring, full_sibs, half_sibs, history)
+
+
+def pedigree(book: Book, word: str, generations: int) -> Pedigree:
+    """So many generations of ancestors."""
+    number = find(book, word).registration_number
+    numbers, last = dict[str, str](), {"": number}
+    for _ in range(generations):
+        records = {way: book.records[one] for way, one in last.items()}
+        sires = {f"{way}S": its.sire for way, its in records.items() if its.sire}
+        dams = {f"{way}D": its.dam for way, its in records.items() if its.dam}
+        last = sires | dams
+        numbers |= last
+    rows = book.rows(among(sorted({number, *numbers.values()})))
+    animals = {one.registration_number: one for one in animals_of(book, rows)}
+    return Pedigree(animals[number], {way: animals[one] for way, one in numbers.items()})
+
+
+def change_shown(book: Book, change: Change) -> ChangeShown:
+    from gudokeyi.services.history import animals_changed, entries_of
+
+    _, changed = animals_changed(book, change.number)
+    animals = tuple(ChangedAnimal(one.id, one.before, one.after) for one in changed)
+    return ChangeShown(change, animals, tuple(entries_of(book, change.number)))
+
+
+def verified(book: Book, faults: Sequence[str] = ()) -> Verified:
+    changes = book.change.number if book.change else 0
+    return Verified(not faults, changes, book.journal.length, len(book.society_records), tuple(map(str, faults)))
+
+
+def matings(dams: Candidates, sires: Candidates, pairs: Pairs) -> Matings:
+    """All pairs that a table has."""
+    from gudokeyi.services.matings import least_first
+
+    ids = {one.registration_number: one.id for one in (*dams.animals, *sires.animals)}
+    refused = tuple(RefusedPair(ids[dam], ids[sire], MatingFault.PATH_TOO_LONG) for dam, sire in pairs.refused)
+    found = tuple(PlannedMating(dam, sire, one) for dam, sire, one in least_first(dams, sires, pairs))
+    castrated, without_row = ((*dams.castrated, *sires.castrated), (*dams.without_row, *sires.without_row))
+    return Matings(found, refused, castrated, without_row)

@@ -11,20 +11,23 @@ from gudokeyi.domain.refusals import Refusal
 from gudokeyi.engine.program import Herdbook
 from gudokeyi.store.book import Book
 
-# so many numbers of animals may stand in one call: a command line has an end
-MOST_NUMBERS = os.sysconf("SC_ARG_MAX") // 40
+# so many numbers of animals may stand in one call, more than a book has at most: a command line has an end
+MOST_NUMBERS = os.sysconf("SC_ARG_MAX") // 32
 
 
 class BookProgram(Herdbook):
     """The program with the questions that are asked of a book. Each is one run of it, of the whole journal."""
+
+    # so many numbers of animals stand in one question
+    most_numbers = MOST_NUMBERS
 
     def ask(self, words: list[str], book: Book) -> list[str]:
         """The lines that it writes of a book's journal."""
         return self.lines(words, book.command_file())
 
     def beside(self, words: list[str], book: Book) -> Background[str]:
-        """The text that it writes of a book's journal, while something else is done, and while the journal is read if that
-        is read beside; else it is read before. Where it couldn't be read beside, that is raised, and to ask again
+        """The text that it writes of a book's journal, while something else is done, and while the journal is read if
+        that is read beside; else it is read before. Where it couldn't be read beside, that is raised, and to ask again
         helps."""
         pieces = book.beside
         if pieces is not None and not pieces.has_failed:
@@ -32,12 +35,22 @@ class BookProgram(Herdbook):
         return Background(functools.partial(self.run, words, book.command_file()))
 
     def begin_matings(self, dam: str, sires: Sequence[str], book: Book) -> list[Background[str]]:
-        """It begins to compute a mating of a dam with each of the sires, by their numbers: a text for some of them after
-        the other."""
-        return [
-            self.beside(["mating", "--dam", dam, *sires[first : first + MOST_NUMBERS]], book)
-            for first in range(0, len(sires), MOST_NUMBERS)
-        ]
+        """It begins to compute a mating of a dam with each of the sires, by their numbers: a text for some of them
+        after the other."""
+        return self.begin_for_each(["mating", "--dam", dam], sires, book)
+
+    def begin_certificates(self, numbers: Sequence[str], book: Book) -> list[Background[str]]:
+        """It begins to write certificates: a text for some of them after the other."""
+        return self.begin_for_each(["certificate"], numbers, book)
+
+    def begin_for_each(self, words: list[str], numbers: Sequence[str], book: Book) -> list[Background[str]]:
+        """It begins to answer a question for each of some animals: a text for some of them after the other."""
+        parts = range(0, len(numbers), self.most_numbers)
+        return [self.beside([*words, *numbers[first : first + self.most_numbers]], book) for first in parts]
+
+    def records(self, numbers: Sequence[str], book: Book) -> list[str]:
+        """The lines of some animals' records, in the order of the numbers."""
+        return self.ask(["records", *numbers], book)
 
     def coefficients(self, numbers: Sequence[str], book: Book) -> list[str]:
         """The lines of a few animals among those of all coefficients; none where it would be as much work as all of

@@ -1,94 +1,34 @@
-"""The program's session of a book: it has filed the book's journal, and is asked in its place; coefficients of a few
-animals come by a short run of the program."""
+"""The program's session of a book: it has filed the book's journal, and is asked in its place."""
 from __future__ import annotations
 
 import contextlib
-import datetime
 import threading
-from collections import OrderedDict
 from collections.abc import Sequence
 
 from gudokeyi.background import Background
 from gudokeyi.domain.changes import NO_MARK, Change, Mark
-from gudokeyi.domain.commands import Command, birth, lines_of, text_of
-from gudokeyi.domain.messages import Mistake
+from gudokeyi.domain.commands import Command
 from gudokeyi.domain.mistakes import ProgramFailed
 from gudokeyi.domain.refusals import Refusal
 from gudokeyi.engine.messages import ProgramFault
 from gudokeyi.engine.session import Answer, Places, Session, SessionEnded as SessionEnded, SessionFault
 from gudokeyi.services.book_program import BookProgram
 from gudokeyi.services.cache import mark_of
-from gudokeyi.store.ancestor_births import births_for_one, births_of, parents_of
 from gudokeyi.store.book import Book
-from gudokeyi.store.history import changed_one_by_one, is_change, last_change, login
-from gudokeyi.store.journal import NO_JOURNAL, Journal, Part, lines_with_refusals, parts_of, refusals_of
+from gudokeyi.store.history import is_change, last_change, login
+from gudokeyi.store.journal import (
+    NO_JOURNAL, Journal, Part, journal_lines, lines_with_refusals, parts_of, refusals_of,
+)  # fmt: skip
 from gudokeyi.store.transactions import reading
-
-# Coefficients of a few animals by a short run of the program, of a register that has them and their ancestors alone.
-# They depend on no other animal, and the session would compute those of the whole book anew after each change.
-
-# of a book with more commands the session answers slower than such a run
-LARGE = 5_000
-# of more animals it is quicker to ask for all
-MOST = 30_000
-# so many offspring are expected at once
-MOST_EXPECTED = 64
-# the digits of an offspring that has no number yet
-NO_DIGITS = "999999999999"
-
-
-def lines_alone(program: BookProgram, book: Book, numbers: Sequence[str]) -> list[str]:
-    """The program's line of each animal's coefficient; none where such a register can't be made, or is too large."""
-    births = births_for_one(book, numbers[0]) if len(numbers) == 1 else births_of(book, numbers)
-    return lines_among(program, births, numbers)
-
-
-def lines_among(program: BookProgram, births: list[str], numbers: Sequence[str]) -> list[str]:
-    """The lines of some animals in a register of these births."""
-    if len(births) > MOST:
-        return []
-    lines = list[str]()
-    with contextlib.suppress(Mistake):
-        lines = program.lines(["inbreeding"], text_of(()) + "".join(f"{birth}\n" for birth in births).encode())
-    found = {line.partition(",")[0]: line for line in lines}
-    # a birth that is refused there has no line
-    return [found[number] for number in numbers] if len(lines) == len(births) else []
-
-
-class Expected:
-    """Coefficients of offspring that somebody is about to file, by their parents: they are asked for before others
-    wait. They are the same as long as nobody corrects parents or takes a sheet."""
-
-    def __init__(self) -> None:
-        self.lock = threading.Lock()
-        self.kept: OrderedDict[tuple[str, str], tuple[Change, str]] = OrderedDict()
-
-    def ask(self, program: BookProgram, book: Book, sire: str, dam: str, day: datetime.date) -> None:
-        assert book.change is not None
-        number = f"{dam[:7]}{NO_DIGITS}"
-        offspring = lines_of([birth(number, day, sire, dam, 1, False)]).decode().rstrip()
-        for line in lines_among(program, [*births_of(book, [sire, dam]), offspring], [number]):
-            with self.lock:
-                self.kept[sire, dam] = book.change, line.partition(",")[2]
-                while len(self.kept) > MOST_EXPECTED:
-                    self.kept.popitem(last=False)
-
-    def line_of(self, book: Book, number: str) -> str:
-        """The line of an animal that is born; empty where that isn't known."""
-        sire, dam = parents_of(book, number) or (None, None)
-        with self.lock:
-            found = self.kept.get((sire or "", dam or ""))
-        return f"{number},{found[1]}" if found and changed_one_by_one(book.connection, found[0]) else ""
-
-
-# The session of a book: one of the program that has filed the book's journal, and is asked in its place.
 
 # so often a session that ends is begun anew
 TRIES = 2
 # so many commands are filed at once
 AT_ONCE = 20_000
+# so many numbers of animals stand in one question: a request and an answer have an end
+MOST_NUMBERS = 20_000
 # the words that an inspector answers, which has no way to ask for two lists of animals
-QUESTIONS = ("inbreeding", "inverse", "certificate", "mating", "relationships")
+QUESTIONS = ("inbreeding", "inverse", "records", "certificate", "mating", "relationships", "seal", "sealed")
 
 
 # the session's fault of a report that is longer than it makes them
@@ -107,10 +47,11 @@ class BookSession(BookProgram):
     """The program, whose one session answers, at the journal of the book that is asked of; where that isn't the book of
     now any more it is to be opened anew. Each stored reply is compared with the session's."""
 
+    most_numbers = MOST_NUMBERS
+
     def __init__(self, places: Places = Places()) -> None:
         super().__init__()
         self.places = places
-        self.expected = Expected()
         # who files at which desk
         self.desks: dict[str, int] = {}
         self.lock = threading.RLock()
@@ -118,6 +59,11 @@ class BookSession(BookProgram):
         self.is_closed = False
         # the journal that the session has filed, and the mark of the book that has it
         self.journal, self.mark = NO_JOURNAL, NO_MARK
+
+    @classmethod
+    def for_one(cls) -> BookSession:
+        """With one desk and one inspector."""
+        return cls(Places(1, 1))
 
     @classmethod
     def for_many(cls) -> BookSession:
@@ -135,18 +81,19 @@ class BookSession(BookProgram):
         text = "".join(f"{line}\n" for line in self.ask(words, book))
         return Background(lambda: text)
 
-    def coefficients(self, numbers: Sequence[str], book: Book) -> list[str]:
-        if numbers and book.journal.length > LARGE:
-            expected = [self.expected.line_of(book, number) for number in numbers]
-            alone = expected if all(expected) else lines_alone(self, book, numbers)
-            if alone:
-                return alone
-        return [line for number in numbers for line in self.asked(["coefficient", number], book)]
+    def begin_certificates(self, numbers: Sequence[str], book: Book) -> list[Background[str]]:
+        """Of the book that was opened: where the session stands behind it already, by a run of the program. Whoever
+        prints while others file needn't ask again and again."""
+        try:
+            return super().begin_certificates(numbers, book)
+        except BookMoved:
+            return BookProgram().begin_certificates(numbers, book)
 
-    def expect(self, book: Book, sire: str, dam: str, day: datetime.date) -> None:
-        """An offspring of these parents is filed soon."""
-        if book.journal.length > LARGE:
-            self.expected.ask(self, book, sire, dam, day)
+    def records(self, numbers: Sequence[str], book: Book) -> list[str]:
+        return [line for number in numbers for line in self.asked(["record", number], book)]
+
+    def coefficients(self, numbers: Sequence[str], book: Book) -> list[str]:
+        return [line for number in numbers for line in self.asked(["coefficient", number], book)]
 
     def refusals(self, book: Book) -> dict[int, Refusal]:
         """The stored ones: each was compared with the session's reply as that came to the journal."""
@@ -220,12 +167,12 @@ class BookSession(BookProgram):
                 raise BookMoved
             if self.is_closed:
                 raise SessionEnded
-            if not is_there or not goes_on:
-                self.forget(self.session)
-                self.session = Session(self, self.places)
-                self.journal = Journal(journal.edition, 0)
-            assert self.session
             try:
+                if not is_there or not goes_on:
+                    self.forget(self.session)
+                    self.session = Session(self, self.places)
+                    self.replay(self.session, book)
+                assert self.session
                 self.catch_up(self.session, book)
             except SessionEnded:
                 self.forget(self.session)
@@ -240,6 +187,13 @@ class BookSession(BookProgram):
         """Is the change after which the session stands one of this book? It isn't where another book was restored."""
         return self.mark == NO_MARK or has_change(book, self.mark)
 
+    def replay(self, session: Session, book: Book) -> None:
+        """Files the whole journal in a new session, and compares the replies with the stored ones."""
+        lines = journal_lines(book.connection, book.journal)
+        replies, stored = session.replay(lines, lines.count(b"\n")), refusals_of(book.connection, book.journal)
+        self.compare(session, replies, stored)
+        self.journal = book.journal
+
     def catch_up(self, session: Session, book: Book) -> None:
         """Files the commands of a book that the session lacks, and compares each reply with the stored one."""
         for part in parts_of(book.connection, book.journal):
@@ -248,15 +202,18 @@ class BookSession(BookProgram):
                 last = min(part.last, begin + AT_ONCE - 1)
                 stored = list(lines_with_refusals(book.connection, Part(part.edition, begin, last)))
                 replies = session.file([line for line, _ in stored])
-                self.compare(session, begin, [refusal or 0 for refusal in replies], [refusal for _, refusal in stored])
+                told = {place: refusal for place, refusal in enumerate(replies, begin - 1) if refusal}
+                kept = {place: Refusal(refusal) for place, (_, refusal) in enumerate(stored, begin - 1) if refusal}
+                self.compare(session, told, kept)
                 self.journal = Journal(book.journal.edition, last)
 
-    def compare(self, session: Session, first: int, replies: list[int], stored: list[int]) -> None:
+    def compare(self, session: Session, replies: dict[int, Refusal], stored: dict[int, Refusal]) -> None:
+        """Refusals by the places of their commands, from 0 on."""
         if replies == stored:
             return
-        at = next(place for place, pair in enumerate(zip(replies, stored)) if pair[0] != pair[1])
+        first = min(place for place in replies.keys() | stored.keys() if replies.get(place) != stored.get(place))
         self.forget(session)
-        raise ProgramFailed(ProgramFault.REPLY_DIFFERS.said(place=first + at))
+        raise ProgramFailed(ProgramFault.REPLY_DIFFERS.said(place=first + 1))
 
     def forget(self, session: Session | None) -> None:
         """Ends a session, so that the next question begins a new one."""

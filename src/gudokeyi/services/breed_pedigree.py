@@ -7,16 +7,17 @@ from dataclasses import dataclass
 from fractions import Fraction
 
 from gudokeyi.domain.animals import SocietyRecord
-from gudokeyi.domain.kinds import Standing
+from gudokeyi.domain.kinds import ChangeKind, Standing
 from gudokeyi.domain.mistakes import OwnerNotFound
 from gudokeyi.domain.provenance import BirthSource, ExitSource
 from gudokeyi.domain.requests import Naming
 from gudokeyi.genetics.breed_state import State
 from gudokeyi.genetics.pedigree import COEFFICIENT_BITS, UNKNOWN, Pedigree
 from gudokeyi.ingest.words import as_known
-from gudokeyi.store.animal_rows import AnimalRow, known_of
+from gudokeyi.store.animal_rows import AnimalRow, society_record_of
 from gudokeyi.store.book import Book
 from gudokeyi.store.coefficients import kept_coefficients
+from gudokeyi.store.history import all_changes
 
 
 @dataclass(frozen=True)
@@ -28,8 +29,8 @@ class Breed:
     ranks: dict[str, int]
     pedigree: Pedigree
 
-    def known(self, rank: int) -> SocietyRecord:
-        return known_of(self.rows[rank])
+    def animal(self, rank: int) -> SocietyRecord:
+        return society_record_of(self.rows[rank])
 
     def born(self, rank: int) -> datetime.date:
         """Its birth day, which may be inferred."""
@@ -38,8 +39,11 @@ class Breed:
     def is_living(self, rank: int) -> bool:
         """Is it there, and one that the society has a row for?"""
         row = self.rows[rank]
-        has_left = row.departed is not None or row.exit_source == ExitSource.UNKNOWN_DAY.value
-        return Standing(row.standing).is_listed() and not has_left
+        return Standing(row.standing).is_listed() and not has_left(row)
+
+
+def has_left(row: AnimalRow) -> bool:
+    return row.departed is not None or row.exit_source == ExitSource.UNKNOWN_DAY.value
 
 
 def day_of(row: AnimalRow) -> datetime.date:
@@ -78,6 +82,12 @@ def living(breed: Breed) -> list[int]:
     return [rank for rank in range(len(breed.rows)) if breed.is_living(rank)]
 
 
+def all_seem_living(breed: Breed) -> bool:
+    """Is it a pedigree that says nothing of exits, so that each animal that has a line counts as living?"""
+    taken = {change.kind for change in all_changes(breed.book.connection)} & {ChangeKind.TAKE, ChangeKind.PEDIGREE}
+    return taken == {ChangeKind.PEDIGREE} and not any(map(has_left, breed.rows))
+
+
 def born_between(breed: Breed, first: datetime.date, last: datetime.date) -> list[int]:
     """The animals born in these days; of an inferred birth day at least the year is known."""
     with_year = (BirthSource.GIVEN.value, BirthSource.PERIOD.value)
@@ -96,7 +106,7 @@ def owned_by(breed: Breed, owner: str) -> list[int]:
 
 
 def among(breed: Breed, animals: Collection[SocietyRecord]) -> list[int]:
-    return sorted({breed.ranks[known.registration_number] for known in animals})
+    return sorted({breed.ranks[animal.registration_number] for animal in animals})
 
 
 def mean_kinships_of(breed: Breed, population: Sequence[int]) -> dict[str, Fraction]:

@@ -1,7 +1,11 @@
 """What was computed of a book, kept as long as the book is as it was then."""
 from __future__ import annotations
 
+import contextlib
+import os
+import pathlib
 import threading
+import zlib
 from collections import OrderedDict
 from collections.abc import Callable
 from typing import TypeVar, cast
@@ -51,6 +55,55 @@ def mark_of(book: Book) -> Mark:
 
 
 def stamp_of(book: Book) -> Stamp:
-    """By which it is seen that a book or its file is another than before."""
-    files = [one.stat() for one in with_unfinished(book.path) if one.exists()]
-    return (mark_of(book), *((one.st_ino, one.st_size, one.st_mtime_ns) for one in files if one.st_size))
+    """By which it is seen that a book or its file is another than before: whoever writes a file can't set when its
+    entry was changed."""
+    files = (state_of(one) for one in with_unfinished(book.path) if one.exists())
+    return (mark_of(book), *filter(None, files))
+
+
+def state_of(path: pathlib.Path) -> Stamp:
+    """That of a file; an empty one is as one that isn't there."""
+    found = path.stat()
+    return (found.st_ino, found.st_size, found.st_mtime_ns, found.st_ctime_ns) if found.st_size else ()
+
+
+# Files in the caches of who asks: nothing is lost where they go, and where none can be written there are none.
+
+
+def cached_file(name: str) -> pathlib.Path:
+    return pathlib.Path(os.environ.get("XDG_CACHE_HOME") or os.path.expanduser("~/.cache"), "gudokeyi", name)
+
+
+def cache(path: pathlib.Path, content: bytes) -> None:
+    with contextlib.suppress(OSError):
+        path.parent.mkdir(parents=True, exist_ok=True)
+        written = path.with_suffix(f".{os.getpid()}")
+        written.write_bytes(content)
+        written.replace(path)
+
+
+# What was seen of a book by a call is known to the next ones, as long as neither its file nor the program is another.
+
+
+class SeenWhole:
+    """That the coefficients of a book are the program's, or by another ending all of it, kept by the name of its file
+    in the caches of who asks. Where nothing can be kept it is seen anew each time."""
+
+    def __init__(self, book: Book, program: pathlib.Path, ending: str = "whole") -> None:
+        self.path = str(book.path.resolve())
+        self.place = cached_file(f"{zlib.crc32(os.fsencode(self.path)):08x}.{ending}")
+        self.book, self.program = book, program
+        self.stamp = self.now()
+
+    def now(self) -> bytes:
+        return os.fsencode(repr((self.path, stamp_of(self.book), str(self.program), state_of(self.program))))
+
+    def is_known(self) -> bool:
+        with contextlib.suppress(OSError):
+            return self.place.read_bytes() == self.stamp
+        return False
+
+    def keep(self) -> None:
+        """It was seen of the file as it was when this began; of one that was written meanwhile it isn't kept."""
+        if self.now() == self.stamp:
+            cache(self.place, self.stamp)

@@ -11,11 +11,14 @@ from gudokeyi.domain.animals import SocietyRecord
 from gudokeyi.domain.messages import Mistake
 from gudokeyi.domain.pedigree_order import ancestors
 from gudokeyi.domain.provenance import BirthSource, ExitSource, SexSource
+from gudokeyi.engine.answers import inverse_elements
 from gudokeyi.services.book_program import BookProgram
-from gudokeyi.services.lists import LIST_COLUMNS, Column, ColumnRecipe, Facts, as_it_is, each, made_table, parent
+from gudokeyi.services.lists import (
+    CASTRATED, LIST_COLUMNS, Column, ColumnRecipe, Facts, as_it_is, each, made_table, own_recipes, parent,
+)  # fmt: skip
 from gudokeyi.services.output_files import write_outs
 from gudokeyi.services.tables import Kind, Table
-from gudokeyi.store.animal_rows import birth_basis, exit_basis
+from gudokeyi.store.animal_rows import AnimalRow, birth_basis, exit_basis
 from gudokeyi.store.book import Book
 from gudokeyi.store.conditions import ANY, Condition, among
 from gudokeyi.store.legacy.files import STANDINGS
@@ -28,8 +31,6 @@ STANDING_WORDS = {standing.value: words for standing, words in STANDINGS.items()
 SEX_WORDS = {source.value: source.words() for source in SexSource}
 # what a day or a sex comes from that somebody gave
 GIVEN = (BirthSource.GIVEN.value, ExitSource.GIVEN.value, SexSource.GIVEN.value)
-# a word for a sex that an import knows
-CASTRATED = "male castrated"
 
 
 def sexes_said(
@@ -95,14 +96,20 @@ def condition_of(book: Book, kept: Iterable[SocietyRecord] | None) -> Condition:
     """What holds for all animals, or for those that are to be kept and their ancestors."""
     if kept is None:
         return ANY
-    numbers = {known.registration_number for known in kept}
+    numbers = {animal.registration_number for animal in kept}
     wanted = sorted(ancestors(numbers, known_parents(book).__getitem__) | numbers)
     return among(wanted)
 
 
+def rows_kept(book: Book, kept: Iterable[SocietyRecord] | None) -> list[AnimalRow]:
+    """The animals themselves, in age order."""
+    return book.rows(condition_of(book, kept), in_age_order=True)
+
+
 def export_table(book: Book, kept: Iterable[SocietyRecord] | None) -> Table:
-    """A sheet that can be taken again, with the inferred days and sexes, and what each comes from, behind it."""
-    return made_table(book, COLUMNS, condition_of(book, kept))
+    """A sheet that can be taken again, with the inferred days and sexes, what each comes from, and the society's own
+    columns behind it."""
+    return made_table(book, [*COLUMNS, *own_recipes(book)], condition_of(book, kept))
 
 
 def triples(book: Book, kept: Iterable[SocietyRecord] | None) -> list[tuple[str, str, str]]:
@@ -142,8 +149,7 @@ def summed(book: Book, program: BookProgram) -> tuple[list[str], dict[int, int]]
     order: list[str] = []
     rank: dict[str, int] = {}
     elements: dict[int, int] = {}
-    for line in program.ask(["inverse"], book):
-        animal, row, column, value = line.split(",")
+    for animal, row, column, value in inverse_elements(program.ask(["inverse"], book)):
         if animal not in rank:
             rank[animal] = len(order)
             order.append(animal)

@@ -1,5 +1,5 @@
-"""Writes what the folder of a book has besides the database, for others to read: after each change, and where it isn't as
-it was written."""
+"""Writes what the folder of a book has besides the database, for others to read: after each change, and where it isn't
+as it was written."""
 from __future__ import annotations
 
 import contextlib
@@ -19,8 +19,8 @@ from gudokeyi.store.transactions import begin_to_read
 
 
 def refresh(folder: pathlib.Path, seconds: float) -> str:
-    """Writes them anew where they aren't fresh, of the book as it is now, whoever changes it meanwhile. Others who write
-    them are waited for so long. Answers why it couldn't, in words."""
+    """Writes them anew where they aren't fresh, of the book as it is now, whoever changes it meanwhile. Others who
+    write them are waited for so long. Answers why it couldn't, in words."""
     path = path_of(folder)
     try:
         # behind those that somebody else writes, so that they are never of an earlier change than what is there

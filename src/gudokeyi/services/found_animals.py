@@ -4,7 +4,8 @@ from __future__ import annotations
 from dataclasses import dataclass
 from typing import NamedTuple
 
-from gudokeyi.services.lists import Column, animals_table
+from gudokeyi.services.lists import LIST_COLUMNS, SEX_WITH_CASTRATION, Column, made_table, own_recipes
+from gudokeyi.services.own_columns import condition_of_value
 from gudokeyi.services.search import condition_of_words
 from gudokeyi.services.selection import Choice, condition_of
 from gudokeyi.services.tables import Table
@@ -30,6 +31,9 @@ class Asked:
     order: Order = Order.BIRTH
     is_downwards: bool = False
     page: int = 1
+    # the place of one of the society's own columns, 0 for none, and what has to stand in it
+    own: int = 0
+    own_value: str = ""
 
 
 class Found(NamedTuple):
@@ -66,9 +70,13 @@ def first_rows(book: Book, asked: Asked) -> list[AnimalRow]:
 
 
 def condition_of_asked(book: Book, asked: Asked) -> Condition:
-    return condition_of(book, asked.choice) & condition_of_words(book, asked.words)
+    found = condition_of(book, asked.choice) & condition_of_words(book, asked.words)
+    return found & condition_of_value(book, asked.own, asked.own_value) if asked.own else found
 
 
 def file_of(book: Book, asked: Asked) -> Table:
-    """All of the animals, in age order, as the word `list` writes them."""
-    return animals_table(book, condition_of_asked(book, asked), IN_FILE)
+    """All of the animals, in age order, as the word `list` writes them, but with castrated males as such, and with the
+    society's own columns."""
+    columns = [SEX_WITH_CASTRATION if one is Column.SEX else LIST_COLUMNS[one] for one in IN_FILE]
+    columns += own_recipes(book)
+    return made_table(book, columns, condition_of_asked(book, asked))

@@ -9,13 +9,21 @@ from gudokeyi.ingest.files import (
     MOST_BACKUP_BYTES as MOST_BACKUP_BYTES, MOST_BYTES as MOST_BYTES, GivenFile, read_file as read_file,
 )  # fmt: skip
 from gudokeyi.ingest.pedigree_files import given_file
-from gudokeyi.ingest.titles import read_sexes as read_sexes
+from gudokeyi.ingest.titles import parts_of as parts_of, read_given as read_given, read_sexes as read_sexes
+from gudokeyi.ingest.unknown_parents import unknown_words
+from gudokeyi.reconcile.findings.obstacles import LettersUnsaid as LettersUnsaid
+from gudokeyi.reconcile.findings.plausibility import BirthsTooNear as BirthsTooNear, YoungParent as YoungParent
 from gudokeyi.reconcile.import_options import ImportOptions as ImportOptions, rename_owners as rename_owners
 from gudokeyi.reconcile.outcome import BookAfter as BookAfter, Outcome
 from gudokeyi.services.book_program import BookProgram
 from gudokeyi.services.pedigree_imports import call_for, import_pedigree
 from gudokeyi.services.sheet_imports import Bounds as Bounds, import_sheet
 from gudokeyi.store.transactions import anew_where_a_book_came
+
+
+def is_unknown(text: str) -> bool:
+    """Does a text stand for an unknown parent by itself?"""
+    return text.casefold() in unknown_words([])
 
 
 class Import:
@@ -35,7 +43,7 @@ class Import:
         return call_for(self.file, self.options) if self.is_pedigree else self.options.call(str(self.file.path))
 
     def made(self, program: BookProgram, bounds: Bounds = contextlib.nullcontext) -> tuple[Outcome, list[str]]:
-        """What it makes of the book, or for a preview would make; and what is to be told besides. The file is read within
-        bounds. An `ImportRefused` says why nothing is taken."""
+        """What it makes of the book, or for a preview would make; and what is to be told besides. The file is read
+        within bounds. An `ImportRefused` says why nothing is taken."""
         importing = import_pedigree if self.is_pedigree else import_sheet
         return anew_where_a_book_came(lambda: importing(self.file, self.options, program, bounds))

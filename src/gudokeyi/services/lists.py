@@ -7,13 +7,16 @@ from dataclasses import dataclass
 from functools import cached_property
 from typing import TYPE_CHECKING, Any
 
+from gudokeyi.domain.animals import LETTERS
 from gudokeyi.domain.decimals import decimal, decimal_of_text
+from gudokeyi.domain.own_columns import OwnColumn, OwnKind
 from gudokeyi.domain.provenance import BirthSource
 from gudokeyi.services.selection import Choice, condition_of
 from gudokeyi.services.tables import Cell, Kind, Table
 from gudokeyi.store.animal_rows import SEX_SOURCES, birth_basis, exit_basis
 from gudokeyi.store.book import Book
 from gudokeyi.store.conditions import Condition
+from gudokeyi.store.own_data import columns_now, values_at
 from gudokeyi.store.queries import FRACTION, OFFSPRING, PERCENT, PLACE, selected
 
 if TYPE_CHECKING:
@@ -164,6 +167,17 @@ def sex_of(number: str, source: str) -> str:
     return number[6] + SEX_SOURCES[source].mark()
 
 
+# a word for a sex that an import knows
+CASTRATED = "male castrated"
+
+
+def sex_with_castration(number: str, source: str, is_castrated: int) -> str:
+    return CASTRATED if is_castrated else sex_of(number, source)
+
+
+SEX_WITH_CASTRATION = each("sex", Kind.PLAIN, ("number", "sex_source", "castrated"), sex_with_castration)
+
+
 def parent(title: str) -> ColumnRecipe:
     """The ids of the animals' sires, or of their dams."""
     return ColumnRecipe(title, Kind.TEXT, (title,), lambda facts, numbers: map(facts.id_of, numbers))
@@ -199,6 +213,20 @@ LIST_COLUMNS = {
     Column.MEAN_KINSHIP: computed(Column.MEAN_KINSHIP, Facts.mean_kinship),
     Column.SAMPLING_VARIANCE: computed(Column.SAMPLING_VARIANCE, Facts.sampling_variance),
 }
+
+
+def own_recipes(book: Book) -> list[ColumnRecipe]:
+    """The society's own columns, as they are kept."""
+    return [own_recipe(one) for one in columns_now(book.connection) if one.is_kept]
+
+
+def own_recipe(column: OwnColumn) -> ColumnRecipe:
+    def cells(facts: Facts, numbers: Sequence[str]) -> Iterable[Cell]:
+        values = values_at(facts.book.connection, column.place)
+        return (values.get(number[LETTERS:], "") for number in numbers)
+
+    kind = Kind.DECIMAL if column.kind is OwnKind.NUMBER else Kind.TEXT
+    return ColumnRecipe(column.title, kind, ("number",), cells)
 
 
 def animals_table(book: Book, condition: Condition, columns: Sequence[Column] = USUAL) -> Table:

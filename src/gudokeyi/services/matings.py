@@ -4,7 +4,7 @@ from __future__ import annotations
 import itertools
 import json
 import sqlite3
-from collections.abc import Sequence
+from collections.abc import Iterator, Sequence
 from dataclasses import dataclass
 from typing import NamedTuple
 
@@ -22,7 +22,7 @@ from gudokeyi.services.lists import BIRTH_OF, LIST_COLUMNS, USUAL, birth_of
 from gudokeyi.services.relationships import Pairs
 from gudokeyi.services.tables import Begun, Cell, Kind, Table
 from gudokeyi.store.book import Book
-from gudokeyi.store.coefficients import decimals_of_units, units_of
+from gudokeyi.store.coefficients import Coefficient, decimals_of_units, units_of
 from gudokeyi.store.conditions import among
 from gudokeyi.store.mates import MatesRead, Why, birth_day
 from gudokeyi.store.queries import selected
@@ -86,7 +86,7 @@ class Candidates:
 
 def candidates_of(book: Book, role: Role, named: Sequence[SocietyRecord] | None) -> Candidates:
     """Those that are named, each of which has to have the sex; where none is, all that there are."""
-    wrong = [known.id for known in named or () if known.registration_number[6] != role.sex]
+    wrong = [animal.id for animal in named or () if animal.registration_number[6] != role.sex]
     if wrong:
         raise MatingImpossible(Mating.WRONG_SEX.said(animals=Some(wrong), role=role, sex=OTHERS[role]))
     found = all_candidates(book, role) if named is None else named_candidates(book, role, named)
@@ -95,7 +95,7 @@ def candidates_of(book: Book, role: Role, named: Sequence[SocietyRecord] | None)
 
 def named_candidates(book: Book, role: Role, named: Sequence[SocietyRecord]) -> Candidates:
     """In the order in which they are named, whatever they are."""
-    numbers = list(dict.fromkeys(known.registration_number for known in named))
+    numbers = list(dict.fromkeys(animal.registration_number for animal in named))
     rows = selected(book, OF_CANDIDATE, among(numbers))
     by_number = {
         number: Candidate(number, id, name, born, birth_of(born, *basis), basis[0] in WITH_YEAR)
@@ -142,12 +142,17 @@ COLUMNS = (
 
 def mates_table(dams: Candidates, sires: Candidates, pairs: Pairs) -> Table:
     """For each dam its sires, the least related first."""
-    rows: list[Sequence[Cell]] = []
+    found = least_first(dams, sires, pairs)
+    rows = [(dam, sire, one.fraction, one.decimal(), one.percent) for dam, sire, one in found]
+    return Table.of_rows(COLUMNS, rows)
+
+
+def least_first(dams: Candidates, sires: Candidates, pairs: Pairs) -> Iterator[tuple[str, str, Coefficient]]:
+    """By ids, dam by dam."""
     for dam in dams.animals:
         of_dam = [(sire.id, pairs.of(dam, sire)) for sire in sires.animals]
-        found = sorted((one.units, sire, one) for sire, one in of_dam if one)
-        rows += [(dam.id, sire, one.fraction, one.decimal(), one.percent) for _, sire, one in found]
-    return Table.of_rows(COLUMNS, rows)
+        for _, sire, one in sorted((one.units, sire, one) for sire, one in of_dam if one):
+            yield dam.id, sire, one
 
 
 def mates_matrix(dams: Candidates, sires: Candidates, pairs: Pairs) -> Table:
@@ -173,8 +178,8 @@ TITLES = [(LIST_COLUMNS[column].title, LIST_COLUMNS[column].kind) for column in 
 
 
 class Answers(NamedTuple):
-    """What the program says of a mating with each of the sires, in their order: the coefficient that offspring would have
-    as a fraction, and its percentage; or `refused`, and the number of the fault."""
+    """What the program says of a mating with each of the sires, in their order: the coefficient that offspring would
+    have as a fraction, and its percentage; or `refused`, and the number of the fault."""
 
     fractions: list[str]
     percents: list[str]
@@ -193,8 +198,8 @@ class Advice(NamedTuple):
 
 
 class SiresView(NamedTuple):
-    """What is shown of sires whatever the dam is: in columns, as their rows begin in a file, and their places in the order
-    of their ids."""
+    """What is shown of sires whatever the dam is: in columns, as their rows begin in a file, and their places in the
+    order of their ids."""
 
     cells: list[list[str]]
     begun: Begun
@@ -238,8 +243,8 @@ def advice_of(dam: SocietyRecord, sires: Candidates, answers: Answers) -> Advice
 def told_of(
     dam: SocietyRecord, sires: Candidates, answers: Answers, shown: SiresView, read: MatesRead | None = None
 ) -> Advice:
-    """What is told of the program's answers on sires that are shown. Those that it refuses are told in age order where they
-    were read in none."""
+    """What is told of the program's answers on sires that are shown. Those that it refuses are told in age order where
+    they were read in none."""
     if not answers.some_refused:
         return Advice(advice_table(shown, answers), [], sires)
     ids, _, numbers, _ = shown.cells

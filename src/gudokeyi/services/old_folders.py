@@ -5,8 +5,9 @@ import pathlib
 from dataclasses import replace
 
 from gudokeyi.domain.changes import ChangeDetails, Source
-from gudokeyi.domain.commands import replay
+from gudokeyi.domain.commands import givers_of
 from gudokeyi.domain.kinds import ChangeKind, Standing
+from gudokeyi.engine.answers import records_of
 from gudokeyi.services.book_program import BookProgram
 from gudokeyi.services.verification import verify
 from gudokeyi.services.writing import end, write_unended
@@ -36,13 +37,13 @@ def take_over(folder: pathlib.Path, program: BookProgram) -> None:
 def write_old(book: Book, program: BookProgram, old: OldBook, text: bytes) -> None:
     """The book of the files, once it is seen that it is whole."""
     made = ChangeDetails(ChangeKind.FOLDER, Source(COMMANDS, place_of(book.folder / OLD / COMMANDS), digest_of(text)))
-    in_book = {id: known for id, known in old.known.items() if known.standing is not Standing.DROPPED}
+    in_book = {id: animal for id, animal in old.society_records.items() if animal.standing is not Standing.DROPPED}
     made = replace(made, counts=(("animals", len(in_book)), ("commands", len(old.commands))))
-    records = replay(old.commands)
+    records = records_of(program.lines(["records"], text), givers_of(old.commands))
     cells = Rows({}, last_cells(in_book, records, {owner_code: owner for owner, owner_code in old.owners.items()}))
-    state = State(Rows({}, animal_rows(old.known, records)), cells, old.remembered, old.owners)
+    state = State(Rows({}, animal_rows(old.society_records, records)), cells, old.remembered, old.owners)
     filed = Filed([Step(command) for command in old.commands])
     with creating(book.folder) as connection:
-        number, moment = write_unended(book, connection, program, filed, lambda: state, made)
+        number, moment = write_unended(book, connection, program, filed, lambda _: state, made)
         verify(Book(book.folder, connection), program, book.folder / IDS)
         end(book, connection, number, moment)

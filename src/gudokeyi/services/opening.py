@@ -9,7 +9,7 @@ from collections.abc import Iterator
 from gudokeyi.domain.changes import Change
 from gudokeyi.services.book_program import BookProgram
 from gudokeyi.store.book import Book as Book
-from gudokeyi.store.database import DATABASE as DATABASE
+from gudokeyi.store.database import DATABASE as DATABASE, busy as busy
 from gudokeyi.store.legacy.files import is_old
 from gudokeyi.store.messages import BookFault as BookFault
 from gudokeyi.store.transactions import (
@@ -67,8 +67,8 @@ def book_in(folder: pathlib.Path) -> Iterator[Book]:
 
 @contextlib.contextmanager
 def alone_to_change(folder: pathlib.Path) -> Iterator[Book]:
-    """The book to be changed, an empty one where there is none. Others who change it are waited for; whether it is whole
-    isn't seen."""
+    """The book to be changed, an empty one where there is none. Others who change it are waited for; whether it is
+    whole isn't seen."""
     with changing(folder) as connection:
         yield Book(folder, connection)
 

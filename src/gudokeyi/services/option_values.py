@@ -11,6 +11,8 @@ from gudokeyi.domain.requests import NotSuch
 if TYPE_CHECKING:
     from fractions import Fraction
 
+    from gudokeyi.ingest.days import Span
+
 # so many digits a number has at most
 MOST_DIGITS = 9
 FRACTION = re.compile(r"\s*[0-9.]{1,60}(/[0-9]{1,60})?\s*")
@@ -34,6 +36,16 @@ def day(text: str) -> datetime.date:
         return datetime.date(*map(int, found.groups()[::-1])) if found else datetime.date.fromisoformat(text)
     except ValueError:
         raise InvalidValue(NotSuch.DAY.said(text=text)) from None
+
+
+def day_or_period(text: str) -> Span:
+    """A day, or a month or a year where no more is known."""
+    from gudokeyi.ingest.days import Unreadable, read_span
+
+    try:
+        return read_span(text, legible=False)
+    except Unreadable:
+        raise InvalidValue(NotSuch.DAY_OR_PERIOD.said(text=text)) from None
 
 
 def day_until_today(text: str) -> datetime.date:
@@ -94,3 +106,32 @@ def positive(text: str) -> int:
     if not is_number(text) or not 1 <= int(text) <= 1_000_000:
         raise InvalidValue(NotSuch.POSITIVE.said(text=text))
     return int(text)
+
+
+def years(first: str, last: str) -> tuple[datetime.date, datetime.date] | None:
+    """The days between two years, of which either may be empty; none where both are."""
+    from gudokeyi.ingest.days import FIRST_DAY, LAST_DAY
+
+    if not first and not last:
+        return None
+    begin, end = year(first) or FIRST_DAY.year, year(last) or LAST_DAY.year
+    return datetime.date(begin, 1, 1), datetime.date(end, 12, 31)
+
+
+def year(text: str) -> int:
+    """0 for an empty text."""
+    from gudokeyi.ingest.days import FIRST_DAY, LAST_DAY
+
+    if not text:
+        return 0
+    if not (text.isascii() and is_number(text) and FIRST_DAY.year <= int(text) <= LAST_DAY.year):
+        raise InvalidValue(NotSuch.YEAR.said(text=text, first=FIRST_DAY.year, last=LAST_DAY.year))
+    return int(text)
+
+
+def years_of(born: tuple[datetime.date, datetime.date] | None) -> tuple[str, str]:
+    """The two years, empty where there is no bound."""
+    from gudokeyi.ingest.days import FIRST_DAY, LAST_DAY
+
+    first, last = born or (FIRST_DAY, LAST_DAY)
+    return str(first.year) * (first > FIRST_DAY), str(last.year) * (last < LAST_DAY)

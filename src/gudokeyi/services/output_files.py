@@ -2,10 +2,10 @@
 where a book writes a file of its own."""
 from __future__ import annotations
 
-import contextlib
 import pathlib
 
 from gudokeyi.domain.messages import Mistake
+from gudokeyi.services.written_files import check_path, is_one_of, is_there, write_all
 from gudokeyi.store.book import Book
 from gudokeyi.store.database import ACCOUNTS, companions, path_of
 from gudokeyi.store.exports import IDS, ID_TITLES, LAST_BACKUP, NAMES, REPORT, REPORT_TITLES
@@ -22,19 +22,7 @@ def write_outs(book: Book, texts: dict[pathlib.Path, bytes], force: bool) -> Non
     """Writes all of these files or, on a mistake, none of them."""
     for path in texts:
         check(book, path, force)
-    written: list[pathlib.Path] = []
-    for path, text in texts.items():
-        is_new = not path.exists()
-        try:
-            put(path, text, replaces=force)
-        except FileExistsError:
-            raise is_there(path) from None
-        except OSError as error:
-            for one in written:
-                with contextlib.suppress(OSError):
-                    one.unlink()
-            raise cant_be_written(path, error) from None
-        written += [path] * is_new
+    write_all(texts, force)
 
 
 def write_into(book: Book, folder: pathlib.Path, texts: dict[str, bytes], force: bool) -> None:
@@ -66,10 +54,7 @@ def write_page(book: Book, path: pathlib.Path, text: bytes) -> None:
 
 def check(book: Book, path: pathlib.Path, force: bool) -> None:
     """A mistake where a file mustn't be written."""
-    if not path.parent.is_dir():
-        raise Mistake(f"{path} can't be written: there is no folder {path.parent}: make it, or name another file")
-    if path.is_dir():
-        raise Mistake(f"{path} can't be written: it is a folder: name a file")
+    check_path(path)
     if is_of_book(book, path):
         raise Mistake(f"{path} is a file of the book, and is never written over: name another file")
     if not path.exists():
@@ -77,22 +62,15 @@ def check(book: Book, path: pathlib.Path, force: bool) -> None:
         if path.is_symlink() and not force:
             raise is_there(path)
         return
-    # a device would be replaced by a file, and a pipe read for ever
-    if not path.is_file():
-        raise Mistake(f"{path} can't be written: it isn't an ordinary file: name another one")
     if is_taken_sheet(book, path):
         raise Mistake(f"{path} is a sheet that was taken, and is never written over: name another file")
     if not force:
         raise is_there(path)
 
 
-def is_there(path: pathlib.Path) -> Mistake:
-    return Mistake(f"{path} is there already: name another file, or write over it with --force")
-
-
 def is_of_book(book: Book, path: pathlib.Path) -> bool:
-    """Is it, by its name or by a link, one of the book's own files, one of its accounts, or one that stays of an earlier
-    version?"""
+    """Is it, by its name or by a link, one of the book's own files, one of its accounts, or one that stays of an
+    earlier version?"""
     old, place = book.folder / OLD, path.resolve()
     if place == old.resolve() or old.resolve() in place.parents:
         return True
@@ -103,12 +81,6 @@ def names_of_book(folder: pathlib.Path) -> list[pathlib.Path]:
     """The places in a folder at which a book and its accounts have files."""
     others = [folder / name for name in (*NAMES, *OLD_NAMES, LAST_BACKUP)]
     return [*companions(path_of(folder)), *companions(folder / ACCOUNTS), *others]
-
-
-def is_one_of(path: pathlib.Path, files: list[pathlib.Path]) -> bool:
-    """Is a file one of these, by its name or by a link?"""
-    place = path.resolve()
-    return any(place == one.resolve() or (path.exists() and one.exists() and path.samefile(one)) for one in files)
 
 
 def is_taken_sheet(book: Book, path: pathlib.Path) -> bool:

@@ -13,14 +13,15 @@ from gudokeyi.ingest.pedigrees import Triples, read_triples
 from gudokeyi.ingest.titles import read_given
 from gudokeyi.reconcile.all_animals import add_others
 from gudokeyi.reconcile.birth_days import find_days, invent_days
-from gudokeyi.reconcile.doubtful_founders import founders_in_doubt
+from gudokeyi.reconcile.doubtful_founders import Counts, founders_in_doubt
 from gudokeyi.reconcile.guards import OtherAnimals
 from gudokeyi.reconcile.import_options import ImportOptions, unknown_parents, with_settings
 from gudokeyi.reconcile.impossible_parents import cut_cycles
 from gudokeyi.reconcile.next_book import NextBook
 from gudokeyi.reconcile.outcome import Outcome
 from gudokeyi.reconcile.pedigree_links import (
-    keep_with_ancestors, leave_out_same_parent, refuse_alike, refuse_both, refuse_lost_links, refuse_used_ids,
+    keep_with_ancestors, leave_out_same_parent, refuse_alike, refuse_both, refuse_lost_links, refuse_named,
+    refuse_used_ids,
 )  # fmt: skip
 from gudokeyi.reconcile.sexes import find_sexes, invent_sexes
 from gudokeyi.services.book_program import BookProgram
@@ -60,18 +61,20 @@ def import_pedigree_into(
     days = DayCells(unknown, month_first=False)
     import_options = with_settings(book, import_options)
     with bounds():
-        triples = read_triples(file, given_columns(import_options.columns), unknown, book.known, report)
+        triples = read_triples(file, given_columns(import_options.columns), unknown, book.society_records, report)
         animals, about = triples.animals, [*triples.told]
-        ids = animals.keys() | book.known.keys()
+        ids = animals.keys() | book.society_records.keys()
         if import_options.keep:
             about.append(keep_with_ancestors(animals, import_options.keep))
             report.entries = [entry for entry in report.entries if entry.id in animals]
         if not import_options.leave_out:
-            refuse_alike(animals, ids, book)
+            refuse_alike(animals, ids)
+            refuse_named(animals, ids, book)
         given = {field.value for field in triples.columns if field is not Field.ID}
         next_book = NextBook(book, animals, given, report, days, is_pedigree=True)
         if not import_options.anyway:
-            doubtful = [] if import_options.leave_out else founders_in_doubt(animals, ids, unknown)
+            those = [] if import_options.leave_out else [*animals.values()]
+            doubtful = founders_in_doubt(those, Counts.of(those), ids, unknown)
             refuse_others(next_book, import_options, doubtful)
     add_others(next_book, import_options.drop_gone)
     if not import_options.leave_out:
@@ -88,8 +91,8 @@ def import_pedigree_into(
 
 
 def refuse_others(next_book: NextBook, import_options: ImportOptions, doubtful: list[Obstacle]) -> None:
-    """A mistake where the animals of the file look like others than those of the book that have their ids, or where some
-    founders are doubtful."""
+    """A mistake where the animals of the file look like others than those of the book that have their ids, or where
+    some founders are doubtful."""
     refuse_used_ids(next_book.animals, next_book.book, doubtful)
     found = doubtful + [*OtherAnimals(next_book.book, next_book.animals, next_book.given).of_both()]
     next_book.obstacles += found
@@ -117,7 +120,8 @@ def find_sexes_and_days(next_book: NextBook, triples: Triples) -> dict[Field, in
         counts[Field.SEX] = sum(not animal.sex for animal in animals.values())
         invent_sexes(animals, report)
     # where a day is known the others fit it
-    if Field.BIRTH in triples.columns or any(not known.birth.is_invented for known in next_book.book.known.values()):
+    before = next_book.book.society_records.values()
+    if Field.BIRTH in triples.columns or any(not animal.birth.is_invented for animal in before):
         find_days(next_book)
     else:
         counts[Field.BIRTH] = len(animals)

@@ -36,9 +36,10 @@ ALL: Named = {Role.DAM: None, Role.SIRE: None}
 
 
 @dataclass(frozen=True)
-class Asked:
-    """What is asked of a plan: how many dams a sire has at most, the greatest coefficient, how old animals are at least
-    in days, and how much a sire's mean kinship counts."""
+class PlanRules:
+    """What is asked of a plan: how many dams a sire has at most, the greatest coefficient, from 0 to 1, how old animals
+    are at least in days, and as how much of a coefficient a sire's mean kinship counts. None is no bound, and
+    `Assume.USUAL` the one that is assumed of the book."""
 
     most_for_a_sire: Bound = Assume.USUAL
     at_most: Fraction | None = None
@@ -66,7 +67,7 @@ class Prepared:
     assumed: tuple[MessageText, ...]
 
 
-def prepared(book: Book, asked: Asked, named: Named = ALL) -> Prepared:
+def prepared(book: Book, asked: PlanRules, named: Named = ALL) -> Prepared:
     """Of animals that are named none is left out by an age that nobody asked for."""
     found = {role: candidates_of(book, role, animals) for role, animals in named.items()}
     age, assumed = asked.minimum_age, []
@@ -86,8 +87,8 @@ def prepared(book: Book, asked: Asked, named: Named = ALL) -> Prepared:
 
 
 def usual_bounds(book: Book) -> tuple[UsualAge, int | None]:
-    """The usual age, and most dams for a sire where nobody is named; none where there is no sire. Nobody is looked at one
-    by one: a page waits for it."""
+    """The usual age, and most dams for a sire where nobody is named; none where there is no sire. Nobody is looked at
+    one by one: a page waits for it."""
     usual = usual_age(book)
     counts = mates_by_sex(book, born_at_latest(usual.days), born_at_latest(0))
     dams, sires = (counts.get(role.sex, 0) for role in (Role.DAM, Role.SIRE))
@@ -179,7 +180,7 @@ def told_of(book: Book, found: Planned) -> list[str]:
             told.append(f"not mated, since {why.value}: {counted(len(dams), 'dam')}: {some_of(dams)}")
     if plan.mean is not None and plan.mean_of_allowed is not None:
         told.append(
-            f"{counted(len(plan.matings), 'mating')}: the mean coefficient of the offspring is {percent(plan.mean)}%; the "
-            f"mean of all {plan.allowed:,} pairs that are allowed would be {percent(plan.mean_of_allowed)}%"
+            f"{counted(len(plan.matings), 'mating')}: the mean coefficient of the offspring is {percent(plan.mean)}%; "
+            f"the mean of all {plan.allowed:,} pairs that are allowed would be {percent(plan.mean_of_allowed)}%"
         )
     return told

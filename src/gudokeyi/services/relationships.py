@@ -12,9 +12,10 @@ from gudokeyi.domain.decimals import decimal_of_text
 from gudokeyi.domain.messages import Mistake
 from gudokeyi.domain.mistakes import MatingImpossible
 from gudokeyi.domain.requests import Mating
+from gudokeyi.engine.answers import mating_answers, relationships_told
 from gudokeyi.genetics.pedigree import MOST_STEPS
 from gudokeyi.services.book_program import MOST_NUMBERS, BookProgram
-from gudokeyi.services.tables import Cell, Kind, Table
+from gudokeyi.services.tables import RELATIONSHIP_COLUMNS, Cell, Kind, Table
 from gudokeyi.store.book import Book
 from gudokeyi.store.coefficients import Coefficient, of_offspring
 from gudokeyi.store.queries import selected
@@ -31,8 +32,8 @@ MOST_PAIRS = 2_000_000
 
 @dataclass(frozen=True)
 class Pairs:
-    """The coefficients by the numbers of the dam and the sire, dam by dam, and the pairs that the program refuses, which
-    have none."""
+    """The coefficients by the numbers of the dam and the sire, dam by dam, and the pairs that the program refuses,
+    which have none."""
 
     coefficients: dict[Pair, Coefficient]
     refused: list[Pair]
@@ -69,8 +70,8 @@ def relationships(book: Book, program: BookProgram, some: Sequence[str], others:
     found: dict[Pair, str] = {}
     at_once = max(1, MOST_NUMBERS - len(few))
     for first in range(0, len(many), at_once):
-        for line in program.ask(["relationships", *few, "--with", *many[first : first + at_once]], book):
-            one, other, relationship = line.split(",")
+        words = ["relationships", *few, "--with", *many[first : first + at_once]]
+        for one, other, relationship in relationships_told(program.ask(words, book)):
             found[(one, other) if few is some else (other, one)] = relationship
     return found
 
@@ -94,18 +95,16 @@ def refused_pairs(book: Book, program: BookProgram, pairs: Sequence[Pair]) -> It
     """Those of the pairs that the program refuses to mate."""
     for dam, of_dam in itertools.groupby(pairs, key=lambda pair: pair[0]):
         words = ["mating", "--dam", dam, *(sire for _, sire in of_dam)]
-        for line in program.ask(words, book):
-            sire, answer, _ = line.split(",")
-            if answer == "refused":
-                yield dam, sire
+        yield from ((dam, one.sire) for one in mating_answers(program.ask(words, book)) if one.is_refused)
+
+
+def coefficient_told(book: Book, program: BookProgram, dam: str, sire: str) -> str:
+    """What the program says that the offspring of a pair would have, as a fraction; nothing where it refuses them."""
+    told = {one.sire: one.fraction for one in mating_answers(program.ask(["mating", "--dam", dam, sire], book))}
+    return told.get(sire, "")
 
 
 # Relationships and kinships of named animals, which the program computes.
-
-COLUMNS = (
-    ("id", Kind.TEXT), ("with", Kind.TEXT), ("relationship", Kind.PLAIN), ("relationship_decimal", Kind.DECIMAL),
-    ("kinship", Kind.PLAIN), ("kinship_decimal", Kind.DECIMAL),
-)  # fmt: skip
 
 
 class Related(NamedTuple):
@@ -124,15 +123,15 @@ def related(
     book: Book, program: BookProgram, animals: Sequence[SocietyRecord], others: Sequence[SocietyRecord] | None
 ) -> list[Related]:
     """All pairs of some animals, each with itself too; or else each of them with each of the others."""
-    numbers = [known.registration_number for known in animals]
+    numbers = [animal.registration_number for animal in animals]
     if others is not None:
-        of_others = [known.registration_number for known in others]
+        of_others = [animal.registration_number for animal in others]
         found = relationships(book, program, numbers, of_others)
         return [Related(one, other, found[one, other]) for one in numbers for other in of_others]
     count = len(animals) * (len(animals) + 1) // 2
     if count > MOST_PAIRS:
         raise Mistake(f"these are {count:,} pairs, and at most {MOST_PAIRS:,} are written: name fewer animals")
-    return [Related(*line.split(",")) for line in program.ask(["relationships", *numbers], book)]
+    return [Related(*found) for found in relationships_told(program.ask(["relationships", *numbers], book))]
 
 
 def kinship_table(book: Book, pairs: Sequence[Related]) -> Table:
@@ -144,7 +143,7 @@ def kinship_table(book: Book, pairs: Sequence[Related]) -> Table:
         )
         for pair in pairs
     ]  # fmt: skip
-    return Table.of_rows(COLUMNS, rows)
+    return Table.of_rows(RELATIONSHIP_COLUMNS, rows)
 
 
 def kinship_matrix(
@@ -159,8 +158,8 @@ def kinship_matrix(
     rows: list[Sequence[Cell]] = [
         (one.id, *(decimal_of_text(values[one.registration_number, number]) for number in numbers)) for one in animals
     ]
-    return Table.of_rows([("id", Kind.TEXT), *((known.id, Kind.DECIMAL) for known in columns)], rows)
+    return Table.of_rows([("id", Kind.TEXT), *((animal.id, Kind.DECIMAL) for animal in columns)], rows)
 
 
 def each_once(animals: Sequence[SocietyRecord]) -> list[SocietyRecord]:
-    return list({known.registration_number: known for known in animals}.values())
+    return list({animal.registration_number: animal for animal in animals}.values())

@@ -21,6 +21,7 @@ from gudokeyi.store.book import Book
 from gudokeyi.store.database import begin_anew, connect, end_anew, path_of
 from gudokeyi.store.exports import last_backup as last_backup, remember as remember
 from gudokeyi.store.files import cant_be_written, put
+from gudokeyi.store.foreign_books import refuse_foreign
 from gudokeyi.store.history import last_change, next_number, now, write_change
 from gudokeyi.store.legacy.files import OLD, is_old
 from gudokeyi.store.legacy.old_folder import alone
@@ -83,6 +84,7 @@ def prepare(path: pathlib.Path, copy: pathlib.Path, program: BookProgram) -> Cha
     try:
         with contextlib.closing(connect(copy, "rw")) as connection:
             begin_anew(connection, version)
+            refuse_foreign(connection, path)
             book = Book(copy.parent, connection)
             verify(book, program, path)
             write_change(

@@ -9,9 +9,10 @@ from dataclasses import dataclass, replace
 from gudokeyi.background import Background
 from gudokeyi.domain.animals import SocietyRecord
 from gudokeyi.domain.changes import Change, ChangeDetails, Source
-from gudokeyi.domain.commands import RegisterRecord, lines_of, record_after, replay, text_of
+from gudokeyi.domain.commands import RegisterRecord, givers_of, lines_of, text_of
 from gudokeyi.domain.findings import What
 from gudokeyi.domain.kinds import CELL_FIELDS, ChangeKind, Field
+from gudokeyi.engine.answers import records_of
 from gudokeyi.process import keep
 from gudokeyi.reconcile.import_options import ImportOptions
 from gudokeyi.reconcile.next_book import NextBook, known_after
@@ -19,8 +20,9 @@ from gudokeyi.reconcile.outcome import Outcome
 from gudokeyi.reconcile.stored_findings import told_of
 from gudokeyi.services.book_program import BookProgram
 from gudokeyi.services.opening import export, still_to_change, to_change, to_look_at, to_prepare
-from gudokeyi.services.writing import write
+from gudokeyi.services.writing import FindState, write
 from gudokeyi.store.book import Book
+from gudokeyi.store.former_ids import rows_of_renamed
 from gudokeyi.store.journal import Filed, accepted_commands
 from gudokeyi.store.state import Rows, State, Values, animal_rows
 from gudokeyi.store.transactions import Overtaken, no_book
@@ -35,7 +37,7 @@ class Prepared:
 
     before: Change | None
     filed: Filed
-    state: Callable[[], State]
+    state: FindState
     made: ChangeDetails
 
 
@@ -79,7 +81,7 @@ def saved(
 
 
 def save(book: Book, program: BookProgram, prepared: Prepared) -> Change:
-    """The change, after which the book can't be used any more."""
+    """The change, after which `book`, the book before it, is read no more."""
     return write(book, program, prepared.filed, prepared.state, prepared.made)
 
 
@@ -88,7 +90,8 @@ def prepared_of(
 ) -> Prepared:
     """What is to be written. Nothing is yet."""
     book, report = next_book.book, next_book.report
-    coefficients = begin_coefficients(book, program, filed)
+    text = text_after(book, filed)
+    coefficients, records = begun(program, "inbreeding", text), begun(program, "records", text)
     owner_codes = {*book.owners_came().values()}
     counts = report.counts()
     made = ChangeDetails(
@@ -110,29 +113,31 @@ def prepared_of(
 
     def find_state() -> State:
         return State(
-            changed_animals(book, known_after(next_book), records_after(book, filed)),
-            Rows(book.cells, cell_rows(next_book)),
+            changed_animals(book, known_after(next_book), records_of(records.value(), givers_after(book, filed))),
+            Rows(cells_before(book), cell_rows(next_book)),
             book.remembered,
             new_owners,
+            others=tuple(next_book.others),
             coefficients=coefficients.value(),
+            former_ids=former_ids_after(book),
         )
 
     return Prepared(book.change, filed, before_others_wait(book, find_state), made)
 
 
-def before_others_wait(book: Book, find: Callable[[], State]) -> Callable[[], State]:
-    """The state after a change is found out before the change begins, for which others wait. For a book that isn't there
-    yet nobody waits: it is found out beside the writing of its journal."""
+def before_others_wait(book: Book, find: Callable[[], State]) -> FindState:
+    """The state after a change is found out before the change begins, for which others wait. For a book that isn't
+    there yet nobody waits: it is found out beside the writing of its journal."""
     if not book.is_there:
-        return Background(find).value
+        found = Background(find)
+        return lambda _: found.value()
     state = find()
-    return lambda: state
+    return lambda _: state
 
 
-def begin_coefficients(book: Book, program: BookProgram, filed: Filed) -> Background[list[str]]:
-    """The program begins to compute those after the commands."""
-    text = text_after(book, filed)
-    return Background(lambda: program.lines(["inbreeding"], text))
+def begun(program: BookProgram, word: str, text: bytes) -> Background[list[str]]:
+    """What the program writes of a command file, which it begins to do."""
+    return Background(lambda: program.lines([word], text))
 
 
 def text_after(book: Book, filed: Filed) -> bytes:
@@ -149,34 +154,56 @@ def text_after(book: Book, filed: Filed) -> bytes:
     return text + lines_of(commands)
 
 
-def changed_animals(book: Book, known: dict[str, SocietyRecord], records: dict[str, RegisterRecord]) -> Rows:
+def changed_animals(book: Book, animals: dict[str, SocietyRecord], records: dict[str, RegisterRecord]) -> Rows:
     """The rows of the animals that aren't as they were: before, where they were in the book once, and after."""
-    known_before = {**book.known, **book.dropped}
-    if not known_before:
-        return Rows({}, animal_rows(known, records))
+    records_before = {**book.society_records, **book.dropped}
+    if not records_before:
+        return Rows({}, animal_rows(animals, records))
     changed = {
         id: one
-        for id, one in known.items()
-        if known_before.get(id) != one
+        for id, one in animals.items()
+        if records_before.get(id) != one
         or book.records.get(one.registration_number) != records.get(one.registration_number)
+        or id in book.new_tags.values()
     }
-    before: dict[Values, Values] = {(row.id,): row for row in book.every_row if row.id in changed}
+    before: dict[Values, Values] = {
+        (row.id,): row for row in book.every_row if row.id in changed or row.id in book.new_tags
+    }
     return Rows(before, animal_rows(changed, records))
 
 
-def records_after(book: Book, filed: Filed) -> dict[str, RegisterRecord]:
-    """What the register has after the commands."""
+def cells_before(book: Book) -> dict[Values, Values]:
+    """The last cells of each animal, by the ids that they have until now."""
+    former = {now: id for id, now in book.new_tags.items()}
+    if not former:
+        return book.cells
+    return {
+        (id := former.get(str(key[0]), key[0]),): (id, *row[1:]) for key, row in book.cells.items()
+    }
+
+
+def former_ids_after(book: Book) -> Rows | None:
+    """What animals were called that have other ids from now on."""
+    all_rows = [
+        rows_of_renamed(book.connection, book.society_records[now].digits, id, now) for id, now in book.new_tags.items()
+    ]
+    if not all_rows:
+        return None
+    before = {key: row for rows in all_rows for key, row in rows.before.items()}
+    return Rows(before, {key: row for rows in all_rows for key, row in rows.after.items()})
+
+
+def givers_after(book: Book, filed: Filed) -> dict[str, int]:
+    """The herd that gave each animal last, after the commands."""
     if filed.keeps is not None:
-        return replay(accepted_commands([*book.steps[: filed.keeps], *filed.steps]))
-    records = dict(book.records)
-    for step in filed.steps:
-        records[step.command.animal] = record_after(records.get(step.command.animal), step.command)
-    return records
+        return givers_of(accepted_commands([*book.steps[: filed.keeps], *filed.steps]))
+    before = {number: record.from_owner for number, record in book.records.items() if record.from_owner}
+    return before | givers_of(accepted_commands(filed.steps))
 
 
 def cell_rows(next_book: NextBook) -> dict[Values, Values]:
-    """The last cells of each animal; those of a column that the sheet doesn't have stay, with owners as they are written
-    from now on, and those of sheets where a pedigree says the same."""
+    """The last cells of each animal; those of a column that the sheet doesn't have stay, with owners as they are
+    written from now on, and those of sheets where a pedigree says the same."""
     book = next_book.book
     kept = {key: respelt(book, row) for key, row in book.cells.items()} if book.renamed else dict(book.cells)
     for id, animal in next_book.animals.items():

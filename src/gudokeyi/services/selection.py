@@ -2,7 +2,9 @@
 from __future__ import annotations
 
 import datetime
+from collections.abc import Mapping
 from dataclasses import dataclass
+from typing import Any
 
 from gudokeyi.domain.animals import SocietyRecord
 from gudokeyi.domain.messages import AnyOf
@@ -10,7 +12,7 @@ from gudokeyi.domain.mistakes import OwnerNotFound
 from gudokeyi.domain.requests import Naming
 from gudokeyi.domain.spelling import closest
 from gudokeyi.ingest.words import as_known as as_known
-from gudokeyi.store.animal_rows import AnimalRow, known_of
+from gudokeyi.store.animal_rows import AnimalRow, society_record_of
 from gudokeyi.store.book import Book
 from gudokeyi.store.conditions import LIVING, Condition, all_of, born_between, of_owner, of_sex
 
@@ -27,6 +29,11 @@ class Choice:
     owner: str = ""
     born: tuple[datetime.date, datetime.date] | None = None
 
+    @classmethod
+    def of(cls, given: Mapping[str, Any]) -> Choice:
+        """What is given for the options of a list, by their names in the code; nothing for one is no choice."""
+        return cls(**{name: value for name, value in given.items() if value})
+
     @property
     def is_everything(self) -> bool:
         return self == Choice()
@@ -37,9 +44,9 @@ def chosen(book: Book, choice: Choice) -> list[AnimalRow]:
     return book.rows(condition_of(book, choice), in_age_order=True)
 
 
-def known_chosen(book: Book, choice: Choice) -> list[SocietyRecord]:
+def animals_chosen(book: Book, choice: Choice) -> list[SocietyRecord]:
     """What the society knows of each of them."""
-    return [known_of(row) for row in chosen(book, choice)]
+    return [society_record_of(row) for row in chosen(book, choice)]
 
 
 def condition_of(book: Book, choice: Choice) -> Condition:

@@ -3,6 +3,6 @@ from __future__ import annotations
 
 from gudokeyi.domain.settings import LANGUAGES as LANGUAGES, Setting as Setting
 from gudokeyi.store.settings import (
-    change_settings as change_settings, checked as checked, letters_for as letters_for, lines_of as lines_of,
-    settings_of as settings_of,
+    change_settings as change_settings, checked as checked, letters_for as letters_for, letters_said as letters_said,
+    lines_of as lines_of, settings_of as settings_of,
 )  # fmt: skip

@@ -3,6 +3,7 @@ nothing is refused, and told."""
 from __future__ import annotations
 
 import contextlib
+import functools
 import pathlib
 from collections.abc import Callable
 from dataclasses import dataclass
@@ -14,27 +15,31 @@ from gudokeyi.domain.messages import MOST_NAMED
 from gudokeyi.ingest.animals import SheetAnimal
 from gudokeyi.ingest.columns import Columns, find_columns
 from gudokeyi.ingest.files import GivenFile
+from gudokeyi.ingest.rows_as_meant import as_meant
 from gudokeyi.ingest.sheet_animals import Rows
 from gudokeyi.ingest.sheets import Sheet, read_sheet
-from gudokeyi.ingest.titles import known_titles, read_given, read_sexes
+from gudokeyi.ingest.titles import known_titles, parts_of, read_given, read_sexes
 from gudokeyi.ingest.unknown_parents import UnknownParents
 from gudokeyi.process import keep
 from gudokeyi.reconcile.all_animals import complete
 from gudokeyi.reconcile.commands import Filing
 from gudokeyi.reconcile.exits import leave_out_early_exits, tell_most_changed, tell_withdrawn_exits
 from gudokeyi.reconcile.findings.obstacles import NoRowTaken, StrictlyNothing
-from gudokeyi.reconcile.ids import give_numbers, numbers_begin
+from gudokeyi.reconcile.ids import call_as_now, give_numbers, letters_unsaid, numbers_begin
 from gudokeyi.reconcile.import_options import (
     ImportOptions, RememberedWords, again, limits_of, remember, remember_columns, rename_owners, with_settings,
 )  # fmt: skip
 from gudokeyi.reconcile.impossible_parents import leave_out_faulty_parents
+from gudokeyi.reconcile.limits import Limits
+from gudokeyi.reconcile.new_tags import call_anew
 from gudokeyi.reconcile.next_book import NextBook
+from gudokeyi.reconcile.own_sheet_columns import find_own_columns, take_own_values
 from gudokeyi.reconcile.outcome import BookAfter, ColumnRead, Outcome, Understood
 from gudokeyi.reconcile.owner_days import OwnerDays
 from gudokeyi.reconcile.owners import tell_mistyped_owners, tell_owners_alike, tell_renamed_owners, tell_respelt_owners
 from gudokeyi.reconcile.parents import may_be_unknown
 from gudokeyi.reconcile.pedigree_links import refuse_lost_links
-from gudokeyi.reconcile.plausibility import Limits, PlausibilityChecks, tell_swapped_columns
+from gudokeyi.reconcile.plausibility import PlausibilityChecks, tell_swapped_columns
 from gudokeyi.services.book_program import BookProgram
 from gudokeyi.services.output_files import check_place
 from gudokeyi.services.saving import Prepared, outcome_of, prepared_of
@@ -55,6 +60,8 @@ class About:
     understood: Understood | None = None
     limits: Limits = Limits()
     invented: int = 0
+    # reads the society's own columns, once animals have their numbers
+    take_own: Callable[[], None] = lambda: None
 
 
 def finish(
@@ -70,10 +77,14 @@ def finish(
     return outcome, prepared_of(next_book, filed, program, import_options, source, outcome.after.new)
 
 
-def file(next_book: NextBook, program: BookProgram, import_options: ImportOptions, about: About) -> tuple[Filed, Outcome]:
+def file(
+    next_book: NextBook, program: BookProgram, import_options: ImportOptions, about: About
+) -> tuple[Filed, Outcome]:
     """The commands by which the book becomes what is wished, and what that makes of it. Nothing is written."""
     book, report = next_book.book, next_book.report
+    refuse_unsaid_letters(next_book, import_options)
     give_numbers(next_book, import_options.breed, import_options.country)
+    about.take_own()
     leave_out_early_exits(next_book)
     filing = Filing(next_book, OwnerDays(book, report, import_options.day))
     owners_before = set(book.owners)
@@ -105,11 +116,21 @@ def file(next_book: NextBook, program: BookProgram, import_options: ImportOption
     )
 
 
+def refuse_unsaid_letters(next_book: NextBook, import_options: ImportOptions) -> None:
+    """No book begins with letters that nobody said."""
+    unsaid = letters_unsaid(next_book, import_options.breed, import_options.country)
+    if unsaid is None:
+        return
+    next_book.obstacles.append(unsaid)
+    if not import_options.preview:
+        raise ImportRefused(unsaid)
+
+
 def book_after(next_book: NextBook, filed: Filed, import_options: ImportOptions, about: About) -> BookAfter:
     book, animals = next_book.book, next_book.animals.values()
     with_row = [animal for animal in animals if animal.line]
-    new = sum(animal.id not in book.known for animal in with_row)
-    added = sum(not animal.line and animal.id not in book.known for animal in animals)
+    new = sum(animal.id not in book.society_records for animal in with_row)
+    added = sum(not animal.line and animal.id not in book.society_records for animal in animals)
     return BookAfter(
         len(animals), new, about.invented, bool(book.records) and filed.keeps is not None,
         numbers_begin(next_book, import_options.breed, import_options.country), import_options.drop_gone, len(
@@ -158,14 +179,21 @@ def import_sheet_into(
     import_options = with_settings(book, import_options)
     words = remember(book, import_options)
     rename_owners(book, import_options)
+    call_anew(book, import_options.new_tags)
     with bounds():
         read = read_animals(file, import_options, book, words)
     keep(book, read)
+    call_as_now(read.animals, book, read.report)
     next_book = NextBook(book, read.animals, set(read.columns.found), read.report, read.rows.cells.days)
     complete(next_book, read.columns, import_options)
     understood = understood_of(path, read, again(words, import_options), titles_before(book))
     remember_columns(book, read.columns.titles_found())
-    about = About(import_options.call(str(path)), understood.lines(), understood, limits_of(words))
+    own = find_own_columns(book, read.columns, import_options.own)
+
+    def take_own() -> None:
+        take_own_values(next_book, own, read.sheet, bool(words[Remembered.MONTH_FIRST]))
+
+    about = About(import_options.call(str(path)), understood.lines(), understood, limits_of(words), take_own=take_own)
     return finish(next_book, program, import_options, source, about)
 
 
@@ -199,22 +227,22 @@ def read_animals(file: GivenFile, import_options: ImportOptions, book: Book, wor
     """The animals of a sheet; else a mistake with all that keeps it from being read."""
     now = read_given(import_options.columns)
     before = titles_before(book) | read_given(words[Remembered.COLUMNS])
-    titles = {*before.values(), *now.values()}
-    sheet = read_sheet(
-        file, lambda row: known_titles(row) + sum(title in titles for title in row), import_options.worksheet
-    )
+    sheet = sheet_of(file, frozenset({*before.values(), *now.values()}), import_options.worksheet)
     unknown, report = UnknownParents(words[Remembered.UNKNOWN], words[Remembered.KNOWN]), Report()
     columns = find_columns(sheet, now, {name: title for name, title in before.items() if name not in now}, unknown,
-                           [known.id for known in book.known.values() if known.standing.had_row()])  # fmt: skip
+                           [animal.id for animal in book.society_records.values() if animal.standing.had_row()])  # fmt: skip
     month_first = bool(words[Remembered.MONTH_FIRST])
-    with_day = {id: known for id, known in book.known.items() if not known.birth.is_inferred}
-    born = {id: book.records[known.registration_number].born for id, known in with_day.items()}
+    with_day = {id: animal for id, animal in book.society_records.items() if not animal.birth.is_inferred}
+    born = {id: book.records[animal.registration_number].born for id, animal in with_day.items()}
+    animals_for_sure = {*book.society_records, *parts_of(import_options.animal)}
+    meant = as_meant(sheet, columns.found, unknown, animals_for_sure, report) if Field.ID in columns.found else sheet
     rows = Rows(
-        sheet, columns.found, unknown, read_sexes(words[Remembered.SEXES]), report, month_first, born,
-        words[Remembered.TOLD],
+        meant, {name: at for name, at in columns.found.items() if name != Field.STATUS}, unknown,
+        read_sexes(words[Remembered.SEXES]), report, month_first, born, words[Remembered.TOLD], book.owners,
     )  # fmt: skip
     animals = rows.animals() if Field.ID in columns.found else {}
-    faults = [*sheet.faults, *columns.faults, *rows.faults]
+    formulas = sheet.formulas.told([*columns.found.values()]) if sheet.formulas else []
+    faults = [*sheet.faults, *formulas, *columns.faults, *rows.faults]
     if faults:
         raise ImportRefused(*faults)
     for finding in [*columns.notes, *rows.notes]:
@@ -222,6 +250,12 @@ def read_animals(file: GivenFile, import_options: ImportOptions, book: Book, wor
     if not animals:
         raise ImportRefused(NoRowTaken(str(file.path)), entries=report.entries[:MOST_NAMED])
     return ReadSheet(sheet, columns, rows, animals, report)
+
+
+@functools.lru_cache(1)
+def sheet_of(file: GivenFile, titles: frozenset[str], worksheet: str) -> Sheet:
+    """The rows of a file; the titles are those that its columns had or are named by. A look at it reads it once."""
+    return read_sheet(file, lambda row: known_titles(row) + sum(title in titles for title in row), worksheet)
 
 
 def titles_before(book: Book) -> dict[str, str]:

@@ -1,25 +1,36 @@
-"""How the columns of a sheet are understood, with its first rows, and in which order its findings are told."""
+"""How the columns of a sheet are understood, with its first rows; in which order its findings are told; and what it
+would change, animal by animal."""
 from __future__ import annotations
 
+import collections
+import hashlib
 import pathlib
+from collections.abc import Collection, Iterable, Mapping, Sequence
 from dataclasses import dataclass
 
-from gudokeyi.domain.findings import Entry, Severity
+from gudokeyi.domain.findings import Entry, Severity, What
 from gudokeyi.domain.kinds import Field, Remembered
 from gudokeyi.domain.messages import Mistake
-from gudokeyi.ingest.columns import find_columns
+from gudokeyi.ingest.columns import Columns, find_columns
 from gudokeyi.ingest.files import read_file
 from gudokeyi.ingest.findings.cells import OddRow
 from gudokeyi.ingest.messages import SheetFault
-from gudokeyi.ingest.sheets import read_sheet
-from gudokeyi.ingest.titles import known_titles, read_given
+from gudokeyi.ingest.sheets import Sheet as Sheet
+from gudokeyi.ingest.titles import read_given
 from gudokeyi.ingest.unknown_parents import UnknownParents
+from gudokeyi.ingest.words import plain
+from gudokeyi.reconcile.findings.animals import NewAnimal
+from gudokeyi.reconcile.findings.own_columns import OwnColumnRead
 from gudokeyi.reconcile.import_options import ImportOptions, remember, with_settings
-from gudokeyi.services.sheet_imports import titles_before
+from gudokeyi.reconcile.own_sheet_columns import kind_said
+from gudokeyi.services.sheet_imports import sheet_of, titles_before
 from gudokeyi.store.book import Book
+from gudokeyi.store.own_data import columns_now
 
 # so many of the first rows are shown, and so many letters of a cell
 ROWS, LETTERS = 5, 60
+# so many columns are asked for that the book doesn't know
+MOST_OTHERS = 60
 
 
 @dataclass(frozen=True)
@@ -30,35 +41,81 @@ class ColumnsView:
     fields: tuple[str, ...]
     rows: tuple[tuple[int, tuple[str, ...]], ...]
     count: int
+    # the titles that the book doesn't know, with what is kept of each: nothing where nobody was asked
+    others: tuple[tuple[str, str], ...] = ()
+
+    @property
+    def asks_others(self) -> bool:
+        return any(not kind for _, kind in self.others)
 
     def title_of(self, field: Field) -> str:
         return next((title for title, name in zip(self.titles, self.fields) if name == field), "")
 
 
-def columns_shown(book: Book, path: pathlib.Path, import_options: ImportOptions) -> ColumnsView:
-    """As an import finds them; a mistake where the file can't be read."""
+def columns_shown(book: Book, path: pathlib.Path, import_options: ImportOptions) -> tuple[ColumnsView, Sheet]:
+    """As an import finds them, and the sheet; a mistake where the file can't be read."""
     words = remember(book, with_settings(book, import_options))
     now = read_given(import_options.columns)
     before = titles_before(book) | read_given(words[Remembered.COLUMNS])
-    named = {*before.values(), *now.values()}
-    sheet = read_sheet(
-        read_file(path), lambda row: known_titles(row) + sum(title in named for title in row), import_options.worksheet
-    )
+    sheet = sheet_of(read_file(path), frozenset({*before.values(), *now.values()}), import_options.worksheet)
     unknown = UnknownParents(words[Remembered.UNKNOWN], words[Remembered.KNOWN])
-    with_row = [known.id for known in book.known.values() if known.standing.had_row()]
+    with_row = [animal.id for animal in book.society_records.values() if animal.standing.had_row()]
     before = {name: title for name, title in before.items() if name not in now}
     columns = find_columns(sheet, now, before, unknown, with_row)
     fields = {at: name for name, at in columns.found.items()}
     if not any(sheet.titles):
         raise Mistake(SheetFault.NO_TITLES.said(path=path))
-    return ColumnsView(
+    view = ColumnsView(
         tuple(sheet.titles),
         tuple(fields.get(at, "") for at in range(len(sheet.titles))),
         tuple((row.line, tuple(cell[:LETTERS] for cell in row.cells)) for row in sheet.rows[:ROWS]),
         len(sheet.rows),
+        others_of(book, columns, import_options.own),
     )
+    return view, sheet
+
+
+def cells_of(sheet: Sheet, lines: Collection[int]) -> dict[int, tuple[tuple[str, str], ...]]:
+    """Of each of some lines the cells that have a text, with their titles."""
+    return {
+        row.line: tuple((title, cell[:LETTERS]) for title, cell in zip(sheet.titles, row.cells) if cell.strip())
+        for row in sheet.rows
+        if row.line in lines
+    }
+
+
+def others_of(book: Book, columns: Columns, said: Sequence[str]) -> tuple[tuple[str, str], ...]:
+    """The columns that have none of a book's fields, with what is kept of each by what is said now, or was once."""
+    kinds = {plain(one.title): one.kind.value for one in columns_now(book.connection)}
+    kinds |= {plain(title): kind.value for title, kind in map(kind_said, said)}
+    titles = dict.fromkeys(columns.titles_not_read())
+    return tuple((title, kinds.get(plain(title), "")) for title in [*titles][:MOST_OTHERS])
 
 
 def severity_of(entry: Entry) -> tuple[Severity, bool]:
     """The greatest harm comes first; and before all else rows that may be no animals."""
     return entry.finding.does(), not isinstance(entry.finding, OddRow)
+
+
+# What a sheet would change, animal by animal: so it is seen of which of them a look holds no more, since others changed
+# the book meanwhile.
+
+DIGEST_BYTES = 8
+
+
+def changes_by_animal(entries: Iterable[Entry], drops_gone: bool) -> dict[str, bytes]:
+    """What is told of each animal, as digests. What has no row stays as it is, unless it is dropped; a new animal has
+    whichever number is free."""
+    told = collections.defaultdict[str, list[str]](list)
+    for entry in entries:
+        # of the society's own columns it is told alone how many of their values change
+        is_compared = entry.id or isinstance(entry.finding, OwnColumnRead)
+        if is_compared and (drops_gone or entry.what is not What.GONE):
+            values = "" if isinstance(entry.finding, NewAnimal) else repr(entry.finding)
+            told[entry.id].append(f"{entry.line} {entry.finding.code} {values}")
+    return {id: hashlib.blake2b(repr(sorted(one)).encode(), digest_size=DIGEST_BYTES).digest() for id, one in told.items()}
+
+
+def animals_otherwise(before: Mapping[str, bytes], now: Mapping[str, bytes]) -> tuple[str, ...]:
+    """The animals of which something else would be changed than it was."""
+    return tuple(sorted(id for id in before.keys() | now.keys() if before.get(id) != now.get(id)))

@@ -24,10 +24,17 @@ class Kind(enum.Enum):
     DECIMAL = enum.auto()
 
 
+# of relationships of two animals
+RELATIONSHIP_COLUMNS = (
+    ("id", Kind.TEXT), ("with", Kind.TEXT), ("relationship", Kind.PLAIN), ("relationship_decimal", Kind.DECIMAL),
+    ("kinship", Kind.PLAIN), ("kinship_decimal", Kind.DECIMAL),
+)  # fmt: skip
+
+
 @dataclass(frozen=True)
 class Begun:
-    """How the rows of a file begin that has commas: so many of their first columns, written before the others are known;
-    none where a cell needs quotes."""
+    """How the rows of a file begin that has commas: so many of their first columns, written before the others are
+    known; none where a cell needs quotes."""
 
     columns: int
     rows: Sequence[str] | None

@@ -4,7 +4,9 @@ from __future__ import annotations
 from gudokeyi.domain.changes import Change, ChangeDetails
 from gudokeyi.domain.kinds import ChangeKind
 from gudokeyi.domain.messages import CALLED, Mistake, counted
+from gudokeyi.domain.mistakes import BookBusy
 from gudokeyi.services.book_program import BookProgram
+from gudokeyi.services.verification import check_records
 from gudokeyi.services.writing import compute_and_end
 from gudokeyi.store.book import Book
 from gudokeyi.store.history import change_numbered, last_that_changed, next_number, now, write_change
@@ -33,14 +35,5 @@ def undo(book: Book, program: BookProgram, to: int | None, form: str = "") -> Ch
     edition = begin_edition(book.connection, journal)
     write_change(book.connection, number, moment, edition, ChangeDetails(ChangeKind.UNDO, undone_to=target, form=form))
     bring_back(book.connection, number, target)
+    check_records(Book(book.folder, book.connection), program)
     return compute_and_end(book, book.connection, program, number, moment)
-
-
-def check_last(book: Book, number: int) -> None:
-    """A mistake where a change isn't the last that changed something."""
-    last = last_that_changed(book.connection)
-    if number != last:
-        raise Mistake(
-            f"change {number} isn't the last that changed something, which is {last}: see what came by {CALLED} history, "
-            "and bring back an earlier state by --to"
-        )

@@ -13,15 +13,19 @@ from gudokeyi.store.coefficients import add_coefficient, change_coefficients, fe
 from gudokeyi.store.history import last_change, next_number, now, write_change
 from gudokeyi.store.journal import Filed, Journal, append, begin_edition
 from gudokeyi.store.state import (
-    ANIMALS, CELLS, REMEMBERED, Meaning, State, add_owner, free_name, owners_came, read_remembered, remembered_rows,
+    ANIMALS, CELLS, FORMER_IDS, REMEMBERED, Meaning, State, add_owner, free_name, owners_came, read_remembered, remembered_rows,
     rows_now, write_rows,
 )  # fmt: skip
 from gudokeyi.store.transactions import commit, creating
 
 
-def write(book: Book, program: BookProgram, filed: Filed, find_state: Callable[[], State], made: ChangeDetails) -> Change:
-    """Makes a change, after which the book can't be used any more. A book that isn't there yet is made. The state is
-    asked for when the journal is written."""
+# the state after a change, of the book that has the change's commands in its journal already
+FindState = Callable[[Book], State]
+
+
+def write(book: Book, program: BookProgram, filed: Filed, find_state: FindState, made: ChangeDetails) -> Change:
+    """Makes a change, after which `book`, the book before it, is read no more. A book that isn't there yet is made. The
+    state is asked for when the journal is written, and stored with it."""
     if book.is_there:
         return write_within(book, book.connection, program, filed, find_state, made)
     with creating(book.folder) as connection:
@@ -29,37 +33,49 @@ def write(book: Book, program: BookProgram, filed: Filed, find_state: Callable[[
 
 
 def write_within(
-    book: Book, connection: sqlite3.Connection, program: BookProgram, filed: Filed, find_state: Callable[[], State],
+    book: Book, connection: sqlite3.Connection, program: BookProgram, filed: Filed, find_state: FindState,
     made: ChangeDetails,
 ) -> Change:  # fmt: skip
     return end(book, connection, *write_unended(book, connection, program, filed, find_state, made))
 
 
 def write_unended(
-    book: Book, connection: sqlite3.Connection, program: BookProgram, filed: Filed, find_state: Callable[[], State],
+    book: Book, connection: sqlite3.Connection, program: BookProgram, filed: Filed, find_state: FindState,
     made: ChangeDetails,
 ) -> tuple[int, int]:  # fmt: skip
     """Writes all of a change, whose end makes it one; answers its number and its moment."""
     number, moment = next_number(connection), now()
     journal = written_journal(connection, book.journal, filed)
     write_change(connection, number, moment, journal, made)
-    state = find_state()
-    computes = state.coefficients is None and not (state.keeps_coefficients or state.born or state.corrected)
-    coefficients = program.beside(["inbreeding"], Book(book.folder, connection)) if computes else None
+    after = Book(book.folder, connection)
+    write_state(after, program, number, find_state(after))
+    return number, moment
+
+
+def write_state(after: Book, program: BookProgram, number: int, state: State, again: bool = False) -> None:
+    """Writes the state after a change that is in the history already. With `again` the change may have written some of
+    it before."""
+    connection = after.connection
+    keeps = state.keeps_coefficients or state.born or state.corrected or state.born_together
+    computes = state.coefficients is None and not keeps
+    coefficients = program.beside(["inbreeding"], after) if computes else None
     remembered = write_owners(connection, state)
-    write_rows(connection, ANIMALS, number, state.animals.before, state.animals.after)
+    write_rows(connection, ANIMALS, number, state.animals.before, state.animals.after, again)
     if state.cells is not None:
-        write_rows(connection, CELLS, number, state.cells.before, state.cells.after)
+        write_rows(connection, CELLS, number, state.cells.before, state.cells.after, again)
+    if state.former_ids is not None:
+        write_rows(connection, FORMER_IDS, number, state.former_ids.before, state.former_ids.after, again)
+    for table, rows in state.others:
+        write_rows(connection, table, number, rows.before, rows.after, again)
     if remembered is not None:
         before = rows_now(connection, REMEMBERED)
-        write_rows(connection, REMEMBERED, number, before, remembered_rows(remembered))
+        write_rows(connection, REMEMBERED, number, before, remembered_rows(remembered), again)
     if coefficients:
         write_coefficients(connection, coefficients.value().splitlines())
     elif state.coefficients is not None:
         write_coefficients(connection, state.coefficients)
-    elif not state.keeps_coefficients and not keeps_most(book, connection, program, state):
-        write_coefficients(connection, program.ask(["inbreeding"], Book(book.folder, connection)))
-    return number, moment
+    elif not state.keeps_coefficients and not keeps_most(after, program, state):
+        write_coefficients(connection, program.ask(["inbreeding"], after))
 
 
 def write_owners(connection: sqlite3.Connection, state: State) -> list[Meaning] | None:
@@ -80,16 +96,16 @@ def write_owners(connection: sqlite3.Connection, state: State) -> list[Meaning] 
     return remembered
 
 
-def keeps_most(book: Book, connection: sqlite3.Connection, program: BookProgram, state: State) -> bool:
+def keeps_most(after: Book, program: BookProgram, state: State) -> bool:
     """Keeps the coefficients that one animal changes, if the program can be asked for these alone."""
-    if not state.born and not state.corrected:
+    born = [state.born] if state.born else [*state.born_together]
+    if not born and not state.corrected:
         return False
-    changed = [state.born] if state.born else few_descendants(connection, state.corrected)
-    lines = program.coefficients(changed, Book(book.folder, connection))
-    if state.born and lines:
-        add_coefficient(connection, lines[0])
-    else:
-        change_coefficients(connection, lines)
+    lines = program.coefficients(born or few_descendants(after.connection, state.corrected), after)
+    for line in lines if born else ():
+        add_coefficient(after.connection, line)
+    if not born:
+        change_coefficients(after.connection, lines)
     return bool(lines)
 
 
@@ -100,7 +116,9 @@ def written_journal(connection: sqlite3.Connection, journal: Journal, filed: Fil
     return append(connection, journal, filed.steps)
 
 
-def compute_and_end(book: Book, connection: sqlite3.Connection, program: BookProgram, number: int, moment: int) -> Change:
+def compute_and_end(
+    book: Book, connection: sqlite3.Connection, program: BookProgram, number: int, moment: int
+) -> Change:
     """Computes what is kept of the new state, and ends the change."""
     write_coefficients(connection, program.ask(["inbreeding"], Book(book.folder, connection)))
     return end(book, connection, number, moment)

@@ -82,6 +82,8 @@ MOST_NAME_LETTERS = 40
 class Account:
     name: str
     role: AccountRole
+    # was the password given by somebody else, who knows it?
+    for_one_login: bool = False
 
 
 class Accounts:
@@ -100,6 +102,12 @@ class Accounts:
             rows = connection.execute("SELECT name, role FROM account ORDER BY folded")
             return [Account(name, AccountRole(role)) for name, role in rows]
 
+    def copy(self, path: pathlib.Path) -> None:
+        """Writes a copy, which nobody reads but its owner, whoever changes the accounts meanwhile."""
+        if not self.are_there:
+            raise Mistake(AccountFault.NONE_THERE.said())
+        accounts_file.copy(self.path, path)
+
     def found(self, name: str) -> Account | None:
         return next((one for one in self.all() if folded(one.name) == folded(name)), None)
 
@@ -108,7 +116,7 @@ class Accounts:
         with accounts_file.opened(self.path) as connection:
             return bytes(connection.execute("SELECT key FROM signing").fetchone()[0])
 
-    def add(self, name: str, role: AccountRole, password: str, again: str) -> None:
+    def add(self, name: str, role: AccountRole, password: str, again: str, for_one_login: bool = False) -> None:
         name = name_of(name)
         kept = kept_of(checked(password, again, name))
         accounts_file.make(self.path)
@@ -117,9 +125,9 @@ class Accounts:
             connection.execute("BEGIN IMMEDIATE")
             if role is not AccountRole.KEEPER and not keepers(connection):
                 raise first_is_keeper()
-            row = (folded(name), name, role.value, kept.salt, kept.digest, kept.n, kept.r, kept.p)
+            row = (folded(name), name, role.value, kept.salt, kept.digest, kept.n, kept.r, kept.p, for_one_login)
             try:
-                connection.execute("INSERT INTO account VALUES (?, ?, ?, ?, ?, ?, ?, ?)", row)
+                connection.execute("INSERT INTO account VALUES (?, ?, ?, ?, ?, ?, ?, ?, ?)", row)
             except sqlite3.IntegrityError:
                 raise Mistake(AccountFault.NAME_IS_TAKEN.said(name=name)) from None
             connection.execute("COMMIT")
@@ -128,11 +136,13 @@ class Accounts:
         """Gives another role, and ends what the account is logged in."""
         self.change(name, "UPDATE account SET role = ? WHERE folded = ?", role.value)
 
-    def change_password(self, name: str, password: str, again: str) -> None:
-        """Gives another password, and ends what the account is logged in."""
+    def change_password(self, name: str, password: str, again: str, for_one_login: bool = False) -> None:
+        """Gives another password, and ends what the account is logged in. One that somebody else gave is for one login:
+        whoever has it is asked for one of their own."""
         kept = kept_of(checked(password, again, name))
-        values = (kept.salt, kept.digest, kept.n, kept.r, kept.p)
-        self.change(name, "UPDATE account SET salt = ?, digest = ?, n = ?, r = ?, p = ? WHERE folded = ?", *values)
+        values = (kept.salt, kept.digest, kept.n, kept.r, kept.p, for_one_login)
+        given = "salt = ?, digest = ?, n = ?, r = ?, p = ?, for_one_login = ?"
+        self.change(name, f"UPDATE account SET {given} WHERE folded = ?", *values)
 
     def remove(self, name: str) -> None:
         self.change(name, "DELETE FROM account WHERE folded = ?")
@@ -152,10 +162,10 @@ class Accounts:
     def fits(self, name: str, password: str) -> Account | None:
         """The account of a name, if this is its password. It takes as long whether there is such an account or not."""
         with accounts_file.opened(self.path) as connection:
-            chosen = "SELECT name, role, salt, digest, n, r, p FROM account WHERE folded = ?"
+            chosen = "SELECT name, role, for_one_login, salt, digest, n, r, p FROM account WHERE folded = ?"
             row = connection.execute(chosen, (folded(name),)).fetchone()
-        is_right = fits(password, StoredPassword(*row[2:]) if row else None)
-        return Account(row[0], AccountRole(row[1])) if row and is_right else None
+        is_right = fits(password, StoredPassword(*row[3:]) if row else None)
+        return Account(row[0], AccountRole(row[1]), bool(row[2])) if row and is_right else None
 
     def begin_login(self, account: Account) -> str:
         """The token of a new login, of which its digest alone is kept."""
@@ -167,10 +177,10 @@ class Accounts:
 
     def person_of(self, token: str) -> Person | None:
         """Who is logged in by a token."""
-        chosen = "SELECT name, role FROM login JOIN account USING (folded) WHERE login.digest = ? AND began > ?"
+        chosen = "SELECT name, role, for_one_login FROM login JOIN account USING (folded) WHERE login.digest = ? AND began > ?"
         with accounts_file.opened(self.path) as connection:
             row = connection.execute(chosen, (token_digest(token), int(self.clock()) - A_DAY)).fetchone()
-        return Person(row[0], AccountRole(row[1])) if row else None
+        return Person(row[0], AccountRole(row[1]), bool(row[2])) if row else None
 
     def end_login(self, token: str) -> None:
         with accounts_file.opened(self.path) as connection:

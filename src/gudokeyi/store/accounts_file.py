@@ -1,5 +1,5 @@
-"""The file `accounts.sqlite` beside the book, which nobody reads but its owner: its tables and its connections. It is no
-part of the book: neither undo nor a backup brings back an account."""
+"""The file `accounts.sqlite` beside the book, which nobody reads but its owner: its tables and its connections. It is
+no part of the book: neither undo nor a backup brings back an account."""
 from __future__ import annotations
 
 import contextlib
@@ -12,7 +12,7 @@ from collections.abc import Iterator
 
 from gudokeyi.domain.messages import Mistake
 from gudokeyi.domain.people import AccountRole
-from gudokeyi.store.database import connect, statements
+from gudokeyi.store.database import connect, primary, statements
 from gudokeyi.store.files import name_once
 from gudokeyi.store.messages import AccountFault
 
@@ -20,6 +20,9 @@ from gudokeyi.store.messages import AccountFault
 APPLICATION = 0x41434354
 MODE = 0o600
 ROLES = ", ".join(f"'{role}'" for role in AccountRole)
+# was the password given by a keeper, and is to be changed at the next login?
+FOR_ONE_LOGIN = "for_one_login INTEGER NOT NULL DEFAULT 0"
+VERSION = 1
 TABLES = f"""
 CREATE TABLE account (
     -- the name in small letters, by which it is found
@@ -30,7 +33,8 @@ CREATE TABLE account (
     digest BLOB NOT NULL,
     n INTEGER NOT NULL,
     r INTEGER NOT NULL,
-    p INTEGER NOT NULL
+    p INTEGER NOT NULL,
+    {FOR_ONE_LOGIN}
 ) STRICT, WITHOUT ROWID;
 
 -- who is logged in, by the digest of the token that the browser has
@@ -53,6 +57,8 @@ def opened(path: pathlib.Path) -> Iterator[sqlite3.Connection]:
         with contextlib.closing(connect(path, "rw")) as connection:
             yield connection
     except sqlite3.Error as error:
+        if primary(error) == sqlite3.SQLITE_BUSY:
+            raise Mistake(AccountFault.BUSY.said()) from None
         raise Mistake(AccountFault.CANT_BE_USED.said(error=str(error))) from None
 
 
@@ -70,11 +76,28 @@ def make(path: pathlib.Path) -> None:
                 connection.execute(statement)
             connection.execute("INSERT INTO signing VALUES (?)", (secrets.token_bytes(32),))
             connection.execute(f"PRAGMA application_id = {APPLICATION}")
+            connection.execute(f"PRAGMA user_version = {VERSION}")
             connection.execute("COMMIT")
+            connection.execute("PRAGMA journal_mode = WAL")
         with contextlib.suppress(FileExistsError):
             name_once(beside, path)
     except (OSError, sqlite3.Error) as error:
         raise Mistake(AccountFault.CLOSED.said(path=path, error=str(error))) from None
+    finally:
+        beside.unlink(missing_ok=True)
+
+
+def copy(path: pathlib.Path, to: pathlib.Path) -> None:
+    """Copies it, whole or not at all, to a place that has nothing yet."""
+    beside = to.with_name(f".{to.name}.{secrets.token_hex(8)}")
+    try:
+        os.close(os.open(beside, os.O_WRONLY | os.O_CREAT | os.O_EXCL | os.O_CLOEXEC, MODE))
+        with opened(path) as source, contextlib.closing(sqlite3.connect(beside, isolation_level=None)) as target:
+            source.backup(target)
+            target.execute("PRAGMA journal_mode = DELETE")
+        name_once(beside, to)
+    except (OSError, sqlite3.Error) as error:
+        raise Mistake(AccountFault.CLOSED.said(path=to, error=str(error))) from None
     finally:
         beside.unlink(missing_ok=True)
 
@@ -87,3 +110,17 @@ def look_at(path: pathlib.Path) -> None:
     with opened(path) as connection:
         if connection.execute("PRAGMA application_id").fetchone()[0] != APPLICATION:
             raise Mistake(AccountFault.NO_ACCOUNTS.said(path=path))
+        bring_up_to_date(connection)
+
+
+def bring_up_to_date(connection: sqlite3.Connection) -> None:
+    """Makes of a file of an earlier version one of this version, whose readers wait for nobody who changes it."""
+    if connection.execute("PRAGMA journal_mode").fetchone()[0] != "wal":
+        connection.execute("PRAGMA journal_mode = WAL")
+    if connection.execute("PRAGMA user_version").fetchone()[0] >= VERSION:
+        return
+    connection.execute("BEGIN IMMEDIATE")
+    if connection.execute("PRAGMA user_version").fetchone()[0] < VERSION:
+        connection.execute(f"ALTER TABLE account ADD COLUMN {FOR_ONE_LOGIN}")
+        connection.execute(f"PRAGMA user_version = {VERSION}")
+    connection.execute("COMMIT")

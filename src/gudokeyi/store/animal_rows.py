@@ -3,9 +3,10 @@ from __future__ import annotations
 
 import datetime
 import functools
+import sqlite3
 from typing import NamedTuple
 
-from gudokeyi.domain.animals import NO_FIELDS, SocietyRecord
+from gudokeyi.domain.animals import LETTERS, NO_FIELDS, SocietyRecord
 from gudokeyi.domain.collections import made
 from gudokeyi.domain.commands import RegisterRecord, day_text
 from gudokeyi.domain.kinds import Field, Standing
@@ -16,7 +17,7 @@ from gudokeyi.domain.provenance import (
 COLUMNS = (
     "id, number, name, folded_id, folded_name, standing, birth_source, birth_period, birth_no_such_day, exit_source, "
     "exit_period, exit_no_such_day, exit_text, sex_source, castrated, written_sire, written_dam, by_hand, "
-    "owner_day, born, sire, dam, embryo, herd, owned_since, giver, departed"
+    "owner_day, born, sire, dam, embryo, herd, owned_since, giver, departed, exit_reason"
 )
 
 
@@ -50,6 +51,18 @@ class AnimalRow(NamedTuple):
     owned_since: str | None
     from_owner: int | None
     departed: str | None
+    exit_reason: str | None
+
+
+def changed_by(connection: sqlite3.Connection, number: str) -> int:
+    """The last change that changed an animal of the book."""
+    found = connection.execute("SELECT since FROM animal WHERE number = ? AND until IS NULL", (number,)).fetchone()
+    return int(found[0])
+
+
+def digits_of(row: AnimalRow) -> str:
+    """What stays of its number, by which an animal is known whatever it is called."""
+    return row.registration_number[LETTERS:]
 
 
 STANDINGS = {standing.value: standing for standing in Standing}
@@ -75,7 +88,7 @@ def fields_of(words: str) -> frozenset[Field]:
     return frozenset(Field(word) for word in words.split()) if words else NO_FIELDS
 
 
-def known_of(row: AnimalRow) -> SocietyRecord:
+def society_record_of(row: AnimalRow) -> SocietyRecord:
     """What the society knows of it."""
     return SocietyRecord(
         row.registration_number,
@@ -90,6 +103,7 @@ def known_of(row: AnimalRow) -> SocietyRecord:
         row.written_dam,
         fields_of(row.by_hand),
         OWNER_DAYS[row.owner_day],
+        row.exit_reason or "",
     )
 
 
@@ -109,9 +123,23 @@ def record_of(row: AnimalRow) -> RegisterRecord:
     )
 
 
-def row_of(known: SocietyRecord, record: RegisterRecord | None) -> AnimalRow:
+def row_of(animal: SocietyRecord, record: RegisterRecord | None) -> AnimalRow:
     """The row for both; an animal that was dropped has no record."""
-    number, id, name, standing, birth, exit, sex, castrated, written_sire, written_dam, by_hand, owner_day = known
+    (
+        number,
+        id,
+        name,
+        standing,
+        birth,
+        exit,
+        sex,
+        castrated,
+        written_sire,
+        written_dam,
+        by_hand,
+        owner_day,
+        reason,
+    ) = animal
     birth_source, birth_period, no_such_birth = GIVEN_BIRTH_TEXTS if birth is GIVEN_BIRTH else birth_texts(birth)
     exit_source, exit_period, no_such_exit, text = GIVEN_EXIT_TEXTS if exit is GIVEN_EXIT else exit_texts(exit)
     register = NOT_IN_REGISTER if record is None else register_of(record)
@@ -137,6 +165,7 @@ def row_of(known: SocietyRecord, record: RegisterRecord | None) -> AnimalRow:
         " ".join(sorted(one.value for one in by_hand)) if by_hand else "",
         owner_day._value_,
         *register,
+        reason or None,
     )
     return made(AnimalRow, values)
 

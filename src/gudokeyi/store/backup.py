@@ -13,7 +13,9 @@ from typing import BinaryIO
 from gudokeyi.domain.changes import NO_MARK, Mark, Source
 from gudokeyi.domain.messages import Mistake
 from gudokeyi.process import stop_no_more
-from gudokeyi.store.database import DAMAGED, companions, connect, path_of, primary, told, version_of, with_unfinished
+from gudokeyi.store.database import (
+    DAMAGED, companions, connect, path_of, primary, statements, told, version_of, with_unfinished,
+)  # fmt: skip
 from gudokeyi.store.files import put, source_of, sync_folder
 from gudokeyi.store.history import last_change
 from gudokeyi.store.legacy.files import OLD, is_old
@@ -22,8 +24,16 @@ from gudokeyi.store.messages import BackupFault, BookFault
 from gudokeyi.store.transactions import (
     bytes_of, copy_of, file_of, make_folder, opened_to_read, reading, set_write_ahead,
 )  # fmt: skip
+from gudokeyi.store.views import VIEWS
 
 # A backup that somebody gave, as it is read: once, since it may be a pipe, or another one a moment later.
+
+
+def acting(connection: sqlite3.Connection) -> bool:
+    """Has it triggers, or views that aren't a book's own?"""
+    asked = "SELECT sql FROM sqlite_schema WHERE type IN ('trigger', 'view')"
+    own = {f"{text}".strip().removesuffix(";") for text in statements(VIEWS)}
+    return any(sql not in own for (sql,) in connection.execute(asked))
 
 
 def read_once(path: pathlib.Path, copy: pathlib.Path) -> tuple[Source, int]:
@@ -36,7 +46,7 @@ def read_once(path: pathlib.Path, copy: pathlib.Path) -> tuple[Source, int]:
                 version = version_of(connection, path)
                 if not version:
                     raise Mistake(BackupFault.NO_BOOK.said(path=path))
-                if connection.execute("SELECT 1 FROM sqlite_schema WHERE type IN ('trigger', 'view')").fetchone():
+                if acting(connection):
                     raise Mistake(BackupFault.ACTS.said(path=path))
                 copy.write_bytes(bytes_of(connection))
         except OSError as error:
@@ -64,8 +74,8 @@ def taken_into(room: pathlib.Path, path: pathlib.Path) -> pathlib.Path:
 
 
 def copied(connection: sqlite3.Connection) -> BinaryIO:
-    """A book as one file, which is there as long as it is open; what keeps its copy from being made is told of the place
-    where that is, and not of the book."""
+    """A book as one file, which is there as long as it is open; what keeps its copy from being made is told of the
+    place where that is, and not of the book."""
     try:
         return file_of(connection)
     except (sqlite3.Error, OSError) as error:
@@ -102,8 +112,8 @@ def has_old_files(folder: pathlib.Path) -> bool:
 
 
 def put_in_place(folder: pathlib.Path, copy: pathlib.Path, keep: Callable[[], None]) -> None:
-    """Makes a copy the book of a folder. Whoever asks it meanwhile is answered from the one or the other. Nobody changes
-    it from before `keep` on, which keeps what is there, or raises why nothing is to be done."""
+    """Makes a copy the book of a folder. Whoever asks it meanwhile is answered from the one or the other. Nobody
+    changes it from before `keep` on, which keeps what is there, or raises why nothing is to be done."""
     path = path_of(folder)
     with contextlib.closing(connect(copy, "rw")) as source:
         if not path.exists():

@@ -13,7 +13,7 @@ from gudokeyi.domain.changes import Change
 from gudokeyi.domain.collections import Lazy, whole
 from gudokeyi.domain.commands import RegisterRecord
 from gudokeyi.domain.kinds import Standing
-from gudokeyi.store.animal_rows import AnimalRow, known_of, record_of
+from gudokeyi.store.animal_rows import AnimalRow, society_record_of, record_of
 from gudokeyi.store.conditions import AGE_ORDER, ANY, IN_BOOK, WITHOUT_ROW, Condition, with_id, with_number
 from gudokeyi.store.database import empty, path_of
 from gudokeyi.store.history import last_change
@@ -23,6 +23,12 @@ from gudokeyi.store.journal import (
 from gudokeyi.store.state import (
     ALL_ROWS, CELLS, NOW, Meaning, Values, as_written, owners_came, read_remembered, rows_now, select_rows,
 )  # fmt: skip
+
+
+# has an animal of now the digits of a row with another id? Its number is no other animal's, though that has this id
+HAS_OTHER_ID = """
+    EXISTS (SELECT 1 FROM animal AS now WHERE substr(now.number, 8) = substr(one.number, 8) AND until IS NULL AND id <> one.id)
+"""
 
 
 class Book:
@@ -36,12 +42,14 @@ class Book:
         self.names_of_owner_codes: dict[int, str] = {}
         # how owners were written until now, and are from now on
         self.renamed: list[tuple[str, str]] = []
+        # the ids that animals have from now on, by those that they had
+        self.new_tags: dict[str, str] = {}
         # what is told behind an answer
         self.notes: list[str] = []
         # the journal, where it is read beside other work
         self.beside: Pieces | None = None
         # by an animal's id
-        self.known: Mapping[str, SocietyRecord] = Lazy(self.read_known, self.read_all_known)
+        self.society_records: Mapping[str, SocietyRecord] = Lazy(self.read_society_record, self.read_society_records)
         # by its number
         self.names: Mapping[str, SocietyRecord] = Lazy(self.read_numbered, self.read_all_numbered)
         self.records: Mapping[str, RegisterRecord] = Lazy(self.read_record, self.read_all_records)
@@ -50,7 +58,8 @@ class Book:
 
     def read_all(self) -> None:
         """Reads all animals at once, for whoever needs most of them."""
-        self.known, self.names, self.records = whole(self.known), whole(self.names), whole(self.records)
+        self.society_records, self.names = whole(self.society_records), whole(self.names)
+        self.records = whole(self.records)
 
     @property
     def path(self) -> pathlib.Path:
@@ -62,8 +71,8 @@ class Book:
 
     @contextlib.contextmanager
     def journal_read_beside(self) -> Iterator[None]:
-        """The journal is read beside what is done within, for whoever needs it there later. Nothing that isn't committed
-        may be in it."""
+        """The journal is read beside what is done within, for whoever needs it there later. Nothing that isn't
+        committed may be in it."""
         if not self.is_there:
             yield
             return
@@ -101,18 +110,18 @@ class Book:
         order = f" {AGE_ORDER}" * in_age_order
         return select_rows(self.connection, f"{IN_BOOK} AND {condition.text}{order}", *condition.values)
 
-    def row(self, known: SocietyRecord) -> AnimalRow:
+    def row(self, animal: SocietyRecord) -> AnimalRow:
         """That of an animal of the book."""
-        return self.rows(with_number(known.registration_number))[0]
+        return self.rows(with_number(animal.registration_number))[0]
 
     def row_of(self, number: str) -> AnimalRow | None:
         return next(iter(self.rows(with_number(number))), None)
 
-    def read_known(self, id: str) -> SocietyRecord | None:
-        return next((known_of(row) for row in self.rows(with_id(id))), None)
+    def read_society_record(self, id: str) -> SocietyRecord | None:
+        return next((society_record_of(row) for row in self.rows(with_id(id))), None)
 
     def read_numbered(self, number: str) -> SocietyRecord | None:
-        return next((known_of(row) for row in self.rows(with_number(number))), None)
+        return next((society_record_of(row) for row in self.rows(with_number(number))), None)
 
     def read_record(self, number: str) -> RegisterRecord | None:
         return next((record_of(row) for row in self.rows(with_number(number))), None)
@@ -137,11 +146,11 @@ class Book:
     def all_rows(self) -> list[AnimalRow]:
         return [row for row in self.every_row if row.standing != Standing.DROPPED.value]
 
-    def read_all_known(self) -> dict[str, SocietyRecord]:
-        return {row.id: known_of(row) for row in self.all_rows}
+    def read_society_records(self) -> dict[str, SocietyRecord]:
+        return {row.id: society_record_of(row) for row in self.all_rows}
 
     def read_all_numbered(self) -> dict[str, SocietyRecord]:
-        return {known.registration_number: known for known in self.known.values()}
+        return {animal.registration_number: animal for animal in self.society_records.values()}
 
     def read_all_records(self) -> dict[str, RegisterRecord]:
         return {row.registration_number: record_of(row) for row in self.all_rows}
@@ -149,28 +158,27 @@ class Book:
     @functools.cached_property
     def dropped(self) -> dict[str, SocietyRecord]:
         """The animals that aren't in the book any more, by their ids."""
-        return {row.id: known_of(row) for row in self.every_row if row.standing == Standing.DROPPED.value}
+        return {row.id: society_record_of(row) for row in self.every_row if row.standing == Standing.DROPPED.value}
 
     def former_numbers(self) -> dict[str, str]:
         """The last number of each animal that was in the book once, as before an undo, and isn't named there now."""
-        former = """
+        former = f"""
             SELECT id, number FROM animal AS one WHERE until IS NOT NULL
-            AND NOT EXISTS (SELECT 1 FROM animal WHERE id = one.id AND until IS NULL) ORDER BY since
+            AND NOT EXISTS (SELECT 1 FROM animal WHERE id = one.id AND until IS NULL) AND NOT {HAS_OTHER_ID} ORDER BY since
         """
         return dict(self.connection.execute(former))
 
     def first_number(self) -> str:
         """That with the least digits, or in an empty book the first that it had; empty where there was none."""
-        # SQLite answers the number of the row that has the least
-        least = f"SELECT number, min(substr(number, 8)) FROM {ALL_ROWS} WHERE {NOW} AND {IN_BOOK}"
-        first = self.connection.execute(least).fetchone()[0]
-        return str(first) if first else next(iter(self.former_numbers().values()), "")
+        least = f"SELECT number FROM animal INDEXED BY animal_digits WHERE {NOW} AND {IN_BOOK} ORDER BY substr(number, 8)"
+        first = self.connection.execute(f"{least} LIMIT 1").fetchone()
+        return str(first[0]) if first else next(iter(self.former_numbers().values()), "")
 
     def number_before(self, id: str) -> str:
         """The number of an animal that was dropped, or else its last one; empty where there was none."""
         before = f"""
-            SELECT number FROM animal WHERE id = ? AND (until IS NOT NULL OR standing = '{Standing.DROPPED.value}')
-            ORDER BY until IS NULL DESC, since DESC LIMIT 1
+            SELECT number FROM animal AS one WHERE id = ? AND (until IS NOT NULL OR standing = '{Standing.DROPPED.value}')
+            AND NOT {HAS_OTHER_ID} ORDER BY until IS NULL DESC, since DESC LIMIT 1
         """
         found = self.connection.execute(before, (id,)).fetchone()
         return str(found[0]) if found else ""
@@ -183,8 +191,8 @@ class Book:
     def by_number(self) -> Mapping[str, SocietyRecord]:
         return self.names
 
-    def has_left(self, known: SocietyRecord) -> bool:
-        return self.records[known.registration_number].left is not None or known.exit.day_is_unknown
+    def has_left(self, animal: SocietyRecord) -> bool:
+        return self.records[animal.registration_number].left is not None or animal.exit.day_is_unknown
 
     def without_row(self) -> list[str]:
         """The ids of the added parents, and of those that are gone."""

@@ -4,7 +4,7 @@ from __future__ import annotations
 
 import json
 import sqlite3
-from collections.abc import Iterator
+from collections.abc import Collection, Iterator
 
 from gudokeyi.domain.changes import Change, StoredFinding
 from gudokeyi.store.animal_rows import COLUMNS, AnimalRow
@@ -42,18 +42,26 @@ def names_around(connection: sqlite3.Connection, number: int) -> dict[str, str]:
 
 
 def rows_by_change(connection: sqlite3.Connection, id: str, column: str) -> dict[int, AnimalRow]:
-    """The animal's rows by the change with which they began or ended."""
-    rows = connection.execute(f"SELECT {column}, {COLUMNS} FROM animal WHERE id = ? AND {column} IS NOT NULL", (id,))
+    """The rows of an animal, whatever it was called, by the change with which they began or ended."""
+    last = "SELECT substr(number, 8) FROM animal WHERE id = ? ORDER BY until IS NULL DESC, since DESC LIMIT 1"
+    its = f"SELECT {column}, {COLUMNS} FROM animal WHERE substr(number, 8) IN ({last}) AND {column} IS NOT NULL"
+    rows = connection.execute(its, (id,))
     return {number: AnimalRow(*row) for number, *row in rows}
 
 
-def told_of_animal(connection: sqlite3.Connection, id: str) -> dict[int, list[StoredFinding]]:
-    rows = connection.execute(
-        "SELECT change, kind, part, line, fields FROM told WHERE id = ? ORDER BY change, place", (id,)
-    )
+def told_of_animal(connection: sqlite3.Connection, id: str, former: Collection[str]) -> dict[int, list[StoredFinding]]:
+    """What changes told of an animal, also by its former ids, as long as it had them."""
+    asked = """
+        SELECT change, kind, part, line, id, fields FROM told WHERE id = :id OR id IN (SELECT value FROM json_each(:former))
+        AND EXISTS (
+            SELECT 1 FROM animal WHERE animal.id = told.id AND change BETWEEN since AND until
+            AND substr(number, 8) IN (SELECT substr(number, 8) FROM animal WHERE id = :id AND until IS NULL)
+        ) ORDER BY change, place
+    """
     found: dict[int, list[StoredFinding]] = {}
-    for number, kind, part, line, fields in rows:
-        found.setdefault(number, []).append(StoredFinding(kind, part, line, id, tuple(json.loads(fields).items())))
+    rows = connection.execute(asked, {"id": id, "former": json.dumps([*former])})
+    for number, kind, part, line, called, fields in rows:
+        found.setdefault(number, []).append(StoredFinding(kind, part, line, called, tuple(json.loads(fields).items())))
     return found
 
 

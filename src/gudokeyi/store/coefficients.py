@@ -12,6 +12,7 @@ from gudokeyi.domain.collections import Lazy
 from gudokeyi.domain.decimals import UNIT, decimal_of, decimal_of_text, number_of, rounded
 from gudokeyi.store.book import Book
 from gudokeyi.store.bulk_insert import insert_many
+from gudokeyi.store.state import text_of_lines
 
 if TYPE_CHECKING:
     from fractions import Fraction
@@ -24,7 +25,8 @@ MOST_ONE_BY_ONE = 20
 
 
 class Coefficient(NamedTuple):
-    """A coefficient of inbreeding as the program prints it: a fraction in lowest terms, and hundredths of a percent."""
+    """A coefficient of inbreeding as the program prints it, in two texts: a fraction in lowest terms, as `1/16`, and
+    percent with two places, as `6.25`. `value` is the fraction as a number, exact."""
 
     fraction: str
     percent: str
@@ -119,18 +121,35 @@ def kept_lines(connection: sqlite3.Connection) -> list[str]:
     return [line for (line,) in connection.execute(f"SELECT {line} FROM coefficient ORDER BY place")]
 
 
+def kept_text(connection: sqlite3.Connection) -> str:
+    """The same as one text, which is quicker to compare."""
+    lines = "SELECT number || ',' || fraction || ',' || percent AS line FROM coefficient ORDER BY place"
+    return text_of_lines(connection, lines)
+
+
 def add_coefficient(connection: sqlite3.Connection, line: str) -> None:
     """Keeps that of an animal that was born, as the program writes it, at its place in age order."""
     number, fraction, percent = line.split(",")
-    elder = """
-        SELECT count(*) FROM animal, (SELECT born AS day FROM animal WHERE until IS NULL AND number = :number)
-        WHERE until IS NULL AND born IS NOT NULL AND (born, number) < (day, :number)
-    """
-    place = connection.execute(elder, {"number": number}).fetchone()[0] + 1
+    place = place_of(connection, number)
     # those of younger animals move on by one, by way of places that nothing has
     connection.execute("UPDATE coefficient SET place = -place WHERE place >= ?", (place,))
     connection.execute("UPDATE coefficient SET place = 1 - place WHERE place < 0")
     connection.execute("INSERT INTO coefficient VALUES (?, ?, ?, ?)", (place, number, fraction, percent))
+
+
+def place_of(connection: sqlite3.Connection, number: str) -> int:
+    """The place behind all that are kept of elder animals, by halves: others may be born too that aren't kept yet."""
+    asked = "SELECT born, number FROM animal WHERE until IS NULL AND number = "
+    own = connection.execute(f"{asked} ?", (number,)).fetchone()
+    first, last = 1, connection.execute("SELECT ifnull(max(place), 0) + 1 FROM coefficient").fetchone()[0]
+    while first < last:
+        middle = (first + last) // 2
+        at = f"{asked} (SELECT number FROM coefficient WHERE place = ?)"
+        if connection.execute(at, (middle,)).fetchone() < own:
+            first = middle + 1
+        else:
+            last = middle
+    return int(first)
 
 
 def few_descendants(connection: sqlite3.Connection, number: str) -> list[str]:

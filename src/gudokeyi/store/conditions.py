@@ -1,11 +1,14 @@
-"""Which animals are asked for: what holds for their rows, as SQLite reads it, with the values for its question marks."""
+"""Which animals are asked for: what holds for their rows, as SQLite reads it, with the values for its question
+marks."""
 from __future__ import annotations
 
 import datetime
+import functools
 import json
 from collections.abc import Iterable, Sequence
 from dataclasses import dataclass
 
+from gudokeyi.domain.folding import SIGNS, folded, pattern_of, tag_of
 from gudokeyi.domain.kinds import Role, Standing
 from gudokeyi.domain.provenance import BirthSource, ExitSource
 from gudokeyi.store.state import NOW
@@ -24,6 +27,8 @@ NAMED = "folded_name = ? AND folded_name <> ''"
 AGE_ORDER = "ORDER BY born, number"
 # the ids that may be alike, since they are so without any zero: their index has all that is asked for
 LIKELY = f"SELECT folded_id FROM animal WHERE {NOW} AND replace(replace(folded_id, ' ', ''), '0', '') = ?"
+# no id, name or owner has so many letters, and SQLite reads no longer patterns
+MOST_LETTERS = 1_000
 
 
 @dataclass(frozen=True, slots=True)
@@ -37,7 +42,7 @@ class Condition:
         return Condition(f"{self.text} AND {other.text}", self.values + other.values)
 
 
-ANY = Condition("true")
+ANY, NOBODY = Condition("true"), Condition("false")
 # the living animals of the society
 LIVING = Condition(IS_LIVING)
 WITHOUT_ROW = Condition(f"standing IN ('{Standing.GONE.value}', '{Standing.PARENT.value}')")
@@ -56,6 +61,11 @@ def with_id(id: str) -> Condition:
 
 def with_number(number: str) -> Condition:
     return Condition("number = ?", (number,))
+
+
+def with_digits(digits: str) -> Condition:
+    """With a number that has these behind breed, country and sex."""
+    return Condition("substr(number, 8) = ?", (digits,))
 
 
 def among(numbers: Sequence[str]) -> Condition:
@@ -83,16 +93,61 @@ def with_id_or_name(word: str) -> Condition:
 
 def with_id_like(id: str) -> Condition:
     """With an id that may differ in case, blanks and zeros alone."""
-    return Condition(f"folded_id IN ({LIKELY})", ("".join(id.casefold().split()).replace("0", ""),))
+    return Condition(f"folded_id IN ({LIKELY})", (likeness(id),))
+
+
+def likeness(id: str) -> str:
+    """What an id has but for these."""
+    return "".join(id.casefold().split()).replace("0", "")
+
+
+def without_signs(column: str) -> str:
+    """A column of ids without the signs by which tags are parted."""
+    return functools.reduce(lambda text, sign: f"replace({text}, '{sign}', '')", SIGNS, column)
+
+
+TAG, FORMER_TAG = without_signs("folded_id"), without_signs("lower(id)")
 
 
 def with_text(text: str, owner_codes: Sequence[int]) -> Condition:
-    """With a text in small letters in id, name or number, or one of these owners."""
-    owners = ", ".join(map(str, owner_codes))
-    return Condition(
-        f"(instr(folded_id, ?) OR instr(folded_name, ?) OR instr(number, ?) OR herd IN ({owners}))",
-        (text, text, text.upper()),
+    """With a text in id, name or number, in capitals or not, with accents or without, or in an id that it had,
+    in a note or a value of the society's own; or one of these owners. Ids may be parted by other signs."""
+    if len(text) > MOST_LETTERS:
+        return NOBODY
+    owners, tag, name = ", ".join(map(str, owner_codes)), pattern_of(tag_of(text)), pattern_of(folded(text))
+    had = f"substr(number, 8) IN (SELECT digits FROM former_id WHERE {NOW} AND {FORMER_TAG} GLOB ?)"
+    kept = (
+        f"substr(number, 8) IN (SELECT digits FROM note WHERE {NOW} AND instr(folded, ?) "
+        f"UNION ALL SELECT digits FROM own_value WHERE {NOW} AND instr(folded, ?))"
     )
+    # a text of signs alone is looked for as it is
+    in_tag = f"{TAG} GLOB ? OR {had}" if tag else "instr(folded_id, ?) OR instr(folded_id, ?)"
+    tags = (f"*{tag}*",) * 2 if tag else (text,) * 2
+    return Condition(
+        f"({in_tag} OR folded_name GLOB ? OR instr(number, ?) OR herd IN ({owners}) OR {kept})",
+        (*tags, f"*{name}*", text.upper(), *(folded(text),) * 2),
+    )
+
+
+def with_own_value(place: int, text: str, is_whole: bool) -> Condition:
+    """With a text in one of the society's own columns, as the whole of it or a part; an empty one is any."""
+    that = "value = ?" if is_whole else "value <> '' AND instr(folded, ?)"
+    of_column = f"SELECT digits FROM own_value WHERE {NOW} AND place = ? AND {that}"
+    return Condition(f"substr(number, 8) IN ({of_column})", (place, text if is_whole else folded(text)))
+
+
+def named_like(name: str) -> Condition:
+    """With another name that is this one but for accents and capitals."""
+    return Condition("folded_name GLOB ? AND name <> ?", (pattern_of(folded(name[:MOST_LETTERS])), name))
+
+
+def nearly_named(word: str) -> Condition:
+    """With this id or name but for accents, and for the signs by which ids are parted."""
+    if len(word) > MOST_LETTERS:
+        return NOBODY
+    tag = tag_of(word)
+    with_tag = Condition(f"{TAG} GLOB ?", (pattern_of(tag),)) if tag else NOBODY
+    return Condition(f"({with_tag.text} OR folded_name GLOB ?)", (*with_tag.values, pattern_of(folded(word))))
 
 
 def of_sex(sex: str) -> Condition:
@@ -106,6 +161,16 @@ def of_owner(owner_code: int) -> Condition:
 def born_between(first: datetime.date, last: datetime.date) -> Condition:
     """Born in these days; of an inferred birth day at least the year has to be known."""
     return Condition(f"born BETWEEN ? AND ? AND {WITH_YEAR}", (first.isoformat(), last.isoformat()))
+
+
+def left_between(first: datetime.date, last: datetime.date) -> Condition:
+    """Left in these days."""
+    return Condition("departed BETWEEN ? AND ?", (first.isoformat(), last.isoformat()))
+
+
+def own() -> Condition:
+    """The society's own: they have a row or had one, or were filed by hand."""
+    return Condition("standing <> ?", (Standing.PARENT.value,))
 
 
 def offspring_of(number: str, role: Role) -> Condition:

@@ -9,15 +9,14 @@ import urllib.parse
 from collections.abc import Iterator
 
 from gudokeyi.domain.messages import CALLED, Mistake
-from gudokeyi.domain.mistakes import BookUnusable
+from gudokeyi.domain.mistakes import BookBusy, BookUnusable
+from gudokeyi.domain.waiting import MOST_SECONDS, SECONDS_OF_PAGE, is_short, seconds_left
 from gudokeyi.store.messages import BookFault
 from gudokeyi.store.schema import APPLICATION, MIGRATIONS, VERSION
 
 DATABASE = "book.sqlite"
 # beside it, and no part of it, where those who may use the book have accounts
 ACCOUNTS = "accounts.sqlite"
-# so long a change waits for another one to end
-SECONDS_TO_WAIT = 900
 # so often something is tried of a file that others are changing
 TRIES = 200
 FULL = (sqlite3.SQLITE_FULL,)
@@ -59,7 +58,7 @@ def connect(path: pathlib.Path, mode: str) -> sqlite3.Connection:
     if path.exists() and not os.access(path, os.W_OK):
         raise NotAllowed("it belongs to somebody else, and is only to be read")
     address = f"file:{urllib.parse.quote(os.fsencode(path.absolute()))}?mode={mode}"
-    connection = sqlite3.connect(address, uri=True, timeout=SECONDS_TO_WAIT, isolation_level=None)
+    connection = sqlite3.connect(address, uri=True, timeout=seconds_left(), isolation_level=None)
     connection.execute("PRAGMA foreign_keys = ON")
     return connection
 
@@ -130,8 +129,13 @@ def told(error: sqlite3.Error, path: pathlib.Path) -> Mistake:
     if kind in FULL:
         return BookUnusable(BookFault.NO_ROOM.said(path=path))
     if kind == sqlite3.SQLITE_BUSY:
-        return BookUnusable(BookFault.BUSY.said(path=path, minutes=SECONDS_TO_WAIT // 60))
+        return busy() if is_short() else BookBusy(BookFault.BUSY.said(path=path, minutes=MOST_SECONDS // 60))
     return BookUnusable((BookFault.CLOSED if kind in CLOSED else BookFault.OTHER).said(path=path, error=error))
+
+
+def busy() -> BookBusy:
+    """What a page says that waited for others for as long as it may."""
+    return BookBusy(BookFault.BUSY_NOW.said(seconds=SECONDS_OF_PAGE))
 
 
 def damages_of(connection: sqlite3.Connection, quickly: bool, most: int) -> list[str]:

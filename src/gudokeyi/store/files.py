@@ -68,6 +68,22 @@ def put(path: pathlib.Path, text: bytes, changed: int | None = None, replaces: b
     sync_folder(path.parent)
 
 
+def kept_beside(path: pathlib.Path) -> pathlib.Path | None:
+    """What is in a file's place, under a second name there until that goes; none where nothing is."""
+    import secrets
+
+    if not path.is_file():
+        return None
+    beside = path.with_name(f".{path.name[:100]}.{secrets.token_hex(RANDOM_BYTES)}")
+    try:
+        os.link(path, beside, follow_symlinks=False)
+    except OSError as error:
+        if error.errno not in NO_LINKS:
+            raise
+        beside.write_bytes(path.read_bytes())
+    return beside
+
+
 def take_away_left(folder: pathlib.Path, mine: Collection[str], others: Collection[str]) -> None:
     """Takes away what calls that were killed left beside the places of some files: of those that nobody but the caller
     writes now, and of others what is old."""

@@ -1,5 +1,5 @@
-"""What a book has of the days since which owners have an animal: the cells of sheets, what imports told of days that they
-moved, and the days that were given."""
+"""What a book has of the days since which owners have an animal: the cells of sheets, what imports told of days that
+they moved, and the days that were given."""
 from __future__ import annotations
 
 import json

@@ -18,11 +18,20 @@ from gudokeyi.store.state import TABLES
 
 COLUMNS = "change, kind, time, login, edition, length, file, path, digest, undone_to"
 # the kinds of changes that are one command, which may be refused
-FILED_BY_HAND = (ChangeKind.BIRTH, ChangeKind.PARENTS, ChangeKind.TRANSFER, ChangeKind.EXIT)
+FILED_BY_HAND = (
+    ChangeKind.BIRTH, ChangeKind.PARENTS, ChangeKind.TRANSFER, ChangeKind.EXIT, ChangeKind.CORRECTION, ChangeKind.NOTE,
+    ChangeKind.OWN_VALUES,
+)  # fmt: skip
 # those of them by which nothing of another animal changes
-ONE_BY_ONE = (ChangeKind.BIRTH.value, ChangeKind.TRANSFER.value, ChangeKind.EXIT.value)
+ONE_BY_ONE = tuple(
+    kind.value
+    for kind in (
+        ChangeKind.BIRTH, ChangeKind.LITTER, ChangeKind.TRANSFER, ChangeKind.EXIT, ChangeKind.NOTE, ChangeKind.OWN_VALUES, ChangeKind.OWN_COLUMNS,
+        ChangeKind.MEMBER,
+    )
+)  # fmt: skip
 # those that make a state as a whole
-WHOLE_STATES = (ChangeKind.TAKE, ChangeKind.PEDIGREE, ChangeKind.UNDO, ChangeKind.RESTORE)
+WHOLE_STATES = (ChangeKind.TAKE, ChangeKind.PEDIGREE, ChangeKind.UNDO, ChangeKind.RESTORE, ChangeKind.BATCH)
 EPOCH = datetime.datetime(1970, 1, 1, tzinfo=datetime.timezone.utc)
 
 
@@ -67,12 +76,22 @@ def write_change(
     connection.execute(f"INSERT INTO change ({COLUMNS}, form) VALUES (?, ?, ?, ?, ?, ?, ?, ?, ?, ?, ?)", row)
     options = [(number, place, one.option, one.word) for place, one in enumerate(made.options)]
     connection.executemany("INSERT INTO given_option VALUES (?, ?, ?, ?)", options)
+    write_told(connection, number, made)
+
+
+def write_told(connection: sqlite3.Connection, number: int, made: ChangeDetails) -> None:
+    """Writes what a change counted and told."""
     connection.executemany("INSERT INTO counted VALUES (?, ?, ?)", [(number, *one) for one in made.counts])
     told = (
         (number, place, one.kind, one.part, one.line, one.id, text_of(dict(one.fields)))
         for place, one in enumerate(made.told)
     )
     insert_many(connection, "told", told)
+
+
+def go_on(connection: sqlite3.Connection, number: int, journal: Journal) -> None:
+    """The journal after a change that isn't ended yet goes on."""
+    connection.execute("UPDATE change SET edition = ?, length = ? WHERE change = ?", (*journal, number))
 
 
 def change_of(connection: sqlite3.Connection, row: tuple[object, ...]) -> Change:
@@ -159,7 +178,8 @@ def listed(kinds: Iterable[ChangeKind]) -> str:
 
 
 def taken_back_by(connection: sqlite3.Connection, number: int) -> int:
-    """The change that brought back a state before a change; 0 where the book of now has it, as where that was undone."""
+    """The change that brought back a state before a change; 0 where the book of now has it, as where that was
+    undone."""
     asked = "SELECT change, undone_to FROM change WHERE change > ? AND undone_to IS NOT NULL ORDER BY change DESC"
     last = None
     for change, undone_to in connection.execute(asked, (number,)):

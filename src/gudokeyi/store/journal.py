@@ -10,6 +10,7 @@ from typing import NamedTuple
 
 from gudokeyi.background import Pieces
 from gudokeyi.domain.commands import HEADER, Command
+from gudokeyi.domain.kinds import CommandKind
 from gudokeyi.domain.refusals import Refusal
 from gudokeyi.store.bulk_insert import insert_many
 from gudokeyi.store.database import connect
@@ -93,6 +94,11 @@ def pieces_of(connection: sqlite3.Connection, journal: Journal) -> Iterator[byte
     yield from (piece_of(connection, part) for part in in_pieces(parts_of(connection, journal)))
 
 
+def journal_lines(connection: sqlite3.Connection, journal: Journal) -> bytes:
+    """The commands alone, each a line."""
+    return b"".join(piece_of(connection, part) for part in in_pieces(parts_of(connection, journal)))
+
+
 def piece_of(connection: sqlite3.Connection, part: Part) -> bytes:
     """The lines of a part. The database puts them together, in the order that it has within."""
     together = f"SELECT group_concat(line, char(10)) FROM (SELECT {TEXT} AS line {WITHIN})"
@@ -116,6 +122,51 @@ def refusals_of(connection: sqlite3.Connection, journal: Journal) -> dict[int, R
     for part in parts_of(connection, journal):
         refused = "SELECT place - 1, refusal FROM command WHERE edition = ? AND place BETWEEN ? AND ? AND refusal > 0"
         found |= {place: Refusal(refusal) for place, refusal in connection.execute(refused, part)}
+    return found
+
+
+def givers_of(connection: sqlite3.Connection, journal: Journal) -> dict[str, int]:
+    """The herd that gave each animal last, of those that were given on."""
+    found: dict[str, int] = {}
+    for part in parts_of(connection, journal):
+        # SQLite answers the giver of the row that has the greatest place
+        given = """
+            SELECT animal, giver, max(place) FROM command
+            WHERE edition = ? AND place BETWEEN ? AND ? AND kind = 'transfer' AND refusal = 0 GROUP BY animal
+        """
+        found |= {animal: giver for animal, giver, _ in connection.execute(given, part)}
+    return found
+
+
+def commands_of(connection: sqlite3.Connection, journal: Journal, number: str) -> list[Command]:
+    """The accepted commands of an animal, in their order."""
+    found: list[Command] = []
+    for part in parts_of(connection, journal):
+        its = "edition = ? AND place BETWEEN ? AND ? AND animal = ? AND refusal = 0"
+        asked = f"SELECT {TEXT} FROM command WHERE {its} ORDER BY place"
+        found += [Command(*line.split(",")) for (line,) in connection.execute(asked, (*part, number))]
+    return found
+
+
+def commands_between(
+    connection: sqlite3.Connection, journal: Journal, kind: CommandKind, first: str, last: str
+) -> Iterator[Command]:
+    """The accepted commands of a kind and of some days, in the journal's order."""
+    for part in parts_of(connection, journal):
+        its = "edition = ? AND place BETWEEN ? AND ? AND kind = ? AND day BETWEEN ? AND ? AND refusal = 0"
+        asked = f"SELECT {TEXT} FROM command WHERE {its} ORDER BY place"
+        found = connection.execute(asked, (*part, kind.value, first, last))
+        yield from (Command(*line.split(",")) for (line,) in found)
+
+
+def registered_numbers(connection: sqlite3.Connection, journal: Journal) -> set[str]:
+    """The numbers of the animals that a journal has: each has an accepted birth."""
+    found = set[str]()
+    for part in parts_of(connection, journal):
+        born = (
+            "SELECT animal FROM command WHERE edition = ? AND place BETWEEN ? AND ? AND kind = 'birth' AND refusal = 0"
+        )
+        found |= {animal for (animal,) in connection.execute(born, part)}
     return found
 
 
@@ -170,8 +221,8 @@ READERS = 2
 
 
 def command_file_in_background(connection: sqlite3.Connection, journal: Journal) -> Pieces:
-    """A journal as a command file, by connections of their own to the same file. What is committed of a journal stays as
-    it is, whatever is changed meanwhile; so the other connections read the same."""
+    """A journal as a command file, by connections of their own to the same file. What is committed of a journal stays
+    as it is, whatever is changed meanwhile; so the other connections read the same."""
     path = pathlib.Path(connection.execute("PRAGMA database_list").fetchone()[2])
     parts = in_pieces(parts_of(connection, journal))
 

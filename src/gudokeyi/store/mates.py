@@ -1,6 +1,6 @@
 """Who may be mated, as the book has them: one rule for advice on a dam, tables of pairs and plans. They are read in
-columns, each as one text, which takes half the time of rows. The living ones that have a row and aren't castrated may be
-mated, or those that left too."""
+columns, each as one text, which takes half the time of rows. The living ones that have a row and aren't castrated may
+be mated, or those that left too."""
 from __future__ import annotations
 
 import enum
@@ -48,8 +48,8 @@ MAY_BE_MATED = f"{reason(False)} = {Why.NOT_AT_ALL:d}"
 
 
 class MatesRead:
-    """The animals of a sex, in no order: those that may be mated in columns, and who was passed over. Each column is read
-    where it is first asked for."""
+    """The animals of a sex, in no order: those that may be mated in columns, and who was passed over. Each column is
+    read where it is first asked for."""
 
     def __init__(self, book: Book, role: Role, also_left: bool) -> None:
         self.book, self.role = book, role
@@ -94,7 +94,9 @@ class MatesRead:
             return []
         ids, _, births = self.others
         rows = zip(self.why, births, self.all_numbers, ids)
-        return [id for *_, id in sorted((birth_day(birth), number, id) for one, birth, number, id in rows if one == why)]
+        return [
+            id for *_, id in sorted((birth_day(birth), number, id) for one, birth, number, id in rows if one == why)
+        ]
 
 
 def birth_day(birth: str) -> str:
@@ -106,8 +108,8 @@ def birth_day(birth: str) -> str:
 
 
 def mates_by_sex(book: Book, youngest: str, today: str) -> dict[str, int]:
-    """How many of each sex may be mated, without those that are known to be born after the day `youngest`. A birth after
-    today is one that was invented."""
+    """How many of each sex may be mated, without those that are known to be born after the day `youngest`. A birth
+    after today is one that was invented."""
     too_young = f"{WITH_YEAR} AND born > ? AND born <= ?"
     where = f"{NOW} AND {MAY_BE_MATED} AND NOT ({too_young})"
     asked = f"SELECT substr(number, 7, 1), count(*) FROM {ALL_ROWS} WHERE {where} GROUP BY 1"

@@ -13,11 +13,15 @@ class BookFault(Message):
     """Nothing is changed then."""
 
     DAMAGED = (
-        "{path} is damaged, or isn't a database ({error}): nothing is touched. Restore a backup, as {called} restore FILE "
-        "--anyway"
+        "{path} is damaged, or isn't a database ({error}): nothing is touched. Restore a backup, as {called} restore "
+        "FILE --anyway"
     )
     NO_ROOM = "there is no room for {path} on its disk: nothing is changed"
     BUSY = "{path} is being changed by somebody else for {minutes} minutes: try again later"
+    BUSY_NOW = (
+        "somebody else is changing the book, and it wasn't free for {seconds} seconds: nothing is changed. Send it again "
+        "in a moment"
+    )
     CLOSED = "{path} can't be written ({error}): nothing is changed. Allow it, or use another folder"
     OTHER = "{path} can't be used ({error}): nothing is changed"
     OTHER_PROGRAM = "{path} is a database of another program, not a herd book: move it away, nothing is touched"
@@ -26,8 +30,8 @@ class BookFault(Message):
         "the newer one, nothing is touched"
     )
     UNSURE = (
-        "{path} can't be written or read any more ({error}). Whether change {change} is in it can't be seen now: mend the "
-        "disk, and ask by {called} history"
+        "{path} can't be written or read any more ({error}). Whether change {change} is in it can't be seen now: mend "
+        "the disk, and ask by {called} history"
     )
     CANT_BE_READ = "{path} can't be read ({error}): who may read it has to allow it"
     ALWAYS_CHANGED = "{path} is changed all the time by somebody else: try again later"
@@ -38,12 +42,12 @@ class BookFault(Message):
     FOLDER_CLOSED = "the folder {folder} can't be written ({error}): nothing is changed"
     FILE_CLOSED = "{path} can't be written ({error}): nothing is changed"
     SHEET_IN_PLACE = (
-        "{path} is where the book in the folder {folder} has a file of its own: give the sheet another name, or move it to "
-        "another folder, and take it there"
+        "{path} is where the book in the folder {folder} has a file of its own: give the sheet another name, or move it "
+        "to another folder, and take it there"
     )
     FILE_IN_PLACE = (
-        "{path} isn't of a book, and one in the folder {folder} would write over it: move it away, or name another folder "
-        "by --book"
+        "{path} isn't of a book, and one in the folder {folder} would write over it: move it away, or name another "
+        "folder by --book"
     )
     COEFFICIENTS_LACK = (
         "{path} keeps {kept} of {there}, so it isn't whole: restore a backup, as {called} restore FILE --anyway"
@@ -66,6 +70,7 @@ class NotWhole(Message):
     REPLY = "the program's reply to command {place} is {reply}, the stored one {stored}"
     REFUSED = "'{refusal}' (refusal {number})"
     ACCEPTED = "that it is accepted"
+    ANCESTOR = "the program's certificate names {number} as an ancestor, and the book doesn't"
     STATE = "the journal has {animals} otherwise, the first is {first}"
     ORDER = "the kept coefficients aren't in the program's order"
     COEFFICIENTS = "the program has {coefficients} otherwise, the first is {first}'s"
@@ -80,9 +85,15 @@ class BackupFault(Message):
     NOT_READ = "{path} can't be read: {error}. Is the name right?"
     DAMAGED = "{path} is damaged, or isn't a backup ({error}): nothing is changed"
     ACTS = "{path} has triggers or views, which no backup has: somebody else made them, and nothing is changed"
+    OTHER_TABLES = "{path} has other tables than a herd book: somebody else made them, and nothing is changed"
+    NO_TIME = (
+        "{path} tells of change {change} at a time that can't be: somebody else made it, or a clock is wrong, and nothing "
+        "is changed"
+    )
+    ODD_NAMES = "{path} has names that no herd book has: somebody else made them, and nothing is changed"
     NO_ROOM = (
-        "no copy can be made in {folder}, the folder for temporary files ({error}): make room there, or name another one "
-        "by TMPDIR"
+        "no copy can be made in {folder}, the folder for temporary files ({error}): make room there, or name another "
+        "one by TMPDIR"
     )
     NOT_RESTORED = "{path} can't be restored ({error}): nothing is changed"
 
@@ -92,6 +103,7 @@ class BackupFault(Message):
 
 @enum.unique
 class AccountFault(Message):
+    NONE_THERE = "there are no accounts here: name their folder by --book"
     NAME_IS_TAKEN = "there is an account {name} already: change that one"
     NO_ACCOUNT = "there is no account '{name}': name one of those that --list shows"
     NO_KEEPER = "somebody has to be a keeper: make another account one before"
@@ -99,10 +111,14 @@ class AccountFault(Message):
     FIRST_IS_KEEPER = "the first account is a keeper's: say --role keeper"
     NO_ROLE = "the role is missing: choose one"
     CANT_BE_USED = "the accounts can't be read or written ({error})"
+    BUSY = "somebody else is changing the accounts: nothing is changed. Send it again in a moment"
     CLOSED = "{path} can't be written ({error}): nothing is changed"
     READ_BY_OTHERS = "{path} may be read by others: as its owner say chmod 600 {path}, and give new passwords"
     NO_ACCOUNTS = "{path} isn't a file of accounts: move it away, nothing is touched"
     # passwords
     NOT_THE_SAME = "the two passwords aren't the same: write them again"
     LENGTH = "a password has {least} to {most} letters: take some words that you remember"
+    OWN_WRONG = "your own password is wrong: nothing is changed"
+    WAIT = "there were too many wrong passwords: wait {seconds} seconds, then try again"
+    NOT_NEW = "the new password is the one that a keeper gave you: take another one"
     GUESSED = "the password is guessed too easily: take some words that you remember"

@@ -3,8 +3,10 @@ from __future__ import annotations
 
 import enum
 
-from gudokeyi.domain.kinds import ChangeKind, CommandKind, Remembered, Standing
+from gudokeyi.domain.kinds import ChangeKind, CommandKind, ExitReason, Remembered, Standing
+from gudokeyi.domain.own_columns import OwnKind
 from gudokeyi.domain.provenance import BirthSource, ExitSource, OwnerDay, SexSource
+from gudokeyi.store.views import VIEWS
 
 # what tells a herd book from other databases: HERD
 APPLICATION = 0x48455244
@@ -197,5 +199,139 @@ ALTER TABLE change ADD COLUMN form TEXT CHECK (form <> '');
 CREATE UNIQUE INDEX change_form ON change (form) WHERE form IS NOT NULL;
 """
 
-MIGRATIONS = (FIRST, SECOND)
+# an animal can be corrected: that is a kind of change, which a table of an earlier version doesn't have yet; the reason
+# of an exit is kept, and the ids that an animal had
+THIRD = f"""
+PRAGMA writable_schema = ON;
+UPDATE sqlite_schema SET sql = replace(
+    sql, 'kind = ''{ChangeKind.FOLDER.value}'')',
+    'kind = ''{ChangeKind.FOLDER.value}'' OR kind = ''{ChangeKind.CORRECTION.value}'')'
+) WHERE name = 'change';
+PRAGMA writable_schema = RESET;
+ALTER TABLE animal ADD COLUMN exit_reason TEXT {one_of('exit_reason', ExitReason)};
+CREATE INDEX animal_digits ON animal (substr(number, 8));
+
+-- the ids that animals had before theirs were corrected, by the digits of their numbers, which stay
+CREATE TABLE former_id (
+    id TEXT NOT NULL,
+    digits TEXT NOT NULL,
+    since INTEGER NOT NULL REFERENCES change,
+    until INTEGER REFERENCES change CHECK (until > since),
+    PRIMARY KEY (id, digits, since)
+) STRICT, WITHOUT ROWID;
+"""
+
+# the seals that the society published: no part of the history
+FOURTH = f"""
+CREATE TABLE published_seal (
+    -- of the journal: an edition up to a length
+    edition INTEGER NOT NULL REFERENCES edition,
+    steps INTEGER NOT NULL CHECK (steps >= 0),
+    day TEXT NOT NULL CHECK (day {DAY}),
+    animals INTEGER NOT NULL CHECK (animals >= 0),
+    seal TEXT NOT NULL CHECK (length(seal) = 64 AND seal NOT GLOB '*[^0-9a-f]*'),
+    PRIMARY KEY (edition, steps)
+) STRICT, WITHOUT ROWID;
+"""
+
+# another program files many commands as one change, each with a request of its own, whose answer is kept; and the book
+# has views for others, whose columns stay whatever becomes of the tables
+FIFTH = f"""
+PRAGMA writable_schema = ON;
+UPDATE sqlite_schema SET sql = replace(
+    sql, 'kind = ''{ChangeKind.CORRECTION.value}'')',
+    'kind = ''{ChangeKind.CORRECTION.value}'' OR kind = ''{ChangeKind.BATCH.value}'')'
+) WHERE name = 'change';
+PRAGMA writable_schema = RESET;
+
+CREATE TABLE request (
+    request TEXT NOT NULL PRIMARY KEY CHECK (request <> ''),
+    change INTEGER NOT NULL REFERENCES change,
+    -- what was asked for, and what was answered
+    command TEXT NOT NULL CHECK (json_valid(command)),
+    answer TEXT NOT NULL CHECK (json_valid(answer))
+) STRICT, WITHOUT ROWID;
+{VIEWS}"""
+
+# what the society keeps of its animals beside the register, by the digits of their numbers, which stay: notes, its own
+# columns and their values; and what it keeps of owners beside their names
+MORE_KINDS = " OR ".join(
+    f"kind = ''{kind.value}''"
+    for kind in (
+        ChangeKind.NOTE, ChangeKind.OWN_VALUES, ChangeKind.OWN_COLUMNS, ChangeKind.MEMBER, ChangeKind.MERGE,
+        ChangeKind.ERASURE,
+    )
+)  # fmt: skip
+SIXTH = f"""
+PRAGMA writable_schema = ON;
+UPDATE sqlite_schema SET sql = replace(
+    sql, 'kind = ''{ChangeKind.BATCH.value}'')', 'kind = ''{ChangeKind.BATCH.value}'' OR {MORE_KINDS})'
+) WHERE name = 'change';
+PRAGMA writable_schema = RESET;
+
+CREATE TABLE note (
+    digits TEXT NOT NULL,
+    note INTEGER NOT NULL CHECK (note >= 1),
+    since INTEGER NOT NULL REFERENCES change,
+    until INTEGER REFERENCES change CHECK (until > since),
+    day TEXT NOT NULL CHECK (day {DAY}),
+    author TEXT NOT NULL,
+    text TEXT NOT NULL CHECK (text <> ''),
+    -- as it is found
+    folded TEXT NOT NULL,
+    PRIMARY KEY (digits, note, since)
+) STRICT, WITHOUT ROWID;
+
+CREATE TABLE own_column (
+    place INTEGER NOT NULL CHECK (place >= 1),
+    since INTEGER NOT NULL REFERENCES change,
+    until INTEGER REFERENCES change CHECK (until > since),
+    title TEXT NOT NULL CHECK (title <> ''),
+    kind TEXT NOT NULL {one_of('kind', OwnKind)},
+    -- in lines
+    choices TEXT NOT NULL,
+    certified INTEGER NOT NULL CHECK (certified IN (0, 1)),
+    PRIMARY KEY (place, since)
+) STRICT, WITHOUT ROWID;
+
+CREATE TABLE own_value (
+    digits TEXT NOT NULL,
+    place INTEGER NOT NULL CHECK (place >= 1),
+    since INTEGER NOT NULL REFERENCES change,
+    until INTEGER REFERENCES change CHECK (until > since),
+    -- empty where somebody emptied it
+    value TEXT NOT NULL,
+    folded TEXT NOT NULL,
+    -- the cell of the last sheet
+    cell TEXT,
+    PRIMARY KEY (digits, place, since)
+) STRICT, WITHOUT ROWID;
+
+CREATE TABLE member (
+    herd INTEGER NOT NULL CHECK (herd BETWEEN 1 AND 99999998),
+    since INTEGER NOT NULL REFERENCES change,
+    until INTEGER REFERENCES change CHECK (until > since),
+    member_number TEXT NOT NULL,
+    address TEXT NOT NULL,
+    mail TEXT NOT NULL,
+    telephone TEXT NOT NULL,
+    PRIMARY KEY (herd, since)
+) STRICT, WITHOUT ROWID;
+"""
+
+# births of a litter, and changes that are taken back one by one, are kinds of changes; an animal may be born dead
+LITTERS = f"""
+PRAGMA writable_schema = ON;
+UPDATE sqlite_schema SET sql = replace(
+    sql, 'kind = ''{ChangeKind.FOLDER.value}''',
+    'kind = ''{ChangeKind.FOLDER.value}'' OR kind = ''{ChangeKind.LITTER.value}'' OR kind = ''{ChangeKind.TAKEN_BACK.value}'''
+) WHERE name = 'change' AND NOT instr(sql, '{ChangeKind.LITTER.value}');
+UPDATE sqlite_schema SET sql = replace(
+    sql, 'exit_reason = ''{ExitReason.LOST.value}''',
+    'exit_reason = ''{ExitReason.LOST.value}'' OR exit_reason = ''{ExitReason.STILLBORN.value}'''
+) WHERE name = 'animal' AND NOT instr(sql, '{ExitReason.STILLBORN.value}');
+PRAGMA writable_schema = RESET;
+"""
+
+MIGRATIONS = (FIRST, SECOND, THIRD, FOURTH, FIFTH, SIXTH, LITTERS)
 VERSION = len(MIGRATIONS)

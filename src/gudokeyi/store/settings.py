@@ -3,11 +3,11 @@ with the book and isn't a part of its history."""
 from __future__ import annotations
 
 import contextlib
+import os
 import pathlib
 import sqlite3
 from collections.abc import Mapping
 
-from gudokeyi.domain.animals import BREED, COUNTRY
 from gudokeyi.domain.mistakes import InvalidValue
 from gudokeyi.domain.requests import NotSuch
 from gudokeyi.domain.settings import LANGUAGES, Setting
@@ -60,8 +60,26 @@ def checked(setting: Setting, text: str) -> str:
 
 # The letters with which new numbers begin: three for the breed, three for the country.
 
+# the variable that says them for books that have none yet, as SKUDEU
+NUMBERS = "GUDOKEYI_NUMBERS"
+# what stands for letters that nobody said
+UNSAID = "XXX"
+
+
+def letters_said(book: Book, breed: str = "", country: str = "") -> tuple[str, str]:
+    """Those that are said, or else set, or else those of the book's first number, or of the variable; each empty where
+    nobody said it."""
+    settings, first = settings_of(book), book.first_number() or said_for_all()
+    return breed or settings[Setting.BREED] or first[:3], country or settings[Setting.COUNTRY] or first[3:6]
+
+
+def said_for_all() -> str:
+    """What the variable says, if it is six letters."""
+    text = os.environ.get(NUMBERS, "")
+    return text.upper() if len(text) == 6 and text.isascii() and text.isalpha() else ""
+
 
 def letters_for(book: Book, breed: str = "", country: str = "") -> str:
-    """Those that are said, or else set, or else those of the book's first number."""
-    settings, first = settings_of(book), book.first_number() or BREED + COUNTRY
-    return (breed or settings[Setting.BREED] or first[:3]) + (country or settings[Setting.COUNTRY] or first[3:6])
+    """Six letters: what nobody said has others in its place, by which nothing is kept."""
+    said = letters_said(book, breed, country)
+    return "".join(one or UNSAID for one in said)

@@ -39,7 +39,12 @@ class Table(NamedTuple):
 ANIMALS = Table("animal", COLUMNS, 1)
 CELLS = Table("cell", CELL_COLUMNS, 1)
 REMEMBERED = Table("remembered", "what, word, place, meaning", 2)
-TABLES = (ANIMALS, CELLS, REMEMBERED)
+FORMER_IDS = Table("former_id", "id, digits", 2)
+NOTES = Table("note", "digits, note, day, author, text, folded", 2)
+OWN_COLUMNS = Table("own_column", "place, title, kind, choices, certified", 1)
+OWN_VALUES = Table("own_value", "digits, place, value, folded, cell", 2)
+MEMBERS = Table("member", "herd, member_number, address, mail, telephone", 1)
+TABLES = (ANIMALS, CELLS, REMEMBERED, FORMER_IDS, NOTES, OWN_COLUMNS, OWN_VALUES, MEMBERS)
 
 
 class Meaning(NamedTuple):
@@ -71,14 +76,18 @@ def write_rows(
     change: int,
     before: dict[Values, Values],
     after: dict[Values, Values],
+    again: bool = False,
 ) -> None:
-    """Makes of rows that held before a change those that hold after it. What stays as it is isn't touched."""
-    ended = ((change, *key) for key, row in before.items() if after.get(key) != row)
+    """Makes of rows that held before a change those that hold after it. What stays as it is isn't touched. With `again`
+    the change may have written some of the rows before: it has each once."""
+    ended = [(change, *key) for key, row in before.items() if after.get(key) != row]
     begun = [row for key, row in after.items() if before.get(key) != row] if before else [*after.values()]
     # in the order of its keys a table is written quickest
     begun.sort(key=operator.itemgetter(*range(table.keys)))
     names = [name.strip() for name in table.columns.split(",")]
     where = " AND ".join(f"{name} = ?" for name in names[: table.keys])
+    if again:
+        connection.executemany(f"DELETE FROM {table.name} WHERE since = ? AND {where} AND {NOW}", ended)
     connection.executemany(f"UPDATE {table.name} SET until = ? WHERE {where} AND {NOW}", ended)
     with indexes_behind(connection, table.name, len(begun)):
         insert_many(connection, f"{table.name} (since, {table.columns})", begun, [change])
@@ -88,6 +97,27 @@ def bring_back(connection: sqlite3.Connection, change: int, earlier: int) -> Non
     """Makes the state after an earlier change, or the empty one before the first, that of a change."""
     for table in TABLES:
         write_rows(connection, table, change, rows_now(connection, table), rows_then(connection, table, earlier))
+
+
+def kept_records(connection: sqlite3.Connection) -> str:
+    """What the book keeps of the register's animals now, as the program writes records: in age order."""
+    line = (
+        "number || ',' || born || ',' || ifnull(sire, '0') || ',' || ifnull(dam, '0') || ',' || herd || ',' || "
+        "owned_since || ',' || ifnull(departed, '-') || ',' || iif(embryo, '1', '') AS line"
+    )
+    among = f"FROM {ALL_ROWS} WHERE {NOW} AND born IS NOT NULL ORDER BY born, number"
+    return text_of_lines(connection, f"SELECT {line} {among}")
+
+
+def text_of_lines(connection: sqlite3.Connection, lines: str) -> str:
+    """The lines of a question as one text, which the database puts together in their order."""
+    found = connection.execute(f"SELECT group_concat(line, char(10)) FROM ({lines})").fetchone()[0]
+    return f"{found}\n" if found else ""
+
+
+def read_givers(connection: sqlite3.Connection) -> dict[str, int]:
+    """The herd that gave each animal last, of those that were given on."""
+    return dict(connection.execute(f"SELECT number, giver FROM {ALL_ROWS} WHERE {NOW} AND giver IS NOT NULL"))
 
 
 def read_remembered(connection: sqlite3.Connection, change: int | None = None) -> list[Meaning]:
@@ -114,6 +144,11 @@ def select_rows(connection: sqlite3.Connection, where: str, *values: object) -> 
 def rows_with_id(connection: sqlite3.Connection, id: str) -> list[AnimalRow]:
     """The row of the last state with an id, also of an animal that was dropped; none where there is none."""
     return select_rows(connection, "id = ?", id)
+
+
+def cells_of(connection: sqlite3.Connection, id: str) -> list[Values]:
+    """The last cells of an animal, by its id; none where no sheet had a row for it."""
+    return connection.execute(f"SELECT {CELLS.columns} FROM {CELLS.name} WHERE id = ? AND {NOW}", (id,)).fetchall()
 
 
 # How owners are written. The table has the name by which each came; what is remembered says how it is written now, one
@@ -207,10 +242,16 @@ class State:
     # animals that don't descend from it stay
     born: str = ""
     corrected: str = ""
+    # the numbers of animals without offspring that are born at once, where nothing else changes
+    born_together: tuple[str, ...] = ()
+    # what animals were called, where that changes
+    former_ids: Rows | None = None
+    # rows of other tables
+    others: tuple[tuple[Table, Rows], ...] = ()
     # all coefficients after it as the program writes them, where somebody asked before
     coefficients: list[str] | None = None
 
 
-def animal_rows(known: dict[str, SocietyRecord], records: dict[str, RegisterRecord]) -> dict[Values, Values]:
+def animal_rows(animals: dict[str, SocietyRecord], records: dict[str, RegisterRecord]) -> dict[Values, Values]:
     """The rows of animals, by their ids; one that was dropped has no record."""
-    return {(id,): row_of(one, records.get(one.registration_number)) for id, one in known.items()}
+    return {(id,): row_of(one, records.get(one.registration_number)) for id, one in animals.items()}

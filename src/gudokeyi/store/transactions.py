@@ -10,9 +10,10 @@ from collections.abc import Callable, Iterator
 from typing import BinaryIO, TypeVar
 
 from gudokeyi.domain.messages import CALLED
-from gudokeyi.domain.mistakes import BookUnusable, NoBook
+from gudokeyi.domain.mistakes import BookBusy, BookUnusable, NoBook
+from gudokeyi.domain.waiting import seconds_left
 from gudokeyi.store.database import (
-    CLOSED, SECONDS_TO_WAIT, TRIES, connect, is_empty, migrate, path_of, primary, told, version_of, with_unfinished,
+    CLOSED, TRIES, connect, is_empty, migrate, path_of, primary, told, version_of, with_unfinished,
 )  # fmt: skip
 from gudokeyi.store.messages import BookFault
 from gudokeyi.store.schema import VERSION
@@ -119,7 +120,7 @@ def copy_of(path: pathlib.Path, room: pathlib.Path) -> pathlib.Path:
         if marks(path) == before:
             return copy
         time.sleep(0.05)
-    raise BookUnusable(BookFault.ALWAYS_CHANGED.said(path=path))
+    raise BookBusy(BookFault.ALWAYS_CHANGED.said(path=path))
 
 
 def marks(path: pathlib.Path) -> list[tuple[int, int, int] | None]:
@@ -285,7 +286,7 @@ def checkpoint(connection: sqlite3.Connection) -> None:
     try:
         connection.execute("PRAGMA wal_checkpoint(TRUNCATE)")
     finally:
-        connection.execute(f"PRAGMA busy_timeout = {SECONDS_TO_WAIT * 1000}")
+        connection.execute(f"PRAGMA busy_timeout = {round(seconds_left() * 1000)}")
 
 
 def is_made(path: pathlib.Path, change: int, time_of_change: int) -> bool:

@@ -3,28 +3,23 @@ link that the terminal shows."""
 from __future__ import annotations
 
 import base64
-import contextlib
-import copy
 import hashlib
 import hmac
 import re
-from collections.abc import Callable
+import time
 from dataclasses import dataclass
-from typing import Any, Protocol
+from typing import Protocol
 
 from flask import Blueprint, Flask, Request, abort, current_app, g, redirect, request, session, url_for
 from flask.typing import ResponseReturnValue
 from flask.wrappers import Response
 from flask_wtf.csrf import CSRFProtect
-from waitress.channel import HTTPChannel
-from waitress.parser import HTTPRequestParser
-from waitress.task import WSGITask
 from werkzeug.wrappers import Response as AnyResponse
 
-from gudokeyi.domain.messages import Mistake
 from gudokeyi.domain.people import WORKER, AccountRole, Person
+from gudokeyi.domain.waiting import SECONDS_OF_PAGE, UNTIL
 from gudokeyi.services.imports import MOST_BACKUP_BYTES, MOST_BYTES
-from gudokeyi.web.files import CONNECTION
+from gudokeyi.services.seals import MOST_BYTES as MOST_CERTIFICATE_BYTES
 
 # Who asks the desk, and what each may do at the book.
 
@@ -45,23 +40,34 @@ def the_person() -> Person | None:
 
 INSPECTOR, CLERK, KEEPER = AccountRole.INSPECTOR, AccountRole.CLERK, AccountRole.KEEPER
 # what anybody may ask for: the doors, the styles of their pages and the language
-OPEN_TO_ALL = ("door.enter", "login.page", "login.enter", "static", "start.icon", "start.language")
+OPEN_TO_ALL = ("door.enter", "login.page", "login.enter", "static", "start.icon", "start.language", "start.about")
+# what whoever has a password that a keeper gave may ask for before it is changed
+OF_OWN_PASSWORD = ("login.password", "login.change_password", "login.leave")
 # whoever may ask for the others has this role at least
 LEAST = {
     "start.page": INSPECTOR, "animals.page": INSPECTOR, "animals.file": INSPECTOR, "animals.search": INSPECTOR,
+    "years.page": INSPECTOR, "years.this_year": INSPECTOR, "years.file": INSPECTOR,
     "animal.page": INSPECTOR, "animal.certificate": INSPECTOR, "animal.certificates_of_many": INSPECTOR,
-    "animal.pedigree": INSPECTOR, "matings.page": INSPECTOR, "matings.file": INSPECTOR, "matings.plan": INSPECTOR,
+    "animal.pedigree": INSPECTOR, "animal.sealed": INSPECTOR, "matings.page": INSPECTOR, "matings.file": INSPECTOR, "matings.plan": INSPECTOR,
     "matings.plan_file": INSPECTOR, "breed.page": INSPECTOR, "history.page": INSPECTOR, "history.change": INSPECTOR,
     "history.report": INSPECTOR, "filing.answer": INSPECTOR, "settings.page": INSPECTOR,
+    "seals.page": INSPECTOR, "seals.lines": INSPECTOR, "seals.check": INSPECTOR, "seals.publish": KEEPER,
     "sheet.page": CLERK, "sheet.drop": CLERK, "sheet.drop_example": CLERK, "sheet.look": CLERK, "sheet.choose": CLERK,
-    "sheet.take_suggestion": CLERK, "sheet.take": CLERK, "sheet.taking": CLERK, "sheet.leave": CLERK,
+    "work.stop": INSPECTOR, "sheet.take_suggestion": CLERK, "sheet.take": CLERK, "sheet.taking": CLERK, "sheet.leave": CLERK,
     "history.backup": CLERK, "filing.page": CLERK, "filing.form": CLERK, "filing.file": CLERK,
+    "correcting.form": CLERK, "correcting.correct": CLERK, "notes.form": CLERK, "notes.write": CLERK,
+    "owners.page": INSPECTOR, "owners.file": CLERK, "owners.form": CLERK, "owners.write": CLERK, "owners.merge": KEEPER,
+    "owners.ask_erase": KEEPER, "owners.erase": KEEPER,
+    "own_columns.page": INSPECTOR, "own_columns.change": KEEPER, "own_columns.form": CLERK, "own_columns.write": CLERK,
+    "litters.form": CLERK, "litters.file": CLERK,
     "history.ask_undo": KEEPER, "history.bring_back": KEEPER, "settings.change": KEEPER,
+    "history.ask_take_back": KEEPER, "history.take_it_back": KEEPER,
     "restoring.page": KEEPER, "restoring.drop": KEEPER, "restoring.look": KEEPER, "restoring.bring_back": KEEPER,
     "restoring.under_way": KEEPER,
     "login.leave": INSPECTOR, "login.password": INSPECTOR, "login.change_password": INSPECTOR,
     "folder.page": KEEPER, "folder.choose": KEEPER, "folder.close": KEEPER,
-    "accounts.page": KEEPER, "accounts.add": KEEPER, "accounts.change": KEEPER, "accounts.remove": KEEPER,
+    "accounts.page": KEEPER, "accounts.add": KEEPER, "accounts.change": KEEPER, "accounts.ask_removal": KEEPER,
+    "accounts.remove": KEEPER,
 }  # fmt: skip
 
 
@@ -101,11 +107,9 @@ MOST_FORM_BYTES, MOST_FIELDS, MOST_LETTERS, MOST_IN_NAME = 64 << 10, 200, 10_000
 # a file comes in a form, which has something beside it: so many parts, and of these so much in memory
 MOST_PARTS, MOST_BESIDE, MOST_IN_MEMORY = 20, 100_000, 512 << 10
 # the pages that take files, each with the bytes that a file of its kind has at most
-FILES = {"sheet.drop": MOST_BYTES, "restoring.drop": MOST_BACKUP_BYTES}
+FILES = {"sheet.drop": MOST_BYTES, "restoring.drop": MOST_BACKUP_BYTES, "seals.check": MOST_CERTIFICATE_BYTES}
 # the bytes and the fields of an address behind its question mark
 MOST_QUERY_BYTES, MOST_QUERY_FIELDS = 4 << 10, 50
-# what is a little too large for a page is told to somebody who is known, in their language; the rest isn't received
-MOST_TOLD = 1 << 20
 
 
 def most_of_file(endpoint: str) -> int:
@@ -151,53 +155,12 @@ def look_at_body() -> None:
         abort(413)
 
 
-def bound_of(app: Flask, headers: dict[str, str], address: str) -> int:
-    """The bytes that are received of a body at most. A file's are received of somebody alone who may drop it there."""
-    sender = {"HTTP_COOKIE": headers.get("COOKIE", ""), "REQUEST_METHOD": "POST", "PATH_INFO": address}
-    with app.request_context(SOMEWHERE | sender):
-        # accounts that can't be read are told by the page
-        with contextlib.suppress(Mistake):
-            g.person = the_logins().person()
-        if the_person() is None:
-            return MOST_FORM_BYTES
-        return MOST_TOLD + most_of_file(request.endpoint or "")
-
-
-# what counts only once it arrived
-SENT_TO_END = ("/book.sqlite",)
-# what WSGI wants to be told beside of a request
-SOMEWHERE = {"SERVER_NAME": "localhost", "SERVER_PORT": "80", "wsgi.url_scheme": "http"}
-
-
-def bounded_channel(app: Callable[[], Flask]) -> Any:
-    """The class of the connections of the app of the moment. Of a body no more is received than whoever sends it may
-    send; a request for a file ends its connection, which it has, so that it is seen whether that arrived."""
-
-    def parse_header(self: Any, header: bytes) -> None:
-        HTTPRequestParser.parse_header(self, header)
-        if self.content_length or self.chunked:
-            # others have these bounds too; waitress refuses what is as long as its bound
-            self.adj = copy.copy(self.adj)
-            self.adj.max_request_body_size = bound_of(app(), self.headers, self.path) + 1
-        if self.path in SENT_TO_END:
-            self.headers["CONNECTION"] = "close"
-
-    def get_environment(self: Any) -> dict[str, Any]:
-        environ: dict[str, Any] = WSGITask.get_environment(self)
-        if environ["PATH_INFO"] in SENT_TO_END:
-            environ[CONNECTION] = self.channel.socket
-        return environ
-
-    # waitress has no types from which a class may be made
-    parser: Any = type("BoundedParser", (HTTPRequestParser,), {"parse_header": parse_header})
-    task: Any = type("ConnectedTask", (WSGITask,), {"get_environment": get_environment})
-    return type("BoundedChannel", (HTTPChannel,), {"parser_class": parser, "task_class": task})
-
-
 # What each request is looked at for before it is answered: whether this server is meant, who asks, and whether that is
 # allowed. Nothing is changed by a page of another site.
 
 READS = ("GET", "HEAD", "OPTIONS")
+# the moment until which a request waits for others, as its connection says it
+WAITS_UNTIL = "gudokeyi.until"
 POLICY = (
     "default-src 'none'; script-src 'self'; style-src 'self'{}; img-src 'self'; connect-src 'self'; "
     "form-action 'self'; base-uri 'none'; frame-ancestors 'none'"
@@ -230,7 +193,7 @@ class Logins(Protocol):
         """What is answered to somebody who isn't known."""
 
     def not_allowed(self) -> str:
-        """Why somebody who is known isn't answered, by the name of the text."""
+        """Why somebody who is known isn't answered, as `REFUSED` in `web/mistakes.py` has it."""
 
 
 def guard(app: Flask, logins: Logins) -> None:
@@ -246,13 +209,19 @@ def guard(app: Flask, logins: Logins) -> None:
     app.extensions["logins"] = logins
     logins.set_up(app)
     app.before_request(look_at_request)
+    app.teardown_request(wait_no_more)
     tokens.init_app(app)
     app.after_request(with_headers)
+
+
+def wait_no_more(_: BaseException | None) -> None:
+    UNTIL.set(None)
 
 
 def look_at_request() -> ResponseReturnValue | None:
     logins = the_logins()
     WORKER.set("")
+    UNTIL.set(request.environ.get(WAITS_UNTIL, time.monotonic() + SECONDS_OF_PAGE))
     origin = logins.origin()
     look_at_query()
     if request.method not in READS and is_of_another_site(origin):
@@ -268,6 +237,9 @@ def look_at_request() -> ResponseReturnValue | None:
     if request.endpoint and not may(request.endpoint):
         abort(403, logins.not_allowed())
     look_at_body()
+    # what somebody else knows is no password
+    if person.for_one_login and request.endpoint not in OF_OWN_PASSWORD:
+        return redirect(url_for("login.password"))
     return None
 
 

@@ -65,10 +65,10 @@ class ServerAddress:
     def client(self) -> str:
         """The address of who asks. What a proxy says of it is believed of the proxy alone, and of what it says only
         what it wrote itself, which stands last."""
-        peer = request.remote_addr or ""
+        peer = plain_address(request.remote_addr or "")
         if not self.proxy:
             return peer
-        if peer != self.proxy:
+        if peer != plain_address(self.proxy):
             abort(403, "not by proxy")
         told = ",".join(request.headers.getlist(FOR)).rpartition(",")[2].strip()
         try:
@@ -86,8 +86,27 @@ class ServerAddress:
         return f"{self.scheme}://{host}"
 
 
+def plain_address(text: str) -> str:
+    """An address as it is written otherwise too: one of IPv4 as a server of IPv6 sees it is that one."""
+    try:
+        found = ipaddress.ip_address(text)
+    except ValueError:
+        return text
+    return str((found.ipv4_mapped or found) if isinstance(found, ipaddress.IPv6Address) else found)
+
+
+def refuse_no_address(proxy: str) -> None:
+    """A mistake where a proxy isn't named by an address, of which alone its headers are believed."""
+    try:
+        ipaddress.ip_address(proxy)
+    except ValueError:
+        raise Mistake(f"'{proxy}' isn't the address of a proxy: write one as 127.0.0.1") from None
+
+
 def server_address(place: ListenAddress, names: list[str], proxy: str) -> ServerAddress:
-    """A mistake where it isn't known by which name browsers ask."""
+    """A mistake where it isn't known by which name browsers ask, or which proxy does."""
+    if proxy:
+        refuse_no_address(proxy)
     for name in names:
         if not re.fullmatch(r"[a-z0-9.-]+(:\d+)?|\[[0-9a-f:]+\](:\d+)?", name.lower()):
             raise Mistake(f"'{name}' can't be a name of a server: write one as herdbook.example.org")

@@ -6,13 +6,14 @@ import datetime
 import pathlib
 from dataclasses import dataclass
 
-from gudokeyi.domain.changes import Mark
+from gudokeyi.domain.changes import NO_MARK, Mark
+from gudokeyi.domain.kinds import Doing
 from gudokeyi.services.book_program import BookProgram
 from gudokeyi.services.history import change_numbered
-from gudokeyi.services.opening import Overtaken, book_in
+from gudokeyi.services.opening import Book, Overtaken, book_in
 from gudokeyi.services.restoring import mark_now, prepared_copy, restore
 from gudokeyi.web.sheet_work import Imported
-from gudokeyi.web.workers import Doing, Tell
+from gudokeyi.web.workers import Tell
 
 # so often it is tried again where somebody changes the book in another process
 TRIES = 9
@@ -20,11 +21,20 @@ TRIES = 9
 
 @dataclass(frozen=True)
 class Backup:
-    """How much a backup has, and when its last change was made."""
+    """How much a backup has, and when its last change was made; `mark` is that of this one."""
 
     changes: int
     animals: int
     time: datetime.datetime | None
+    mark: Mark = NO_MARK
+
+
+def taken_away(book: Book, backup: Backup) -> int:
+    """How many changes of a book a backup lacks: those behind its last one, or all where that is of another book."""
+    if book.change is None:
+        return 0
+    common = change_numbered(book, backup.mark[0])
+    return book.change.number - (common.number if common and common.mark == backup.mark else 0)
 
 
 def looked_into(path: pathlib.Path, tell: Tell) -> Backup:
@@ -33,16 +43,17 @@ def looked_into(path: pathlib.Path, tell: Tell) -> Backup:
     with prepared_copy(path, BookProgram()) as (book, change):
         # the last one tells of the restoring
         last = change_numbered(book, change.number - 1)
-        return Backup(change.number - 1, len(book.known), last.time if last else None)
+        mark = last.mark if last else NO_MARK
+        return Backup(change.number - 1, len(book.society_records), last.time if last else None, mark)
 
 
-def restored(folder: pathlib.Path, path: pathlib.Path, looked: Mark, tell: Tell) -> Imported:
-    """Restores it, if the book has the change that was looked at. That goes to the folder `old`, with what others
-    changed since then: else nobody could restore a book at which many work."""
+def restored(folder: pathlib.Path, path: pathlib.Path, looked: Mark, anyway: bool, tell: Tell) -> Imported:
+    """Restores it, if the book is the one that was looked at. What others changed since then goes with it to the folder
+    `old` only where that was wished: so somebody restores a book at which many work."""
     tell(Doing.RESTORING)
     for _ in range(TRIES):
         now = mark_now(folder)
-        if now is not None and not follows(folder, now, looked):
+        if now is not None and not (follows(folder, now, looked) if anyway else now == looked):
             break
         with contextlib.suppress(Overtaken):
             change = restore(folder, path, BookProgram(), anyway=True, looked=now or looked)

@@ -17,10 +17,8 @@ from gudokeyi.services.breed_pedigree import Breed, breed_of, mean_kinships_of, 
 from gudokeyi.services.cache import mark_of
 from gudokeyi.services.opening import Book, only_read
 from gudokeyi.web.served_book import ServedBook
+from gudokeyi.web.work_places import BREED as BREED
 from gudokeyi.web.workers import Job, Stage, Tell
-
-BREED = "breed"
-
 
 @dataclass(frozen=True)
 class Whom:
@@ -42,7 +40,9 @@ class Measured:
 
 def measures_of(served: ServedBook, book: Book, whom: Whom) -> Job:
     """The work on the measures of the book as it is now, which is begun where it wasn't."""
-    return served.jobs.of((BREED, mark_of(book), whom), measured, (served.folder, whom))
+    # of a book that others change all the time it is done of one state after the other
+    under_way = served.jobs.under_way(BREED, whom)
+    return under_way or served.jobs.of((BREED, mark_of(book), whom), measured, (served.folder, whom))
 
 
 def measured(folder: pathlib.Path, whom: Whom, tell: Tell) -> Measured:
@@ -67,11 +67,8 @@ def population_of(breed: Breed, whom: Whom) -> Sequence[int]:
 def said_of(whom: Whom, words: BreedWords) -> str:
     """Who the population is, as the word `breed` says it."""
     if whom.owner:
-        return words.word("owner").format(whom.owner)
-    if whom.born:
-        first, last = map(words.language.day, whom.born)
-        return words.word("born").format(f"{first} – {last}")
-    return words.word("living")
+        return words.of_owner(whom.owner)
+    return words.of_born(*whom.born) if whom.born else words.of_living()
 
 
 def kinship_of(served: ServedBook, book: Book, number: str) -> Fraction | None:

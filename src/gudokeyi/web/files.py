@@ -52,6 +52,14 @@ class Upload:
     time: float
     columns: dict[str, str] = field(default_factory=dict)
     options: dict[str, str] = field(default_factory=dict)
+    # what columns are kept as that the book doesn't know
+    others: dict[str, str] = field(default_factory=dict)
+    # how often it was looked at anew, and the animals that alone are asked about
+    looks: int = 0
+    again: tuple[str, ...] = ()
+
+    def look_anew(self, again: tuple[str, ...] = ()) -> None:
+        self.looks, self.again = self.looks + 1, again
 
 
 class Uploads:
@@ -129,9 +137,9 @@ def harmless(name: str) -> str:
 
 
 # A file that a browser is sent, and what is done once it has the whole of it. That all was handed on says little: the
-# system takes megabytes, and a browser may go away before they arrive. So the server says that nothing follows, and waits
-# for how the other side ends: one that didn't read all that came is told otherwise by the system than one that did. What
-# isn't known is what became of it behind a proxy, which reads for somebody else, and whether it was kept.
+# system takes megabytes, and a browser may go away before they arrive. So the server says that nothing follows, and
+# waits for how the other side ends: one that didn't read all that came is told otherwise by the system than one that
+# did. What isn't known is what became of it behind a proxy, which reads for somebody else, and whether it was kept.
 
 # where the server has the connection of a request
 CONNECTION = "gudokeyi.connection"

@@ -11,11 +11,11 @@ from gudokeyi.domain.kinds import ChangeKind
 from gudokeyi.domain.messages import Mistake
 from gudokeyi.domain.requests import WebFault
 from gudokeyi.services.filing import (
-    FiledCommand, Offspring, born, clean, departed, file, parent_named, transferred, with_parents,
+    FiledCommand, Offspring, born, clean, departed, file, looked_at, parent_named, refuse_unseen, transferred, with_parents,
 )  # fmt: skip
 from gudokeyi.services.opening import Book
 from gudokeyi.services.search import find
-from gudokeyi.web.forms import OF_ANIMAL, ROLES, change_once, made_by, parents_of, shown_in, token_with
+from gudokeyi.web.forms import ANYWAY, OF_ANIMAL, ROLES, change_once, made_by, parents_of, shown_in, token_with
 from gudokeyi.web.served_book import ServedBook
 
 # the kinds of commands with the fields of their forms, which the history has as options but for the animal
@@ -99,18 +99,18 @@ class Form:
         return with_parents(book, self.animal(book), sire, dam)
 
     def roles_said(self, book: Book) -> tuple[str, ...]:
-        """Which parents somebody wrote otherwise than the form showed them; both where none was, or where it showed none
-        and nothing is left empty that the book has."""
-        known, shown = self.animal(book), shown_in(self.given)
-        now = parents_of(book, known)
+        """Which parents somebody wrote otherwise than the form showed them; both where none was, or where it showed
+        none and nothing is left empty that the book has."""
+        animal, shown = self.animal(book), shown_in(self.given)
+        now = parents_of(book, animal)
         if shown is None:
             if any(now[role] and not self.text(role) for role in ROLES):
-                raise Mistake(WebFault.NONE_SHOWN.said(id=known.id))
+                raise Mistake(WebFault.NONE_SHOWN.said(id=animal.id))
             return ROLES
-        if self.given[OF_ANIMAL] != known.id:
-            raise Mistake(WebFault.OTHER_SHOWN.said(shown=self.given[OF_ANIMAL], id=known.id))
+        if self.given[OF_ANIMAL] != animal.id:
+            raise Mistake(WebFault.OTHER_SHOWN.said(shown=self.given[OF_ANIMAL], id=animal.id))
         if shown != now:
-            raise Mistake(WebFault.PARENTS_CHANGED.said(id=known.id))
+            raise Mistake(WebFault.PARENTS_CHANGED.said(id=animal.id))
         return tuple(role for role in ROLES if self.text(role) != " ".join(shown[role].split())) or ROLES
 
     def transfer(self, book: Book) -> FiledCommand:
@@ -128,12 +128,15 @@ def written_in(change: Change, id: str) -> dict[str, str]:
 def file_form(served: ServedBook, form: Form) -> Change:
     """The change with which the command and its reply are stored."""
     with served.opened() as before:
-        # which animals may be meant by a wrong word takes long to find, and so does a coefficient: nobody waits for that
+        # which animals may be meant by a wrong word takes long to find: nobody waits for that
         if before is not None and not made_by(before, form.token):
             form.named(before)
-            sire, dam = (form.parent(before, role) for role in ("sire", "dam"))
-            if form.kind is ChangeKind.BIRTH and sire and dam:
-                served.program.expect(before, sire.registration_number, dam.registration_number, form.day())
-    change = change_once(served, form.token, lambda book: file(book, served.program, form.command(book))[0])
+
+    def make(book: Book) -> Change:
+        one = looked_at(book, form.command(book))
+        refuse_unseen(one.warnings, form.text(ANYWAY))
+        return file(book, served.program, one)[0]
+
+    change = change_once(served, form.token, make)
     assert change is not None
     return change

@@ -11,6 +11,7 @@ from flask import abort, request
 from gudokeyi.domain.animals import SocietyRecord
 from gudokeyi.domain.changes import Change, Mark
 from gudokeyi.domain.messages import Mistake
+from gudokeyi.domain.options import IMPORT, ON_PAGE, Kind
 from gudokeyi.services.history import change_made_by
 from gudokeyi.services.imports import ImportOptions, read_sexes, rename_owners
 from gudokeyi.services.opening import Book
@@ -76,6 +77,11 @@ def sent_mark() -> Mark:
     return int(found[1]), int(found[2])
 
 
+# Which warnings a form showed: what is sent with them is filed all the same.
+
+ANYWAY = "anyway"
+
+
 # The parents that a form showed of an animal: what was left of them as it was isn't said, also of another animal, and
 # where others stand in the book by now that is seen.
 
@@ -84,9 +90,9 @@ ROLES = ("sire", "dam")
 OF_ANIMAL, SHOWN = "shown-id", "shown-{}"
 
 
-def parents_of(book: Book, known: SocietyRecord) -> dict[str, str]:
+def parents_of(book: Book, animal: SocietyRecord) -> dict[str, str]:
     """The ids of an animal's parents, empty for an unknown one."""
-    record = book.records[known.registration_number]
+    record = book.records[animal.registration_number]
     named = {"sire": record.sire, "dam": record.dam}
     return {role: book.by_number()[number].id if number else "" for role, number in named.items()}
 
@@ -96,11 +102,11 @@ def shown_in(given: Mapping[str, str]) -> dict[str, str] | None:
     return {role: given.get(SHOWN.format(role), "") for role in ROLES} if given.get(OF_ANIMAL) else None
 
 
-def with_those_of_now(book: Book, given: Mapping[str, str], known: SocietyRecord) -> dict[str, str]:
+def with_those_of_now(book: Book, given: Mapping[str, str], animal: SocietyRecord) -> dict[str, str]:
     """The fields of a form that shows the parents as the book has them now, but for what somebody wrote."""
-    now, before = parents_of(book, known), shown_in(given) or dict.fromkeys(ROLES, "")
+    now, before = parents_of(book, animal), shown_in(given) or dict.fromkeys(ROLES, "")
     left = {role: id for role, id in now.items() if role not in given or given[role] == before.get(role)}
-    return {**given, **left, OF_ANIMAL: known.id, **{SHOWN.format(role): id for role, id in now.items()}}
+    return {**given, **left, OF_ANIMAL: animal.id, **{SHOWN.format(role): id for role, id in now.items()}}
 
 
 # Fields of a form that can't be read so, each with why.
@@ -114,22 +120,21 @@ def owners_of(text: str) -> list[str]:
     return [one.strip() for one in text.split(BETWEEN) if one.strip()]
 
 
-READERS: dict[str, Callable[[str], object]] = {
-    "breed": three_letters,
-    "country": three_letters,
-    "day": day_until_today,
-    "youngest": days,
-    "apart": days,
-    "sexes": lambda text: read_sexes([text]),
+READERS: dict[Kind, Callable[[str], object]] = {
+    Kind.LETTERS: three_letters,
+    Kind.DAY: day_until_today,
+    Kind.DAYS: days,
+    Kind.SEXES: lambda text: read_sexes([text]),
 }
-# these are written in capitals
-CODES = ("breed", "country")
+# the fields of the page of a sheet, by their names
+SHEET_FIELDS = {IMPORT[name].in_form: IMPORT[name] for name in ON_PAGE}
 
 
 def cleaned(name: str, text: str) -> str:
     """What somebody wrote into a field, without blanks around it; three letters in capitals."""
     found = text.strip()
-    return found.upper() if name in CODES and len(found) == 3 and found.isascii() else found
+    is_code = name in IMPORT and IMPORT[name].kind is Kind.LETTERS
+    return found.upper() if is_code and len(found) == 3 and found.isascii() else found
 
 
 def wrong_fields(given: Mapping[str, str], book: Book) -> dict[str, str]:
@@ -139,11 +144,12 @@ def wrong_fields(given: Mapping[str, str], book: Book) -> dict[str, str]:
     def renamed(text: str) -> None:
         rename_owners(book, ImportOptions(book.folder, owners=owners_of(text)))
 
+    readers = READERS | {Kind.OWNERS: renamed}
     found = {}
-    for name, reader in (READERS | {"owner": renamed}).items():
+    for name, one in SHEET_FIELDS.items():
         try:
-            if given.get(name):
-                reader(given[name])
+            if given.get(name) and one.kind in readers:
+                readers[one.kind](given[name])
         except Mistake as mistake:
             found[name] = mistake.sentences[0]
     return found

@@ -1,79 +1,23 @@
-"""What a page says, in the language that somebody chose."""
+"""In which language a page is said, and mistakes as it shows them: in this language, and without the machine's
+paths."""
 from __future__ import annotations
 
-import datetime
+import contextlib
 import enum
-import re
-from fractions import Fraction
+from collections.abc import Iterable
 
 from flask import g, request, session
 
-from gudokeyi.domain.decimals import percent
-from gudokeyi.domain.findings import What
-from gudokeyi.domain.kinds import ChangeKind, CommandKind, Field, Role, Standing
-from gudokeyi.domain.refusals import MatingFault, Refusal
+from gudokeyi.domain.kinds import CommandKind, Field
+from gudokeyi.domain.messages import MessageText, Mistake
 from gudokeyi.domain.settings import LANGUAGES, Setting
-from gudokeyi.locale import TEXTS
-from gudokeyi.locale.members import MEMBERS
-from gudokeyi.render.languages import Language
-from gudokeyi.services.plans import Step, Unmated
+from gudokeyi.render.page_language import PageLanguage, name_of
+from gudokeyi.render.page_wording import MessageView, sentence_in
 from gudokeyi.services.settings import settings_of
 from gudokeyi.web.served_book import served_book
-from gudokeyi.web.workers import Doing
-
-# What a page says, in the language that somebody chose.
 
 CHOSEN = "language"
-# a day as sheets are read
-DAY = re.compile(r"\d{4}-\d\d-\d\d")
-# the blanks before and behind these don't end a line in French
-SIGNS = re.compile(" (?=[:;?!»])|(?<=«) ")
 NAMES_OF_LANGUAGES = {"en": "English", "de": "Deutsch", "fr": "Français"}
-
-
-class PageLanguage:
-    """The texts of a language, and how it writes days and numbers."""
-
-    def __init__(self, language: str) -> None:
-        self.at, self.language = LANGUAGES.index(language), Language(language)
-
-    def __call__(self, what: str, *values: object) -> str:
-        text = self.spaced(TEXTS[what][self.at])
-        return text.format(*values) if values else text
-
-    def spaced(self, text: str) -> str:
-        """A text of the catalogue: in French no line begins with a sign, nor ends with a quotation mark that opens."""
-        return SIGNS.sub("\u00a0", text) if self.language.name == "fr" else text
-
-    def counted(self, what: str, count: int, *values: object) -> str:
-        """A text that counts, also one of several values, whose first is the count. French counts none as one."""
-        is_one = count == 1 or count == 0 and self.language.name == "fr"
-        return self(f"{what} (one)" if is_one else what, self.language.count(count), *values)
-
-    @property
-    def colon(self) -> str:
-        """With the blank before it that French has."""
-        return "\u00a0:" if self.language.name == "fr" else ":"
-
-    def day(self, day: object) -> str:
-        return self.language.day(day) if day else ""
-
-    def written(self, text: str) -> str:
-        """A text of a sheet; a day, which may be that of an .xlsx file, as the language writes it."""
-        return self.day(text) if DAY.fullmatch(text) else text
-
-    def time(self, time: datetime.datetime) -> str:
-        here = time.astimezone()
-        return f"{self.day(here.date())} {here:%H:%M}"
-
-    def count(self, number: int) -> str:
-        return self.language.count(number)
-
-    def percent(self, text: str) -> str:
-        return self.language.percent(text)
-
-    def percent_of(self, value: Fraction) -> str:
-        return self.percent(percent(value))
 
 
 def usual_language() -> str:
@@ -94,18 +38,61 @@ def page_language() -> PageLanguage:
     return words
 
 
-# What a member of an enum is called on a page.
-
-# the names of texts for the members of an enum, made of a member's value
-NAMES_OF_MEMBERS: dict[type[enum.Enum], str] = {
-    Refusal: "refusal {}", MatingFault: "mating refused {}", Role: "{}", Field: "field {}", CommandKind: "command {}",
-    ChangeKind: "command {}", Standing: "standing {}", What: "what {}", Unmated: "unmated {}", Step: "doing {}",
-    Doing: "doing {}",
-}  # fmt: skip
+def gettext(text: str, *values: object) -> str:
+    """A text in the request's language."""
+    return page_language().gettext(text, *values)
 
 
-def word_for(member: enum.Enum, words: PageLanguage) -> str:
-    """Of some members a text has a place for a value."""
-    if member in MEMBERS:
-        return MEMBERS[member][words.at]
-    return words(NAMES_OF_MEMBERS[type(member)].format(member.name if isinstance(member, Unmated) else member.value))
+def pgettext(context: str, text: str, *values: object) -> str:
+    return page_language().pgettext(context, text, *values)
+
+
+def ngettext(one: str, several: str, count: int, *values: object) -> str:
+    return page_language().ngettext(one, several, count, *values)
+
+
+def name_on_page(member: enum.Enum) -> str:
+    """What a member of an enum is called in the request's language."""
+    return name_of(member, page_language())
+
+
+def command_name(kind: str) -> str:
+    """What a kind of command is called, by the word for it in addresses."""
+    return name_on_page(CommandKind(kind))
+
+
+def field_name(field: str) -> str:
+    """What a field of a sheet is called, by its own name."""
+    return name_on_page(Field(field))
+
+
+# Mistakes as a page shows them.
+
+
+def on_page(sentences: Iterable[str]) -> list[MessageView]:
+    sentences = list(sentences)
+    # for the log, which has no values
+    g.told = [*g.get("told", []), *(name for one in sentences if (name := code_of(one)))]
+    return without_paths(sentence_in(sentence, page_language()) for sentence in sentences)
+
+
+def code_of(sentence: str) -> str:
+    """By which a sentence is known, without what somebody wrote."""
+    message = sentence.sentence if isinstance(sentence, MessageText) else None
+    return f"{type(message).__name__}.{message.name}" if message else ""
+
+
+def without_paths(sentences: Iterable[MessageView]) -> list[MessageView]:
+    """The sentences with files by their names alone."""
+    served = served_book()
+    folders = [*served.uploads.folders()]
+    folders += [served.uploads.room, served.folder, served.folder.absolute(), served.folder.absolute().parent]
+    with contextlib.suppress(Mistake):
+        folders.append(served.program.path.parent)
+    found = list(sentences)
+    for folder in folders:
+        if str(folder) not in (".", "/"):
+            found = [
+                one._replace(text=one.text.replace(f"{folder}/", "").replace(str(folder), folder.name)) for one in found
+            ]
+    return found

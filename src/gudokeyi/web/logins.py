@@ -28,6 +28,7 @@ from gudokeyi.web.addresses import ServerAddress
 
 # so many guesses are free by one name, and from one address, behind which several may sit
 FREE_BY_NAME, FREE_BY_ADDRESS = 5, 20
+BITS_OF_NETWORK = 56
 LONGEST = 900
 # so long a guess counts, in seconds, and so many names and addresses are kept in mind
 SECONDS, MOST = 3600, 20_000
@@ -44,24 +45,28 @@ class Throttle:
         self.clock, self.lock = clock, threading.Lock()
         self.guesses: OrderedDict[tuple[str, str], Guesses] = OrderedDict()
 
-    def begin(self, name: str, address: str) -> int:
-        """So many seconds somebody has to wait; 0 where the guess may be tried, which counts then as a wrong one."""
+    def wait_of(self, name: str, address: str) -> int:
+        """So many seconds somebody has to wait; 0 where a password may be tried."""
+        with self.lock:
+            return self.seconds(keys_of(name, address))
+
+    def tried(self, name: str, address: str, is_right: bool) -> int:
+        """Counts a password that was wrong; a right one ends what is counted by the name. Where others were wrong
+        meanwhile it isn't told what this one was, but how many seconds to wait: who tries many at once learns no
+        more."""
         keys = keys_of(name, address)
         with self.lock:
-            wait = max(self.wait(key, free) for key, free in keys.items())
-            if wait <= 0:
-                for key in keys:
-                    self.count(key)
-            return int(-(-wait // 1))
+            wait = self.seconds(keys)
+            if wait:
+                return wait
+            for key in keys if not is_right else ():
+                self.count(key)
+            if is_right:
+                self.guesses.pop(("name", name), None)
+            return 0
 
-    def was_right(self, name: str, address: str) -> None:
-        """Takes back what `begin` counted: all of the name, and one of the address."""
-        by_name, by_address = keys_of(name, address)
-        with self.lock:
-            self.guesses.pop(by_name, None)
-            found = self.guesses.get(by_address)
-            if found:
-                found.count -= 1
+    def seconds(self, keys: dict[tuple[str, str], int]) -> int:
+        return max(0, int(-(-max(self.wait(key, free) for key, free in keys.items()) // 1)))
 
     def wait(self, key: tuple[str, str], free: int) -> float:
         found = self.guesses.get(key)
@@ -85,12 +90,12 @@ def keys_of(name: str, address: str) -> dict[tuple[str, str], int]:
 
 
 def network_of(address: str) -> str:
-    """An address, or of one of IPv6 the network that one household has."""
+    """An address, or of one of IPv6 the network that one household or office has."""
     try:
         found = ipaddress.ip_address(address.partition("%")[0])
     except ValueError:
         return address
-    return str(ipaddress.ip_network((found, 64), strict=False)) if found.version == 6 else address
+    return str(ipaddress.ip_network((found, BITS_OF_NETWORK), strict=False)) if found.version == 6 else address
 
 
 # The log of what was asked and refused: a line for each request, without what somebody wrote into forms or addresses.
@@ -115,7 +120,9 @@ class AccessLog:
             return response
         rule = CONVERTER.sub("<", request.url_rule.rule) if request.url_rule else "-"
         took = round((time.monotonic() - g.get("began", time.monotonic())) * 1000)
-        why = f" {g.refused}" if "refused" in g else ""
+        why = "".join(f" {g.get(name)}" for name in ("refused", "done") if name in g)
+        if response.status_code >= 400 and "refused" not in g:
+            why = "".join(f" {one}" for one in dict.fromkeys(g.get("told", [])))
         self.tell(f"{g.get('client', '-')} {who} {request.method} {rule} {response.status_code} {took}ms{why}")
         return response
 
@@ -182,17 +189,19 @@ class AccountLogins:
     def try_to_log_in(self, name: str, password: str) -> Account | int:
         """The account, or how many seconds somebody has to wait; 0 where name or password are wrong."""
         key = folded(name)[:MOST_LETTERS]
-        wait = self.throttle.begin(key, g.client)
+        wait = self.throttle.wait_of(key, g.client)
+        account = None
+        if not wait:
+            account = self.accounts.fits(name, password)
+            wait = self.throttle.tried(key, g.client, account is not None)
         if wait:
             g.refused = "refused wait"
             return wait
-        account = self.accounts.fits(name, password)
         if account is None:
             # whoever is no account may be a password in the wrong field
-            known = self.accounts.found(name)
-            g.refused = f"refused login as {known.name}" if known else "refused login of an unknown name"
+            named = self.accounts.found(name)
+            g.refused = f"refused login as {named.name}" if named else "refused login of an unknown name"
             return 0
-        self.throttle.was_right(key, g.client)
         return account
 
     def begin(self, account: Account) -> None:
@@ -202,7 +211,7 @@ class AccountLogins:
         session.update(kept)
         session.permanent = True
         session[LOGIN] = self.accounts.begin_login(account)
-        g.person = Person(account.name, account.role)
+        g.person = Person(account.name, account.role, account.for_one_login)
 
     def end(self) -> None:
         token = session.get(LOGIN)

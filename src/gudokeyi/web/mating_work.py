@@ -5,34 +5,44 @@ from __future__ import annotations
 import contextlib
 import functools
 import pathlib
+import time
+from collections import deque
 from dataclasses import dataclass
 from fractions import Fraction
 
 from gudokeyi.domain.animals import SocietyRecord
 from gudokeyi.domain.changes import Mark
-from gudokeyi.domain.kinds import Role
+from gudokeyi.domain.kinds import Doing, Role
 from gudokeyi.domain.messages import MessageText, Mistake
 from gudokeyi.domain.requests import Mating, WebFault
 from gudokeyi.services.book_program import BookProgram
 from gudokeyi.services.book_session import BookMoved
 from gudokeyi.services.cache import mark_of
+from gudokeyi.services.history import change_numbered
 from gudokeyi.services.matings import Advice, advice_of, all_candidates, by_mating
 from gudokeyi.services.opening import Book, BookFault, only_read
-from gudokeyi.services.plans import Asked, Planned, Prepared, Unmated, best_plan, plan_table, prepared, usual_bounds
+from gudokeyi.services.plans import PlanRules, Planned, Prepared, Unmated, best_plan, plan_table, prepared, usual_bounds
+from gudokeyi.services.relationships import coefficient_told
+from gudokeyi.services.tables import Table
 from gudokeyi.web.served_book import ServedBook
-from gudokeyi.web.workers import ADVICE, Doing, Job, Stage, Tell
+from gudokeyi.web.work_places import PLANNING
+from gudokeyi.web.workers import ADVICE, Job, Stage, Tell
 
 # The plan of matings for all living dams, which is made in a process beside the server; what the program's session says
 # of its matings is compared with it before it is shown.
 
-PLAN, BESIDE = "plan", "plan beside"
+PLAN = "plan"
+# so long a plan that was made is shown though somebody changed the book since, in seconds
+SECONDS_SHOWN = 60
 # so often it is made of a book that somebody changes
 TRIES_FOR_PLAN = 5
+# so often somebody may change it while a plan that is made is compared
+TRIES_TO_COMPARE = 1_000
 
 
 @dataclass(frozen=True, slots=True)
 class Mate:
-    number: str
+    registration_number: str
     id: str
     name: str
 
@@ -56,8 +66,8 @@ class Bounds:
 
 @dataclass(frozen=True)
 class PlanMade:
-    """The matings, which dams have none and why, and the means, of the book with a mark; `text` is the file that the
-    word `plan` writes, with commas and with semicolons."""
+    """The matings, which dams have none and why, and the means, of the book with a mark; `table` is what the word
+    `plan` writes."""
 
     mark: Mark
     bounds: Bounds
@@ -66,7 +76,7 @@ class PlanMade:
     mean: Fraction | None
     allowed: int
     mean_of_allowed: Fraction | None
-    text: dict[bool, str]
+    table: Table
 
 
 def usual_of(served: ServedBook, book: Book) -> Bounds:
@@ -83,20 +93,39 @@ def bounds_of(among: Prepared) -> Bounds:
     return Bounds(among.rules.most_for_a_sire, among.minimum_age, among.assumed)
 
 
-def plan_for(served: ServedBook, book: Book, asked: Asked) -> Job:
+def plan_for(served: ServedBook, book: Book, asked: PlanRules) -> Job:
     """The work on the plan for the book as it is now, which is begun where it wasn't."""
+    # at a book that others change all the time nobody would ever see one that is of its last change
+    made = served.jobs.under_way(PLAN, asked) or served.jobs.latest(PLAN, asked)
+    if made and (not made.ended or is_fresh(made, book)):
+        return made
     key = (PLAN, mark_of(book), asked)
     return served.jobs.here(key, functools.partial(plan_of_now, served, asked))
 
 
-def plan_of_now(served: ServedBook, asked: Asked) -> PlanMade:
+def is_fresh(made: Job, book: Book) -> bool:
+    """Is a plan one of the book of now, or of a moment ago?"""
+    assert isinstance(made.value, PlanMade)
+    is_of_now = made.value.mark == mark_of(book)
+    return is_of_now or (has_had(book, made.value.mark) and time.monotonic() - made.ended < SECONDS_SHOWN)
+
+
+def has_had(book: Book, mark: Mark) -> bool:
+    """Is it that of a state of this book? One of another history may have the number of one of its changes."""
+    change = change_numbered(book, mark[0])
+    return change is not None and change.mark == mark
+
+
+def plan_of_now(served: ServedBook, asked: PlanRules) -> PlanMade:
     """That of the book as it is, also where somebody changes it meanwhile."""
     for _ in range(TRIES_FOR_PLAN):
-        with contextlib.suppress(BookMoved), served.opened() as book:
+        with contextlib.suppress(BookMoved, PlanOutdated), served.opened() as book:
             if book is None:
                 raise Mistake(BookFault.NO_BOOK.said(folder=served.folder, there="", hint=""))
-            job = served.jobs.of((BESIDE, mark_of(book), asked), planned, (served.folder, asked))
-            job.is_over.wait()
+            job = served.jobs.of((PLANNING, mark_of(book), asked), planned, (served.folder, asked))
+            while not job.is_over.wait(1):
+                # whoever looks at the plan asks for it
+                served.jobs.found(job.key)
             served.jobs.forget(job.key)
             if job.stage is not Stage.DONE:
                 raise Mistake(*job.failed.sentences)
@@ -106,24 +135,41 @@ def plan_of_now(served: ServedBook, asked: Asked) -> PlanMade:
     raise Mistake(BookFault.ALWAYS_CHANGED.said(path=served.folder))
 
 
-def told_of(served: ServedBook, book: Book, asked: Asked) -> str:
-    """How far the process is, empty where it is over."""
-    job = served.jobs.found((BESIDE, mark_of(book), asked))
-    return job.told if job else ""
+class PlanOutdated(Exception):
+    """What somebody changed since a plan was made changes one of its matings."""
 
 
 def compare(served: ServedBook, plan: PlanMade) -> None:
-    """Asks the session for each mating of a plan; a mistake where it says something else."""
-    with served.opened() as book:
-        if book is None or mark_of(book) != plan.mark:
-            raise BookMoved
-        for pair in plan.pairs:
-            said = served.program.ask(["mating", "--dam", pair.dam.number, pair.sire.number], book)
-            if [line.split(",")[:2] for line in said] != [[pair.sire.number, pair.fraction]]:
-                raise Mistake(WebFault.PLAN_DIFFERS.said(dam=pair.dam.id, sire=pair.sire.id))
+    """Asks the session for each mating of a plan, also where somebody changes the book meanwhile; a mistake where it
+    says something else of the book of the plan."""
+    left = deque(plan.pairs)
+    for _ in range(TRIES_TO_COMPARE):
+        with served.opened() as book:
+            if book is None or not has_had(book, plan.mark):
+                raise BookMoved
+            with contextlib.suppress(BookMoved):
+                while left:
+                    compare_pair(served, book, plan, left[0])
+                    left.popleft()
+                return
+    raise BookMoved
 
 
-def planned(folder: pathlib.Path, asked: Asked, tell: Tell) -> PlanMade:
+def compare_pair(served: ServedBook, book: Book, plan: PlanMade, pair: Pair) -> None:
+    try:
+        told = coefficient_told(book, served.program, pair.dam.registration_number, pair.sire.registration_number)
+    except Mistake:
+        if mark_of(book) == plan.mark:
+            raise
+        raise PlanOutdated from None
+    if told == pair.fraction:
+        return
+    if mark_of(book) != plan.mark:
+        raise PlanOutdated
+    raise Mistake(WebFault.PLAN_DIFFERS.said(dam=pair.dam.id, sire=pair.sire.id))
+
+
+def planned(folder: pathlib.Path, asked: PlanRules, tell: Tell) -> PlanMade:
     program = BookProgram()
     with only_read(folder) as book:
         tell(Doing.COEFFICIENTS)
@@ -139,9 +185,9 @@ def made(book: Book, found: Planned, among: Prepared) -> PlanMade:
     for dam, why in plan.unmated.items():
         unmated.setdefault(why, []).append(mates[dam])
     pairs = [Pair(mates[one.dam], mates[one.sire], str(one.coefficient), one.coefficient) for one in plan.matings]
-    text = {semicolons: plan_table(book, found, False).text(semicolons) for semicolons in (False, True)}
+    table = plan_table(book, found, False)
     means = plan.mean, plan.allowed, plan.mean_of_allowed
-    return PlanMade(mark_of(book), bounds_of(among), pairs, unmated, *means, text)
+    return PlanMade(mark_of(book), bounds_of(among), pairs, unmated, *means, table)
 
 
 # Advice on the matings of a dam, which the program's session gives; it is kept with the state of the book.

@@ -23,7 +23,7 @@ from gudokeyi.domain.requests import WebFault
 from gudokeyi.services.book_session import BookSession
 from gudokeyi.web.access import LinkLogins
 from gudokeyi.web.app import web_app
-from gudokeyi.web.changing import begin_to_see
+from gudokeyi.web.verification import keep_seeing
 from gudokeyi.web.folders import own_folder, remembered
 from gudokeyi.web.routes import folder as asking
 from gudokeyi.web.served_book import ServedBook
@@ -141,7 +141,7 @@ class MenuDesk:
         with self.lock:
             shown, before = self.opened(folder), self.shown
             self.shown, self.folder, self.faults = shown, folder, ()
-        begin_to_see(shown.served)
+        keep_seeing(shown.served)
         threading.Thread(target=before.end, daemon=True).start()
 
     def opened(self, folder: pathlib.Path | None) -> Shown:

@@ -12,12 +12,13 @@ from typing import Concatenate, ParamSpec, cast
 from flask import current_app, redirect, url_for
 from werkzeug.wrappers import Response
 
+from gudokeyi.domain.changes import Mark
 from gudokeyi.services.book_session import BookSession
 from gudokeyi.services.cache import BookCache, Stamp
 from gudokeyi.services.opening import DATABASE, Book, book_in
 from gudokeyi.services.overview import Overviews
 from gudokeyi.web.files import Uploads
-from gudokeyi.web.workers import Exports, Jobs
+from gudokeyi.web.workers import Exports, Job, Jobs
 
 EXTENSION = "desk"
 # so long it is waited at the end for what looks whether the book is whole
@@ -48,10 +49,15 @@ class ServedBook:
     overviews: Overviews = field(default_factory=Overviews)
     # the book and its file as they were when it was last seen to be whole
     trusted: Stamp = ()
-    # nobody sees now whether it is whole
+    # what is told of a book that isn't whole, with the mark of that
+    faulty: tuple[Mark, tuple[str, ...]] | None = None
+    # what sees whether it is whole
+    seeing: Job | None = None
+    # nobody sees at the start whether it is whole
     is_seen: threading.Event = field(default_factory=is_set)
     # nobody changes the book any more
     is_closing: bool = False
+    closes: threading.Event = field(default_factory=threading.Event)
 
     def has_book(self) -> bool:
         return (self.folder / DATABASE).exists()
@@ -71,6 +77,9 @@ class ServedBook:
 
     def close(self) -> None:
         """Ends all else. Nothing of it goes on while the interpreter ends."""
+        self.closes.set()
+        if self.seeing and self.seeing.process:
+            self.seeing.process.kill()
         self.is_seen.wait(SECONDS_TO_SEE)
         self.exports.end()
         self.program.close()

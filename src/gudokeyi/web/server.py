@@ -27,10 +27,11 @@ from gudokeyi.process import give_memory_back, with_cells_of_any_length, with_sh
 from gudokeyi.services.accounts import Accounts
 from gudokeyi.services.book_session import BookSession
 from gudokeyi.services.opening import take_over, up_to_date
-from gudokeyi.web.access import LinkLogins, bounded_channel
+from gudokeyi.web.access import LinkLogins
 from gudokeyi.web.addresses import ListenAddress, server_address
 from gudokeyi.web.app import web_app
-from gudokeyi.web.changing import begin_to_see
+from gudokeyi.web.connections import SETTINGS, bound as bounded, threads as threads_of
+from gudokeyi.web.verification import keep_seeing
 from gudokeyi.web.files import Uploads
 from gudokeyi.web.logins import AccessLog, AccountLogins, Throttle
 from gudokeyi.web.served_book import ServedBook
@@ -61,7 +62,7 @@ def open_in_browser(
                 print("No browser could be opened here: open the link in one yourself.", flush=True)
 
         app = web_app(served, logins)
-        begin_to_see(served)
+        keep_seeing(served)
         answer(lambda: app, listening, THREADS, begin, served)
 
 
@@ -98,11 +99,13 @@ def answer(
     # what waitress tells of a fault would have a trace
     logging.getLogger("waitress").addHandler(logging.NullHandler())
     logging.getLogger("waitress").propagate = False
-    # its types, where there are any, know servers of another kind too
-    server: Any = create_server(
-        lambda environ, start: app()(environ, start), sockets=[listening], threads=threads, ident=None, expose_tracebacks=False,
+    # its types, where there are any, know other servers and settings
+    create: Any = create_server
+    server = create(
+        lambda environ, start: app()(environ, start), sockets=[listening], _dispatcher=threads_of(threads), ident=None,
+        expose_tracebacks=False, **SETTINGS,
     )  # fmt: skip
-    server.channel_class = bounded_channel(app)
+    bounded(server, app)
     with_short_turns()
     with_cells_of_any_length()
     gc.set_threshold(*LOOKED_FOR)
@@ -179,5 +182,5 @@ def serve(folder: pathlib.Path, program: BookSession, place: ListenAddress, name
             logins = AccountLogins(accounts, address, Throttle(), AccessLog(sys.stderr))
             told = f"The desk answers at {address.scheme}://{address.hosts[0]}/; Ctrl-C or SIGTERM ends it."
             app = web_app(served, logins)
-            begin_to_see(served)
+            keep_seeing(served)
             answer(lambda: app, listening, THREADS_FOR_SEVERAL, lambda: print(told, flush=True), served)

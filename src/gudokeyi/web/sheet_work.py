@@ -1,38 +1,47 @@
 """A dropped sheet: how it is read, what it would change, and its import; both in a process beside the server."""
 from __future__ import annotations
 
+import contextlib
 import csv
+import functools
 import hashlib
 import io
 import pathlib
-from collections.abc import Callable, Collection, Mapping
+from collections.abc import Callable, Collection, Iterable, Iterator, Mapping
 from dataclasses import dataclass, field, replace
 from typing import TypeVar
 
 from gudokeyi.bounds import bound_look, bounded_reading
 from gudokeyi.domain.changes import NO_MARK, Change, Mark, Option
 from gudokeyi.domain.findings import ROW, Entry, Finding, ImportRefused, What
+from gudokeyi.domain.kinds import Doing
 from gudokeyi.domain.messages import Mistake
+from gudokeyi.domain.options import Kind
 from gudokeyi.domain.settings import Setting
 from gudokeyi.services.book_program import BookProgram
 from gudokeyi.services.cache import Stamp, mark_of, stamp_of
-from gudokeyi.services.imports import BookAfter, ImportOptions, read_file
-from gudokeyi.services.opening import Book, Overtaken, book_in, still_to_change, to_look_at, to_prepare
+from gudokeyi.services.imports import BookAfter, ImportOptions, LettersUnsaid, read_file
+from gudokeyi.services.opening import Book, Overtaken, book_in, still_to_change, to_change, to_look_at, to_prepare
 from gudokeyi.services.option_values import day, days, three_letters
 from gudokeyi.services.saving import save
 from gudokeyi.services.settings import settings_of
 from gudokeyi.services.sheet_imports import import_sheet_into
-from gudokeyi.services.sheet_previews import ColumnsView, columns_shown, severity_of
-from gudokeyi.web.forms import made_by, owners_of
+from gudokeyi.services.recent import may_be_wrong
+from gudokeyi.services.saving import Prepared
+from gudokeyi.services.sheet_previews import (
+    ColumnsView, Sheet, animals_otherwise, cells_of, changes_by_animal, columns_shown, severity_of,
+)  # fmt: skip
+from gudokeyi.web.forms import SHEET_FIELDS, made_by, owners_of
 from gudokeyi.web.views.findings import Days, days_of, first_of_each, totals_of
-from gudokeyi.web.workers import Doing, Tell
+from gudokeyi.web.work_places import LOOKING as LOOKING
+from gudokeyi.web.workers import Tell
 
 
 # A dropped sheet: how it is read and what it would change, and its import; both in a process beside the server.
 
 Value = TypeVar("Value")
-# the kind of work that looks at what was dropped
-LOOKING = "looking"
+# the field that drops what has no row, and so often a sheet is prepared while others file
+DROPS, TRIES_BESIDE = "drop_gone", 3
 # the settings by which sheets are read
 OF_SHEETS = (Setting.BREED, Setting.COUNTRY, Setting.UNKNOWN)
 
@@ -43,12 +52,17 @@ class Chosen:
 
     columns: tuple[tuple[str, str], ...] = ()
     options: tuple[tuple[str, str], ...] = ()
+    # what other columns are kept as, by their titles
+    others: tuple[tuple[str, str], ...] = ()
 
     @classmethod
-    def of(cls, columns: Mapping[str, str], options: Mapping[str, str], wrong: Collection[str] = ()) -> Chosen:
+    def of(
+        cls, columns: Mapping[str, str], options: Mapping[str, str], wrong: Collection[str] = (),
+        others: Mapping[str, str] | None = None,
+    ) -> Chosen:  # fmt: skip
         """Without the fields that can't be read."""
         read = {name: text for name, text in options.items() if name not in wrong}
-        return cls(tuple(sorted(columns.items())), tuple(sorted(read.items())))
+        return cls(tuple(sorted(columns.items())), tuple(sorted(read.items())), tuple((others or {}).items()))
 
 
 @dataclass(frozen=True)
@@ -84,13 +98,24 @@ class Look:
     left_out: int = 0
     remembered: tuple[Option, ...] = ()
     after: BookAfter | None = None
+    # what it would change of each animal, and the entries of those that are asked about anew
+    by_animal: Mapping[str, bytes] = field(default_factory=dict)
+    again: tuple[Entry, ...] = ()
+    # of each line of which something is told that may be wrong, its cells with their titles
+    cells: Mapping[int, tuple[tuple[str, str], ...]] = field(default_factory=dict)
+
+    @property
+    def asks_letters(self) -> bool:
+        """Is it to be said with what the numbers begin?"""
+        return any(isinstance(one, LettersUnsaid) for one in self.obstacles)
 
 
 @dataclass(frozen=True)
 class Imported:
     """The change that an import made, or that the book isn't any more the one that was looked at, or the sheet would be
     read otherwise. `mark` is that of the book behind it; `whole` is the book and its file then, if they are seen to be
-    whole; `meanwhile` counts the changes since the look that gave way to a backup."""
+    whole; `meanwhile` counts the changes since the look that gave way to a backup; `otherwise` are the animals that
+    others changed since the look, so that the sheet would change them otherwise."""
 
     change: int
     book_changed: bool = False
@@ -98,14 +123,17 @@ class Imported:
     mark: Mark = NO_MARK
     whole: Stamp = ()
     meanwhile: int = 0
+    otherwise: tuple[str, ...] = ()
 
 
-def looked_at(folder: pathlib.Path, path: pathlib.Path, chosen: Chosen, tell: Tell) -> Look:
+def looked_at(folder: pathlib.Path, path: pathlib.Path, chosen: Chosen, again: Collection[str], tell: Tell) -> Look:
+    """What a sheet would change in the book as it is when this begins, whoever changes it meanwhile; `again` are the
+    animals that are asked about anew."""
     bound_look()
     program = BookProgram()
     tell(Doing.COLUMNS)
     with to_look_at(folder, program) as book:
-        columns, failed = columns_of(book, path, chosen, folder)
+        columns, sheet, failed = columns_of(book, path, chosen, folder)
         seen = seen_of(book, chosen)
     if failed:
         return look_of(seen, columns, failed)
@@ -119,11 +147,20 @@ def looked_at(folder: pathlib.Path, path: pathlib.Path, chosen: Chosen, tell: Te
         except Mistake as mistake:
             return look_of(seen, columns, mistake)
     entries, understood = sorted(outcome.report.in_order(), key=severity_of), outcome.understood
+    asked = tuple(entry for entry in entries if entry.id in again)
+    shown = tuple(first_of_each(entries))
+    lines = {entry.line for entry in shown if may_be_wrong(entry)}
     return Look(
-        seen, columns, (), outcome.obstacles, tuple(first_of_each(entries)), totals_of(entries),
+        seen, columns, (), outcome.obstacles, shown, totals_of(entries),
         days_of(entry.finding for entry in entries), understood.rows if understood else 0,
         sum(entry.part is ROW for entry in entries), understood.remembered if understood else (), outcome.after,
+        changes_of(entries, chosen), asked,
+        cells_of(sheet, lines) if sheet else {},
     )  # fmt: skip
+
+
+def changes_of(entries: Iterable[Entry], chosen: Chosen) -> Mapping[str, bytes]:
+    return changes_by_animal(entries, DROPS in dict(chosen.options))
 
 
 def look_of(seen: Seen, columns: ColumnsView | None, mistake: Mistake) -> Look:
@@ -135,38 +172,70 @@ def look_of(seen: Seen, columns: ColumnsView | None, mistake: Mistake) -> Look:
 
 def columns_of(
     book: Book, path: pathlib.Path, chosen: Chosen, folder: pathlib.Path
-) -> tuple[ColumnsView | None, Mistake | None]:
-    """The columns as they are understood, or why the file can't be read at all."""
+) -> tuple[ColumnsView | None, Sheet | None, Mistake | None]:
+    """The columns as they are understood, with the sheet, or why the file can't be read at all."""
     try:
-        return columns_shown(book, path, import_options_of(folder, chosen)), None
+        return *columns_shown(book, path, import_options_of(folder, chosen)), None
     except Mistake as mistake:
-        return None, mistake
+        return None, None, mistake
 
 
-def imported(folder: pathlib.Path, path: pathlib.Path, chosen: Chosen, looked: Seen, form: str, tell: Tell) -> Imported:
-    """Takes a sheet, if the book is still the one that was looked at, the sheet is read as it was then, and its form
-    didn't take it. Others file while that is prepared; who waits for it waits for the writing alone."""
+@dataclass(frozen=True)
+class Asked:
+    """What somebody looked at and wants taken: the look's state, what it showed of each animal, none where that isn't
+    known any more, and the token of the form."""
+
+    seen: Seen
+    by_animal: Mapping[str, bytes] | None
+    form: str
+
+
+def imported(folder: pathlib.Path, path: pathlib.Path, chosen: Chosen, asked: Asked, tell: Tell) -> Imported:
+    """Takes a sheet, if it is read as at its look, if what others changed since then changes nothing of what it does to
+    any animal, and if its form didn't take it. Others file while that is prepared; who waits for it waits for the
+    writing alone, but where somebody files again and again meanwhile."""
     program = BookProgram()
     tell(Doing.TAKING)
-    try:
-        with to_prepare(folder, program) as book:
+    for may_wait in (*[False] * TRIES_BESIDE, True):
+        with contextlib.suppress(Overtaken), book_for(folder, program, may_wait) as book:
             stamp = stamp_of(book)
-            before = made_by(book, form)
-            if before:
-                return Imported(before.number)
-            seen = seen_of(book, chosen)
-            if seen != looked:
-                return Imported(0, seen.mark != looked.mark, seen.mark == looked.mark)
-            _, prepared = import_sheet_into(
-                book, read_file(path), replace(import_options_of(folder, chosen), form=form), program, bounded_reading
-            )
-        assert prepared is not None
-        with still_to_change(folder, book.change) as now:
-            is_same = stamp_of(now) == stamp
-            change = save(now, program, prepared)
-    except Overtaken:
-        return Imported(0, True)
-    return Imported(change.number, mark=change.mark, whole=stamp_behind(folder, change) if is_same else ())
+            found = prepared_for(book, path, chosen, asked, program)
+            if isinstance(found, Imported):
+                return found
+            with contextlib.nullcontext(book) if may_wait else still_to_change(folder, book.change) as now:
+                is_same = stamp_of(now) == stamp
+                change = save(now, program, found)
+            return Imported(change.number, mark=change.mark, whole=stamp_behind(folder, change) if is_same else ())
+    return Imported(0, True)
+
+
+@contextlib.contextmanager
+def book_for(folder: pathlib.Path, program: BookProgram, may_wait: bool) -> Iterator[Book]:
+    """The book for what is prepared; where others are to wait for that nobody else changes it."""
+    with to_change(folder, program) if may_wait else to_prepare(folder, program) as book:
+        yield book
+
+
+def prepared_for(
+    book: Book, path: pathlib.Path, chosen: Chosen, asked: Asked, program: BookProgram
+) -> Prepared | Imported:
+    """The change that is to be made, or why none is."""
+    before = made_by(book, asked.form)
+    if before:
+        return Imported(before.number)
+    seen = seen_of(book, chosen)
+    if seen.reading != asked.seen.reading:
+        return Imported(0, read_otherwise=True)
+    options = replace(import_options_of(book.folder, chosen), form=asked.form)
+    outcome, prepared = import_sheet_into(book, read_file(path), options, program, bounded_reading)
+    if seen.mark != asked.seen.mark:
+        if asked.by_animal is None:
+            return Imported(0, True)
+        others = animals_otherwise(asked.by_animal, changes_of(outcome.report.in_order(), chosen))
+        if others:
+            return Imported(0, otherwise=others)
+    assert prepared is not None
+    return prepared
 
 
 def stamp_behind(folder: pathlib.Path, change: Change) -> Stamp:
@@ -177,31 +246,33 @@ def stamp_behind(folder: pathlib.Path, change: Change) -> Stamp:
 
 def import_options_of(folder: pathlib.Path, chosen: Chosen) -> ImportOptions:
     """The options of the word `import` that stand for what was chosen."""
-    given = {name: text.strip() for name, text in chosen.options if text.strip()}
+    texts = {name: text.strip() for name, text in chosen.options if text.strip() and name in SHEET_FIELDS}
+    given = {SHEET_FIELDS[name].name: value_of(SHEET_FIELDS[name].kind, text) for name, text in texts.items()}
+    columns = [one_cell(f"{name}={title}") for name, title in chosen.columns]
+    others = [f"{title}={kind}" for title, kind in chosen.others]
+    return ImportOptions.of(folder, {"columns": columns, "own": others, **given})
 
-    def word(name: str) -> list[str]:
-        return [given[name]] if name in given else []
 
-    return ImportOptions(
-        folder,
-        columns=[one_cell(f"{name}={title}") for name, title in chosen.columns],
-        unknown=word("unknown"),
-        known=word("known"),
-        sexes=word("sexes"),
-        owners=owners_of(given.get("owner", "")),
-        no_animal=word("no_animal"),
-        animal=word("animal"),
-        breed=read(three_letters, given.get("breed", "")) or "",
-        country=read(three_letters, given.get("country", "")) or "",
-        day=read(day, given.get("day", "")),
-        youngest=read(days, given.get("youngest", "")),
-        apart=read(days, given.get("apart", "")),
-        worksheet=given.get("worksheet", ""),
-        drop_gone="drop_gone" in given,
-        month_first="month_first" in given,
-        day_first="day_first" in given,
-        anyway="anyway" in given,
-    )
+def read(reader: Callable[[str], Value], text: str) -> Value | None:
+    """What a field says, none where it is empty."""
+    return reader(text) if text else None
+
+
+# what reads a field of each kind that is no text
+READERS: dict[Kind, Callable[[str], object]] = {
+    Kind.FLAG: bool,
+    Kind.OWNERS: owners_of,
+    Kind.LETTERS: functools.partial(read, three_letters),
+    Kind.DAY: functools.partial(read, day),
+    Kind.DAYS: functools.partial(read, days),
+}
+
+
+def value_of(kind: Kind, text: str) -> object:
+    """What was written into a field, as the option has it."""
+    if kind in (Kind.TEXTS, Kind.SEXES):
+        return [text]
+    return READERS[kind](text) if kind in READERS else text
 
 
 def one_cell(text: str) -> str:
@@ -209,8 +280,3 @@ def one_cell(text: str) -> str:
     written = io.StringIO()
     csv.writer(written, lineterminator="").writerow([text])
     return written.getvalue()
-
-
-def read(reader: Callable[[str], Value], text: str) -> Value | None:
-    """What a field says, none where it is empty."""
-    return reader(text) if text else None

@@ -1,4 +1,5 @@
-"""The process beside the server: `python -m gudokeyi.web.worker_process` does the work that it reads from standard input."""
+"""The process beside the server: `python -m gudokeyi.web.worker_process` does the work that it reads from standard
+input."""
 from __future__ import annotations
 
 import os

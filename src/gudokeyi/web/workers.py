@@ -8,6 +8,8 @@ import enum
 import os
 import pathlib
 import pickle
+import secrets
+import signal
 import subprocess
 import sys
 import threading
@@ -20,22 +22,14 @@ from typing import BinaryIO
 from gudokeyi.domain.messages import Mistake
 from gudokeyi.domain.people import WORKER
 from gudokeyi.domain.requests import WebFault
+from gudokeyi.domain.waiting import UNTIL
 from gudokeyi.services.folder_files import refresh
+from gudokeyi.web.work_places import BOUNDS, MOST_OF_PERSON, OTHERS, TAKING as TAKING, Bounds, Places
 
 # Work in a process beside the server, which may need much memory and time: how it is begun and done, and what it tells
 # of how far it is and of what comes of it.
 
 TOP = pathlib.Path(__file__).resolve().parent.parent.parent
-
-
-class Doing(enum.StrEnum):
-    """The parts of work that aren't those of the breed's measures."""
-
-    COLUMNS = "columns"
-    CHANGES = "changes"
-    TAKING = "taking"
-    COEFFICIENTS = "coefficients"
-    RESTORING = "restoring"
 
 
 # told as a part of the work begins
@@ -67,16 +61,17 @@ class Failed:
 WorkerMessage = Progress | Finished | Failed
 
 
-def started(work: Callable[..., object], values: tuple[object, ...]) -> subprocess.Popen[bytes]:
-    """The process, which does some work of a module with these values and one more, to tell how far it is."""
-    known = {**os.environ, "PYTHONPATH": os.pathsep.join([str(TOP), os.environ.get("PYTHONPATH", "")])}
+def started(work: Callable[..., object], values: tuple[object, ...], niceness: int = 0) -> subprocess.Popen[bytes]:
+    """The process, which does some work of a module with these values and one more, to tell how far it is. With
+    niceness it takes less from others."""
+    variables = {**os.environ, "PYTHONPATH": os.pathsep.join([str(TOP), os.environ.get("PYTHONPATH", "")])}
     process = subprocess.Popen(
-        [sys.executable, "-m", "gudokeyi.web.worker_process"], stdin=subprocess.PIPE, stdout=subprocess.PIPE, env=known,
-        start_new_session=True,
+        [sys.executable, "-m", "gudokeyi.web.worker_process"], stdin=subprocess.PIPE, stdout=subprocess.PIPE,
+        env=variables, start_new_session=True,
     )  # fmt: skip
     assert process.stdin
     with process.stdin:
-        pickle.dump((WORKER.get(), work, values), process.stdin)
+        pickle.dump((WORKER.get(), niceness, work, values), process.stdin)
     return process
 
 
@@ -98,8 +93,9 @@ def work_in_process(given: BinaryIO, out: BinaryIO) -> None:
         pickle.dump(message, out)
         out.flush()
 
-    worker, work, values = pickle.load(given)
+    worker, niceness, work, values = pickle.load(given)
     WORKER.set(worker)
+    os.nice(niceness)
     try:
         tell(Finished(work(*values, lambda what: tell(Progress(what)))))
     except Mistake as mistake:
@@ -116,13 +112,13 @@ def work_in_process(given: BinaryIO, out: BinaryIO) -> None:
 # so many results are kept, and so long a page waits for one that is there soon, in seconds
 MOST = 12
 SOON = 0.15
-# so many processes work at once
-AT_ONCE = 2
+# so long nobody asked for work that goes on, in seconds, and it is ended; so often that is looked at
+SECONDS_UNASKED, SECONDS_BETWEEN = 120, 1
 Key = tuple[object, ...]
 # what is done with what came of it, before anybody sees that
 Then = Callable[[object], None]
-# the kind of what changes the book, and of advice on a dam, of which few are kept since each may be long
-TAKING, ADVICE = "taking", "advice"
+# the kind of advice on a dam, of which few are kept since each may be long
+ADVICE = "advice"
 MOST_ADVICE = 3
 
 
@@ -133,25 +129,46 @@ class Stage(enum.Enum):
 
 
 class Job:
-    """Some work: its stage, what it told last, and what came of it."""
+    """Some work: who asked for it, its stage, what it told last, and what came of it."""
 
     def __init__(self, key: Key, then: Then | None = None) -> None:
         self.key, self.then, self.began = key, then, time.monotonic()
+        self.person, self.id = WORKER.get(), secrets.token_urlsafe(12)
         self.stage, self.told = Stage.UNDER_WAY, ""
+        # when it was asked for last, when its process began, and when it was over
+        self.asked, self.started, self.ended = self.began, 0.0, 0.0
         # the page that waits for it, where another leads there
         self.address = ""
         self.value: object = None
         self.failed = Failed(())
         self.is_over = threading.Event()
         self.process: subprocess.Popen[bytes] | None = None
+        # why it is ended before it is done
+        self.stopped = ""
+
+    @property
+    def kind(self) -> str:
+        return str(self.key[0])
+
+    @property
+    def bounds(self) -> Bounds:
+        return BOUNDS.get(self.kind, OTHERS)
 
     @property
     def seconds(self) -> int:
         return int(time.monotonic() - self.began)
 
+    @property
+    def waits(self) -> bool:
+        """Does it wait for a place?"""
+        return not self.started and self.kind in BOUNDS
+
     def do(self, work: Callable[..., object], values: tuple[object, ...]) -> None:
         try:
-            self.process = started(work, values)
+            self.started = time.monotonic()
+            self.process = started(work, values, self.bounds.niceness if self.kind in BOUNDS else 0)
+            if self.stopped:
+                end_all(self.process)
             for message in messages_of(self.process):
                 self.take(message)
         except OSError as error:
@@ -160,7 +177,7 @@ class Job:
             self.take(Failed((WebFault.WORK_ENDED.said(),), True))
             raise
         finally:
-            self.is_over.set()
+            self.over()
 
     def do_here(self, compute: Callable[[], object]) -> None:
         """The same in this process."""
@@ -172,12 +189,22 @@ class Job:
             self.take(Failed((WebFault.WORK_ENDED.said(),), True))
             raise
         finally:
-            self.is_over.set()
+            self.over()
 
     def fail(self, sentence: str) -> None:
         """Ends work that wasn't begun."""
         self.take(Failed((sentence,)))
+        self.over()
+
+    def over(self) -> None:
+        self.ended = time.monotonic()
         self.is_over.set()
+
+    def stop(self, sentence: str) -> None:
+        """Ends it, also where it still waits for its place. What it was about to change isn't changed."""
+        self.stopped = self.stopped or sentence
+        if self.process and not self.is_over.is_set():
+            end_all(self.process)
 
     def take(self, message: object) -> None:
         if isinstance(message, Progress):
@@ -187,19 +214,27 @@ class Job:
                 self.then(message.value)
             self.value, self.stage = message.value, Stage.DONE
         elif isinstance(message, Failed):
-            self.failed, self.stage = message, Stage.FAILED
+            self.failed, self.stage = Failed((self.stopped,)) if self.stopped else message, Stage.FAILED
+
+
+def end_all(process: subprocess.Popen[bytes]) -> None:
+    """Ends a process and those that it began."""
+    with contextlib.suppress(ProcessLookupError, PermissionError):
+        os.killpg(process.pid, signal.SIGKILL)
 
 
 class Jobs:
     """The work that was begun, by what it is."""
 
     def __init__(self) -> None:
-        self.lock, self.room = threading.Lock(), threading.Semaphore(AT_ONCE)
+        self.lock = threading.Lock()
+        self.places: dict[str, Places[Job]] = {kind: Places(bounds) for kind, bounds in BOUNDS.items()}
         # whoever changes the book in this process waits for this, so that one after the other does; the database has
         # a process beside do so
         self.turn = threading.Lock()
         self.jobs: OrderedDict[Key, Job] = OrderedDict()
-        self.is_ending = False
+        self.is_ending, self.is_over = False, threading.Event()
+        self.watching: threading.Thread | None = None
 
     def of(
         self, key: Key, work: Callable[..., object], values: tuple[object, ...], then: Then | None = None
@@ -216,17 +251,26 @@ class Jobs:
         return self.begun(key, lambda job: job.do_here(compute))
 
     def begun(self, key: Key, do: Callable[[Job], None], then: Then | None = None) -> Job:
+        places = self.places.get(str(key[0]))
         with self.lock:
             job = self.jobs.get(key)
             if job is None:
+                if places and places.asked_by(WORKER.get()) >= MOST_OF_PERSON:
+                    raise Mistake(WebFault.MUCH_WORK.said())
                 job = self.jobs[key] = Job(key, then)
-                # it is done for whoever asks
-                given = (do, job)
+                # it is done for whoever asks, who doesn't wait at a page
+                context = contextvars.copy_context()
+                context.run(UNTIL.set, None)
                 try:
-                    threading.Thread(target=contextvars.copy_context().run, args=given, daemon=True).start()
+                    if places:
+                        places.add(job.person, job, lambda job: context.run(do, job))
+                    else:
+                        threading.Thread(target=context.run, args=(do, job), daemon=True).start()
+                    self.watch()
                 except RuntimeError as error:
                     job.fail(WebFault.NO_PROCESS.said(error=error))
                 self.forget_old()
+            job.asked = time.monotonic()
         job.is_over.wait(SOON)
         return job
 
@@ -234,26 +278,68 @@ class Jobs:
         self, job: Job, work: Callable[..., object], values: tuple[object, ...],
         turn: contextlib.AbstractContextManager[object] = contextlib.nullcontext(),
     ) -> None:  # fmt: skip
-        with self.room, turn:
-            if self.is_ending and job.key[0] != TAKING:
-                job.fail(WebFault.WORK_ENDED.said())
+        with turn:
+            if job.stopped or (self.is_ending and job.kind != TAKING):
+                job.fail(job.stopped or WebFault.WORK_ENDED.said())
                 return
             job.do(work, values)
 
+    def watch(self) -> None:
+        """Begins to end what takes too long, or what nobody asks for any more. The lock is held."""
+        if self.watching is None:
+            self.watching = threading.Thread(target=self.end_stale, daemon=True)
+            self.watching.start()
+
+    def end_stale(self) -> None:
+        while not self.is_over.wait(SECONDS_BETWEEN):
+            now = time.monotonic()
+            for job in self.not_over():
+                if job.started and now - job.started > job.bounds.seconds:
+                    job.stop(WebFault.TOOK_LONG.said(minutes=job.bounds.seconds // 60))
+                elif job.kind in BOUNDS and job.kind != TAKING and now - job.asked > SECONDS_UNASKED:
+                    self.stop(job, WebFault.WORK_ENDED.said())
+
+    def not_over(self) -> list[Job]:
+        with self.lock:
+            return [job for job in self.jobs.values() if not job.is_over.is_set()]
+
+    def stop(self, job: Job, sentence: str) -> None:
+        """Ends it; asked for again it is begun anew."""
+        job.stop(sentence)
+        with self.lock:
+            if self.jobs.get(job.key) is job and job.kind != TAKING:
+                del self.jobs[job.key]
+
+    def stop_others(self, key: Key) -> None:
+        """Ends what is under way of the same kind on the same thing, which was asked for otherwise."""
+        for job in self.not_over():
+            if job.key[:2] == key[:2] and job.key != key:
+                self.stop(job, WebFault.WORK_ENDED.said())
+
     def found(self, key: Key) -> Job | None:
         with self.lock:
-            return self.jobs.get(key)
+            job = self.jobs.get(key)
+            if job:
+                job.asked = time.monotonic()
+            return job
 
-    def latest(self, kind: str) -> Job | None:
-        """The last one of a kind that is done."""
+    def by_id(self, id: str) -> Job | None:
+        """One that isn't over."""
+        return next((job for job in self.not_over() if job.id == id), None)
+
+    def latest(self, kind: str, of: object = None) -> Job | None:
+        """The last one of a kind that is done, and of what its key has last."""
         with self.lock:
             done = [job for job in self.jobs.values() if job.key[0] == kind and job.stage is Stage.DONE]
-        return done[-1] if done else None
+        return next((job for job in reversed(done) if of is None or job.key[-1] == of), None)
 
-    def under_way(self, kind: str) -> Job | None:
-        """One of a kind that isn't over."""
-        with self.lock:
-            return next((job for job in self.jobs.values() if job.key[0] == kind and not job.is_over.is_set()), None)
+    def under_way(self, kind: str, of: object = None) -> Job | None:
+        """One of a kind that isn't over, and of what its key has last."""
+        for job in self.not_over():
+            if job.kind == kind and (of is None or job.key[-1] == of):
+                job.asked = time.monotonic()
+                return job
+        return None
 
     def forget(self, key: Key) -> None:
         with self.lock:
@@ -270,13 +356,16 @@ class Jobs:
         """Ends what is under way, but for work that changes the book: that is waited for."""
         with self.lock:
             self.is_ending = True
-            under_way = [job for job in self.jobs.values() if not job.is_over.is_set()]
+        under_way = self.not_over()
         # one may wait for another
         for job in under_way:
-            if job.key[0] != TAKING and job.process:
-                job.process.kill()
+            if job.kind != TAKING:
+                job.stop(WebFault.WORK_ENDED.said())
         for job in under_way:
             job.is_over.wait()
+        self.is_over.set()
+        for places in self.places.values():
+            places.end()
 
 
 # Writes the files beside the database after a change, in a process beside, while pages are answered.

@@ -18,6 +18,7 @@ use Rattle.herd_frozen.specs.freezing.Frozen.{age_cmp}
 use Rattle.herd_frozen.specs.rules.Lawful.{IsLawful as IsLawfulBook}
 use Rattle.herd_frozen.proofs.lemmas.rules.BookFacts.{bytes_itself, same_bytes}
 use Rattle.herd_advice.specs.FrozenAncestry.{is_before, book_ancestry}
+use Rattle.herd_kinship.specs.Ancestry.{IsParentIn}
 use Rattle.herd_kinship.proofs.lemmas.ancestry.LawfulAncestry.{IsLawful}
 use Rattle.herd_kinship.proofs.lemmas.Lists.{count-one}
 
@@ -43,6 +44,14 @@ record_there book x c = option_there (record_of book x) (IsSome-lookup_from_Cont
 
 pub number_there : (book : Book) (x : List ℕ) (a : Animal) → record_of book x ≡ Some a → Contains (keys_of book) x
 number_there book x a e = Contains-keys_from_lookup same_bytes x book (rw e refl)
+
+-- who has a known parent is in the book
+pub child_there : (book : Book) (x p : List ℕ) → IsParentIn (book_ancestry book) p x → Contains (keys_of book) x
+child_there book x p is =
+    ⊎_elim
+    (λ s. let a = recorded (λ (animal : Animal). animal.sire) (record_of book x) p s in number_there book x a.animal a.is)
+    (λ d. let a = recorded (λ (animal : Animal). animal.dam) (record_of book x) p d in number_there book x a.animal a.is)
+    is
 
 -- The age order
 

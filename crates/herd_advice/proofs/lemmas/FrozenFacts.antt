@@ -1,5 +1,5 @@
 -- What a frozen book says of its animals, by numbers and by ranks.
-use Rattle.std.proofs.Common.{ℕ, zero, suc, ◌*◌, ◌<◌, ◌≤◌, ◌≡◌, inl, inr, ⊎_elim, eqb, ltb, List, [], ◌∷◌, length, map, get_or, slice_get, Some, None, Option, true, false, IsTrue, Contains, arith, refl, sym, ap, subst, ◌∙◌}
+use Rattle.std.proofs.Common.{ℕ, zero, suc, ◌*◌, ◌<◌, ◌≤◌, ◌≡◌, inl, inr, ⊎_elim, eqb, ltb, List, [], ◌∷◌, ◌++◌, length, map, get_or, slice_get, Some, None, Option, true, false, IsTrue, Contains, arith, refl, sym, ap, subst, ◌∙◌}
 use Rattle.std.specs.declared.cmp.Ordering.TheVariants.{Less}
 use Rattle.std.specs.List.{range_with_len}
 use Rattle.std.specs.List.Sorted.{IsPermutation}
@@ -8,32 +8,34 @@ use Rattle.std.specs.Option.{option_and_then, option_map}
 use Rattle.std.specs.Cmp.Lexicographic.{slice_cmp}
 use Rattle.std.specs.Ordering.{is_lt, is_eq, int_cmp, nat_cmp}
 use Rattle.std.specs.Prelude.{bytes_eq}
-use Rattle.std.proofs.lemmas.Bool.{eq-eqb, ne_eqb, lt-ltb, le-ltb, cases_lt, cases_order, false_from_ne_true}
+use Rattle.std.proofs.lemmas.Bool.{both_ways, eqb-true, eq-eqb, ne_eqb, lt-ltb, le-ltb, cases_lt, cases_order, false_from_ne_true}
 use Rattle.std.proofs.lemmas.Cmp.{nat_list_eq_equiv}
-use Rattle.std.proofs.lemmas.List.Elements.{Contains-get_or}
+use Rattle.std.proofs.lemmas.List.Elements.{All-nil, All-push, Contains-append_left, Contains-get_or, Contains-push, Contains-push_cases}
 use Rattle.std.proofs.lemmas.List.FromFn.{fill_by_all}
 use Rattle.std.proofs.lemmas.List.Sorted.{IsPermutation-refl, ranks_by, sorted_far}
 use Rattle.std.proofs.lemmas.Map.Entries.{lookup_from_place, length-keys_of}
 use Rattle.std.proofs.lemmas.Map.Keys.{apart_from_distinct}
 use Rattle.std.proofs.lemmas.Map.Text.{is_eq-slice_cmp}
 use Rattle.std.proofs.lemmas.List.{length-map}
-use Rattle.std.proofs.lemmas.Option.{slice_get-map, slice_get_within, get_or_from_slice_get}
+use Rattle.std.proofs.lemmas.Option.{same_Some, slice_get-get_or, slice_get-map, slice_get_within, get_or_from_slice_get}
 use Rattle.herd_frozen.specs.declared.rules.animal.Animal.{Animal}
 use Rattle.herd_frozen.specs.declared.freezing.frozen.Row.{Row}
-use Rattle.herd_frozen.specs.rules.Book.{record_of}
+use Rattle.herd_frozen.specs.rules.Book.{is_there, record_of}
 use Rattle.herd_frozen.specs.freezing.Frozen.{IsFrozen, IsFrozenRow, IsRankOf, age_cmp, book_of, numbers_of, parents_of}
 use Rattle.herd_frozen.proofs.lemmas.ListFacts.{there}
 use Rattle.herd_kinship.specs.Ancestry.{IsParentIn, PathTo}
-use Rattle.herd_advice.specs.BookCoefficients.{AreBookCoefficients, AreBookRelationships, KnowsBookAncestors}
+use Rattle.herd_advice.specs.BookCoefficients.{AreBookCoefficients, AreBookCoefficientsOf, AreBookRelationships, AreRanksOf, KnowsBookAncestors}
 use Rattle.herd_advice.specs.FrozenAncestry.{ancestry_of, number_of_row}
 use Rattle.herd_kinship.specs.Ranks.{AreParentsAt, ranked}
 use Rattle.herd_kinship.specs.Table.{coefficient, entry, mendelian}
 use Rattle.herd_kinship.specs.Coefficients.{AreCoefficients, KnowsAncestors}
 use Rattle.herd_kinship.specs.Columns.{AreRelationships}
 use Rattle.herd_lineage.specs.declared.lineage.Parents.{Parents}
+use Rattle.herd_pruned.specs.Known.{AreCoefficientsOf}
+use Rattle.herd_pruned.proofs.lemmas.MarkedFacts.{comes_itself}
 use Rattle.herd_lineage.specs.Lineage.{IsLineage, dam_rank, sire_rank}
 use Rattle.herd_kinship.proofs.lemmas.ancestry.LawfulAncestry.{IsLawful, IsRenamed, IsShallow}
-use Rattle.herd_advice.proofs.lemmas.BookFacts.{age_cmp-total, before_from_ordered, book-lawful, by_order, then_equal}
+use Rattle.herd_advice.proofs.lemmas.BookFacts.{age_cmp-total, before_from_ordered, book-lawful, by_order, child_there, record_there, then_equal}
 use Rattle.herd_advice.proofs.lemmas.BookPaths.{book-shallow}
 use Rattle.herd_kinship.proofs.lemmas.ancestry.Shares.{apart, apart_back}
 use Rattle.herd_kinship.proofs.lemmas.lineages.Ranks.{rank-in, rank-below}
@@ -200,6 +202,21 @@ same_ranks l most rows f i j li lj =
     (λ (g : j < i). apart_back (ancestry_of rows) w y x (frozen-ordered l most rows f j i g li) ∙ sym (ne_eqb i j (λ e. omega arith))) r)
     (cases_order i j)
 
+-- two ranks of one number are the same
+pub same_rank : (l most : ℕ) (rows : List Row) → IsFrozen l most rows → (i j : ℕ) → i < length rows → j < length rows →
+    number_of_row rows i ≡ number_of_row rows j → i ≡ j
+same_rank l most rows f i j li lj e =
+    let w = frozen-lawful l most rows f in
+    eqb-true i j (sym (same_ranks l most rows f i j li lj) ∙ (w.same (number_of_row rows i) (number_of_row rows j)).1 e)
+
+-- who is in the book stands at a rank
+pub rank_there : (rows : List Row) (x : List ℕ) → Contains (keys_of (book_of rows)) x → (i : ℕ) × (i < length rows) × (number_of_row rows i ≡ x)
+rank_there rows x among =
+    let there : Contains (numbers_of rows) x = subst (λ ns. Contains ns x) (sym (numbers_are_keys rows)) among in
+    let at : slice_get (numbers_of rows) there.0 ≡ Some x = slice_get-get_or (numbers_of rows) there.0 x there.1 ∙ ap Some there.2 in
+    let within : there.0 < length rows = subst (λ n. there.0 < n) (length-numbers_of rows) there.1 in
+    (there.0, within, get_or_from_slice_get (numbers_of rows) there.0 x [] at)
+
 before_ranks : (l most : ℕ) (rows : List Row) → IsFrozen l most rows → (i j : ℕ) → i < length rows → j < length rows →
     (ancestry_of rows).before (number_of_row rows i) (number_of_row rows j) ≡ ltb i j
 before_ranks l most rows f i j li lj =
@@ -292,3 +309,111 @@ module _ (l most : ℕ) (rows : List Row) (f : IsFrozen l most rows) (made : Lis
         let lq : p < length rows = subst (λ n. p < n) long lp in
         k.right p lq (a.0, path-numbers (suc a.0) i p li a.1) ∙ coefficient-book p lq;
   }
+
+  -- a path by numbers is one by ranks
+  path-ranks : (n : ℕ) (x : List ℕ) (j : ℕ) → j < length rows → PathTo (ancestry_of rows) n x (number_of_row rows j) →
+      (i : ℕ) × (i < length rows) × (number_of_row rows i ≡ x) × PathTo (ranked made) n i j
+  unfolding PathTo
+  path-ranks zero x j lj path = (j, lj, sym path, refl)
+  path-ranks (suc n) x j lj path =
+      let q : List ℕ = path.0 in
+      let later = path-ranks n q j lj path.2 in
+      let own = rank_there rows x (child_there (book_of rows) x q path.1) in
+      let i : ℕ = own.0 in
+      let known : (o : Option ℕ) → ((p : ℕ) → o ≡ Some p → p < length rows) → option_map (number_of_row rows) o ≡ Some q → o ≡ Some later.0 =
+      λ o within e. known_rank o within e later.0 later.1 later.2 in
+      let below : (p : ℕ) → IsParentIn (ranked made) p i → p < length rows =
+      λ p is. subst (λ n. p < n) long (rank-below (length made) p (lawful.parents p i (member i own.1) is).0) in
+      let parent : IsParentIn (ranked made) later.0 i =
+      ⊎_elim
+      (λ s. inl (known (sire_rank made i) (λ p e. below p (inl e)) (sym (renamed.sire i (member i own.1)) ∙ ap (ancestry_of rows).sire own.2 ∙ s)))
+      (λ d. inr (known (dam_rank made i) (λ p e. below p (inr e)) (sym (renamed.dam i (member i own.1)) ∙ ap (ancestry_of rows).dam own.2 ∙ d)))
+      path.1 in
+      (i, own.1, own.2, (later.0, parent, later.3))
+    where
+      known_rank : (o : Option ℕ) → ((p : ℕ) → o ≡ Some p → p < length rows) → {q : List ℕ} → option_map (number_of_row rows) o ≡ Some q →
+          (j : ℕ) → j < length rows → number_of_row rows j ≡ q → o ≡ Some j
+      known_rank None within e j lj is = absurd (cc)
+      known_rank (Some p) within {q} e j lj is =
+          let its : number_of_row rows p ≡ q = same_Some _ _ e in
+          ap Some (same_rank l most rows f p j (within p refl) lj (its ∙ sym is))
+
+  -- what is known of ranks and their ancestors is known of their numbers
+  pub coefficients-numbers : (numbers : List (List ℕ)) (ranks known : List ℕ) → AreRanksOf rows numbers ranks →
+      AreCoefficientsOf l made (Contains ranks) known → AreBookCoefficientsOf l rows numbers known
+  coefficients-numbers numbers ranks known of are = record {
+    each = are.each ∙ long;
+    right = λ rank within comes.
+        let own = path-ranks comes.2 comes.0 rank within comes.3 in
+        let named : Contains numbers (number_of_row rows own.0) = subst (λ x. Contains numbers x) (sym own.2) comes.1 in
+        are.right rank (own.0, of.each own.0 own.1 named, comes.2, own.3) ∙ sym (coefficient-book rank within);
+  }
+
+-- Coefficients of some animals and their ancestors
+
+-- the ancestors of an animal of these numbers are known
+pub knows-ancestors : (l : ℕ) (rows : List Row) (numbers : List (List ℕ)) (known : List ℕ) → AreBookCoefficientsOf l rows numbers known →
+    (rank : ℕ) (number : List ℕ) → slice_get (numbers_of rows) rank ≡ Some number → Contains numbers number → KnowsBookAncestors l rows known rank
+knows-ancestors l rows numbers known are rank number stands named =
+    let own : number_of_row rows rank ≡ number = get_or_from_slice_get (numbers_of rows) rank number [] stands in
+    record {
+      each = are.each;
+      right = λ p within a. are.right p within (number_of_row rows rank, subst (λ x. Contains numbers x) (sym own) named, suc a.0, a.1);
+    }
+
+-- and the animal itself
+pub knows-itself : (l : ℕ) (rows : List Row) (numbers : List (List ℕ)) (known : List ℕ) → AreBookCoefficientsOf l rows numbers known →
+    (rank : ℕ) (number : List ℕ) → slice_get (numbers_of rows) rank ≡ Some number → Contains numbers number →
+    get_or known rank 0 ≡ coefficient (ancestry_of rows) l number
+knows-itself l rows numbers known are rank number stands named =
+    let own : number_of_row rows rank ≡ number = get_or_from_slice_get (numbers_of rows) rank number [] stands in
+    let within : rank < length rows = subst (λ n. rank < n) (length-numbers_of rows) (slice_get_within (numbers_of rows) rank number stands) in
+    are.right rank within (comes_itself (ancestry_of rows) (Contains numbers) (number_of_row rows rank) (subst (λ x. Contains numbers x) (sym own) named))
+    ∙ ap (coefficient (ancestry_of rows) l) own
+
+-- what is known of some numbers is known of one of them
+pub known-one : (l : ℕ) (rows : List Row) (numbers : List (List ℕ)) (known : List ℕ) → AreBookCoefficientsOf l rows numbers known →
+    (number : List ℕ) → Contains numbers number → AreBookCoefficientsOf l rows (number ∷ []) known
+known-one l rows numbers known are number named = record {
+  each = are.each;
+  right = λ rank within comes.
+      let among : Contains numbers comes.0 =
+      ⊎_elim (λ none. absurd (omega (arith, none.1))) (λ (same : number ≡ comes.0). subst (λ x. Contains numbers x) same named) (Contains-push_cases [] number comes.0 comes.1) in
+      are.right rank within (comes.0, among, comes.2, comes.3);
+}
+
+-- Ranks of numbers
+
+-- no number has a rank
+pub ranks-none : (rows : List Row) (ranks : List ℕ) → ranks ≡ [] → AreRanksOf rows [] ranks
+ranks-none rows ranks none = rw none (record { within = All-nil (λ rank. rank < length rows); each = λ rank within named. absurd (omega (arith, named.1)) })
+
+-- one number more that is in the book
+pub ranks-more : (l most : ℕ) (rows : List Row) → IsFrozen l most rows → (numbers : List (List ℕ)) (ranks : List ℕ) (number : List ℕ) (own : ℕ) →
+    slice_get (numbers_of rows) own ≡ Some number → own < length rows → AreRanksOf rows numbers ranks → AreRanksOf rows (numbers ++ number ∷ []) (ranks ++ own ∷ [])
+ranks-more l most rows f numbers ranks number own stands within are = record {
+  within = All-push (λ rank. rank < length rows) ranks own are.within within;
+  each = λ rank low named.
+      ⊎_elim
+      (λ (before : Contains numbers (number_of_row rows rank)). Contains-append_left ranks (own ∷ []) rank (are.each rank low before))
+      (λ (here : number ≡ number_of_row rows rank).
+      let same : own ≡ rank = same_rank l most rows f own rank within low (get_or_from_slice_get (numbers_of rows) own number [] stands ∙ here) in
+      subst (λ r. Contains (ranks ++ own ∷ []) r) same (Contains-push ranks own))
+      (Contains-push_cases numbers number (number_of_row rows rank) named);
+}
+
+-- one that isn't
+pub ranks-absent : (rows : List Row) (numbers : List (List ℕ)) (ranks : List ℕ) (number : List ℕ) →
+    is_there (book_of rows) number ≡ false → AreRanksOf rows numbers ranks → AreRanksOf rows (numbers ++ number ∷ []) ranks
+ranks-absent rows numbers ranks number absent are = record {
+  within = are.within;
+  each = λ rank low named.
+      ⊎_elim
+      (λ (before : Contains numbers (number_of_row rows rank)). are.each rank low before)
+      (λ (here : number ≡ number_of_row rows rank).
+      let a = record_there (book_of rows) (number_of_row rows rank) (frozen-member rows rank low) in
+      let there : is_there (book_of rows) (number_of_row rows rank) ≡ true = rw a.1 refl in
+      let not : is_there (book_of rows) (number_of_row rows rank) ≡ false = subst (λ n. is_there (book_of rows) n ≡ false) here absent in
+      absurd (both_ways _ not there))
+      (Contains-push_cases numbers number (number_of_row rows rank) named);
+}

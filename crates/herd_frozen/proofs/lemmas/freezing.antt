@@ -3,6 +3,8 @@ pub mod FrozenDepthFacts
 pub mod FrozenFacts
 pub mod IndexFacts
 pub mod AgeOrderFacts
+pub mod AgeSortFacts
+pub mod DayFacts
 pub mod RankFacts
 pub mod RowsFacts
 pub mod NextRowFacts

@@ -1,13 +1,18 @@
 -- An index of numbers by buckets, which are followed from the last rank to the first.
-use Rattle.std.specs.Prelude.{◌≡◌, ℕ, ◌+◌, ◌<◌, ◌≤◌, ◌*◌, ◌/◌, ◌^◌, List, length, slice_get, slice_index, Some}
-use Rattle.std.specs.Hash.FoldHasher.{finish, initial, write}
+use Rattle.std.specs.Prelude.{◌≡◌, ℕ, ◌+◌, ◌<◌, ◌≤◌, ◌*◌, ◌/◌, ◌%◌, ◌^◌, List, length, slice_get, slice_index, Some}
+use Rattle.herd_animal.specs.Pieces.{piece}
 use Rattle.herd_frozen.specs.declared.freezing.frozen.Row.{Row}
 use Rattle.herd_frozen.specs.declared.freezing.number_index.NumberIndex.{NumberIndex}
+use Rattle.herd_frozen.specs.declared.freezing.number_index.TheConstants.{MULTIPLIER}
 use Rattle.herd_frozen.specs.freezing.Frozen.{numbers_of}
 
--- the hash of a number
+-- a hash with one more piece
+abbrev pub mixed : ℕ → ℕ → ℕ
+mixed hash piece = (hash + piece) % 2 ^ 64 * MULTIPLIER % 2 ^ 64
+
+-- the hash of a number: of its first eight characters, the next eight and the last eight
 unfoldable pub hash_of : List ℕ → ℕ
-hash_of number = finish (write initial number)
+hash_of number = mixed (mixed (mixed 0 (piece 0 number)) (piece 8 number)) (piece 11 number)
 
 -- its bucket, of so many: as far among them as the hash is among all 2^64
 unfoldable pub bucket_of : ℕ → List ℕ → ℕ

@@ -9,9 +9,11 @@ ghost use Rattle.herd_frozen.specs.declared.TheConstants.{DEPTH_LIMIT, MOST_ANIM
 
 use crate::freezing::age_order::{AgeKey, by_age, ranks_of};
 use crate::freezing::frozen::Frozen;
+use crate::freezing::hinted::{Hinted, are_right};
 use crate::freezing::listed::{Listed, places_by_number};
 use crate::freezing::registered::Registered;
 use crate::freezing::rows::{RowRecord, Rows};
+use crate::places::links::LinkHint;
 use crate::rules::animal::Animal;
 use herd_animal::AnimalNumber;
 use herd_lineage::{Parents, depth_of_calf};
@@ -31,6 +33,22 @@ pub fn freeze_list<A: Allocator + Clone>(
         places: &places,
     };
     frozen_from(alloc, &listed)
+}
+
+/// The same, with the places where the parents of each record are expected. Where each known parent stands there, none
+/// is looked up by its number. Where one doesn't, or there isn't one hint for each record, all are looked up.
+pub fn freeze_hinted<A: Allocator + Clone>(
+    alloc: A,
+    records: &[(AnimalNumber, Animal)],
+    hints: &[LinkHint],
+) -> Result<Frozen<A>, AllocError>
+    requires { IsLawful DEPTH_LIMIT MOST_ANIMALS records.now }
+    ensures { IfOk result (IsFrozenFrom DEPTH_LIMIT MOST_ANIMALS records.now) }
+{
+    if !are_right(records, hints) {
+        return freeze_list(alloc, records);
+    }
+    frozen_from(alloc, &Hinted { records, hints })
 }
 
 /// The book of what is registered, in age order. The only error is a growth of memory that is refused.

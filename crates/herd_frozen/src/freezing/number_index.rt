@@ -1,13 +1,16 @@
 //! An index of rows by number: each rank stands in the bucket of its number's hash.
 ghost use Rattle.std.specs.Prelude.{◌≡◌, ◌<◌, ◌≤◌, ℕ, Some, IfNone, IfOk, IfSome, length, slice_get};
+ghost use Rattle.herd_animal.specs.Pieces.{piece};
 ghost use Rattle.herd_frozen.specs.freezing.Frozen.{numbers_of};
-ghost use Rattle.herd_frozen.specs.freezing.NumberIndex.{IsIndexOf, bucket_of, hash_of};
+ghost use Rattle.herd_frozen.specs.freezing.NumberIndex.{IsIndexOf, bucket_of, hash_of, mixed};
 ghost use Rattle.herd_frozen.specs.declared.TheConstants.{MOST_ANIMALS};
 
 use crate::freezing::rows::Rows;
 use herd_animal::AnimalNumber;
 use std::alloc::{AllocError, Allocator};
-use std::hash::{FoldHasher, Hash, Hasher};
+
+// By which a hash is multiplied: the odd number next to 2^64 divided by the golden ratio.
+const MULTIPLIER: u64 = 0x9e37_79b9_7f4a_7c15;
 
 /// The ranks of rows by the buckets of their numbers, which are followed from the last rank to the first.
 #[derive(Drop)]
@@ -65,10 +68,30 @@ fn bucket_of(number: &AnimalNumber, buckets: usize) -> usize
     (hash * buckets as u128 / (1 << 64)) as usize
 }
 
+// The hash of a number: its first eight characters, the next eight and the last eight, mixed one after the other.
+// Eight characters are read at once, which takes a fraction of what a hasher of bytes does.
 fn hash_of(number: &AnimalNumber) -> u64
     ensures { result ≡ hash_of number.now }
 {
-    let mut hasher = FoldHasher::default();
-    number.hash(&mut hasher);
-    hasher.finish()
+    let text = number.bytes();
+    let first = mixed(0, piece(&text, 0));
+    let both = mixed(first, piece(&text, 8));
+    mixed(both, piece(&text, 11))
+}
+
+// A hash with one more piece.
+fn mixed(hash: u64, piece: u64) -> u64
+    ensures { result ≡ mixed hash piece }
+{
+    hash.wrapping_add(piece).wrapping_mul(MULTIPLIER)
+}
+
+// Eight characters from a place on, as one number.
+fn piece(text: &[u8; 19], place: usize) -> u64
+    requires { place ≤ 11 }
+    ensures { result ≡ piece place text.now }
+{
+    let mut eight = [0; 8];
+    eight.copy_from_slice(&text[place..place + 8]);
+    u64::from_le_bytes(eight)
 }

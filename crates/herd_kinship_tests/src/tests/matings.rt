@@ -17,7 +17,7 @@ fn advises(
     dam: AnimalNumber,
     expected: Result<(u128, u128), u8>,
 ) -> Result<(), Fail> {
-    let coefficients = coefficients_plain(alloc, frozen)?;
+    let coefficients = coefficients_of(alloc, frozen, &[dam])?;
     let matings = DamMatings::of(alloc, frozen, &coefficients, dam)?;
     let told = mating(alloc, frozen, &coefficients, &sire, &dam);
     assert_eq!(rt; matings.with(&sire), told);

@@ -3,7 +3,8 @@ use Rattle.std.specs.Prelude.{◌≡◌, ℕ, ◌<◌, ◌≤◌, List, [], ◌�
 use Rattle.herd_pedigree.specs.declared.store.correction.Correction.{Correction}
 use Rattle.herd_frozen.specs.rules.Paths.{Parentage}
 use Rattle.herd_frozen.specs.places.Places.{parentage_at}
-use Rattle.herd_pedigree.specs.store.Exchange.{IsSettled, exchanged}
+use Rattle.herd_pedigree.specs.store.Carrying.{IsSettled}
+use Rattle.herd_pedigree.specs.store.Exchange.{exchanged}
 
 -- the places that there are, and the known parents of each
 abbrev pub corrected : {A : Type 0} → Correction A → Parentage ℕ

@@ -1,15 +1,18 @@
 //! The parents by place, with those of one animal exchanged, and the depths that follow.
-ghost use Rattle.std.specs.Prelude.{◌≡◌, ◌⊎◌, ℕ, suc, ◌+◌, ◌<◌, ◌≤◌, ◌==◌, ◌++◌, ◌∷◌, [], List, All, IsTrue, IsFalse, ◌↔◌, IfNone, IfOk, IfSome, OnOk, OnErr, Some, filter, length, min, not, slice_index};
-ghost use Rattle.std.specs.Option.{option_map};
+ghost use Rattle.std.specs.Prelude.{◌≡◌, ◌⊎◌, ℕ, suc, ◌+◌, ◌<◌, ◌≤◌, ◌==◌, ◌++◌, ◌∷◌, [], List, All, IsTrue, IsFalse};
+ghost use Rattle.std.specs.Prelude.{◌↔◌, IfNone, IfOk, IfSome, OnOk, OnErr, Some, filter, length, min, not};
+ghost use Rattle.std.specs.Prelude.{slice_index};
 ghost use Rattle.herd_frozen.specs.rules.Depths.{IsParent, depth_from};
 ghost use Rattle.herd_frozen.specs.rules.Paths.{has_path};
-ghost use Rattle.herd_pedigree.specs.store.Exchange.{AddsCalves, HavePaths, IsSettled, IsSound};
+ghost use Rattle.herd_pedigree.specs.store.Carrying.{AddsCalves, HavePaths, IsSettled};
+ghost use Rattle.herd_pedigree.specs.store.Exchange.{IsSound};
 ghost use Rattle.herd_pedigree.specs.store.Undo.{TakesBack};
 ghost use Rattle.herd_frozen.specs.declared.TheConstants.{DEPTH_LIMIT};
 
+use crate::store::depth::depth_with;
 use crate::store::progeny::{Calves, Progeny};
 use crate::store::undo::undo_writes;
-use herd_frozen::{DEPTH_LIMIT, Link, depth_of_calf};
+use herd_frozen::{DEPTH_LIMIT, Link};
 use std::alloc::{AllocError, Allocator};
 
 /// The parents of all animals by place, as they would be if one had these.
@@ -259,23 +262,4 @@ fn push_others<A: Allocator>(
         }
     }
     Ok(())
-}
-
-// The depth of a parent that is known.
-fn depth_of(depths: &[u8], parent: Option<u32>) -> Option<u8>
-    requires { IfSome parent (λ place. place < length depths.now) }
-    ensures { result ≡ option_map (slice_index depths.now) parent }
-{
-    let place = parent?;
-    Some(depths[place as usize])
-}
-
-/// The depth that an animal with these parents has.
-pub fn depth_with(depths: &[u8], sire: Option<u32>, dam: Option<u32>) -> u16
-    requires sire { IfSome sire (λ place. place < length depths.now) }
-    requires dam { IfSome dam (λ place. place < length depths.now) }
-    ensures depth { result ≡ depth_from (slice_index depths.now) sire dam }
-    ensures bound { result ≤ 256 }
-{
-    depth_of_calf(depth_of(depths, sire), depth_of(depths, dam))
 }

@@ -1,7 +1,9 @@
 //! The parents of one sex by place, with the calves of each in a chain.
-ghost use Rattle.std.specs.Prelude.{◌≡◌, ◌+◌, ◌^◌, ◌-◌, ◌<◌, ◌↔◌, ℕ, [], ◌++◌, ◌∷◌, Some, None, Contains, length, slice_set, IsFalse, IsTrue, OnOk};
+ghost use Rattle.std.specs.Prelude.{◌≡◌, ◌+◌, ◌^◌, ◌-◌, ◌<◌, ◌↔◌, ℕ, [], ◌++◌, ◌∷◌, Some, None, Contains, length};
+ghost use Rattle.std.specs.Prelude.{slice_set, IsFalse, IsTrue, OnOk};
 ghost use Rattle.std.specs.Iterator.{YieldsFirst, item_count};
-ghost use Rattle.herd_pedigree.specs.store.Calves.{AreChained, Show, node_at, first_of, next_of, parent_of, parents_of, previous_of, put};
+ghost use Rattle.herd_pedigree.specs.store.Calves.{AreChained, Show, node_at, first_of, next_of, parent_of, parents_of};
+ghost use Rattle.herd_pedigree.specs.store.Calves.{previous_of, put};
 ghost use Rattle.herd_frozen.specs.places.Places.{parent_at};
 ghost use Rattle.herd_pedigree.specs.store.Undo.{without_last};
 

@@ -1,5 +1,5 @@
 -- A record whose fields tell two parents is their offspring, or too deep.
-use Rattle.std.proofs.Common.{◌≡◌, ◌∙◌, ℕ, ◌<◌, ◌≤◌, Bool, true, false, cond, ltb, ◌==◌, List, length, Option, Some, None, Result, Ok, Err, refl, sym, ap, ap₂, arith}
+use Rattle.std.proofs.Common.{◌≡◌, ◌∙◌, ℕ, ◌<◌, ◌≤◌, Bool, true, false, cond, ltb, ◌==◌, List, length, Option, Some, None, Ok, Err, refl, sym, ap, ap₂, arith}
 use Rattle.std.specs.Prelude.{IfSome, unwrap_or}
 use Rattle.std.proofs.lemmas.Bool.{false≢true, le-ltb, lt-ltb, ne_eqb}
 use Rattle.csv_records.specs.Fields.{Fields as Texts, field}

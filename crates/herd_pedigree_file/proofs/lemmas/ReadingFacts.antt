@@ -1,5 +1,5 @@
 -- What the records that are still to come tell of the file.
-use Rattle.std.proofs.Common.{◌≡◌, ◌∙◌, ℕ, ◌+◌, Bool, true, false, ◌&&◌, List, [], ◌∷◌, ◌++◌, length, Option, Some, None, Result, Ok, Err, option_map, inl, inr, refl, sym, ap, ap₂}
+use Rattle.std.proofs.Common.{◌≡◌, ◌∙◌, ℕ, ◌+◌, true, false, List, [], ◌∷◌, ◌++◌, length, Option, Some, None, Result, Ok, Err, option_map, inl, inr, refl, sym, ap, ap₂}
 use Rattle.std.specs.Prelude.{IfSome, MatchBool}
 use Rattle.std.proofs.lemmas.Bool.{false≢true}
 use Rattle.csv.specs.Reading.{default_config, records, strip_bom}
@@ -7,29 +7,12 @@ use Rattle.csv.specs.declared.reader.Reader.{Reader}
 use Rattle.csv_records.specs.Fields.{Fields as Texts}
 use Rattle.csv_records.specs.Upcoming.{TakesRecord, upcoming}
 use Rattle.herd_lineage.specs.declared.lineage.Parents.{Parents}
-use Rattle.herd_pedigree_file.specs.Grammar.{animal_in, is_header}
+use Rattle.herd_pedigree_file.specs.Grammar.{animal_in}
 use Rattle.herd_pedigree_file.specs.PedigreeFile.{IsReadBefore, IsToldOf, LacksHeader, Pedigree, TakesAnimal, TakesHeader, animal_then, fault_at, lineage_from, lineage_in, lineage_under_header}
 use Rattle.herd_pedigree_file.specs.declared.pedigree_fault.PedigreeCause.{PedigreeCause}
 use Rattle.herd_pedigree_file.specs.declared.pedigree_fault.PedigreeCause.TheVariants.{Header, Memory}
 use Rattle.herd_pedigree_file.specs.declared.pedigree_fault.PedigreeFault.{PedigreeFault}
 use Rattle.herd_pedigree_file.specs.PedigreeCause.{is_interruption}
-
--- ---- the header
-
-pub takes_header : (old new : Option (List Texts)) (texts : Texts) → TakesRecord old new texts true → is_header texts ≡ true → TakesHeader old new
-takes_header None new texts takes is = tt
-takes_header (Some []) new texts takes is = absurd (false≢true (sym takes))
-takes_header (Some (first ∷ rest)) new texts takes is = (ap is_header (sym takes.1) ∙ is, takes.2)
-
-pub no_record : (old new : Option (List Texts)) (texts : Texts) → TakesRecord old new texts false → LacksHeader old
-no_record None new texts takes = tt
-no_record (Some []) new texts takes = tt
-no_record (Some (first ∷ rest)) new texts takes = absurd (false≢true takes.0)
-
-pub no_header : (old new : Option (List Texts)) (texts : Texts) → TakesRecord old new texts true → is_header texts ≡ false → LacksHeader old
-no_header None new texts takes is = tt
-no_header (Some []) new texts takes is = tt
-no_header (Some (first ∷ rest)) new texts takes is = ap is_header (sym takes.1) ∙ is
 
 -- ---- an animal
 

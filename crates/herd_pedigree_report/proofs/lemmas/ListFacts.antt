@@ -1,6 +1,6 @@
 -- The lines of animals, and the elements that an animal contributes.
 use Rattle.std.proofs.Common.{◌≡◌, ℕ, ◌<◌, ◌≤◌, Bool, true, false, List, [], ◌∷◌, ◌++◌, length, map, take, Option, Some, None, refl, arith}
-use Rattle.std.specs.Prelude.{codes, cond, decimal, max, min, nat_eq}
+use Rattle.std.specs.Prelude.{codes, cond, max, min, nat_eq}
 use Rattle.std.specs.List.{flat_map}
 use Rattle.herd_lineage.specs.declared.TheConstants.{DEPTH_LIMIT}
 use Rattle.herd_lineage.specs.declared.lineage.Parents.{Parents}
@@ -12,7 +12,6 @@ use Rattle.herd_kinship.specs.Contributions.{contribution_at, contributions_of, 
 use Rattle.herd_kinship.specs.Fraction.{fraction_text}
 use Rattle.herd_pedigree_file.specs.Number.{number_text}
 use Rattle.herd_text.proofs.lemmas.TextFacts.{some_after, some_before}
-use Rattle.herd_text.specs.CoefficientText.{coefficient_line_end as fraction_line_end}
 use Rattle.herd_text.specs.CoefficientText.{value_line_end}
 use Rattle.herd_pedigree_report.specs.InbreedingList.{animal_line}
 use Rattle.herd_pedigree_report.specs.InverseList.{contribution_line, contributions_text}

@@ -1,5 +1,5 @@
 -- The lines of pairs.
-use Rattle.std.proofs.Common.{◌≡◌, ◌∙◌, ℕ, ◌+◌, ◌-◌, ◌*◌, ◌<◌, ◌^◌, decimal, Bool, true, false, List, [], ◌∷◌, ◌++◌, All, codes, length, drop, slice_get, slice_index, Some, ap, ap₂, arith, refl, sym, take}
+use Rattle.std.proofs.Common.{◌≡◌, ◌∙◌, ℕ, ◌+◌, ◌-◌, ◌*◌, ◌<◌, ◌^◌, decimal, Bool, true, false, List, [], ◌∷◌, ◌++◌, All, codes, length, drop, slice_get, Some, ap, ap₂, arith, refl, take}
 use Rattle.std.proofs.Math.Seq.{take-length}
 use Rattle.std.proofs.lemmas.List.{drop_more, length-drop}
 use Rattle.std.proofs.lemmas.List.Elements.{All-head, All-tail}
@@ -12,7 +12,6 @@ use Rattle.herd_kinship.specs.Table.{entry}
 use Rattle.herd_kinship.specs.Fraction.{fraction_text, halved}
 use Rattle.herd_pedigree_file.specs.Number.{number_text}
 use Rattle.herd_text.proofs.lemmas.TextFacts.{some_after, some_before}
-use Rattle.herd_text.specs.CoefficientText.{value_line_end}
 use Rattle.herd_pedigree_report.specs.Notation.{relationship_line_end}
 use Rattle.herd_pedigree_report.specs.RelationshipList.{column_lines, lines_with, pair_line, pair_lines, partners_of}
 

@@ -1,14 +1,11 @@
 -- How an order ends early, and what is written of a file's lineage.
-use Rattle.std.proofs.Common.{◌≡◌, ◌&&◌, inl, inr, ℕ, Bool, true, false, Bor, List, length, Option, Some, None, Ok, Result, refl, ap, ⊎_elim}
+use Rattle.std.proofs.Common.{◌≡◌, ℕ, List, Option, Ok, Result}
 use Rattle.std.specs.Prelude.{IfErr}
 use Rattle.std.proofs.lemmas.Result.{IfErr-weaker}
 use Rattle.herd_lineage.specs.declared.lineage.Parents.{Parents}
 use Rattle.herd_pedigree_file.specs.PedigreeFile.{lineage_in}
-use Rattle.herd_text.specs.Text.{EndsReport}
-use Rattle.herd_text.specs.declared.report_fault.ReportFault.{ReportFault}
 use Rattle.herd_text.specs.declared.report_fault.ReportFault.TheVariants as report
-use Rattle.herd_pedigree_report.specs.Named.{EndsNaming, all_there}
-use Rattle.herd_pedigree_report.specs.PedigreeReport.{CanEndBy, EndsBy, EndsReporting, are_there, fault_of_report, wanted}
+use Rattle.herd_pedigree_report.specs.PedigreeReport.{CanEndBy, EndsBy, EndsReporting}
 use Rattle.herd_pedigree_report.specs.declared.pedigree_order.PedigreeOrder.{PedigreeOrder}
 use Rattle.herd_pedigree_report.specs.declared.pedigree_order.PedigreeOrder.TheVariants.{Inbreeding, Inverse, Relationships}
 use Rattle.herd_pedigree_report.specs.declared.pedigree_report_fault.PedigreeReportFault.{PedigreeReportFault}

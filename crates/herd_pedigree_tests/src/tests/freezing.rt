@@ -7,10 +7,10 @@ ghost use Rattle.herd_frozen.specs.declared.TheConstants.{DEPTH_LIMIT, MOST_ANIM
 use herd_animal::{AnimalNumber, DayFault};
 use herd_fixtures::Name::{Bull, Cow};
 use herd_fixtures::{Birth, BirthFault, Pair, UNKNOWN, pedigree_of, row_at};
-use herd_frozen::{Animal, Frozen, Parents, Row, freeze_list};
+use herd_frozen::{Animal, Frozen, LinkHint, Parents, Row, freeze_hinted, freeze_list};
 use herd_pedigree::Pedigree;
 use linked_list_allocator::LocalHeap;
-use std::alloc::{Allocator, Global};
+use std::alloc::{AllocError, Allocator, Global};
 use std::process::Abort;
 use std::test::Fail;
 
@@ -167,6 +167,52 @@ fn answers_memory_or_the_family(rt: HostRuntime) -> Result<(), Fail> {
         }
     }
     assert!(rt; 0 < refused && refused < 399);
+    Ok(())
+}
+
+// Hints for the family, of which the calf's are these. The founders' parents aren't known, so nobody looks there.
+fn hints_of(sire: u32, dam: u32) -> [LinkHint; 3] {
+    let unused = LinkHint { sire: 9, dam: 9 };
+    [unused, unused, LinkHint { sire, dam }]
+}
+
+// Right and wrong ones, and of places that aren't there.
+#[test]
+fn freezes_the_family_wherever_parents_are_expected(rt: HostRuntime) -> Result<(), Fail> {
+    let records = family(&rt)?;
+    for (sire, dam) in [(0, 1), (1, 0), (0, 0), (2, 1), (0, 3), (u32::MAX, 1)] {
+        let frozen = freeze_hinted(rt.alloc(), &records, &hints_of(sire, dam))?;
+        expect_family(&rt, &frozen, &records);
+    }
+    expect_family(&rt, &freeze_hinted(rt.alloc(), &records, &[])?, &records);
+    Ok(())
+}
+
+// In how many heaps of up to 400 blocks there is no room for the family, whose parents are expected there.
+fn refusals(
+    rt: &(impl Abort + AllocGlobal),
+    records: &[(AnimalNumber, Animal); 3],
+    hints: &[LinkHint],
+) -> Result<u32, AllocError>
+    requires { IsLawful DEPTH_LIMIT MOST_ANIMALS records.now }
+{
+    let mut refused = 0u32;
+    for blocks in 1..400 {
+        let heap = LocalHeap::new(rt.alloc(), 16 * blocks)?;
+        if freeze_hinted(&heap, records, hints).is_err() {
+            refused = refused.saturating_add(1);
+        }
+    }
+    Ok(refused)
+}
+
+// Where the hints are right no index of the numbers is made, which would need memory.
+#[test]
+fn looks_up_no_parent_that_stands_where_it_is_expected(rt: HostRuntime) -> Result<(), Fail> {
+    let records = family(&rt)?;
+    let looked_up = refusals(&rt, &records, &hints_of(1, 0))?;
+    let expected = refusals(&rt, &records, &hints_of(0, 1))?;
+    assert!(&rt; 0 < expected && expected < looked_up && looked_up < 399);
     Ok(())
 }
 

@@ -5,7 +5,7 @@ use Rattle.std.proofs.lemmas.Bool.{cases_eq}
 use Rattle.std.proofs.lemmas.Option.{same_Some}
 use Rattle.herd_lineage.specs.declared.lineage.Parents.{Parents}
 use Rattle.herd_lineage.specs.Lineage.{IsLineage, dam_rank, sire_rank}
-use Rattle.herd_kinship.specs.Ancestry.{IsParentIn, PathTo}
+use Rattle.herd_kinship.specs.Ancestry.{Ancestry, IsParentIn, PathTo}
 use Rattle.herd_kinship.specs.Ranks.{ranked}
 use Rattle.herd_kinship.proofs.lemmas.lineages.LineageFacts.{path_to-joined}
 use Rattle.herd_pruned.specs.Marked.{ComesFrom, IsMarked, MarksAncestors, with_mark}
@@ -55,7 +55,7 @@ pub record IsMarking (lineage : List Parents) (animals : ℕ → Type 0) (border
   pub each : length marks ≡ length lineage
   pub themselves : (rank : ℕ) → animals rank → IsMarked marks rank
   pub parents : (rank parent : ℕ) → border ≤ rank → IsMarked marks rank → IsParentIn (ranked lineage) parent rank → IsMarked marks parent
-  pub others : (rank : ℕ) → IsMarked marks rank → ComesFrom lineage animals rank
+  pub others : (rank : ℕ) → IsMarked marks rank → ComesFrom (ranked lineage) animals rank
 
 pub marking-start : (lineage : List Parents) (marks : List Bool) (border : ℕ) → length marks ≡ length lineage → border ≡ length lineage → IsMarking lineage (IsMarked marks) border marks
 unfolding PathTo
@@ -165,6 +165,6 @@ module _ (l most : ℕ) (lineage : List Parents) (f : IsLineage l most lineage) 
       }
 
 -- each of some animals comes from itself
-pub comes_itself : (lineage : List Parents) (animals : ℕ → Type 0) (rank : ℕ) → animals rank → ComesFrom lineage animals rank
+pub comes_itself : {A : Type 0} (kin : Ancestry A) (animals : A → Type 0) (x : A) → animals x → ComesFrom kin animals x
 unfolding PathTo
-comes_itself lineage animals rank is = (rank, is, 0, refl)
+comes_itself kin animals x is = (x, is, 0, refl)

@@ -5,12 +5,15 @@ use super::texts::Text;
 use herd_animal::{AnimalNumber, Day};
 use herd_fixtures::Name::{Bull, Cow};
 use herd_fixtures::{Birth, Pair, UNKNOWN, heap_of, herd_of};
-use herd_frozen::Animal;
+use herd_frozen::{Animal, LinkHint};
 use herd_register::{Change, Copybook, Limits, Refusal, Register, Reply};
 use linked_list_allocator::LocalHeap;
 use std::alloc::{AllocError, Allocator, Global};
 use std::process::Abort;
 use std::test::Fail;
+
+// Where the parents of an animal that has none are expected.
+const HINT: LinkHint = LinkHint { sire: 0, dam: 0 };
 
 // Steps of each kind that are accepted.
 fn seven() -> [Text; 7] {
@@ -92,8 +95,8 @@ fn expect_full(rt: &impl Abort, copybook: &mut Copybook<Global>) -> Result<(), F
     let records = records()?;
     assert!(rt; has_records(copybook, &records));
     // It would set a record.
-    let (number, animal) = records[1];
-    copybook.take_over(&Change::Set(0, number, animal))?;
+    let (_, animal) = records[1];
+    copybook.take_over(&Change::Set(0, animal, HINT))?;
     assert!(rt; has_records(copybook, &records) && copybook.is_full());
     assert_eq!(rt; copybook.steps(), 8);
     Ok(())
@@ -120,10 +123,10 @@ fn take_over_more_than_fits<A: Allocator>(
     records: &[(AnimalNumber, Animal); 2],
 ) -> Result<(), AllocError> {
     let [first, other] = records;
-    copybook.take_over(&Change::Added(first.0, first.1))?;
-    copybook.take_over(&Change::Added(other.0, other.1))?;
-    copybook.take_over(&Change::Set(1, other.0, other.1))?;
-    copybook.take_over(&Change::Set(u32::MAX, other.0, other.1))?;
+    copybook.take_over(&Change::Added(first.0, first.1, HINT))?;
+    copybook.take_over(&Change::Added(other.0, other.1, HINT))?;
+    copybook.take_over(&Change::Set(1, other.1, HINT))?;
+    copybook.take_over(&Change::Set(u32::MAX, other.1, HINT))?;
     copybook.take_over(&Change::Nothing)
 }
 

@@ -4,4 +4,3 @@ pub mod CommandReaderFacts
 pub mod FieldFacts
 pub mod HeaderFacts
 pub mod HerdFacts
-pub mod UpcomingFacts

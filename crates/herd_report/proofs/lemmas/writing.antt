@@ -1,7 +1,5 @@
 -- How a text is made and written, piece by piece.
-pub mod TextFacts
 pub mod ReplyLines
-pub mod Pieces
 pub mod CoefficientFacts
 pub mod AncestorFacts
 pub mod CertificateFacts
@@ -9,3 +7,4 @@ pub mod RecordFacts
 pub mod MatingFacts
 pub mod ContributionFacts
 pub mod RelationshipFacts
+pub mod SealedFacts

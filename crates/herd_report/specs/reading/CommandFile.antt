@@ -3,7 +3,8 @@ use Rattle.std.specs.Prelude.{◌≡◌, ◌⊎◌, ℕ, ◌+◌, List, [], ◌�
 use Rattle.std.specs.Option.{option_map_or}
 use Rattle.csv.specs.Reading.{default_config, records, strip_bom}
 use Rattle.herd_register.specs.declared.command.Command.{Command}
-use Rattle.herd_report.specs.reading.Grammar.{Fields, command_of, version_of}
+use Rattle.csv_records.specs.Fields.{Fields}
+use Rattle.herd_report.specs.reading.Grammar.{command_of, version_of}
 use Rattle.herd_report.specs.reading.LineCause.{is_interruption}
 use Rattle.herd_report.specs.declared.reading.line_fault.LineCause.{LineCause}
 use Rattle.herd_report.specs.declared.reading.line_fault.LineCause.TheVariants as cause

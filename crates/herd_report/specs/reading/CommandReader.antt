@@ -3,9 +3,9 @@ use Rattle.std.specs.Prelude.{◌≡◌, ℕ, ◌+◌, ◌≤◌, List, [], ◌�
 use Rattle.herd_register.specs.declared.command.Command.{Command}
 use Rattle.herd_register.specs.declared.limits.TheConstants.{MOST_STEPS}
 use Rattle.herd_report.specs.reading.CommandFile.{CommandFile, IsRead, commands_from, fault_at, followed_by}
-use Rattle.herd_report.specs.reading.Grammar.{Fields}
+use Rattle.csv_records.specs.Fields.{Fields}
 use Rattle.herd_report.specs.reading.LineCause.{is_interruption}
-use Rattle.herd_report.specs.reading.Upcoming.{IsSetUp, upcoming}
+use Rattle.csv_records.specs.Upcoming.{IsSetUp, upcoming}
 use Rattle.herd_report.specs.declared.reading.command_reader.CommandReader.{CommandReader}
 use Rattle.herd_report.specs.declared.reading.line_fault.LineCause.{LineCause}
 use Rattle.herd_report.specs.declared.reading.line_fault.LineFault.{LineFault}

@@ -1,9 +1,9 @@
 -- What one record of a command file means.
-use Rattle.std.specs.Prelude.{ℕ, List, [], ◌∷◌, ◌++◌, drop, length, unwrap_or, codes, Bool, false, ◌==◌, if◌then◌else◌, Option, Some, None, Result, Ok, Err}
+use Rattle.std.specs.Prelude.{ℕ, List, [], ◌∷◌, ◌++◌, drop, length, codes, Bool, false, ◌==◌, if◌then◌else◌, Option, Some, None, Result, Ok, Err}
 use Rattle.std.specs.Option.{option_map_or}
 use Rattle.std.specs.Str.{bytes_eq}
 use Rattle.std.specs.Cmp.Lexicographic.{pointwise}
-use Rattle.csv.specs.Records.{field_at}
+use Rattle.csv_records.specs.Fields.{Fields, field}
 use Rattle.herd_register.specs.declared.command.Command.{Command}
 use Rattle.herd_register.specs.declared.command.Command.TheVariants as command
 use Rattle.herd_report.specs.reading.Field.{day_in, herd_in, is_animal_number, is_day, is_embryo, is_embryo_flag, is_empty, is_herd, is_parent, parent_in}
@@ -14,10 +14,6 @@ use Rattle.herd_report.specs.declared.reading.line_fault.LineCause.TheVariants a
 use Rattle.herd_report.specs.declared.reading.line_fault.LineCause.TheVariants.{Animal, Day, Sire, Dam, FromHerd, ToHerd, FieldNotUsed, Embryo}
 use Rattle.herd_report.specs.declared.reading.version.Version.{Version}
 use Rattle.herd_report.specs.declared.reading.version.Version.TheVariants.{One, Two}
-
--- the fields of a record, as bytes
-abbrev pub Fields : Type 0
-Fields = List (List ℕ)
 
 -- the columns of version 1
 abbrev pub first_columns : Fields
@@ -81,10 +77,6 @@ pub record Texts : Type 0 where
   pub from : List ℕ
   pub to : List ℕ
   pub embryo : List ℕ
-
--- the field at a place, and the empty one where the record has fewer
-abbrev pub field : ℕ → Fields → List ℕ
-field place fields = unwrap_or (field_at fields place) []
 
 -- the columns of a record; version 1 has no embryo column, which is read as empty
 abbrev pub texts_in : Fields → Texts

@@ -1,8 +1,8 @@
 -- The causes of line faults.
 use Rattle.std.specs.Prelude.{ℕ, Bool, true, false, List, codes}
 use Rattle.herd_report.specs.declared.reading.line_fault.LineCause.{LineCause}
-use Rattle.csv.specs.declared.error.ErrorKind.{ErrorKind}
-use Rattle.csv.specs.declared.error.ErrorKind.TheVariants as error
+use Rattle.csv_records.specs.declared.interruption.Interruption.{Interruption}
+use Rattle.csv_records.specs.declared.interruption.Interruption.TheVariants as interruption
 use Rattle.herd_report.specs.declared.reading.line_fault.LineCause.TheVariants.{Header, Fields, Kind, Animal, Day, Sire, Dam, FromHerd, ToHerd, FieldNotUsed, Read, TooMany, Memory, Embryo}
 
 -- the number that the program prints
@@ -56,11 +56,7 @@ is_interruption TooMany = false
 is_interruption Memory = true
 is_interruption Embryo = false
 
--- the interruption that an error of `csv` tells: memory that it was refused, or else a fault of reading
-abbrev pub interruption_of : ErrorKind → LineCause
-interruption_of error.OutOfMemory = Memory
-interruption_of (error.Io fault) = Read
-interruption_of (error.Utf8 place fault) = Read
-interruption_of (error.UnequalLengths place expected length) = Read
-interruption_of (error.Serialize text) = Read
-interruption_of (error.Deserialize place fault) = Read
+-- the cause that an interruption is
+abbrev pub interrupted : Interruption → LineCause
+interrupted interruption.Read = Read
+interrupted interruption.Memory = Memory

@@ -15,8 +15,8 @@ use Rattle.herd_advice.specs.FrozenAncestry.{ancestry_of}
 use Rattle.herd_kinship.specs.Table.{coefficient}
 use Rattle.herd_report.specs.declared.writing.ancestors.Parent.{Parent}
 use Rattle.herd_report.specs.writing.Ancestors.{ancestor_of, letter_of, three_generations}
-use Rattle.herd_report.specs.writing.CoefficientText.{coefficient_text}
-use Rattle.herd_report.specs.writing.RecordLine.{known_text, left_text}
+use Rattle.herd_text.specs.CoefficientText.{coefficient_text}
+use Rattle.herd_record_line.specs.RecordLine.{known_text, left_text}
 
 -- a line of a name and a value
 unfoldable pub labelled_line : List ℕ → List ℕ → List ℕ

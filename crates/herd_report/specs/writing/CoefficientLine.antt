@@ -1,5 +1,5 @@
 -- The coefficient of one animal as text.
-use Rattle.std.specs.Prelude.{◌≡◌, ℕ, List, Option, true, false}
+use Rattle.std.specs.Prelude.{◌≡◌, ℕ, List, ◌++◌, Option, true, false}
 use Rattle.std.specs.Io.KnownBytes.{Appends}
 use Rattle.herd_frozen.specs.rules.Book.{is_there}
 use Rattle.herd_frozen.specs.freezing.Frozen.{book_of}
@@ -7,10 +7,14 @@ use Rattle.herd_frozen.specs.declared.TheConstants.{DEPTH_LIMIT}
 use Rattle.herd_frozen.specs.declared.freezing.frozen.Row.{Row}
 use Rattle.herd_advice.specs.FrozenAncestry.{ancestry_of}
 use Rattle.herd_kinship.specs.Table.{coefficient}
-use Rattle.herd_report.specs.writing.CoefficientText.{coefficient_line}
-use Rattle.herd_report.specs.writing.Text.{AppendsFront}
+use Rattle.herd_text.specs.CoefficientText.{coefficient_line_end}
+use Rattle.herd_text.specs.Text.{AppendsFront}
 use Rattle.herd_report.specs.declared.writing.named_animals_fault.NamedAnimalsFault.{NamedAnimalsFault}
 use Rattle.herd_report.specs.declared.writing.named_animals_fault.NamedAnimalsFault.TheVariants.{NotRegistered, Report}
+
+-- the line of an animal in a list: its number and its coefficient
+abbrev pub coefficient_line : List ℕ → ℕ → List ℕ
+coefficient_line number numerator = number ++ coefficient_line_end numerator
 
 -- the line of a number of a frozen book
 abbrev pub coefficient_of : List Row → List ℕ → List ℕ

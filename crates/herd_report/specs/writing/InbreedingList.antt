@@ -2,7 +2,7 @@
 use Rattle.std.specs.Prelude.{ℕ, List}
 use Rattle.std.specs.List.{flat_map}
 use Rattle.herd_frozen.specs.declared.freezing.frozen.Row.{Row}
-use Rattle.herd_report.specs.writing.CoefficientText.{coefficient_line}
+use Rattle.herd_report.specs.writing.CoefficientLine.{coefficient_line}
 
 -- the lines of the animals of a frozen book in age order, with the numerator of each
 abbrev pub inbreeding_text : (List ℕ → ℕ) → List Row → List ℕ

@@ -4,14 +4,9 @@ use Rattle.std.specs.List.{flat_map, range_with_len}
 use Rattle.herd_frozen.specs.declared.TheConstants.{DEPTH_LIMIT}
 use Rattle.herd_frozen.specs.declared.freezing.frozen.Row.{Row}
 use Rattle.herd_kinship.specs.declared.contribution.Contribution.{Contribution}
-use Rattle.herd_kinship.specs.declared.fractions.Fraction.{Fraction}
 use Rattle.herd_advice.specs.BookContributions.{book_contributions_of}
 use Rattle.herd_advice.specs.FrozenAncestry.{number_of_row}
-use Rattle.herd_kinship.specs.Fraction.{fraction_text}
-
--- what stands in the line of an element after the numbers: its value
-abbrev pub value_line_end : Fraction → List ℕ
-value_line_end value = fraction_text value ++ codes "\n"
+use Rattle.herd_text.specs.CoefficientText.{value_line_end}
 
 -- the line of an element: the animal, those of the row and of the column, and the value
 abbrev pub contribution_line : List Row → List ℕ → Contribution → List ℕ

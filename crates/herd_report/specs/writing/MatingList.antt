@@ -8,7 +8,7 @@ use Rattle.herd_advice.specs.declared.mating_advice.MatingFault.{MatingFault}
 use Rattle.herd_advice.specs.FrozenAncestry.{book_ancestry}
 use Rattle.herd_advice.specs.Mating.{mating_fault, number_of_mating_fault}
 use Rattle.herd_kinship.specs.Table.{entry}
-use Rattle.herd_report.specs.writing.CoefficientText.{coefficient_line}
+use Rattle.herd_report.specs.writing.CoefficientLine.{coefficient_line}
 use Rattle.herd_report.specs.writing.RefusedText.{refused_line_end}
 
 -- the line of a sire with which the mating is refused

@@ -5,7 +5,7 @@ use Rattle.std.specs.Option.{option_map_or}
 use Rattle.herd_frozen.specs.declared.freezing.frozen.Row.{Row}
 use Rattle.herd_frozen.specs.freezing.Frozen.{book_of}
 use Rattle.herd_frozen.specs.rules.Book.{Book, record_of}
-use Rattle.herd_report.specs.writing.RecordLine.{record_line}
+use Rattle.herd_record_line.specs.RecordLine.{record_line}
 
 -- the lines of all animals, in age order
 abbrev pub every_record : List Row → List ℕ

@@ -9,7 +9,7 @@ use Rattle.herd_advice.specs.FrozenAncestry.{book_ancestry}
 use Rattle.herd_kinship.specs.Fraction.{halved}
 use Rattle.herd_kinship.specs.Table.{entry}
 use Rattle.herd_report.specs.declared.writing.relationship_list.Asked.{Asked}
-use Rattle.herd_report.specs.writing.InverseList.{value_line_end}
+use Rattle.herd_text.specs.CoefficientText.{value_line_end}
 use Rattle.herd_report.specs.writing.RefusedText.{refused_line_end}
 
 -- the line of a number that isn't in the book; of one that is there is none

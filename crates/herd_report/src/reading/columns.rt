@@ -1,7 +1,8 @@
 //! The columns of a record, and the command that they give.
 ghost use Rattle.std.specs.Prelude.{◌≡◌, IfErr, drop, false};
 ghost use Rattle.csv.specs.Records.{fields_of};
-ghost use Rattle.herd_report.specs.reading.Grammar.{texts_in, command_behind, command_of, field};
+ghost use Rattle.csv_records.specs.Fields.{field};
+ghost use Rattle.herd_report.specs.reading.Grammar.{texts_in, command_behind, command_of};
 ghost use Rattle.herd_report.specs.reading.LineCause.{is_interruption};
 
 use crate::reading::field::{animal, day, embryo, herd, parent, unused};
@@ -61,16 +62,7 @@ impl<'a> Columns<'a> {
     pub(crate) fn of(row: &'a ByteRecord) -> Columns<'a>
         ensures { texts_of result ≡ texts_in (fields_of row.now) }
     {
-        Columns {
-            kind: column(row, 0),
-            animal: column(row, 1),
-            day: column(row, 2),
-            sire: column(row, 3),
-            dam: column(row, 4),
-            from: column(row, 5),
-            to: column(row, 6),
-            embryo: column(row, 7),
-        }
+        Columns::behind(row, 0)
     }
 
     // The same behind so many other fields.
@@ -212,16 +204,9 @@ pub fn command_behind(others: u8, row: &ByteRecord) -> Result<Command, LineCause
     Columns::behind(row, others).command()
 }
 
-// The field at a place, and an empty one where the record has fewer.
-fn column(row: &ByteRecord, place: usize) -> &[u8]
-    ensures { result.now ≡ field place (fields_of row.now) }
-{
-    row.get(place).unwrap_or(&[])
-}
-
 // The field at a place behind so many others, and an empty one where the record has fewer.
 fn column_behind(row: &ByteRecord, others: u8, place: u8) -> &[u8]
     ensures { result.now ≡ field place (drop others (fields_of row.now)) }
 {
-    column(row, usize::from(others) + usize::from(place))
+    csv_records::field(row, usize::from(others) + usize::from(place))
 }

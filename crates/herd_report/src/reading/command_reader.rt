@@ -6,13 +6,13 @@ ghost use Rattle.herd_register.specs.declared.limits.TheConstants.{MOST_STEPS};
 ghost use Rattle.herd_report.specs.reading.CommandFile.{CommandFile, TakesHeader, commands};
 ghost use Rattle.herd_report.specs.reading.CommandReader.{Gives, HasGiven, IsOpen, IsReady, Opens, TakesNext};
 ghost use Rattle.herd_report.specs.reading.LineCause.{is_interruption};
-ghost use Rattle.herd_report.specs.reading.Upcoming.{IsSetUp, ReadsOne, upcoming};
+ghost use Rattle.csv_records.specs.Upcoming.{IsSetUp, ReadsOne, upcoming};
 
 use crate::reading::columns::parse_command;
 use crate::reading::line_fault::{LineCause, LineFault};
-use crate::reading::records::{open_records, read_record};
 use crate::reading::version::Version;
 use csv::{ByteRecord, Reader};
+use csv_records::{open_records, read_record};
 use herd_register::Command;
 use std::alloc::Global;
 use std::io::Read;

@@ -1,6 +1,7 @@
 ghost use Rattle.std.specs.Prelude.{◌≡◌};
 ghost use Rattle.herd_report.specs.reading.LineCause.{cause_name, cause_number};
 
+use csv_records::Interruption;
 use thiserror::Error;
 
 /// What is wrong with a record of a command file. Of its fields the first faulty one from the left decides.
@@ -100,6 +101,19 @@ impl LineCause {
         LineFault {
             record_number,
             cause: self,
+        }
+    }
+}
+
+impl From<Interruption> for LineCause {
+    ghost use Rattle.herd_report.specs.reading.LineCause.{interrupted};
+
+    ghost from_gives = { λ interruption cause. cause ≡ interrupted interruption };
+
+    fn from(interruption: Interruption) -> LineCause {
+        match interruption {
+            Interruption::Read => LineCause::Read,
+            Interruption::Memory => LineCause::Memory,
         }
     }
 }

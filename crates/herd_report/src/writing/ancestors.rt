@@ -5,9 +5,9 @@ ghost use Rattle.herd_advice.specs.FrozenAncestry.{number_of_row};
 ghost use Rattle.herd_report.specs.writing.Ancestors.{ancestor_of, letter_of, parent_rank};
 ghost use Rattle.herd_report.specs.writing.Certificate.{ancestor_line, ancestors_text};
 
-use crate::writing::text::Text;
 use herd_animal::AnimalNumber;
 use herd_frozen::{Frozen, Parents};
+use herd_text::Text;
 use std::alloc::{AllocError, Allocator};
 
 /// One of an animal's two parents.

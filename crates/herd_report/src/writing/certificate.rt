@@ -1,31 +1,30 @@
-ghost use Rattle.std.specs.Prelude.{◌≡◌, ◌<◌, ◌++◌, false, codes, length, IfErr, OnErr, OnOk};
+ghost use Rattle.std.specs.Prelude.{◌≡◌, ◌<◌, ◌∷◌, [], ◌++◌, false, codes, length, IfErr, OnErr, OnOk};
 ghost use Rattle.std.specs.Io.KnownBytes.{Appends};
 ghost use Rattle.herd_frozen.specs.freezing.Frozen.{book_of};
 ghost use Rattle.herd_frozen.specs.declared.TheConstants.{DEPTH_LIMIT};
-ghost use Rattle.herd_advice.specs.BookCoefficients.{AreBookCoefficients};
+ghost use Rattle.herd_advice.specs.BookCoefficients.{AreBookCoefficientsOf};
 ghost use Rattle.herd_advice.specs.FrozenAncestry.{ancestry_of, number_of_row};
 ghost use Rattle.herd_kinship.specs.Table.{coefficient};
-ghost use Rattle.herd_report.specs.writing.Certificate.{animal_text, certificate_of, certificates_of, labelled_line, sex_text};
-ghost use Rattle.herd_report.specs.writing.CoefficientText.{coefficient_text};
-ghost use Rattle.herd_report.specs.writing.RecordLine.{left_text};
+ghost use Rattle.herd_report.specs.writing.Certificate.{animal_text, certificate_of, certificates_of, labelled_line};
+ghost use Rattle.herd_report.specs.writing.Certificate.{sex_text};
+ghost use Rattle.herd_text.specs.CoefficientText.{coefficient_text};
+ghost use Rattle.herd_record_line.specs.RecordLine.{left_text};
 ghost use Rattle.herd_report.specs.writing.Registered.{EndsWritingOf, IsWrittenOf, are_there};
-ghost use Rattle.herd_report.specs.writing.Text.{AppendsFront};
+ghost use Rattle.herd_text.specs.Text.{AppendsFront};
 
 use crate::writing::ancestors::push_ancestors;
-use crate::writing::coefficient_text::{Coefficient, push_coefficient};
 use crate::writing::named_animals_fault::NamedAnimalsFault;
 use crate::writing::registered::are_registered;
-use crate::writing::report_fault::ReportFault;
-use crate::writing::text::Text;
-use herd_advice::{Coefficients, coefficients_plain};
+use herd_advice::Coefficients;
 use herd_animal::{AnimalNumber, Day, Sex};
 use herd_frozen::{Frozen, Row};
+use herd_text::{Coefficient, ReportFault, Text, push_coefficient};
 use itoa::Buffer;
 use std::alloc::{AllocError, Allocator};
 use std::io::Write;
 
 /// Writes the certificates of some animals as they are given: of each its record, its coefficient, and its ancestors up
-/// to three parents away.
+/// to three parents away. Only the coefficients of these animals and of their ancestors need be right.
 pub fn write_certificates<W: Write, A: Allocator, F: Allocator, C: Allocator>(
     alloc: A,
     frozen: &Frozen<F>,
@@ -33,7 +32,7 @@ pub fn write_certificates<W: Write, A: Allocator, F: Allocator, C: Allocator>(
     numbers: &[AnimalNumber],
     writer: &mut W,
 ) -> Result<(), NamedAnimalsFault>
-    requires { AreBookCoefficients DEPTH_LIMIT frozen.now coefficients.now }
+    requires { AreBookCoefficientsOf DEPTH_LIMIT frozen.now numbers.now coefficients.now }
     ensures ok { OnOk result (IsWrittenOf (book_of frozen.now) numbers.now (certificates_of frozen.now numbers.now)
         (W.contents writer.old) (W.contents writer.new)) }
     ensures err { IfErr result (EndsWritingOf (book_of frozen.now) numbers.now (certificates_of frozen.now numbers.now)
@@ -46,26 +45,6 @@ pub fn write_certificates<W: Write, A: Allocator, F: Allocator, C: Allocator>(
     Ok(write_each(alloc, frozen, coefficients, numbers, writer)?)
 }
 
-/// The same with coefficients that are computed once the animals are found.
-pub(crate) fn certify<W: Write, A: Allocator, F: Allocator>(
-    alloc: A,
-    frozen: &Frozen<F>,
-    numbers: &[AnimalNumber],
-    writer: &mut W,
-) -> Result<(), NamedAnimalsFault>
-    ensures ok { OnOk result (IsWrittenOf (book_of frozen.now) numbers.now (certificates_of frozen.now numbers.now)
-        (W.contents writer.old) (W.contents writer.new)) }
-    ensures err { IfErr result (EndsWritingOf (book_of frozen.now) numbers.now (certificates_of frozen.now numbers.now)
-        (W.contents writer.old) (W.contents writer.new)) }
-    ensures untouched { are_there (book_of frozen.now) numbers.now ≡ false → writer.new ≡ writer.old }
-{
-    if !are_registered(frozen, numbers) {
-        return Err(NamedAnimalsFault::NotRegistered);
-    }
-    let coefficients = coefficients_plain(&alloc, frozen)?;
-    Ok(write_each(&alloc, frozen, &coefficients, numbers, writer)?)
-}
-
 // Writes the certificates of some numbers of the book.
 fn write_each<W: Write, A: Allocator, F: Allocator, C: Allocator>(
     alloc: A,
@@ -74,7 +53,7 @@ fn write_each<W: Write, A: Allocator, F: Allocator, C: Allocator>(
     numbers: &[AnimalNumber],
     writer: &mut W,
 ) -> Result<(), ReportFault>
-    requires { AreBookCoefficients DEPTH_LIMIT frozen.now coefficients.now }
+    requires { AreBookCoefficientsOf DEPTH_LIMIT frozen.now numbers.now coefficients.now }
     ensures ok { OnOk result
         (Appends (W.contents writer.old) (W.contents writer.new) (certificates_of frozen.now numbers.now)) }
     ensures err { OnErr result
@@ -95,7 +74,7 @@ fn push_certificate_under<A: Allocator, F: Allocator, C: Allocator>(
     coefficients: &Coefficients<C>,
     number: AnimalNumber,
 ) -> Result<(), AllocError>
-    requires { AreBookCoefficients DEPTH_LIMIT frozen.now coefficients.now }
+    requires { AreBookCoefficientsOf DEPTH_LIMIT frozen.now (number ∷ []) coefficients.now }
     ensures made { OnOk result (text.new ≡ text.old ++ certificate_of frozen.now number) }
     ensures some { OnErr result (0 < length (certificate_of frozen.now number)) }
 {

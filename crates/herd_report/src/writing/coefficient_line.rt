@@ -1,20 +1,32 @@
-ghost use Rattle.std.specs.Prelude.{◌≡◌, false, IfErr, OnOk};
+ghost use Rattle.std.specs.Prelude.{◌≡◌, ◌∷◌, [], ◌++◌, false, IfErr, OnOk};
 ghost use Rattle.herd_frozen.specs.rules.Book.{is_there};
 ghost use Rattle.herd_frozen.specs.freezing.Frozen.{book_of};
 ghost use Rattle.herd_frozen.specs.declared.TheConstants.{DEPTH_LIMIT};
-ghost use Rattle.herd_advice.specs.BookCoefficients.{AreBookCoefficients};
-ghost use Rattle.herd_report.specs.writing.CoefficientLine.{EndsCoefficient, IsCoefficientTold};
+ghost use Rattle.herd_advice.specs.BookCoefficients.{AreBookCoefficientsOf};
+ghost use Rattle.herd_report.specs.writing.CoefficientLine.{EndsCoefficient, IsCoefficientTold, coefficient_line};
 
-use crate::writing::coefficient_text::{Coefficient, push_coefficient_line};
 use crate::writing::named_animals_fault::NamedAnimalsFault;
-use crate::writing::text::Text;
 use herd_advice::Coefficients;
 use herd_animal::AnimalNumber;
 use herd_frozen::Frozen;
-use std::alloc::Allocator;
+use herd_text::{Coefficient, LastValue, Text};
+use std::alloc::{AllocError, Allocator};
 use std::io::Write;
 
-/// Writes the line of one animal, as the list of coefficients has it.
+/// Adds the line of an animal and its coefficient.
+pub(crate) fn push_coefficient_line<A: Allocator>(
+    text: &mut Text<A>,
+    number: AnimalNumber,
+    coefficient: Coefficient,
+) -> Result<(), AllocError>
+    ensures { OnOk result (text.new ≡ text.old ++ coefficient_line number coefficient.numerator) }
+{
+    text.push(&number.bytes())?;
+    coefficient.push_line_end(text)
+}
+
+/// Writes the line of one animal, as the list of coefficients has it. Only the coefficients of the animal and of its
+/// ancestors need be right.
 pub fn write_coefficient<W: Write, A: Allocator, F: Allocator, C: Allocator>(
     alloc: A,
     frozen: &Frozen<F>,
@@ -22,7 +34,7 @@ pub fn write_coefficient<W: Write, A: Allocator, F: Allocator, C: Allocator>(
     number: AnimalNumber,
     writer: &mut W,
 ) -> Result<(), NamedAnimalsFault>
-    requires { AreBookCoefficients DEPTH_LIMIT frozen.now coefficients.now }
+    requires { AreBookCoefficientsOf DEPTH_LIMIT frozen.now (number ∷ []) coefficients.now }
     ensures ok { OnOk result (IsCoefficientTold frozen.now number (W.contents writer.old) (W.contents writer.new)) }
     ensures err { IfErr result (EndsCoefficient frozen.now number (W.contents writer.old) (W.contents writer.new)) }
     ensures untouched { is_there (book_of frozen.now) number ≡ false → writer.new ≡ writer.old }

@@ -4,17 +4,14 @@ ghost use Rattle.herd_frozen.specs.declared.TheConstants.{DEPTH_LIMIT};
 ghost use Rattle.herd_advice.specs.BookCoefficients.{AreBookCoefficients};
 ghost use Rattle.herd_advice.specs.FrozenAncestry.{ancestry_of};
 ghost use Rattle.herd_kinship.specs.Table.{coefficient};
-ghost use Rattle.herd_report.specs.writing.CoefficientText.{coefficient_line};
+ghost use Rattle.herd_report.specs.writing.CoefficientLine.{coefficient_line};
 ghost use Rattle.herd_report.specs.writing.InbreedingList.{inbreeding_text};
-ghost use Rattle.herd_report.specs.writing.Text.{AppendsFront};
+ghost use Rattle.herd_text.specs.Text.{AppendsFront};
 
-use crate::writing::coefficient_text::Coefficient;
-use crate::writing::line_end::LineEnd;
-use crate::writing::report_fault::ReportFault;
-use crate::writing::text::Text;
 use herd_advice::Coefficients;
 use herd_animal::AnimalNumber;
 use herd_frozen::Frozen;
+use herd_text::{Coefficient, LineEnd, ReportFault, Text};
 use std::alloc::{AllocError, Allocator};
 use std::io::Write;
 

@@ -5,15 +5,12 @@ ghost use Rattle.herd_frozen.specs.declared.TheConstants.{DEPTH_LIMIT};
 ghost use Rattle.herd_advice.specs.BookCoefficients.{AreBookCoefficients};
 ghost use Rattle.herd_advice.specs.FrozenAncestry.{number_of_row};
 ghost use Rattle.herd_report.specs.writing.InverseList.{contribution_line, contributions_text, inverse_text, IsWithin};
-ghost use Rattle.herd_report.specs.writing.Text.{AppendsFront};
+ghost use Rattle.herd_text.specs.Text.{AppendsFront};
 
-use crate::writing::coefficient_text::push_fraction;
-use crate::writing::line_end::{LastValue, LineEnd};
-use crate::writing::report_fault::ReportFault;
-use crate::writing::text::Text;
 use herd_advice::{Coefficients, Contribution, Fraction, contributions};
 use herd_animal::AnimalNumber;
 use herd_frozen::Frozen;
+use herd_text::{LineEnd, ReportFault, Text};
 use std::alloc::{AllocError, Allocator};
 use std::io::Write;
 
@@ -87,20 +84,6 @@ fn push_element<A: Allocator, F: Allocator>(
     push_number_at(text, frozen, element.row)?;
     push_number_at(text, frozen, element.column)?;
     end.push_to(text, element.value)
-}
-
-impl LastValue for Fraction {
-    ghost use Rattle.std.proofs.Common.{rules};
-    ghost use Rattle.herd_report.specs.writing.InverseList.{value_line_end};
-
-    ghost line_end = { value_line_end };
-
-    ghost alike = { Prim.search rules };
-
-    fn push_line_end<A: Allocator>(self, text: &mut Text<A>) -> Result<(), AllocError> {
-        push_fraction(text, self)?;
-        text.push(b"\n")
-    }
 }
 
 // Adds the number of the animal at a rank, and a comma.

@@ -1,24 +1,24 @@
-ghost use Rattle.std.specs.Prelude.{◌≡◌, ◌++◌, OnErr, OnOk};
+ghost use Rattle.std.specs.Prelude.{◌≡◌, ◌∷◌, [], ◌++◌, OnErr, OnOk};
 ghost use Rattle.std.specs.Io.KnownBytes.{Appends};
 ghost use Rattle.herd_frozen.specs.declared.TheConstants.{DEPTH_LIMIT};
 ghost use Rattle.herd_frozen.specs.freezing.Frozen.{book_of};
-ghost use Rattle.herd_advice.specs.BookCoefficients.{AreBookCoefficients};
+ghost use Rattle.herd_advice.specs.BookCoefficients.{AreBookCoefficientsOf};
 ghost use Rattle.herd_report.specs.writing.MatingList.{mating_line, mating_text, refused_line};
-ghost use Rattle.herd_report.specs.writing.Text.{AppendsFront};
+ghost use Rattle.herd_text.specs.Text.{AppendsFront};
 
-use crate::writing::coefficient_text::{Coefficient, push_coefficient_line};
+use crate::writing::coefficient_line::push_coefficient_line;
 use crate::writing::refused_text::push_refused_line_end;
-use crate::writing::report_fault::ReportFault;
-use crate::writing::text::Text;
 use herd_advice::{Coefficients, DamMatings, MatingFault};
 use herd_animal::AnimalNumber;
 use herd_frozen::Frozen;
+use herd_text::{Coefficient, ReportFault, Text};
 use std::alloc::{AllocError, Allocator};
 use std::io::Write;
 
 /// Writes for each sire the coefficient that a calf of it and the dam would have, or why there is none.
 ///
 /// The dam's relationships with all animals are computed once for all sires, by one tracing and one pass over the book.
+/// Only the coefficients of the dam and of its ancestors need be right.
 pub fn write_mating<W: Write, A: Allocator, F: Allocator, C: Allocator>(
     alloc: A,
     frozen: &Frozen<F>,
@@ -27,7 +27,7 @@ pub fn write_mating<W: Write, A: Allocator, F: Allocator, C: Allocator>(
     sires: &[AnimalNumber],
     writer: &mut W,
 ) -> Result<(), ReportFault>
-    requires { AreBookCoefficients DEPTH_LIMIT frozen.now coefficients.now }
+    requires { AreBookCoefficientsOf DEPTH_LIMIT frozen.now (dam ∷ []) coefficients.now }
     ensures ok { OnOk result
         (Appends (W.contents writer.old) (W.contents writer.new) (mating_text (book_of frozen.now) dam sires.now)) }
     ensures err { OnErr result (AppendsFront (W.contents writer.old) (W.contents writer.new)

@@ -1,7 +1,7 @@
 ghost use Rattle.std.specs.Prelude.{◌≡◌};
 ghost use Rattle.herd_report.specs.declared.writing.named_animals_fault.NamedAnimalsFault.TheVariants.{Report};
 
-use crate::writing::report_fault::ReportFault;
+use herd_text::ReportFault;
 use std::alloc::AllocError;
 use thiserror::Error;
 
@@ -25,7 +25,7 @@ impl From<ReportFault> for NamedAnimalsFault {
 }
 
 impl From<AllocError> for NamedAnimalsFault {
-    ghost use Rattle.herd_report.specs.declared.writing.report_fault.ReportFault.TheVariants.{Memory};
+    ghost use Rattle.herd_text.specs.declared.report_fault.ReportFault.TheVariants.{Memory};
 
     ghost from_gives = { λ _ fault. fault ≡ Report Memory };
 

@@ -4,15 +4,14 @@ ghost use Rattle.std.specs.List.{flat_map};
 ghost use Rattle.herd_frozen.specs.freezing.Frozen.{book_of};
 ghost use Rattle.herd_report.specs.writing.RecordList.{every_record, line_under, records_text};
 ghost use Rattle.herd_report.specs.writing.Registered.{EndsWritingOf, IsWrittenOf, are_there};
-ghost use Rattle.herd_report.specs.writing.Text.{AppendsFront};
+ghost use Rattle.herd_text.specs.Text.{AppendsFront};
 
 use crate::writing::named_animals_fault::NamedAnimalsFault;
-use crate::writing::record_line::push_record_line;
 use crate::writing::registered::are_registered;
-use crate::writing::report_fault::ReportFault;
-use crate::writing::text::Text;
 use herd_animal::AnimalNumber;
 use herd_frozen::Frozen;
+use herd_record_line::push_record_line;
+use herd_text::{ReportFault, Text};
 use std::alloc::{AllocError, Allocator};
 use std::io::Write;
 
@@ -46,7 +45,8 @@ fn write_every_record<W: Write, A: Allocator, F: Allocator>(
     writer: &mut W,
 ) -> Result<(), ReportFault>
     ensures ok { OnOk result (Appends (W.contents writer.old) (W.contents writer.new) (every_record frozen.now)) }
-    ensures err { OnErr result (AppendsFront (W.contents writer.old) (W.contents writer.new) (every_record frozen.now)) }
+    ensures err { OnErr result
+        (AppendsFront (W.contents writer.old) (W.contents writer.new) (every_record frozen.now)) }
 {
     let mut text = Text::new(alloc);
     for rank in 0..frozen.len() {

@@ -1,7 +1,7 @@
 ghost use Rattle.std.specs.Prelude.{◌≡◌, ◌++◌, OnOk};
 ghost use Rattle.herd_report.specs.writing.RefusedText.{refused_line_end};
 
-use crate::writing::text::Text;
+use herd_text::Text;
 use std::alloc::{AllocError, Allocator};
 
 /// Adds what follows in the line of what is refused: that it is, and the number that tells why.

@@ -3,21 +3,21 @@ ghost use Rattle.std.specs.Io.KnownBytes.{Appends};
 ghost use Rattle.std.specs.List.{flat_map};
 ghost use Rattle.herd_frozen.specs.declared.TheConstants.{DEPTH_LIMIT};
 ghost use Rattle.herd_frozen.specs.freezing.Frozen.{book_of};
-ghost use Rattle.herd_advice.specs.BookCoefficients.{AreBookCoefficients};
-ghost use Rattle.herd_report.specs.RunFault.{EndsReport};
+ghost use Rattle.herd_advice.specs.BookCoefficients.{AreBookCoefficientsOf, KnowsBookAncestors};
+ghost use Rattle.herd_text.specs.Text.{EndsReport};
 ghost use Rattle.herd_report.specs.writing.RefusedText.{refused_line_end};
-ghost use Rattle.herd_report.specs.writing.RelationshipList.{AreAsked, IsAsked, absent_line, column_lines, lines_with, names_of};
-ghost use Rattle.herd_report.specs.writing.RelationshipList.{partners_of as partners_in, relationship_line, relationships_text};
-ghost use Rattle.herd_report.specs.writing.Text.{AppendsFront, PassesOn};
+ghost use Rattle.herd_report.specs.writing.RelationshipList.{AreAsked, IsAsked, absent_line, column_lines, lines_with};
+ghost use Rattle.herd_report.specs.writing.RelationshipList.{names_of};
+ghost use Rattle.herd_report.specs.writing.RelationshipList.{partners_of as partners_in, relationship_line};
+ghost use Rattle.herd_report.specs.writing.RelationshipList.{relationships_text};
+ghost use Rattle.herd_text.specs.Text.{AppendsFront, PassesOn};
 
 use crate::writing::inverse_list::with_comma;
-use crate::writing::line_end::LastValue;
 use crate::writing::refused_text::push_refused_line_end;
-use crate::writing::report_fault::ReportFault;
-use crate::writing::text::Text;
 use herd_advice::{Coefficients, Relationships, fraction, relationships};
 use herd_animal::AnimalNumber;
 use herd_frozen::Frozen;
+use herd_text::{LastValue, ReportFault, Text};
 use std::alloc::{AllocError, Allocator};
 use std::io::Write;
 
@@ -32,7 +32,8 @@ struct Asked {
 /// itself and those after it. First come the numbers that aren't in the book.
 ///
 /// It makes a column of the numerator relationship matrix for each of the first, one at a time, by one tracing and one
-/// pass over the book. Sexes, ages and exits aren't asked.
+/// pass over the book. Only the coefficients of the first and of their ancestors need be right. Sexes, ages and exits
+/// aren't asked.
 pub fn write_relationships<W: Write, A: Allocator, F: Allocator, C: Allocator>(
     alloc: A,
     frozen: &Frozen<F>,
@@ -41,7 +42,7 @@ pub fn write_relationships<W: Write, A: Allocator, F: Allocator, C: Allocator>(
     others: &[AnimalNumber],
     writer: &mut W,
 ) -> Result<(), ReportFault>
-    requires { AreBookCoefficients DEPTH_LIMIT frozen.now coefficients.now }
+    requires { AreBookCoefficientsOf DEPTH_LIMIT frozen.now numbers.now coefficients.now }
     ensures ok { OnOk result (Appends (W.contents writer.old) (W.contents writer.new)
         (relationships_text (book_of frozen.now) numbers.now others.now)) }
     ensures err { IfErr result (EndsReport (W.contents writer.old) (W.contents writer.new)
@@ -126,7 +127,7 @@ fn write_lines<W: Write, T: Allocator, A: Allocator, F: Allocator, C: Allocator>
     partners: &[Asked],
     writer: &mut W,
 ) -> Result<(), ReportFault>
-    requires coefficients { AreBookCoefficients DEPTH_LIMIT frozen.now coefficients.now }
+    requires coefficients { KnowsBookAncestors DEPTH_LIMIT frozen.now coefficients.now first.rank }
     requires first { IsAsked frozen.now first }
     requires partners { All (IsAsked frozen.now) partners.now }
     ensures ok { OnOk result (PassesOn (W.contents writer.old) (W.contents writer.new)

@@ -1,12 +1,11 @@
 ghost use Rattle.std.specs.Prelude.{◌≡◌, ◌++◌, OnErr, OnOk};
 ghost use Rattle.std.specs.Io.KnownBytes.{Appends};
-ghost use Rattle.herd_report.specs.writing.Text.{AppendsFront};
+ghost use Rattle.herd_text.specs.Text.{AppendsFront};
 ghost use Rattle.herd_report.specs.writing.Replies.{reply_line, replies_text};
 
 use crate::writing::refused_text::push_refused_line_end;
-use crate::writing::report_fault::ReportFault;
-use crate::writing::text::Text;
 use herd_register::{Reply, Step};
+use herd_text::{ReportFault, Text};
 use std::alloc::{AllocError, Allocator};
 use std::io::Write;
 

@@ -1,9 +1,8 @@
 //! Command files: what is read of them, and their first faults.
 
-use super::breaks_after::BreaksAfter;
 use herd_animal::Day;
 use herd_fixtures::Name::{Bull, Cow};
-use herd_fixtures::{Name, herd_of};
+use herd_fixtures::{BreaksAfter, Name, herd_of};
 use herd_register::Command;
 use herd_report::{Commands, read_commands};
 use std::io;

@@ -1,12 +1,13 @@
 //! Replies and orders: where the reader or the writer stops.
 
 use super::books::{FULL_SIBS, TRANSFERS};
-use super::breaks_after::BreaksAfter;
 use super::stops_after::{StopsAfter, Then};
 use herd_animal::AnimalNumber;
+use herd_fixtures::BreaksAfter;
 use herd_fixtures::Name::{Bull, Cow};
+use herd_pool::WorkPlan;
 use herd_register::Limits;
-use herd_report::{LineCause, LineFault, Order, RunFault, WorkPlan, answer_file, run};
+use herd_report::{LineCause, LineFault, Order, RunFault, answer_file, run};
 use std::process::Abort;
 use std::test::Fail;
 

@@ -1,7 +1,7 @@
 //! The text of each writer, or want of memory with nothing written.
 
 use super::stops_after::{StopsAfter, Then};
-use herd_advice::coefficients_plain;
+use herd_advice::{coefficients_of, coefficients_plain};
 use herd_animal::Day;
 use herd_fixtures::Name::{Bull, Cow};
 use herd_fixtures::{founders, frozen_of, full_sibs};
@@ -120,8 +120,8 @@ fn writes_the_list_of_coefficients(rt: HostRuntime) -> Result<(), Fail> {
 #[test]
 fn writes_a_certificate(rt: HostRuntime) -> Result<(), Fail> {
     let frozen = frozen_of(rt.alloc(), &full_sibs())?;
-    let coefficients = coefficients_plain(rt.alloc(), &frozen)?;
     let numbers = [Bull(5).number()];
+    let coefficients = coefficients_of(rt.alloc(), &frozen, &numbers)?;
     let mut broken = StopsAfter::new(rt.alloc(), 0, Then::Fails);
     let outcome = write_certificates(rt.alloc(), &frozen, &coefficients, &numbers, &mut broken);
     assert_eq!(rt; outcome, Err(ReportFault::Write.into()));
@@ -141,9 +141,9 @@ fn writes_records(rt: HostRuntime) -> Result<(), Fail> {
 #[test]
 fn writes_advice(rt: HostRuntime) -> Result<(), Fail> {
     let frozen = frozen_of(rt.alloc(), &full_sibs())?;
-    let coefficients = coefficients_plain(rt.alloc(), &frozen)?;
     let dam = Cow(4).number();
     let sires = [Bull(3).number(), dam];
+    let coefficients = coefficients_of(rt.alloc(), &frozen, &[dam])?;
     expect_memory_or_text(&rt, ADVICE, |alloc, writer| {
         Ok(write_mating(alloc, &frozen, &coefficients, dam, &sires, writer)?)
     })
@@ -152,8 +152,8 @@ fn writes_advice(rt: HostRuntime) -> Result<(), Fail> {
 #[test]
 fn writes_relationships(rt: HostRuntime) -> Result<(), Fail> {
     let frozen = frozen_of(rt.alloc(), &full_sibs())?;
-    let coefficients = coefficients_plain(rt.alloc(), &frozen)?;
     let numbers = [Bull(5), Bull(99), Cow(4)].map(|name| name.number());
+    let coefficients = coefficients_of(rt.alloc(), &frozen, &numbers)?;
     expect_memory_or_text(&rt, RELATIONSHIPS, |alloc, writer| {
         Ok(write_relationships(alloc, &frozen, &coefficients, &numbers, &[], writer)?)
     })

@@ -6,7 +6,7 @@ use super::books::{SIX, pairs_and};
 use super::support::{
     Header, coefficients, expect, file, lines, push_lines, replies, shared_coefficients,
 };
-use herd_report::WorkPlan;
+use herd_pool::WorkPlan;
 use std::process::Abort;
 use std::sync::Wait;
 use std::test::Fail;

@@ -3,8 +3,9 @@
 use herd_animal::AnimalNumber;
 use herd_fixtures::Name;
 use herd_frozen::MOST_ANIMALS;
+use herd_pool::WorkPlan;
 use herd_register::{Limits, MOST_STEPS, Register};
-use herd_report::{Order, RunFault, WorkPlan, answer_file, read_commands};
+use herd_report::{Order, RunFault, answer_file, read_commands};
 use std::alloc::{AllocError, Global};
 use std::process::Abort;
 use std::sync::Wait;

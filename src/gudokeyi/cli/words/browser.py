@@ -5,7 +5,7 @@ import argparse
 
 from gudokeyi.cli.arguments import whole_number
 from gudokeyi.cli.parser import CommandWords
-from gudokeyi.domain.messages import Mistake
+from gudokeyi.domain.mistakes import WrongWords
 from gudokeyi.packages import Group, need
 
 LAST_PORT = 65_535
@@ -34,7 +34,7 @@ def add_words(words: CommandWords) -> None:
 
 def do_open(asked: argparse.Namespace) -> None:
     if asked.port > LAST_PORT:
-        raise Mistake(f"there is no port {asked.port}: name one up to {LAST_PORT}, or leave out --port")
+        raise WrongWords(f"there is no port {asked.port}: name one up to {LAST_PORT}, or leave out --port")
     need(Group.BROWSER)
     need(Group.BREED)
     if asked.ask:

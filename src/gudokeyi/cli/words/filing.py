@@ -5,25 +5,25 @@ import argparse
 from collections.abc import Callable
 from dataclasses import replace
 
-from gudokeyi.cli.arguments import day, sex, three_letters
+from gudokeyi.cli.arguments import add_anyway, day, sex, three_letters
 from gudokeyi.cli.output import tell
 from gudokeyi.cli.parser import CommandWords, Parser
 from gudokeyi.domain.animals import SocietyRecord
 from gudokeyi.domain.changes import Option
-from gudokeyi.domain.findings import What
 from gudokeyi.domain.kinds import ChangeKind
-from gudokeyi.domain.messages import Mistake
+from gudokeyi.domain.mistakes import RegisterRefused, WrongWords
 from gudokeyi.services.book_program import BookProgram
 from gudokeyi.services.filing import (
-    FiledCommand, Offspring, born, departed, file, parent_named, transferred, with_parents,
+    FiledCommand, Offspring, born, departed, file, looked_at, parent_named, refuse_unseen, transferred, with_parents,
 )  # fmt: skip
+from gudokeyi.services.litters import Litter, Newborn, born_together, file_litter
 from gudokeyi.services.opening import Book, export, there_to_change
 from gudokeyi.services.search import find
 
 # the command that somebody wishes, given the book
 Wished = Callable[[argparse.Namespace, Book], FiledCommand]
 # what isn't an option of a command
-NO_OPTIONS = ("word", "book", "does", "id")
+NO_OPTIONS = ("word", "book", "does", "id", "anyway")
 
 
 def add_words(words: CommandWords) -> None:
@@ -39,6 +39,7 @@ def add_words(words: CommandWords) -> None:
         birth.add_argument(
             option, type=three_letters, metavar="ABC", help=f"the number's {option[2:]} [as set, or as in the book]"
         )
+    add_litter(words)
     parents = words.add("parents", does(wished_parents), "file other parents of an animal", kept)
     add_parents(parents, "or 0 for an unknown one [as in the book]")
     transfer = words.add("transfer", does(wished_transfer), "file another owner of an animal", kept)
@@ -47,8 +48,54 @@ def add_words(words: CommandWords) -> None:
     exit = words.add("exit", does(wished_exit), "file that an animal left, by death or sale", kept)
     for one in parents, transfer, exit:
         one.add_argument("id", metavar="ID", help="the animal, by id, name or number")
+    for one in birth, parents, transfer, exit:
+        add_anyway(one)
     for one in birth, transfer, exit:
         one.add_argument("--day", type=day, required=True, metavar="DAY", help="the day, as 2001-03-01")
+
+
+def add_litter(words: CommandWords) -> None:
+    one = words.add("litter", do_litter, "file all births of a dam on one day", "The register takes all of them, or none.")
+    one.add_argument("dam", metavar="DAM", help="the dam, by id, name or number")
+    one.add_argument("--sire", metavar="ID", help="the sire, by id, name or number [unknown]")
+    one.add_argument("--owner", default="", metavar="NAME", help="their owner [not known]")
+    one.add_argument("--day", type=day, required=True, metavar="DAY", help="the day, as 2001-03-01")
+    one.add_argument(
+        "--newborn", action="append", type=newborn, default=[], metavar="SEX[=ID[=NAME]]",
+        help="each newborn, as f=DE-101=Berta; without an id it counts on from the one before",
+    )  # fmt: skip
+    one.add_argument(
+        "--stillborn", action="append", dest="newborn", type=stillborn, metavar="SEX[=ID]", help="one that was born dead"
+    )
+    add_anyway(one)
+
+
+def newborn(text: str) -> Newborn:
+    letter, _, rest = text.partition("=")
+    id, _, name = rest.partition("=")
+    return Newborn(sex(letter), id, name)
+
+
+def stillborn(text: str) -> Newborn:
+    return replace(newborn(text), is_stillborn=True)
+
+
+def do_litter(asked: argparse.Namespace) -> None:
+    program = BookProgram()
+    with there_to_change(asked.book, program) as book:
+        dam = find(book, asked.dam)
+        said = Litter(dam, asked.day, parent(book, asked.sire), asked.owner, tuple(asked.newborn))
+        one = born_together(book, said)
+        texts = {"dam": dam.id, "sire": asked.sire, "day": str(asked.day), "owner": asked.owner}
+        options = tuple(Option(f"--{name}", text) for name, text in texts.items() if text)
+        change = file_litter(book, program, one, options, seen=None if asked.anyway else "")
+        notes = book.notes + export(book.folder)
+    for note in notes:
+        tell(note)
+    for each in one.births:
+        print(f"{each.animal.id} ({each.animal.registration_number}): the birth on {asked.day} is accepted: change {change.number}")
+    for entry in one.warnings:
+        tell(f"{entry.id}: {entry.finding.words()}")
 
 
 def add_parents(word: Parser, otherwise: str) -> None:
@@ -60,20 +107,21 @@ def does(wished: Wished) -> Callable[[argparse.Namespace], None]:
     def filed(asked: argparse.Namespace) -> None:
         program = BookProgram()
         with there_to_change(asked.book, program) as book:
-            one = replace(wished(asked, book), options=options_of(asked))
+            one = looked_at(book, replace(wished(asked, book), options=options_of(asked)))
+            if not asked.anyway:
+                refuse_unseen(one.warnings)
             change, refusal = file(book, program, one)
             notes = book.notes + export(book.folder)
         for note in notes:
             tell(note)
         if refusal:
-            raise Mistake(
-                f"{one.known.id}: {what(one)} refused: {one.refused(refusal).why()}. The animals are as "
+            raise RegisterRefused(
+                f"{one.animal.id}: {what(one)} refused: {one.refused(refusal).why().words()}. The animals are as "
                 f"before; change {change.number} of the history tells of it"
             )
-        print(f"{one.known.id} ({one.known.registration_number}): {what(one)} accepted: change {change.number}")
-        for finding in one.findings:
-            if finding.what is What.WARNING:
-                tell(f"{one.known.id}: {finding.words()}")
+        print(f"{one.animal.id} ({one.animal.registration_number}): {what(one)} accepted: change {change.number}")
+        for entry in one.warnings:
+            tell(f"{entry.id}: {entry.finding.words()}")
 
     return filed
 
@@ -109,7 +157,7 @@ def wished_birth(asked: argparse.Namespace, book: Book) -> FiledCommand:
 
 def wished_parents(asked: argparse.Namespace, book: Book) -> FiledCommand:
     if asked.sire is None and asked.dam is None:
-        raise Mistake("parents needs one parent or both: name them by --sire and --dam, 0 for an unknown one")
+        raise WrongWords("parents needs one parent or both: name them by --sire and --dam, 0 for an unknown one")
     sire, dam = (None if word is None else parent(book, word) or "" for word in (asked.sire, asked.dam))
     return with_parents(book, find(book, asked.id), sire, dam)
 

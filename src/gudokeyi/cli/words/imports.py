@@ -5,19 +5,23 @@ import argparse
 import contextlib
 import gc
 import pathlib
+import sys
+from dataclasses import replace
 from typing import TYPE_CHECKING
 
 from gudokeyi.bounds import bound_look, bounded_reading
-from gudokeyi.cli.arguments import day_until_today, days, three_letters
-from gudokeyi.cli.output import tell
+from gudokeyi.cli.arguments import add_described
+from gudokeyi.cli.output import give_json, tell
 from gudokeyi.cli.parser import CommandWords
-from gudokeyi.domain.messages import Mistake
+from gudokeyi.domain.mistakes import InvalidValue, WrongWords
+from gudokeyi.domain.options import IMPORT
 from gudokeyi.packages import Group, need
 from gudokeyi.process import is_the_only_one
 from gudokeyi.services.book_program import BookProgram
+from gudokeyi.services.option_values import three_letters
 
 if TYPE_CHECKING:
-    from gudokeyi.services.imports import Bounds, Import
+    from gudokeyi.services.imports import Bounds, Import, ImportOptions
 
 
 def add_words(words: CommandWords) -> None:
@@ -36,101 +40,32 @@ def add_words(words: CommandWords) -> None:
         help="a text file with `id sire dam` in each line, or with these among its titles, in place of a sheet; - is "
         "standard input",
     )  # fmt: skip
-    take.add_argument(
-        "--keep", type=pathlib.Path, metavar="FILE",
-        help="of a pedigree only the animals that this file names, one id a line, and their ancestors",
-    )  # fmt: skip
-    take.add_argument(
-        "--leave-out", action="store_true",
-        help="take a pedigree without the links that can't stand in a book, and parents as founders that may have a line, "
-        "which changes coefficients",
-    )  # fmt: skip
-    take.add_argument(
-        "--columns", action="append", default=[], metavar="FIELD=TITLE,..",
-        help="titles for id, name, sex, birth, sire, dam, owner, since, exit, embryo",
-    )  # fmt: skip
-    take.add_argument(
-        "--unknown", action="append", default=[], metavar="WORD,..",
-        help="more words for an unknown parent",
-    )  # fmt: skip
-    take.add_argument(
-        "--known", action="append", default=[], metavar="WORD,..",
-        help="words that are no words for an unknown parent: takes back one of --unknown",
-    )  # fmt: skip
-    take.add_argument(
-        "--owner", action="append", default=[], metavar="OLD=NEW",
-        help="an owner of the book is written otherwise, as 'Meier=Meyer'",
-    )  # fmt: skip
-    take.add_argument(
-        "--sexes", action="append", default=[], metavar="WORD=m,..",
-        help="more words for the sexes, as Aue=f,Bk=m",
-    )  # fmt: skip
-    take.add_argument(
-        "--no-animal", action="append", default=[], metavar="WORD,..",
-        help="rows with such a word, as Summe, are no animals, and are left out, also later",
-    )  # fmt: skip
-    take.add_argument(
-        "--animal", action="append", default=[], metavar="WORD,..",
-        help="rows with such a word are animals: takes back one of --no-animal",
-    )  # fmt: skip
-    take.add_argument(
-        "--worksheet", default="", metavar="NAME", help="the worksheet of an .xlsx file [the one whose titles fit]"
-    )
-    take.add_argument(
-        "--month-first", action="store_true", help="days such as 03/25/2001 have the month first [the day], also later"
-    )
-    take.add_argument(
-        "--day-first", action="store_true", help="such days have the day first: takes back --month-first of before"
-    )
-    take.add_argument(
-        "--anyway", action="store_true",
-        help="take the sheet though it looks like another one than the book's: another flock, another id, an older one; or a "
-        "pedigree many of whose parents have no line",
-    )  # fmt: skip
-    take.add_argument(
-        "--youngest", type=days, metavar="DAYS", help="report parents that were younger at a birth, also later [180]"
-    )
-    take.add_argument(
-        "--apart", type=days, metavar="DAYS", help="report births of one dam that are nearer, also later [100]"
-    )
-    for option, otherwise in ("breed", "HOL"), ("country", "GBR"):
-        take.add_argument(
-            f"--{option}", type=three_letters, metavar="ABC",
-            help=f"the {option} of all numbers, the book's too [as they are; new ones as set, as in the book, or {otherwise}]",
-        )  # fmt: skip
-    take.add_argument("--day", type=day_until_today, help="the day on which owners changed [today, which is inferred]")
-    take.add_argument(
-        "--preview", action="store_true", help="report what would change and what may be wrong, and write nothing"
-    )
-    take.add_argument("--strict", action="store_true", help="take nothing where anything would be left out")
-    take.add_argument(
-        "--semicolons", action="store_true", help="write report.csv with semicolons, as some spreadsheets want it"
-    )
-    take.add_argument(
-        "--drop-gone", action="store_true",
-        help="drop animals of the book that have no row any more and aren't ancestors of any that has one",
-    )  # fmt: skip
+    for described in IMPORT.values():
+        add_described(take, described)
+
+
+    take.add_argument("--json", action="store_true", help="of a preview: write JSON as schemas/import.json says")
 
 
 def do_import(asked: argparse.Namespace) -> None:
     from gudokeyi.services.imports import Import, ImportOptions
 
     if (asked.sheet is None) == (asked.pedigree is None):
-        raise Mistake("import reads one file: name a sheet, or a pedigree with --pedigree")
+        raise WrongWords("import reads one file: name a sheet, or a pedigree with --pedigree")
+    if asked.json and not asked.preview:
+        raise WrongWords("--json is for a look: say --preview too")
     if asked.preview:
         bound_look()
     if asked.pedigree and asked.sexes:
-        raise Mistake("--sexes is for a sheet: in a pedigree write M and F, or 1 and 2")
+        raise WrongWords("--sexes is for a sheet: in a pedigree write M and F, or 1 and 2")
+    if asked.append and (asked.pedigree or asked.drop_gone):
+        raise WrongWords("--append is for a sheet that has new rows alone: leave out --pedigree and --drop-gone")
     if asked.pedigree and (asked.no_animal or asked.animal):
-        raise Mistake("--no-animal and --animal are for a sheet: leave such lines out of a pedigree")
+        raise WrongWords("--no-animal and --animal are for a sheet: leave such lines out of a pedigree")
     if asked.sheet and (asked.keep or asked.leave_out):
-        raise Mistake("--keep and --leave-out are for a pedigree, as --pedigree FILE")
-    options = ImportOptions(
-        asked.book, asked.columns, asked.unknown, asked.sexes, asked.breed or "", asked.country or "", asked.day,
-        asked.strict, asked.drop_gone, asked.semicolons, asked.keep, asked.leave_out, asked.worksheet,
-        asked.month_first, asked.anyway, asked.preview, asked.youngest, asked.apart, asked.known, asked.owner,
-        asked.day_first, no_animal=asked.no_animal, animal=asked.animal,
-    )  # fmt: skip
+        raise WrongWords("--keep and --leave-out are for a pedigree, as --pedigree FILE")
+    options = ImportOptions.of(asked.book, {name: getattr(asked, one.in_form) for name, one in IMPORT.items()})
+    options = with_letters_asked(options)
     wished = Import(asked.sheet or asked.pedigree, options, is_pedigree=not asked.sheet)
     if wished.is_workbook:
         need(Group.WORKBOOKS, ": or save the sheet as CSV, and take that")
@@ -138,13 +73,45 @@ def do_import(asked: argparse.Namespace) -> None:
     # needed any more would find nothing, again and again
     gc.disable()
     is_the_only_one()
-    for note in imported(wished):
+    for note in imported(wished, asked.json):
         tell(note)
 
 
-def imported(wished: Import) -> list[str]:
+def with_letters_asked(options: ImportOptions) -> ImportOptions:
+    """The options, with the breed and country that somebody at a terminal is asked for where nobody said them yet."""
+    from gudokeyi.services.opening import book_in
+    from gudokeyi.services.settings import letters_said
+
+    if options.preview or not (sys.stdin.isatty() and sys.stdout.isatty()):
+        return options
+    with book_in(options.book) as book:
+        breed, country = letters_said(book, options.breed, options.country)
+    if breed and country:
+        return options
+    print("Each animal gets a number that begins with its breed and country, three letters each. They are asked once.")
+    return replace(
+        options, breed=options.breed or breed or letters_typed("Breed, as SKU: "),
+        country=options.country or country or letters_typed("Country, as DEU: "),
+    )  # fmt: skip
+
+
+def letters_typed(question: str) -> str:
+    """What somebody types, asked for until it is three letters; nothing where the terminal ends."""
+    while True:
+        try:
+            text = input(question).strip().upper()
+        except EOFError:
+            return ""
+        try:
+            return three_letters(text)
+        except InvalidValue as mistake:
+            print(*mistake.sentences)
+
+
+def imported(wished: Import, as_json: bool) -> list[str]:
     """Imports, and prints what that made; answers what is to be told behind it."""
     from gudokeyi.render.import_reports import lines_of, told_with
+    from gudokeyi.services.library_answers import imported_value
 
     # the whole of a preview is bounded already
     bounds: Bounds = contextlib.nullcontext
@@ -153,5 +120,8 @@ def imported(wished: Import) -> list[str]:
     program = BookProgram()
     with told_with(wished.call()):
         outcome, notes = wished.made(program, bounds)
+        if as_json:
+            give_json(imported_value(outcome, notes))
+            return []
         print("\n".join(lines_of(outcome)))
     return notes

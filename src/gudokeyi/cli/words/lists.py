@@ -3,26 +3,35 @@ from __future__ import annotations
 
 import argparse
 
-from gudokeyi.cli.answers import give_table
-from gudokeyi.cli.arguments import add_choice, add_output, birth_days, sex
-from gudokeyi.cli.output import tell
+from gudokeyi.cli.arguments import add_choice, add_described, add_output, whole_number
+from gudokeyi.cli.output import give_table, tell
 from gudokeyi.cli.parser import CommandWords
 from gudokeyi.domain.messages import number_and_some
+from gudokeyi.domain.options import LIST
 from gudokeyi.services.book_program import BookProgram
 from gudokeyi.services.lists import USUAL, Column
 from gudokeyi.services.opening import Book
 
 
 def add_words(words: CommandWords) -> None:
-    listing = words.add_for_book("list", do_list, "write animals with their coefficients, in age order")
+    listing = words.add_for_book("list", do_list, "write animals with their coefficients, in age order", answers=listed)
     add_choice(listing)
-    listing.add_argument("--sex", type=sex, metavar="SEX", help="only males or females, m or f")
-    listing.add_argument("--born", type=birth_days, metavar="FROM..TO", help="only animals born so, as 2010..2019")
+    for name in "sex", "born":
+        add_described(listing, LIST[name])
     listing.add_argument(
         "--columns", type=columns, metavar="COLUMN,..",
         help=f"these columns, or behind the usual ones with + in front: {', '.join(Column)} [{', '.join(USUAL)}]",
     )  # fmt: skip
     add_output(listing)
+    year = words.add_for_book("year", do_year, "write the births, exits and new owners of a year, by their days")
+    year.add_argument("year", type=whole_number, metavar="YEAR", help="the year, as 2024")
+    add_output(year)
+
+
+def do_year(asked: argparse.Namespace, book: Book, program: BookProgram) -> None:
+    from gudokeyi.services.years import table_of
+
+    give_table(asked, book, table_of(book, asked.year))
 
 
 def columns(text: str) -> list[Column]:
@@ -36,11 +45,19 @@ def columns(text: str) -> list[Column]:
     return list(dict.fromkeys([*USUAL * text.startswith("+"), *map(Column, words)]))
 
 
+def listed(asked: argparse.Namespace, book: Book, program: BookProgram) -> object:
+    from gudokeyi.services.answers import listed
+    from gudokeyi.services.selection import Choice, chosen
+
+    choice = Choice.of({one.attribute: getattr(asked, one.in_form) for one in LIST.values()})
+    return listed(book, chosen(book, choice))
+
+
 def do_list(asked: argparse.Namespace, book: Book, program: BookProgram) -> None:
     from gudokeyi.services.lists import animals_listed
     from gudokeyi.services.selection import Choice
 
-    choice = Choice(asked.living, asked.sex or "", asked.owner, asked.born)
+    choice = Choice.of({one.attribute: getattr(asked, one.in_form) for one in LIST.values()})
     give_table(asked, book, animals_listed(book, choice, asked.columns or USUAL))
     without_row = [] if asked.living else book.without_row()
     if without_row:

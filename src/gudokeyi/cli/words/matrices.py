@@ -1,25 +1,44 @@
-"""The word that writes a matrix: `inverse`."""
+"""The word that writes a matrix, of a pedigree file or of a book: `inverse`."""
 from __future__ import annotations
 
 import argparse
+import pathlib
 
 from gudokeyi.cli.arguments import add_force, file
-from gudokeyi.cli.parser import CommandWords
+from gudokeyi.cli.parser import CommandWords, with_book
+from gudokeyi.cli.words import pedigrees
 from gudokeyi.domain.messages import counted
+from gudokeyi.domain.mistakes import WrongWords
 from gudokeyi.services.book_program import BookProgram
 from gudokeyi.services.opening import Book
 
 
 def add_words(words: CommandWords) -> None:
-    inverse = words.add_for_book("inverse", do_inverse, "write the summed inverse of the numerator relationship matrix")
+    inverse = words.add("inverse", do_inverse, "write the summed inverse of the numerator relationship matrix")
     inverse.add_argument(
-        "--matrix-market", type=file, required=True, metavar="FILE",
-        help="its lower triangle; the ids of the rows go to FILE.ids",
+        "pedigree", nargs="?", type=pathlib.Path, metavar="PEDIGREE", help=f"{pedigrees.FILE_HELP} [the book's animals]"
+    )
+    inverse.add_argument(
+        "--out", type=file, metavar="FILE", help="of a pedigree file: .mtx or .npz; the ids of the rows go to FILE.ids"
+    )
+    inverse.add_argument(
+        "--matrix-market", type=file, metavar="FILE",
+        help="of a book: its lower triangle; the ids of the rows go to FILE.ids",
     )  # fmt: skip
+    pedigrees.add_reading(inverse)
     add_force(inverse)
 
 
-def do_inverse(asked: argparse.Namespace, book: Book, program: BookProgram) -> None:
+def do_inverse(asked: argparse.Namespace) -> None:
+    if asked.pedigree:
+        pedigrees.do_inverse(asked)
+    elif asked.matrix_market:
+        with_book(do_book_inverse)(asked)
+    else:
+        raise WrongWords("inverse writes a file: name a pedigree and --out, or of a book --matrix-market")
+
+
+def do_book_inverse(asked: argparse.Namespace, book: Book, program: BookProgram) -> None:
     from gudokeyi.services.exports import write_inverse
 
     rows, elements, ids = write_inverse(book, program, asked.matrix_market, asked.force)

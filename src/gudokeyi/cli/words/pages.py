@@ -9,14 +9,17 @@ from gudokeyi.cli.arguments import add_choice, add_force, day, file, generations
 from gudokeyi.cli.parser import CommandWords
 from gudokeyi.domain.animals import SocietyRecord
 from gudokeyi.domain.messages import Mistake, counted
+from gudokeyi.domain.mistakes import WrongWords
 from gudokeyi.domain.settings import LANGUAGES, Setting
 from gudokeyi.packages import Group
 from gudokeyi.render.drawing import file_name
 from gudokeyi.render.languages import Language
 from gudokeyi.services.animals import kept_coefficients
 from gudokeyi.services.book_program import BookProgram
+from gudokeyi.services.certificates import GENERATIONS, MOST_GENERATIONS, begin_certificates
 from gudokeyi.services.opening import Book
 from gudokeyi.services.output_files import write_outs, write_page
+from gudokeyi.services.seals import last_sealed
 from gudokeyi.services.search import find, named_in
 from gudokeyi.services.settings import settings_of
 from gudokeyi.services.verification import refuse_to_certify
@@ -30,6 +33,7 @@ def add_words(words: CommandWords) -> None:
         "They show what `settings` says of the society.",
         Group.PAGES,
         shows=False,
+        answers=certified,
     )
     certificate.add_argument("ids", nargs="*", metavar="ID", help="the animals, by id, name or number")
     certificate.add_argument(
@@ -42,58 +46,89 @@ def add_words(words: CommandWords) -> None:
     certificate.add_argument(
         "--title", default="", help="what stands above the animal [Certificate of pedigree, in the language]"
     )
+    certificate.add_argument(
+        "--generations", type=int, choices=range(GENERATIONS, MOST_GENERATIONS + 1), default=GENERATIONS,
+        help="how many generations of ancestors, 3 to 5 [3]", metavar="N",
+    )  # fmt: skip
     pedigree = words.add_for_book(
         "pedigree", do_pedigree, "draw an animal with its known ancestors, inbred and common ones marked",
         "More than five generations go on on further pages of one file.",
+        answers=drawn,
     )  # fmt: skip
     pedigree.add_argument("--generations", type=generations, default=4, metavar="N", help="how many, 1 to 10 [4]")
     pedigree.add_argument("id", metavar="ID", help="the animal, by id, name or number")
     trend = words.add_for_book(
-        "trend", do_trend, "draw the mean coefficient by birth year, with how many animals each year has"
-    )
+        "trend", do_trend, "draw the mean coefficient by birth year, with how many animals each year has",
+        answers=trend_values,
+    )  # fmt: skip
     for one in certificate, pedigree, trend:
         one.add_argument("--language", choices=LANGUAGES, default="en", help="the language, en, de or fr [en]")
         one.add_argument("--out", type=file, metavar="FILE", help="write to this file [one in the book's folder]")
         add_force(one)
 
 
+def certified(asked: argparse.Namespace, book: Book, program: BookProgram) -> object:
+    from gudokeyi.services.answers import Certificates
+    from gudokeyi.services.book import Book as LibraryBook
+
+    library = LibraryBook(asked.book, program)
+    return Certificates(tuple(library.certificate(one.id) for one in animals_asked_for(asked, book)))
+
+
 def do_certificate(asked: argparse.Namespace, book: Book, program: BookProgram) -> None:
     from gudokeyi.render.certificates import Issue, certificates_page
 
     animals = animals_asked_for(asked, book)
+    numbers = [animal.registration_number for animal in animals]
+    certified = begin_certificates(book, program, numbers, asked.generations)
     refuse_to_certify(book, program)
     settings = settings_of(book)
-    issue = Issue(asked.title, settings[Setting.NAME], settings[Setting.ADDRESS], asked.day)
-    page = certificates_page(book, animals, Language(asked.language), issue)
+    issue = Issue(
+        asked.title, settings[Setting.NAME], settings[Setting.ADDRESS], asked.day, last_sealed(book),
+        generations=asked.generations,
+    )  # fmt: skip
+    page = certificates_page(book, animals, certified, Language(asked.language), issue)
     name = file_name("certificate", animals[0].id, ".html") if len(animals) == 1 else "certificates.html"
     give(asked, book, page, name, f", {counted(len(animals), 'page')}" * (len(animals) > 1))
 
 
 def animals_asked_for(asked: argparse.Namespace, book: Book) -> list[SocietyRecord]:
     """Those that are named, or those of an owner or that live; each once."""
-    from gudokeyi.services.selection import Choice, known_chosen
+    from gudokeyi.services.selection import Choice, animals_chosen
 
     choice = Choice(asked.living, "", asked.owner)
     named = [find(book, id) for id in asked.ids] + (named_in(asked.among, book) if asked.among else [])
     if named and not choice.is_everything:
-        raise Mistake("certificate takes animals that are named, or those of --owner and --living, not both")
+        raise WrongWords("certificate takes animals that are named, or those of --owner and --living, not both")
     if not named and choice.is_everything:
-        raise Mistake("certificate needs animals: name them, or choose some by --owner or --living")
-    animals = named or known_chosen(book, choice)
+        raise WrongWords("certificate needs animals: name them, or choose some by --owner or --living")
+    animals = named or animals_chosen(book, choice)
     if not animals:
         raise Mistake("there is no such animal: `list` with the same options shows which there are")
-    return list({known.registration_number: known for known in animals}.values())
+    return list({animal.registration_number: animal for animal in animals}.values())
+
+
+def drawn(asked: argparse.Namespace, book: Book, program: BookProgram) -> object:
+    from gudokeyi.services.answers import pedigree
+
+    return pedigree(book, asked.id, asked.generations)
 
 
 def do_pedigree(asked: argparse.Namespace, book: Book, program: BookProgram) -> None:
     from gudokeyi.render.pedigree_pictures import Pedigree
 
-    known = find(book, asked.id)
-    drawn = Pedigree(book, known, kept_coefficients(book), asked.generations, Language(asked.language))
+    animal = find(book, asked.id)
+    drawn = Pedigree(book, animal, kept_coefficients(book), asked.generations, Language(asked.language))
     if drawn.is_long and asked.out and asked.out.suffix.lower() == ".svg":
-        raise Mistake(f"{counted(asked.generations, 'generation')} stand on several pages: name a file as tree.html")
+        raise WrongWords(f"{counted(asked.generations, 'generation')} stand on several pages: name a file as tree.html")
     pages = f", {counted(len(drawn.tops), 'page')}" * drawn.is_long
-    give(asked, book, drawn.text(), file_name("pedigree", known.id, ".html" if drawn.is_long else ".svg"), pages)
+    give(asked, book, drawn.text(), file_name("pedigree", animal.id, ".html" if drawn.is_long else ".svg"), pages)
+
+
+def trend_values(asked: argparse.Namespace, book: Book, program: BookProgram) -> object:
+    from gudokeyi.services.trends import trend_of
+
+    return trend_of(book, kept_coefficients(book))
 
 
 def do_trend(asked: argparse.Namespace, book: Book, program: BookProgram) -> None:

@@ -5,11 +5,12 @@ import argparse
 import pathlib
 import sys
 
-from gudokeyi.cli.answers import give_table
+from gudokeyi.cli.output import give_table
 from gudokeyi.cli.arguments import add_output
 from gudokeyi.cli.parser import CommandWords
 from gudokeyi.domain.animals import SocietyRecord
-from gudokeyi.domain.messages import Mistake, counted
+from gudokeyi.domain.messages import counted
+from gudokeyi.domain.mistakes import WrongWords
 from gudokeyi.services.book_program import BookProgram
 from gudokeyi.services.opening import Book
 from gudokeyi.services.output_files import write_outs
@@ -17,13 +18,16 @@ from gudokeyi.services.search import find, named_in
 
 
 def add_words(words: CommandWords) -> None:
-    show = words.add_for_book("show", do_show, "show an animal's record, relatives and history")
+    show = words.add_for_book("show", do_show, "show an animal's record, relatives and history", answers=shown)
     show.add_argument("id", metavar="ID", help="the animal, by id, name or number")
     show.add_argument("--all", action="store_true", help="all offspring and sibs, also where there are many")
-    look = words.add_for_book("find", do_find, "write the animals that have a text in id, name, number or owner")
+    look = words.add_for_book(
+        "find", do_find, "write the animals that have a text in id, name, number or owner", answers=found
+    )
     look.add_argument("text", nargs="+", metavar="TEXT", help="a part of one of these; of several texts each")
     kinship = words.add_for_book(
-        "kinship", do_kinship, "write relationships and kinships: of all pairs, an animal with itself too"
+        "kinship", do_kinship, "write relationships and kinships: of all pairs, an animal with itself too",
+        answers=kin,
     )
     kinship.add_argument("ids", nargs="*", metavar="ID", help="the animals, by id, name or number")
     kinship.add_argument(
@@ -41,13 +45,53 @@ def add_words(words: CommandWords) -> None:
         choices=("kinship", "relationship"),
         help="a matrix of kinships or relationships, not a table of pairs",
     )
-    export = words.add_for_book("export", do_export, "write the whole pedigree by the society's ids, in age order")
+    export = words.add_for_book(
+        "export", do_export, "write the whole pedigree by the society's ids, in age order", answers=exported
+    )
     export.add_argument("--triples", action="store_true", help="lines of `id sire dam`, as R's packages read them")
     export.add_argument(
         "--keep", type=pathlib.Path, metavar="FILE", help="only the animals that a file names, and their ancestors"
     )
     for one in look, kinship, export:
         add_output(one)
+
+
+def shown(asked: argparse.Namespace, book: Book, program: BookProgram) -> object:
+    from gudokeyi.services.answers import shown
+
+    return shown(book, asked.id)
+
+
+def found(asked: argparse.Namespace, book: Book, program: BookProgram) -> object:
+    from gudokeyi.services.answers import listed
+    from gudokeyi.services.search import condition_of_words
+
+    return listed(book, book.rows(condition_of_words(book, asked.text), in_age_order=True))
+
+
+def exported(asked: argparse.Namespace, book: Book, program: BookProgram) -> object:
+    from gudokeyi.services.answers import listed
+    from gudokeyi.services.exports import rows_kept
+
+    return listed(book, rows_kept(book, named_in(asked.keep, book) if asked.keep else None))
+
+
+def kin(asked: argparse.Namespace, book: Book, program: BookProgram) -> object:
+    from gudokeyi.services.answers import Related
+    from gudokeyi.services.book import kinships_of
+
+    return Related(kinships_of(book, program, *kin_asked(asked, book)))
+
+
+def kin_asked(asked: argparse.Namespace, book: Book) -> tuple[list[SocietyRecord], list[SocietyRecord] | None]:
+    """The animals, and others with each of which each of them is asked for, or none."""
+    from gudokeyi.services.relationships import each_once
+
+    named = [find(book, id) for id in asked.ids]
+    animals = each_once(named + (named_in(asked.among, book) if asked.among else []))
+    if not animals:
+        raise WrongWords("kinship needs animals: name two or more, or a file by --among")
+    return animals, each_once(named_in(asked.others, book)) if asked.others else None
 
 
 def do_show(asked: argparse.Namespace, book: Book, program: BookProgram) -> None:
@@ -64,13 +108,9 @@ def do_find(asked: argparse.Namespace, book: Book, program: BookProgram) -> None
 
 
 def do_kinship(asked: argparse.Namespace, book: Book, program: BookProgram) -> None:
-    from gudokeyi.services.relationships import each_once, kinship_matrix, kinship_table, related
+    from gudokeyi.services.relationships import kinship_matrix, kinship_table, related
 
-    named = [find(book, id) for id in asked.ids]
-    animals = each_once(named + (named_in(asked.among, book) if asked.among else []))
-    if not animals:
-        raise Mistake("kinship needs animals: name two or more, or a file by --among")
-    others = each_once(named_in(asked.others, book)) if asked.others else None
+    animals, others = kin_asked(asked, book)
     pairs = related(book, program, animals, others)
     if asked.matrix:
         give_table(asked, book, kinship_matrix(pairs, animals, others, asked.matrix == "kinship"))
@@ -82,7 +122,7 @@ def do_export(asked: argparse.Namespace, book: Book, program: BookProgram) -> No
     from gudokeyi.services.exports import export_table, triples, triples_text
 
     if asked.triples and asked.semicolons:
-        raise Mistake("--triples has blanks between its cells: leave out --semicolons")
+        raise WrongWords("--triples has blanks between its cells: leave out --semicolons")
     kept: list[SocietyRecord] | None = named_in(asked.keep, book) if asked.keep else None
     if not asked.triples:
         give_table(asked, book, export_table(book, kept))

@@ -3,9 +3,12 @@ from __future__ import annotations
 
 import argparse
 import getpass
+import pathlib
+import syslog
 
 from gudokeyi.cli.parser import CommandWords
 from gudokeyi.domain.messages import Mistake
+from gudokeyi.domain.mistakes import WrongWords
 from gudokeyi.packages import Group, need
 
 ROLES = ("inspector", "clerk", "keeper")
@@ -45,6 +48,7 @@ def add_words(words: CommandWords) -> None:
     )  # fmt: skip
     account.add_argument("--remove", action="store_true", help="take the account away")
     account.add_argument("--list", action="store_true", help="show all accounts")
+    account.add_argument("--copy", type=pathlib.Path, metavar="FILE", help="write a copy of all accounts, for a backup")
 
 
 def do_serve(asked: argparse.Namespace) -> None:
@@ -56,12 +60,13 @@ def do_serve(asked: argparse.Namespace) -> None:
 
     place, proxy = listen_address(asked.listen), asked.behind_proxy
     if not place.is_loopback and not proxy and not asked.insecure:
-        raise Mistake(
+        raise WrongWords(
             f"{place.address} is an address of the network, on which passwords would be read by others: say "
             "--behind-proxy where a proxy has a certificate, or --insecure if it has to be so"
         )
     program = BookSession.for_many()
     program.look_for()
+    program.refuse_other()
     serve(asked.book, program, place, asked.name, proxy)
 
 
@@ -75,24 +80,36 @@ def do_account(asked: argparse.Namespace) -> None:
         for one in accounts.all():
             print(f"{one.name}: {one.role}")
         return
+    if asked.copy:
+        accounts.copy(asked.copy)
+        return
     if not asked.name:
-        raise Mistake("whose account? Name it, or say --list")
+        raise WrongWords("whose account? Name it, or say --list")
     there = accounts.found(asked.name)
     if asked.remove:
         accounts.remove(asked.name)
-        print(f"{asked.name} has no account any more")
+        tell(f"{asked.name} has no account any more")
     elif there and asked.role:
         accounts.change_role(asked.name, AccountRole(asked.role))
-        print(f"{there.name} is {asked.role} now; the password stays")
+        tell(f"{there.name} is {asked.role} now; the password stays")
     elif there:
         accounts.change_password(asked.name, *asked_twice())
-        print(f"{there.name} has a new password")
+        tell(f"{there.name} has a new password")
     elif asked.role:
         make_folder(asked.book)
         accounts.add(asked.name, AccountRole(asked.role), *asked_twice())
-        print(f"{asked.name} has an account: {asked.role}")
+        tell(f"{asked.name} has an account: {asked.role}")
     else:
-        raise Mistake(f"which role has {asked.name}? Say --role, and one of {', '.join(ROLES)}")
+        raise WrongWords(f"which role has {asked.name}? Say --role, and one of {', '.join(ROLES)}")
+
+
+def tell(what: str) -> None:
+    """Tells what was done, also the machine's log, with who did it."""
+    from gudokeyi.services.accounts import login
+
+    print(what)
+    syslog.openlog("gudokeyi", 0, syslog.LOG_AUTH)
+    syslog.syslog(syslog.LOG_NOTICE, f"account, by {login()}: {what}")
 
 
 def asked_twice() -> tuple[str, str]:

@@ -2,12 +2,13 @@
 from __future__ import annotations
 
 import datetime
-from collections.abc import Hashable
+from collections.abc import Hashable, Mapping
 from dataclasses import dataclass
 
 from gudokeyi.domain.findings import ANYWAY, Finding, LeftOut, Part, Severity, Suggestion, What, is_animal, is_no_animal
 from gudokeyi.domain.kinds import Field
 from gudokeyi.domain.provenance import ExitBasis
+from gudokeyi.domain.wording import AllOf, Joined, OptionalPart, Text, Told, WithText, Word
 from gudokeyi.ingest.days import DayFault
 from gudokeyi.ingest.findings.columns import SheetFinding
 from gudokeyi.ingest.findings.sheets import Cells
@@ -23,17 +24,16 @@ class RowLeftOut(LeftOut):
     part = Part.ROW
     severity = Severity.ANIMALS
 
-    def thing(self) -> str:
-        return "the row"
-
 
 @dataclass(frozen=True, slots=True)
 class TooManyCells(RowLeftOut):
     cells: int
     titles: int
 
-    def why(self) -> str:
-        return f"it has {self.cells} cells, and there are {self.titles} titles: is there a separator too many?"
+    code = "too many cells"
+    message = Text(
+        "the row is left out: it has {cells} cells, and there are {titles} titles: is there a separator too many?"
+    )
 
 
 @dataclass(frozen=True, slots=True)
@@ -42,8 +42,15 @@ class NoId(RowLeftOut):
 
     word: str
 
-    def why(self) -> str:
-        return f"'{self.word}' is a word for an unknown animal: give it another id" if self.word else "it has no id"
+    code = "no id"
+    message = Text("the row is left out: {maybe_empty}{maybe_word}")
+    parts = {
+        "maybe_empty": OptionalPart("it has no id", when="is_empty"),
+        "maybe_word": OptionalPart("'{word}' is a word for an unknown animal: give it another id"),
+    }
+
+    def values(self) -> Mapping[str, object]:
+        return {"is_empty": not self.word}
 
 
 @dataclass(frozen=True, slots=True)
@@ -51,16 +58,38 @@ class IdTooLong(RowLeftOut):
     letters: int
     most: int
 
-    def why(self) -> str:
-        return f"its id has {self.letters:,} letters, and {self.most} are kept at most: shorten it"
+    code = "id too long"
+    message = Text(
+        "the row is left out: its id has {letters:,} letters, and {most} are kept at most: shorten it"
+    )
 
 
 @dataclass(frozen=True, slots=True)
 class TitlesAgain(RowLeftOut):
     """The row has the titles, as a page's first one."""
 
-    def why(self) -> str:
-        return "it repeats the titles"
+    code = "titles again"
+    message = Text("the row is left out: it repeats the titles")
+
+
+@dataclass(frozen=True, slots=True)
+class CellDiffers(Told):
+    """A cell of a row, and that of another row with the same id; empty for none."""
+
+    field: str
+    here: str
+    there: str
+
+    message = Text("{field} '{here}', there '{there}'")
+    parts = {
+        "maybe_here": OptionalPart("'{here}'"),
+        "maybe_none_here": OptionalPart("–", when="none_here"),
+        "maybe_there": OptionalPart("'{there}'"),
+        "maybe_none_there": OptionalPart("–", when="none_there"),
+    }
+
+    def values(self) -> Mapping[str, object]:
+        return {"none_here": not self.here, "none_there": not self.there}
 
 
 @dataclass(frozen=True, slots=True)
@@ -73,15 +102,25 @@ class IdAgain(RowLeftOut):
     parents_here: tuple[str, str]
     differing: tuple[tuple[str, str, str], ...]
 
-    def why(self) -> str:
-        told = f"line {self.line} has this id too"
-        if self.parents_there != self.parents_here:
-            there, here = (
-                " and ".join(parent or "unknown" for parent in pair) for pair in (self.parents_there, self.parents_here)
-            )
-            told += f", with other parents, which are taken ({there}; here they are {here})"
-        cells = "; ".join(f"{name} '{here}', there '{there}'" for name, here, there in self.differing)
-        return told + (f" ({cells})" if cells else "")
+    code = "id again"
+    message = Text("the row is left out: line {line} has this id too{maybe_parents_there}{maybe_differing}")
+    parts = {
+        "maybe_parents_there": OptionalPart(
+            ", with other parents, which are taken ({parents_there}; here they are {parents_here})",
+        ),
+        "maybe_differing": OptionalPart(" ({differing})"),
+    }
+
+    def values(self) -> Mapping[str, object]:
+        both = (self.parents_there, self.parents_here)
+        there, here = (AllOf(tuple(parent or Word.UNKNOWN for parent in pair)) for pair in both)
+        are_others = self.parents_there != self.parents_here
+        cells = tuple(CellDiffers(*one) for one in self.differing)
+        return {
+            "parents_there": there if are_others else None,
+            "parents_here": here if are_others else None,
+            "differing": Joined(cells, "; "),
+        }
 
 
 @dataclass(frozen=True, slots=True)
@@ -89,9 +128,14 @@ class LineAgain(IdAgain):
     """An earlier line of a pedigree has the id."""
 
     part = Part.LINE
-
-    def thing(self) -> str:
-        return "the line"
+    code = "line again"
+    message = Text("the line is left out: line {line} has this id too{maybe_parents_there}{maybe_differing}")
+    parts = {
+        "maybe_parents_there": OptionalPart(
+            ", with other parents, which are taken ({parents_there}; here they are {parents_here})",
+        ),
+        "maybe_differing": OptionalPart(" ({differing})"),
+    }
 
 
 @dataclass(frozen=True, slots=True)
@@ -101,9 +145,9 @@ class NoAnimal(RowLeftOut):
     word: str
 
     severity = Severity.NONE
-
-    def why(self) -> str:
-        return f"a row with '{self.word}' is no animal, as --no-animal says"
+    code = "no animal"
+    message = Text("the row is left out: a row with '{word}' is no animal, as --no-animal says")
+    page_message = Text("the row is left out: one with '{word}' is no animal, as was said")
 
     def suggestions(self) -> tuple[Suggestion, ...]:
         return (Suggestion("if it is one", (is_animal(self.word),)),)
@@ -122,8 +166,12 @@ class LikeASum(OddRow):
 
     word: str = ""
 
-    def words(self) -> str:
-        return "is this row an animal? It is taken as one"
+    code = "like a sum"
+    message = Text("is this row an animal? It is taken as one")
+    page_message = Text("this row looks like a total{maybe_word} and not like an animal")
+    parts = {
+        "maybe_word": OptionalPart(" ('{word}')"),
+    }
 
     def suggestions(self) -> tuple[Suggestion, ...]:
         return (Suggestion("if it is none", (is_no_animal(self.word),)),) if self.word else ()
@@ -135,8 +183,10 @@ class IdAlone(OddRow):
 
     word: str = ""
 
-    def words(self) -> str:
-        return "is this row an animal? It has an id alone, and no animal has it as a parent. It is taken as one"
+    code = "id alone"
+    message = Text(
+        "is this row an animal? It has an id alone, and no animal has it as a parent. It is taken as one"
+    )
 
     def suggestions(self) -> tuple[Suggestion, ...]:
         return (Suggestion("if it is none", (is_no_animal(self.word),)),) if self.word else ()
@@ -154,11 +204,9 @@ class CellLeftOut(LeftOut):
 class SexUnread(CellLeftOut):
     text: str
 
-    def thing(self) -> str:
-        return "its sex"
-
-    def why(self) -> str:
-        return f"'{self.text}' isn't known: write M or F, or name it by --sexes"
+    code = "sex unread"
+    message = Text("its sex is left out: '{text}' isn't known: write M or F, or name it by --sexes")
+    page_message = Text("its sex is left out: '{text}' isn't known: write M or F")
 
     def summed_up_as(self) -> Field:
         return Field.SEX
@@ -173,29 +221,29 @@ class DayLeftOut(CellLeftOut):
     text: str
     is_gone: bool = False
 
-    def thing(self) -> str:
-        return f"its {DAYS[self.field]}"
+    code = "day left out"
+    message = Text("its {day_of} is left out: {fault}{maybe_gone}")
+    parts = {
+        "maybe_gone": OptionalPart("; the animal counts as gone", when="is_gone"),
+    }
 
-    def why(self) -> str:
-        return self.fault.words(self.text) + "; the animal counts as gone" * self.is_gone
+    def values(self) -> Mapping[str, object]:
+        return {"day_of": DAYS.get(self.field, self.field), "fault": WithText(self.fault, self.text)}
 
     def theme(self) -> Hashable:
         return self.field, self.fault
 
     def summed_up_as(self) -> Field | None:
         """A text that can't be read is one of those of its column; a day that can't be isn't."""
-        return None if self.fault in (DayFault.AFTER_TODAY, DayFault.BEFORE_BIRTH) else self.field
+        return None if self.fault in (DayFault.AFTER_TODAY, DayFault.BEFORE_BIRTH, DayFault.YEAR) else self.field
 
 
 @dataclass(frozen=True, slots=True)
 class EmbryoUnread(CellLeftOut):
     text: str
 
-    def thing(self) -> str:
-        return "its cell for a stored embryo"
-
-    def why(self) -> str:
-        return f"'{self.text}' isn't known: write 1 or nothing"
+    code = "embryo unread"
+    message = Text("its cell for a stored embryo is left out: '{text}' isn't known: write 1 or nothing")
 
     def summed_up_as(self) -> Field:
         return Field.EMBRYO
@@ -209,11 +257,10 @@ class TextTooLong(CellLeftOut):
     letters: int
     most: int
 
-    def thing(self) -> str:
-        return f"its {self.field}"
-
-    def why(self) -> str:
-        return f"it has {self.letters:,} letters, and {self.most} are kept at most: shorten it"
+    code = "text too long"
+    message = Text(
+        "its {field} is left out: it has {letters:,} letters, and {most} are kept at most: shorten it"
+    )
 
     def theme(self) -> Hashable:
         return self.field
@@ -226,11 +273,8 @@ class ErrorValue(CellLeftOut):
     title: str
     text: str
 
-    def thing(self) -> str:
-        return f"its cell '{self.title}'"
-
-    def why(self) -> str:
-        return f"'{self.text}' is an error of the spreadsheet, and no value"
+    code = "error value"
+    message = Text("its cell '{title}' is left out: '{text}' is an error of the spreadsheet, and no value")
 
 
 @dataclass(frozen=True, slots=True)
@@ -243,10 +287,12 @@ class ExitInferred(Finding):
     text: str
 
     what = What.INFERRED
-
-    def words(self) -> str:
-        last = f", the last day of {self.basis.words()}" if self.basis.is_inferred else ""
-        return f"exit on {self.day}{last}" + (f", from '{self.text}'" if self.text else "")
+    code = "exit inferred"
+    message = Text("exit on {day}{maybe_basis_period}{maybe_text}")
+    parts = {
+        "maybe_basis_period": OptionalPart(", the last day of {basis_period}"),
+        "maybe_text": OptionalPart(", from '{text}'"),
+    }
 
 
 # What is found of cells that tell of an exit in words: each kind as data, and in words.
@@ -258,13 +304,19 @@ class ExitsWithoutDay(SheetFinding):
 
     cells: Cells
 
-    def words(self) -> str:
-        word = exit_word(self.cells.texts[0].text)
-        return (
-            f"an exit without a day stands in {self.cells.place()}, {self.cells.shown()}: such an animal counts as gone, "
-            "on a day that isn't known unless the book has it; where you know the day, write it as 01.03.2001, or "
-            f"behind the word, as {word} 01.03.2001"
-        )
+    code = "exits without day"
+    message = Text(
+        "an exit without a day stands in {cells}, the first in line {cells_line}: {cells_texts}{maybe_cells_more}: "
+        "such an animal counts as gone, on a day that isn't known unless the book has it; where you know the day, "
+        "write it as 01.03.2001, or behind the word, as {word} 01.03.2001",
+        "cells_count",
+    )
+    parts = {
+        "maybe_cells_more": OptionalPart(" and {cells_more} more"),
+    }
+
+    def values(self) -> Mapping[str, object]:
+        return {"word": exit_word(self.cells.texts[0].text) if self.cells.texts else ""}
 
 
 @dataclass(frozen=True, slots=True)
@@ -273,18 +325,23 @@ class ExitsInOtherWords(SheetFinding):
 
     cells: Cells
 
-    def words(self) -> str:
-        return (
-            f"a day beside words that tell of no exit stands in {self.cells.place()}, {self.cells.shown()}: each counts as an "
-            "exit on this day; where the animal hasn't left, write nothing or alive, lebt or vivant"
-        )
+    code = "exits in other words"
+    message = Text(
+        "a day beside words that tell of no exit stands in {cells}, the first in line {cells_line}: "
+        "{cells_texts}{maybe_cells_more}: each counts as an exit on this day; where the animal hasn't left, write "
+        "nothing or alive, lebt or vivant",
+        "cells_count",
+    )
+    parts = {
+        "maybe_cells_more": OptionalPart(" and {cells_more} more"),
+    }
 
 
 @dataclass(frozen=True, slots=True)
 class IdUsedAgain(LeftOut):
     """The id is that of another animal, of the book or of another line of the sheet, that was born years before.
-    `named_in` are the lines of animals that are born later, and have this id as a parent: they are taken for offspring of
-    the first."""
+    `named_in` are the lines of animals that are born later, and have this id as a parent: they are taken for offspring
+    of the first."""
 
     born_there: datetime.date
     name_there: str
@@ -296,21 +353,23 @@ class IdUsedAgain(LeftOut):
 
     part = Part.ROW
     severity = Severity.ANIMALS
-    # how else two animals would have one id
-    otherwise = "the tag was used again"
 
-    def thing(self) -> str:
-        return "the row"
+    code = "id used again"
+    message = Text(
+        "the row is left out: {maybe_line}{maybe_of_book} has this id for another animal ({maybe_name_there}born "
+        "{born_there}; here {maybe_name_here}born {born_here}){maybe_named_in}: if the tag was used again, give this "
+        "one an id of its own, also where its offspring name it"
+    )
+    parts = {
+        "maybe_line": OptionalPart("line {line}"),
+        "maybe_of_book": OptionalPart("the book", when="is_of_book"),
+        "maybe_name_there": OptionalPart("'{name_there}', "),
+        "maybe_name_here": OptionalPart("'{name_here}', "),
+        "maybe_named_in": OptionalPart("; as a parent in line {named_in} it means the first"),
+    }
 
-    def why(self) -> str:
-        there, here = (f"'{name}', " if name else "" for name in (self.name_there, self.name_here))
-        lines = ", ".join(map(str, self.named_in))
-        means = f"; as a parent in line {lines} it means the first" if self.named_in else ""
-        which = f"line {self.line}" if self.line else "the book"
-        return (
-            f"{which} has this id for another animal ({there}born {self.born_there}; here {here}born {self.born_here})"
-            f"{means}: if {self.otherwise}, give this one an id of its own, also where its offspring name it"
-        )
+    def values(self) -> Mapping[str, object]:
+        return {"is_of_book": not self.line, "named_in": Joined(tuple(map(str, self.named_in)))}
 
     def suggestions(self) -> tuple[Suggestion, ...]:
         return () if self.line else (Suggestion("if it is the same animal", (ANYWAY,)),)

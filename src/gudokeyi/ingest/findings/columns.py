@@ -1,11 +1,14 @@
 """What is found of a sheet's titles and columns: each kind as data, and in words."""
 from __future__ import annotations
 
+from collections.abc import Mapping
 from dataclasses import dataclass
 
 from gudokeyi.domain.changes import Option
 from gudokeyi.domain.findings import Finding, Severity, Suggestion, What, columns
 from gudokeyi.domain.kinds import Field
+from gudokeyi.domain.messages import AnyOf
+from gudokeyi.domain.wording import AllOf, Joined, OptionalPart, Text
 from gudokeyi.ingest.titles import title_list
 
 # a sheet that lacks so many of its columns may have its titles elsewhere
@@ -31,10 +34,15 @@ class TitleTwice(SheetFinding):
     columns: tuple[int, ...]
     have_same_cells: bool
 
-    def words(self) -> str:
-        numbers = " and ".join(map(str, self.columns))
-        what = "which have the same cells" if self.have_same_cells else "with other cells: only the first can be read"
-        return f"the title '{self.title}' stands in the columns {numbers}, {what}"
+    code = "title twice"
+    message = Text("the title '{title}' stands in the columns {columns}, {maybe_have_same_cells}{maybe_differ}")
+    parts = {
+        "maybe_have_same_cells": OptionalPart("which have the same cells", when="have_same_cells"),
+        "maybe_differ": OptionalPart("with other cells: only the first can be read", when="differ"),
+    }
+
+    def values(self) -> Mapping[str, object]:
+        return {"columns": AllOf(self.columns), "differ": not self.have_same_cells}
 
 
 @dataclass(frozen=True, slots=True)
@@ -43,12 +51,12 @@ class TellsNoExits(SheetFinding):
 
     title: str
 
-    def words(self) -> str:
-        return (
-            f"the column '{self.title}' isn't read, since most of its cells tell of no exit: if it has the exits, write the "
-            "day there, or sold, died, verkauft, verendet, vendu or mort, where an animal has left, and nothing or alive "
-            "where it hasn't"
-        )
+    code = "tells no exits"
+    message = Text(
+        "the column '{title}' isn't read, since most of its cells tell of no exit: if it has the exits, write the "
+        "day there, or sold, died, verkauft, verendet, vendu or mort, where an animal has left, and nothing or "
+        "alive where it hasn't"
+    )
 
 
 @dataclass(frozen=True, slots=True)
@@ -59,8 +67,8 @@ class LikelierColumn(SheetFinding):
     title: str
     other: str
 
-    def words(self) -> str:
-        return f"{self.field} is read from '{self.title}', as at the last time, and '{self.other}' isn't"
+    code = "likelier column"
+    message = Text("{field} is read from '{title}', as at the last time, and '{other}' isn't")
 
     def suggestions(self) -> tuple[Suggestion, ...]:
         return (Suggestion(f"if '{self.other}' is the one", (column(self.field, self.other),)),)
@@ -74,9 +82,8 @@ class IdsMoved(SheetFinding):
     before: str
 
     severity = Severity.ANIMALS
-
-    def words(self) -> str:
-        return f"the ids of the book are in the column '{self.title}': they were in '{self.before}'"
+    code = "ids moved"
+    message = Text("the ids of the book are in the column '{title}': they were in '{before}'")
 
 
 @dataclass(frozen=True, slots=True)
@@ -88,12 +95,11 @@ class IdsFromOther(SheetFinding):
     usual: str
 
     severity = Severity.ANIMALS
-
-    def words(self) -> str:
-        return (
-            f"the ids are read from '{self.title}', since {self.found} of the parents' cells are found there, and not "
-            f"from '{self.usual}'"
-        )
+    code = "ids from other"
+    message = Text(
+        "the ids are read from '{title}', since {found} of the parents' cells are found there, and not from "
+        "'{usual}'"
+    )
 
     def suggestions(self) -> tuple[Suggestion, ...]:
         return (Suggestion(f"if '{self.usual}' has the ids", (column(Field.ID, self.usual),)),)
@@ -109,11 +115,17 @@ class NamedColumnLacks(SheetFinding):
     titles: tuple[str, ...]
     meant: str
 
-    def words(self) -> str:
-        return (
-            f"line {self.line}: there is no column '{self.title}', which --columns names for {self.field}. The titles are "
-            f"{title_list(self.titles)}"
-        )
+    code = "named column lacks"
+    message = Text(
+        "line {line}: there is no column '{title}', which --columns names for {field}. The titles are {all_titles}"
+    )
+    page_message = Text("there is no column '{title}' for {field}{maybe_meant}")
+    parts = {
+        "maybe_meant": OptionalPart(": is '{meant}' meant?"),
+    }
+
+    def values(self) -> Mapping[str, object]:
+        return {"all_titles": title_list(self.titles)}
 
     def suggestions(self) -> tuple[Suggestion, ...]:
         if not self.meant:
@@ -153,12 +165,26 @@ class ColumnsLack(SheetFinding):
     titles: tuple[str, ...]
     likely: tuple[LikelyColumn, ...] = ()
 
-    def words(self) -> str:
-        titles = ": does this line have the titles of the columns?" * (len(self.fields) >= MANY)
-        return (
-            f"line {self.line}: no column for {' or '.join(self.fields)} is found. The titles are "
-            f"{title_list(self.titles)}{titles or '. Say which it is by --columns, with the field, = and its title'}"
-        )
+    code = "columns lack"
+    message = Text(
+        "line {line}: no column for {any_field} is found. The titles are {all_titles}{maybe_most_lack}{maybe_few_lack}"
+    )
+    page_message = Text("no column is found for: {fields}. Choose below which it is")
+    parts = {
+        "maybe_most_lack": OptionalPart(": does this line have the titles of the columns?", when="most_lack"),
+        "maybe_few_lack": OptionalPart(
+            ". Say which it is by --columns, with the field, = and its title", when="few_lack"
+        ),
+    }
+
+    def values(self) -> Mapping[str, object]:
+        most_lack = len(self.fields) >= MANY
+        return {
+            "any_field": AnyOf(self.fields),
+            "all_titles": title_list(self.titles),
+            "most_lack": most_lack,
+            "few_lack": not most_lack,
+        }
 
     def suggestions(self) -> tuple[Suggestion, ...]:
         found = likely_titles(self.likely)
@@ -177,11 +203,15 @@ class PedigreeTitlesLack(SheetFinding):
     titles: tuple[str, ...]
     likely: tuple[LikelyColumn, ...]
 
-    def words(self) -> str:
-        return (
-            f"line {self.line}: no title for the {' and the '.join(self.fields)} is found. The titles are "
-            f"{title_list(self.titles)}. Say which it is by --columns, with the field, = and its title"
-        )
+    code = "pedigree titles lack"
+    message = Text(
+        "line {line}: no title for the {each_field} is found. The titles are {all_titles}. Say which it is by "
+        "--columns, with the field, = and its title"
+    )
+    page_message = Text("line {line}: no title is known for {fields}; the titles are {titles}")
+
+    def values(self) -> Mapping[str, object]:
+        return {"each_field": Joined(self.fields, " and the "), "all_titles": title_list(self.titles)}
 
     def suggestions(self) -> tuple[Suggestion, ...]:
         return likely_titles(self.likely)
@@ -195,8 +225,10 @@ class ColumnLost(SheetFinding):
     title: str
     likely: str
 
-    def words(self) -> str:
-        return f"no column for {self.field} is found: it was '{self.title}' at the last time; what the book has stays"
+    code = "column lost"
+    message = Text(
+        "no column for {field} is found: it was '{title}' at the last time; what the book has stays"
+    )
 
     def suggestions(self) -> tuple[Suggestion, ...]:
         likely = (
@@ -213,12 +245,11 @@ class IdsCountRows(SheetFinding):
     other: str
 
     severity = Severity.ANIMALS
-
-    def words(self) -> str:
-        return (
-            f"the ids are read from '{self.title}', which counts the rows: sorted otherwise, another animal would have each "
-            "number"
-        )
+    code = "ids count rows"
+    message = Text(
+        "the ids are read from '{title}', which counts the rows: sorted otherwise, another animal would have each "
+        "number"
+    )
 
     def suggestions(self) -> tuple[Suggestion, ...]:
         return (Suggestion(f"if '{self.other}' has the ids", (column(Field.ID, self.other),)),)

@@ -1,14 +1,16 @@
 """What is found of a sheet's file, its letters and its worksheets: each kind as data, and in words."""
 from __future__ import annotations
 
+from collections.abc import Mapping
 from dataclasses import dataclass
 
 from gudokeyi.domain.changes import Option
 from gudokeyi.domain.findings import Obstacle, Severity, Suggestion
 from gudokeyi.domain.kinds import Field
-from gudokeyi.domain.messages import counted
+from gudokeyi.domain.messages import Some
+from gudokeyi.domain.wording import Counted, OptionalPart, Quoted, Text, Told
 from gudokeyi.ingest.findings.columns import SheetFinding
-from gudokeyi.ingest.findings.sheets import shortened
+from gudokeyi.ingest.findings.sheets import MOST_SHOWN
 
 
 @dataclass(frozen=True, slots=True)
@@ -23,26 +25,36 @@ class StrayBytes(SheetFinding):
     byte: int
     more: int
 
-    def words(self) -> str:
-        others = f", nor are {counted(self.more, 'more byte')}" if self.more > 0 else ""
-        return (
-            f"{self.path}: line {self.line}, byte {self.place} of the line, behind '{self.behind}': the byte "
-            f"{self.byte:02X} isn't UTF-8, as the rest of the file is{others}: write this letter anew, and save the sheet "
-            "as CSV in UTF-8"
-        )
+    code = "stray bytes"
+    message = Counted(
+        (
+            "{path}: line {line}, byte {place} of the line, behind '{behind}': the byte {byte:02X} isn't UTF-8, as the "
+            "rest of the file is{maybe_more}: write this letter anew, and save the sheet as CSV in UTF-8"
+        ),
+        (
+            "{path}: line {line}, byte {place} of the line, behind '{behind}': the byte {byte:02X} isn't UTF-8, as the "
+            "rest of the file is{maybe_more}: write this letter anew, and save the sheet as CSV in UTF-8"
+        ),
+        "more",
+    )
+    parts = {
+        "maybe_more": OptionalPart(", nor are {more} more bytes", one=", nor are {more} more byte", value="more"),
+    }
 
 
 @dataclass(frozen=True, slots=True)
-class TextInLine:
+class TextInLine(Told):
     """A text with its first line, and what it was before its letters were decoded twice, if they were."""
 
     text: str
     line: int
     mended: str = ""
 
-    def words(self) -> str:
-        mended = f" for '{self.mended}'" if self.mended else ""
-        return f"'{self.text}'{mended} (line {self.line})"
+    message = Text("'{text}'{maybe_mended}{maybe_line}")
+    parts = {
+        "maybe_mended": OptionalPart(" for '{mended}'"),
+        "maybe_line": OptionalPart(" (line {line})"),
+    }
 
 
 @dataclass(frozen=True, slots=True)
@@ -50,13 +62,17 @@ class DecodedTwice(SheetFinding):
     texts: tuple[TextInLine, ...]
 
     severity = Severity.ANIMALS
+    code = "decoded twice"
+    message = Counted(
+        "letters were decoded twice in {count} text: {first}: save the sheet anew from the spreadsheet in which "
+        "the letters are right, as CSV in UTF-8",
+        "letters were decoded twice in {count} texts: {first}: save the sheet anew from the spreadsheet in which "
+        "the letters are right, as CSV in UTF-8",
+        "count",
+    )
 
-    def words(self) -> str:
-        texts = [one.words() for one in self.texts]
-        return (
-            f"letters were decoded twice in {counted(len(texts), 'text')}: {shortened(texts)}: save the sheet anew from "
-            "the spreadsheet in which the letters are right, as CSV in UTF-8"
-        )
+    def values(self) -> Mapping[str, object]:
+        return {"count": len(self.texts), "first": Some(self.texts, MOST_SHOWN)}
 
 
 @dataclass(frozen=True, slots=True)
@@ -64,10 +80,15 @@ class LettersLost(SheetFinding):
     texts: tuple[TextInLine, ...]
 
     severity = Severity.ANIMALS
+    code = "letters lost"
+    message = Counted(
+        "letters are lost in {count} text: {first}: write them anew",
+        "letters are lost in {count} texts: {first}: write them anew",
+        "count",
+    )
 
-    def words(self) -> str:
-        texts = [one.words() for one in self.texts]
-        return f"letters are lost in {counted(len(texts), 'text')}: {shortened(texts)}: write them anew"
+    def values(self) -> Mapping[str, object]:
+        return {"count": len(self.texts), "first": Some(self.texts, MOST_SHOWN)}
 
 
 @dataclass(frozen=True, slots=True)
@@ -78,11 +99,14 @@ class FormulasWithoutValue(SheetFinding):
     count: int
     cell: str
 
-    def words(self) -> str:
-        return (
-            f"the worksheet '{self.worksheet}' has {counted(self.count, 'formula')} without a value, the first in the "
-            f"cell {self.cell}: open the file in the spreadsheet, save it there, and take that"
-        )
+    code = "formulas without value"
+    message = Counted(
+        "the worksheet '{worksheet}' has {count} formula without a value, the first in the cell {cell}: open the "
+        "file in the spreadsheet, save it there, and take that",
+        "the worksheet '{worksheet}' has {count} formulas without a value, the first in the cell {cell}: open the "
+        "file in the spreadsheet, save it there, and take that",
+        "count",
+    )
 
 
 @dataclass(frozen=True, slots=True)
@@ -93,12 +117,14 @@ class DigitsLost(SheetFinding):
     count: int
     cell: str
 
-    def words(self) -> str:
-        return (
-            f"the worksheet '{self.worksheet}' has {counted(self.count, 'number')} of more than 15 digits, of which a "
-            f"spreadsheet loses the last, the first in the cell {self.cell}: give the column the format text, and write "
-            "these anew"
-        )
+    code = "digits lost"
+    message = Counted(
+        "the worksheet '{worksheet}' has {count} number of more than 15 digits, of which a spreadsheet loses the "
+        "last, the first in the cell {cell}: give the column the format text, and write these anew",
+        "the worksheet '{worksheet}' has {count} numbers of more than 15 digits, of which a spreadsheet loses the "
+        "last, the first in the cell {cell}: give the column the format text, and write these anew",
+        "count",
+    )
 
 
 @dataclass(frozen=True, slots=True)
@@ -109,10 +135,16 @@ class WorksheetUnclear(SheetFinding):
     worksheets: tuple[str, ...]
     fit: bool
 
-    def words(self) -> str:
-        names = ", ".join(f"'{title}'" for title in self.worksheets)
-        fit = f"{len(self.worksheets)} worksheets have titles that fit" if self.fit else "no worksheet has such titles"
-        return f"{self.path}: {fit} ({names}): say which one is taken by --worksheet"
+    code = "worksheet unclear"
+    message = Text("{path}: {maybe_count}{maybe_none_fits} ({names}): say which one is taken by --worksheet")
+    page_message = Text("which worksheet is meant: {worksheets}?")
+    parts = {
+        "maybe_count": OptionalPart("{count} worksheets have titles that fit", when="fit"),
+        "maybe_none_fits": OptionalPart("no worksheet has such titles", when="none_fits"),
+    }
+
+    def values(self) -> Mapping[str, object]:
+        return {"count": len(self.worksheets), "none_fits": not self.fit, "names": Quoted(self.worksheets)}
 
     def suggestions(self) -> tuple[Suggestion, ...]:
         return tuple(Suggestion(f"for '{title}'", (Option("--worksheet", title),)) for title in self.worksheets)
@@ -126,9 +158,12 @@ class WorksheetLacks(SheetFinding):
     named: str
     worksheets: tuple[str, ...]
 
-    def words(self) -> str:
-        names = ", ".join(f"'{title}'" for title in self.worksheets)
-        return f"{self.path} has no worksheet '{self.named}', which --worksheet names: it has {names}"
+    code = "worksheet lacks"
+    message = Text("{path} has no worksheet '{named}', which --worksheet names: it has {names}")
+    page_message = Text("there is no worksheet '{named}', but {worksheets}")
+
+    def values(self) -> Mapping[str, object]:
+        return {"names": Quoted(self.worksheets)}
 
     def suggestions(self) -> tuple[Suggestion, ...]:
         return WorksheetUnclear(self.path, self.worksheets, False).suggestions()
@@ -144,12 +179,14 @@ class ParentsInColumn(Obstacle):
     found_in_ids: int
     parents: int
 
-    def words(self) -> str:
-        return (
-            f"of {counted(self.parents, 'parent')} {self.found} stand in the column '{self.title}', and "
-            f"{self.found_in_ids} in '{self.ids}', which is read for the ids: to take founders in their place changes "
-            "coefficients"
-        )
+    code = "parents in column"
+    message = Counted(
+        "of {parents} parent {found} stand in the column '{title}', and {found_in_ids} in '{ids}', which is read "
+        "for the ids: to take founders in their place changes coefficients",
+        "of {parents} parents {found} stand in the column '{title}', and {found_in_ids} in '{ids}', which is read "
+        "for the ids: to take founders in their place changes coefficients",
+        "parents",
+    )
 
     def suggestions(self) -> tuple[Suggestion, ...]:
         titles = (self.title, self.ids)

@@ -1,12 +1,14 @@
 """What is found of the cells of a sheet as a whole: each kind as data, and in words."""
 from __future__ import annotations
 
+from collections.abc import Mapping
 from dataclasses import dataclass
 
 from gudokeyi.domain.changes import Option
 from gudokeyi.domain.findings import Suggestion
 from gudokeyi.domain.kinds import Field
-from gudokeyi.domain.messages import counted
+from gudokeyi.domain.messages import Worded
+from gudokeyi.domain.wording import Counted, OptionalPart, Quoted, Text, Told
 from gudokeyi.ingest.findings.columns import SheetFinding, column
 
 # so many texts are shown
@@ -14,16 +16,11 @@ MOST_SHOWN, MOST_TEXTS = 5, 9
 MONTH_FIRST, DAY_FIRST = Option("--month-first"), Option("--day-first")
 
 
-def shortened(texts: list[str]) -> str:
-    more = f" and {len(texts) - MOST_SHOWN} more" if len(texts) > MOST_SHOWN else ""
-    return f"{', '.join(texts[:MOST_SHOWN])}{more}"
-
-
 # -- days whose month may stand first
 
 
 @dataclass(frozen=True, slots=True)
-class Place:
+class Place(Told):
     """A cell with a day: its line, its animal, its field in words, and the day as it is written."""
 
     line: int
@@ -31,8 +28,7 @@ class Place:
     field: str
     text: str
 
-    def words(self) -> str:
-        return f"line {self.line}: {self.id}: {self.field}: '{self.text}'"
+    message = Text("line {line}: {id}: {field}: '{text}'")
 
 
 @dataclass(frozen=True, slots=True)
@@ -44,14 +40,21 @@ class WrongOrder(SheetFinding):
     count: int
     right: Place | None
 
-    def words(self) -> str:
-        which, other = ("day", "month") if self.month_first else ("month", "day")
-        many = f" ({counted(self.count, 'such day')})" if self.count > 1 else ""
-        others = f": others have the {other} first ({self.right.words()})" if self.right else ""
-        return (
-            f"{self.wrong.words()} has the {which} first{many}, so days with / can't be told from months{others}: write "
-            "all days as 2001-03-01 or 01.03.2001"
-        )
+    code = "wrong order"
+    message = Text(
+        "{wrong} has the {is_first} first{maybe_several}, so days with / can't be told from months{maybe_second}: "
+        "write all days as 2001-03-01 or 01.03.2001"
+    )
+    parts = {
+        "maybe_several": OptionalPart(" ({several} such days)"),
+        "maybe_second": OptionalPart(": others have the {is_second} first ({right})"),
+        "maybe_right_text": OptionalPart(" than '{right_text}' in line {right_line}"),
+    }
+
+    def values(self) -> Mapping[str, object]:
+        is_first, is_second = ("day", "month") if self.month_first else ("month", "day")
+        several = self.count if self.count > 1 else None
+        return {"is_first": is_first, "is_second": is_second, "several": several}
 
     def suggestions(self) -> tuple[Suggestion, ...]:
         if self.right:
@@ -67,11 +70,14 @@ class NoOrderShown(SheetFinding):
 
     count: int
 
-    def words(self) -> str:
-        return (
-            f"{counted(self.count, 'day')} with / could have the month first, and no day of the sheet shows whether: the "
-            "day is read first"
-        )
+    code = "no order shown"
+    message = Counted(
+        "{count} day with / could have the month first, and no day of the sheet shows whether: the day is read "
+        "first",
+        "{count} days with / could have the month first, and no day of the sheet shows whether: the day is read "
+        "first",
+        "count",
+    )
 
     def suggestions(self) -> tuple[Suggestion, ...]:
         return (Suggestion("if the month is first", (MONTH_FIRST,)),)
@@ -81,18 +87,24 @@ class NoOrderShown(SheetFinding):
 
 
 @dataclass(frozen=True, slots=True)
-class TextCount:
+class TextCount(Told):
     """A text, and how many cells have it."""
 
     text: str
     count: int
 
-    def words(self) -> str:
-        return f"'{self.text}'{f' ({self.count} times)' if self.count > 1 else ''}"
+    message = Text("'{text}'{maybe_times}")
+    page_message = Text("'{text}'")
+    parts = {
+        "maybe_times": OptionalPart(" ({times} times)"),
+    }
+
+    def values(self) -> Mapping[str, object]:
+        return {"times": self.count if self.count > 1 else None}
 
 
 @dataclass(frozen=True, slots=True)
-class Cells:
+class Cells(Told):
     """Cells of a column, of which `said` say something: how many they are, the first line, and the commonest texts;
     `more` texts aren't here."""
 
@@ -104,30 +116,47 @@ class Cells:
     texts: tuple[TextCount, ...]
     more: int
 
-    def place(self) -> str:
-        verb, what = ("tell", "of an exit") if self.field is Field.EXIT else ("say", "something")
-        says = f"{counted(self.said, 'cell')} that {verb}{'s' if self.said == 1 else ''} {what}"
-        return f"{self.count} of {says} in the column '{self.title}'"
+    message = Counted(
+        "{count} of {said} cell that {maybe_of_exits}{maybe_of_others} in the column '{title}'",
+        "{count} of {said} cells that {maybe_of_exits}{maybe_of_others} in the column '{title}'",
+        "said",
+    )
+    parts = {
+        "maybe_of_exits": OptionalPart("tell of an exit", when="of_exits", one="tells of an exit", value="said"),
+        "maybe_of_others": OptionalPart("say something", when="of_others", one="says something", value="said"),
+    }
 
-    def shown(self) -> str:
-        """The first line, and the commonest texts."""
-        more = f" and {self.more} more" if self.more else ""
-        return f"the first in line {self.line}: {', '.join(one.words() for one in self.texts)}{more}"
+    def values(self) -> Mapping[str, object]:
+        return {"of_exits": self.field is Field.EXIT, "of_others": self.field is not Field.EXIT}
 
 
-# what to write where cells of a column can't be read
+class Advice(Worded):
+    """What to write where cells of a column can't be read."""
+
+    SEX = "sex"
+    BIRTH = "birth"
+    EXIT = "exit"
+    SINCE = "since"
+    EMBRYO = "embryo"
+
+    def words(self) -> str:
+        return ADVICE[self]
+
+
 ADVICE = {
-    Field.SEX: "write M or F, or say which sex each word is by --sexes",
-    Field.BIRTH: (
+    Advice.SEX: "write M or F, or say which sex each word is by --sexes",
+    Advice.BIRTH: (
         "write days as 2001-03-01 or 01.03.2001, or 03.2001 or 2001 alone; or name another column by --columns"
     ),
-    Field.EXIT: (
+    Advice.EXIT: (
         "write days as 2001-03-01 or 01.03.2001, a word such as sold, verkauft or vendu where the day isn't known, and "
         "nothing or alive, lebt or vivant where the animal hasn't left; or name another column by --columns"
     ),
-    Field.SINCE: "write days as 2001-03-01 or 01.03.2001; or name another column by --columns",
-    Field.EMBRYO: "write 1 or nothing; or name another column by --columns",
+    Advice.SINCE: "write days as 2001-03-01 or 01.03.2001; or name another column by --columns",
+    Advice.EMBRYO: "write 1 or nothing; or name another column by --columns",
 }
+# of the columns whose cells can't be read
+OF_FIELDS = {Field(advice.value): advice for advice in Advice}
 # columns that a sheet may lack
 OPTIONAL = (Field.EXIT, Field.SINCE, Field.EMBRYO)
 
@@ -138,8 +167,20 @@ class CellsUnread(SheetFinding):
 
     cells: Cells
 
-    def words(self) -> str:
-        return f"{self.cells.place()} can't be read, {self.cells.shown()}: {ADVICE[self.cells.field]}"
+    code = "cells unread"
+    message = Text("{cells} can't be read, the first in line {cells_line}: {cells_texts}{maybe_cells_more}: {advice}")
+    page_message = Text(
+        "{cells_count} of {cells_said} cells of the column '{cells_title}' that say something can't be read, the first "
+        "in line {cells_line}: {cells_texts}{maybe_cells_more}{maybe_advice}",
+        "cells_count",
+    )
+    parts = {
+        "maybe_cells_more": OptionalPart(" and {cells_more} more"),
+        "maybe_advice": OptionalPart(": {advice}"),
+    }
+
+    def values(self) -> Mapping[str, object]:
+        return {"advice": OF_FIELDS.get(self.cells.field)}
 
     def suggestions(self) -> tuple[Suggestion, ...]:
         field, word = self.cells.field, self.cells.texts[0].text
@@ -164,12 +205,17 @@ class ErrorCells(SheetFinding):
     line: int
     texts: tuple[str, ...]
 
-    def words(self) -> str:
-        titles, texts = (", ".join(f"'{one}'" for one in those) for those in (self.titles, self.texts[:MOST_SHOWN]))
-        return (
-            f"{counted(self.count, 'cell')} with an error of the spreadsheet in {titles}, the first in line {self.line}: "
-            f"{texts}: each counts as empty, and what the book has stays; mend the formulas, and take the sheet again"
-        )
+    code = "error cells"
+    message = Counted(
+        "{count} cell with an error of the spreadsheet in {all_titles}, the first in line {line}: {first}: each "
+        "counts as empty, and what the book has stays; mend the formulas, and take the sheet again",
+        "{count} cells with an error of the spreadsheet in {all_titles}, the first in line {line}: {first}: each "
+        "counts as empty, and what the book has stays; mend the formulas, and take the sheet again",
+        "count",
+    )
+
+    def values(self) -> Mapping[str, object]:
+        return {"all_titles": Quoted(self.titles), "first": Quoted(self.texts[:MOST_SHOWN])}
 
 
 @dataclass(frozen=True, slots=True)
@@ -181,11 +227,11 @@ class ErrorColumn(SheetFinding):
     count: int
     filled: int
 
-    def words(self) -> str:
-        return (
-            f"{self.count} of {self.filled} cells of the column '{self.title}' ({self.field}) show an error of the "
-            "spreadsheet: mend its formulas, save the sheet, and take that"
-        )
+    code = "error column"
+    message = Text(
+        "{count} of {filled} cells of the column '{title}' ({field}) show an error of the spreadsheet: mend its "
+        "formulas, save the sheet, and take that"
+    )
 
 
 @dataclass(frozen=True, slots=True)
@@ -196,12 +242,17 @@ class CutNumber(SheetFinding):
     text: str
     count: int
 
-    def words(self) -> str:
-        more = f" ({counted(self.count, 'such cell')})" if self.count > 1 else ""
-        return (
-            f"line {self.line}: '{self.text}' is a long number that the spreadsheet has cut: give the columns of ids the "
-            f"format text, or number without decimals, save the sheet again, and take that{more}"
-        )
+    code = "cut number"
+    message = Text(
+        "line {line}: '{text}' is a long number that the spreadsheet has cut: give the columns of ids the format text, "
+        "or number without decimals, save the sheet again, and take that{maybe_several}"
+    )
+    parts = {
+        "maybe_several": OptionalPart(" ({several} such cells)"),
+    }
+
+    def values(self) -> Mapping[str, object]:
+        return {"several": self.count if self.count > 1 else None}
 
 
 @dataclass(frozen=True, slots=True)
@@ -212,26 +263,32 @@ class FormulaCell(SheetFinding):
     text: str
     count: int
 
-    def words(self) -> str:
-        more = f" ({counted(self.count, 'such cell')})" if self.count > 1 else ""
-        return (
-            f"line {self.line}: '{self.text}' is a formula without its value: open the file in the spreadsheet, save it "
-            f"there, and take that{more}"
-        )
+    code = "formula cell"
+    message = Text(
+        "line {line}: '{text}' is a formula without its value: open the file in the spreadsheet, save it there, and "
+        "take that{maybe_several}"
+    )
+    parts = {
+        "maybe_several": OptionalPart(" ({several} such cells)"),
+    }
+
+    def values(self) -> Mapping[str, object]:
+        return {"several": self.count if self.count > 1 else None}
 
 
 @dataclass(frozen=True, slots=True)
-class SexWord:
+class SexWord(Told):
     """A word for a sex that is taken for a longer one of the same column, and how often."""
 
     word: TextCount
     whole: str
+
+    message = Text("{word} for '{whole}'")
 
 
 @dataclass(frozen=True, slots=True)
 class SexWordsShort(SheetFinding):
     taken: tuple[SexWord, ...]
 
-    def words(self) -> str:
-        taken = [f"{one.word.words()} for '{one.whole}'" for one in self.taken]
-        return f"words for sexes are taken for longer ones of the same column: {', '.join(taken)}"
+    code = "sex words short"
+    message = Text("words for sexes are taken for longer ones of the same column: {taken}")

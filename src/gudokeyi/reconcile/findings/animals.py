@@ -2,19 +2,29 @@
 from __future__ import annotations
 
 import datetime
+from collections.abc import Mapping
 from dataclasses import dataclass
 
 from gudokeyi.domain.changes import Option
 from gudokeyi.domain.findings import Finding, LeftOut, Part, Severity, Suggestion, What
 from gudokeyi.domain.kinds import ChangeKind, Field
-from gudokeyi.domain.messages import counted
 from gudokeyi.domain.provenance import BirthBasis, SexSource
 from gudokeyi.domain.refusals import Refusal
+from gudokeyi.domain.wording import SEXES, AllOf, Counted, OptionalPart, Text, Told, Word
 from gudokeyi.reconcile.findings.plausibility import PlausibilityWarning
 
 # What an import finds of an animal beside what its row says: each kind as data, and in words.
 
-SEXES = {"M": "male", "F": "female"}
+# what a book writes for what isn't a text of a sheet, and the facts that it writes so, where a name may be any word
+WORDS_OF_BOOK = {Word.NO_DAY.value: Word.NO_DAY, Word.YES.value: Word.YES}
+OF_BOOK = ("exit", "stored embryo", "castrated")
+
+
+def stands_for(field: Field, text: str) -> object:
+    """What a text stands for that the book keeps of a field."""
+    if field is Field.SEX:
+        return SEXES.get(text, text)
+    return WORDS_OF_BOOK.get(text, text) if field is Field.EMBRYO else text
 
 
 @dataclass(frozen=True, slots=True)
@@ -23,12 +33,8 @@ class SexNotKnown(LeftOut):
 
     part = Part.ROW
     severity = Severity.ANIMALS
-
-    def thing(self) -> str:
-        return "the row"
-
-    def why(self) -> str:
-        return "its sex can't be read, and no animal has it as a parent"
+    code = "sex not known"
+    message = Text("the row is left out: its sex can't be read, and no animal has it as a parent")
 
 
 @dataclass(frozen=True, slots=True)
@@ -40,17 +46,31 @@ class KeptFromBook(Finding):
     cell_is_unread: bool
 
     what = What.INFERRED
+    code = "kept from book"
+    message = Text(
+        "{maybe_owner}{maybe_exit}{maybe_birth}{maybe_sex}, as in the book, since its cell "
+        "{maybe_gives_no_day}{maybe_unread}{maybe_empty}"
+    )
+    parts = {
+        "maybe_owner": OptionalPart("owner {owner}"),
+        "maybe_exit": OptionalPart("exit on {exit}"),
+        "maybe_birth": OptionalPart("birth day {birth}"),
+        "maybe_sex": OptionalPart("{sex}"),
+        "maybe_gives_no_day": OptionalPart("gives no day", when="gives_no_day"),
+        "maybe_unread": OptionalPart("can't be read", when="is_unread"),
+        "maybe_empty": OptionalPart("gives none", when="is_empty"),
+    }
 
-    def words(self) -> str:
-        value = {
-            Field.OWNER: f"owner {self.value}",
-            Field.EXIT: f"exit on {self.value}",
-            Field.BIRTH: f"birth day {self.value}",
-            Field.SEX: SEXES.get(self.value, ""),
-        }[self.field]
-        # a word such as `sold` gives no day, nor does a text that can't be read
-        unread = "gives no day" if self.field is Field.EXIT else "can't be read"
-        return f"{value}, as in the book, since its cell {unread if self.cell_is_unread else 'gives none'}"
+    def values(self) -> Mapping[str, object]:
+        is_exit, value = self.field is Field.EXIT, stands_for(self.field, self.value)
+        return {
+            **dict.fromkeys(("owner", "exit", "birth", "sex")),
+            self.field.value: value,
+            "value": value,
+            "gives_no_day": self.cell_is_unread and is_exit,
+            "is_unread": self.cell_is_unread and not is_exit,
+            "is_empty": not self.cell_is_unread,
+        }
 
 
 @dataclass(frozen=True, slots=True)
@@ -61,9 +81,22 @@ class KeptByHand(Finding):
     value: str
 
     what = What.INFERRED
+    code = "kept by hand"
+    message = Text("{field} {stored}, as filed by hand, since its cell is as in the last sheet")
 
-    def words(self) -> str:
-        return f"{self.field.value} {self.value or 'none'}, as filed by hand, since its cell is as in the last sheet"
+    def values(self) -> Mapping[str, object]:
+        return {"stored": self.value or Word.NONE, "value": stands_for(self.field, self.value)}
+
+
+@dataclass(frozen=True, slots=True)
+class FormerId(Finding):
+    """A row has the id that an animal had before it was corrected."""
+
+    former: str
+
+    what = What.INFERRED
+    code = "former id"
+    message = Text("its row has {former}, which was its id before that was corrected")
 
 
 @dataclass(frozen=True, slots=True)
@@ -73,10 +106,14 @@ class SexInferred(Finding):
     cell_is_unread: bool
 
     what = What.INFERRED
+    code = "sex inferred"
+    message = Text("sex {sex}, {source}{maybe_cell_is_unread}")
+    parts = {
+        "maybe_cell_is_unread": OptionalPart(", and its cell can't be read", when="cell_is_unread"),
+    }
 
-    def words(self) -> str:
-        more = ", and its cell can't be read" if self.cell_is_unread else ""
-        return f"sex {SEXES[self.sex]}, {self.source.words()}{more}"
+    def values(self) -> Mapping[str, object]:
+        return {"sex": SEXES.get(self.sex, self.sex)}
 
 
 @dataclass(frozen=True, slots=True)
@@ -89,14 +126,31 @@ class BirthDayInferred(Finding):
     is_kept: bool
     named_in: int
     text: str = ""
+    # what stands in its cell and isn't taken for a day
+    unread: str = ""
 
     what = What.INFERRED
+    code = "birth day inferred"
+    message = Text(
+        "birth day {day}, {maybe_kept}{maybe_was_inferred}{reason}{maybe_text}{maybe_unread}{maybe_named_in}"
+    )
+    parts = {
+        "maybe_kept": OptionalPart("as in the book, where it was ", when="is_kept"),
+        "maybe_was_inferred": OptionalPart("inferred: ", when="was_inferred"),
+        "maybe_text": OptionalPart(" of '{text}'"),
+        "maybe_unread": OptionalPart(", and not what its cell has: '{unread}'"),
+        "maybe_named_in": OptionalPart(" (line {named_in} names it)"),
+        "maybe_basis_period": OptionalPart(": {basis_period}"),
+    }
 
-    def words(self) -> str:
-        reason = self.basis.words() + (f" of '{self.text}'" if self.text else "")
-        if self.is_kept:
-            reason = f"as in the book, where it was {'' if self.basis.is_invented else 'inferred: '}{reason}"
-        return f"birth day {self.day}, {reason}" + (f" (line {self.named_in} names it)" if self.named_in else "")
+    def values(self) -> Mapping[str, object]:
+        is_inferred = self.is_kept and not self.basis.is_invented
+        return {"was_inferred": is_inferred, "reason": self.basis}
+
+    def does(self) -> Severity:
+        """What a cell says isn't replaced unseen."""
+        is_wrong = self.basis.period is not None and self.basis.period.no_such_day
+        return Severity.FACTS if self.unread or is_wrong else Severity.NONE
 
 
 @dataclass(frozen=True, slots=True)
@@ -107,10 +161,17 @@ class RowIsGone(Finding):
     is_dropped: bool
 
     what = What.GONE
+    code = "row is gone"
+    message = Text("{maybe_had_row}{maybe_was_parent}{maybe_dropped}{maybe_stays}")
+    parts = {
+        "maybe_had_row": OptionalPart("it has no row any more", when="had_row"),
+        "maybe_was_parent": OptionalPart("no animal has it as a parent any more", when="was_parent"),
+        "maybe_dropped": OptionalPart(": it is dropped from the book", when="is_dropped"),
+        "maybe_stays": OptionalPart(", and stays in the book as it is", when="stays"),
+    }
 
-    def words(self) -> str:
-        why = "it has no row any more" if self.had_row else "no animal has it as a parent any more"
-        return f"{why}: it is dropped from the book" if self.is_dropped else f"{why}, and stays in the book as it is"
+    def values(self) -> Mapping[str, object]:
+        return {"was_parent": not self.had_row, "stays": not self.is_dropped}
 
 
 @dataclass(frozen=True, slots=True)
@@ -118,9 +179,8 @@ class NewAnimal(Finding):
     number: str
 
     what = What.NEW
-
-    def words(self) -> str:
-        return f"a new animal, with the number {self.number}"
+    code = "new animal"
+    message = Text("a new animal, with the number {number}")
 
 
 @dataclass(frozen=True, slots=True)
@@ -132,9 +192,98 @@ class ValueChanged(Finding):
     before: str
 
     what = What.CHANGED
+    code = "value changed"
+    message = Text("{name}: {now}, before {former}")
 
-    def words(self) -> str:
-        return f"{self.name}: {self.after or 'none'}, before {self.before or 'none'}"
+    def values(self) -> Mapping[str, object]:
+        said = WORDS_OF_BOOK if self.name in OF_BOOK else {}
+        return {
+            "now": self.after or Word.NONE,
+            "former": self.before or Word.NONE,
+            "after": said.get(self.after, self.after),
+            "before": said.get(self.before, self.before),
+        }
+
+
+@dataclass(frozen=True, slots=True)
+class OwnerSince(Told):
+    """An owner of an animal, and the day since which he has it; none where that is its birth."""
+
+    owner: str
+    since: datetime.date | None = None
+
+    message = Text("{owner}{maybe_since}")
+    parts = {
+        "maybe_since": OptionalPart(" since {since}"),
+    }
+
+    def values(self) -> Mapping[str, object]:
+        return {"owner": self.owner or Word.UNKNOWN}
+
+
+@dataclass(frozen=True, slots=True)
+class OwnersCorrected(Finding):
+    """All owners of an animal, before a correction and after it: what the book has of it has the last one alone."""
+
+    before: tuple[OwnerSince, ...]
+    after: tuple[OwnerSince, ...]
+
+    what = What.CHANGED
+    code = "owners corrected"
+    message = Text("owners: {now}; before: {former}")
+
+    def values(self) -> Mapping[str, object]:
+        return {"now": self.after or Word.NONE, "former": self.before or Word.NONE}
+
+
+@dataclass(frozen=True, slots=True)
+class NoteWritten(Finding):
+    """A note on an animal, and what it was before; each is empty where there is none."""
+
+    after: str
+    before: str
+
+    what = What.CHANGED
+    code = "note written"
+    message = Text("note: {now}; before: {former}")
+
+    def values(self) -> Mapping[str, object]:
+        return {"now": self.after or Word.NONE, "former": self.before or Word.NONE}
+
+
+@dataclass(frozen=True, slots=True)
+class OwnValueWritten(Finding):
+    """A value of the society's own columns, and what it was before; each is empty where there is none."""
+
+    title: str
+    after: str
+    before: str
+
+    what = What.CHANGED
+    code = "own value written"
+    message = Text("{title}: {now}; before: {former}")
+
+    def values(self) -> Mapping[str, object]:
+        return {"now": self.after or Word.NONE, "former": self.before or Word.NONE}
+
+
+@dataclass(frozen=True, slots=True)
+class WhyRefused(Told):
+    """Why a command is refused, with its owner's first day, where only that forbids it, and is inferred."""
+
+    refusal: Refusal
+    owner_since: datetime.date | None
+
+    message = Text("{refusal} (refusal {number}){maybe_owner_since}")
+    page_message = Text("{refusal}{maybe_owner_since}")
+    parts = {
+        "maybe_owner_since": OptionalPart(
+            "; its owner's first day, {owner_since}, is inferred, and gives way to a sheet's"
+        )
+    }
+
+    def values(self) -> Mapping[str, object]:
+        return {"number": int(self.refusal)}
 
 
 @dataclass(frozen=True, slots=True)
@@ -149,16 +298,17 @@ class CommandRefused(Finding):
 
     what = What.LEFT_OUT
     severity = Severity.FACTS
+    code = "command refused"
+    message = Text("the {command}{maybe_day} is refused: {reason}")
+    parts = {
+        "maybe_day": OptionalPart(" on {day}"),
+    }
 
-    def words(self) -> str:
-        on = f" on {self.day}" if self.day else ""
-        return f"the {self.command.value}{on} is refused: {self.why()}"
+    def values(self) -> Mapping[str, object]:
+        return {"reason": self.why()}
 
-    def why(self) -> str:
-        why = f"{self.refusal.words()} (refusal {self.refusal})"
-        if self.owner_since is None:
-            return why
-        return f"{why}; its owner's first day, {self.owner_since}, is inferred, and gives way to a sheet's"
+    def why(self) -> WhyRefused:
+        return WhyRefused(self.refusal, self.owner_since)
 
 
 # What is found of owners' names: each kind as data, and in words.
@@ -172,10 +322,12 @@ class OwnerRespelt(PlausibilityWarning):
     now: str
     animals: int
 
-    def words(self) -> str:
-        are = "is" if self.animals == 1 else "are"
-        animals = counted(self.animals, "animal")
-        return f"the {animals} of '{self.before}' {are} now of '{self.now}', whom the book didn't have"
+    code = "owner respelt"
+    message = Counted(
+        "the {animals} animal of '{before}' is now of '{now}', whom the book didn't have",
+        "the {animals} animals of '{before}' are now of '{now}', whom the book didn't have",
+        "animals",
+    )
 
     def suggestions(self) -> tuple[Suggestion, ...]:
         option = Option("--owner", f"{self.before}={self.now}")
@@ -191,20 +343,43 @@ class OwnerRenamed(Finding):
     animals: int
 
     what = What.CHANGED
-
-    def words(self) -> str:
-        return f"the owner '{self.before}' of {counted(self.animals, 'animal')} is written '{self.now}' from now on"
+    code = "owner renamed"
+    message = Counted(
+        "the owner '{before}' of {animals} animal is written '{now}' from now on",
+        "the owner '{before}' of {animals} animals is written '{now}' from now on",
+        "animals",
+    )
 
 
 @dataclass(frozen=True, slots=True)
-class Spelling:
+class OwnersMerged(Finding):
+    """Two owners are one from now on, with so many animals of the one that is gone."""
+
+    before: str
+    now: str
+    animals: int
+
+    what = What.CHANGED
+    code = "owners merged"
+    message = Counted(
+        "the owner '{before}' of {animals} animal is '{now}' from now on",
+        "the owner '{before}' of {animals} animals is '{now}' from now on",
+        "animals",
+    )
+
+
+@dataclass(frozen=True, slots=True)
+class Spelling(Told):
     """How an owner is written, and for how many animals."""
 
     text: str
     animals: int
 
-    def words(self) -> str:
-        return f"'{self.text}' ({counted(self.animals, 'animal')})"
+    message = Counted(
+        "'{text}' ({animals} animal)",
+        "'{text}' ({animals} animals)",
+        "animals",
+    )
 
 
 @dataclass(frozen=True, slots=True)
@@ -214,8 +389,8 @@ class OwnerMistyped(PlausibilityWarning):
     owner: Spelling
     meant: Spelling
 
-    def words(self) -> str:
-        return f"the owner {self.owner.words()} may be {self.meant.words()}: is '{self.meant.text}' meant?"
+    code = "owner mistyped"
+    message = Text("the owner {owner} may be {meant}: is '{meant_text}' meant?")
 
 
 @dataclass(frozen=True, slots=True)
@@ -225,8 +400,8 @@ class OwnerMeant(PlausibilityWarning):
     owner: str
     meant: str
 
-    def words(self) -> str:
-        return f"the book had no owner '{self.owner}' before: is '{self.meant}' meant?"
+    code = "owner meant"
+    message = Text("the book had no owner '{owner}' before: is '{meant}' meant?")
 
 
 @dataclass(frozen=True, slots=True)
@@ -235,9 +410,11 @@ class OwnersAlike(PlausibilityWarning):
 
     spellings: tuple[Spelling, ...]
 
-    def words(self) -> str:
-        names = " and ".join(one.words() for one in self.spellings)
-        return (
-            f"the owners {names} differ in case, accents, umlauts, blanks or signs alone: if they are one, write the name alike "
-            "in all rows, and take the sheet again"
-        )
+    code = "owners alike"
+    message = Text(
+        "the owners {names} differ in case, accents, umlauts, blanks or signs alone: if they are one, write the "
+        "name alike in all rows, and take the sheet again"
+    )
+
+    def values(self) -> Mapping[str, object]:
+        return {"names": AllOf(self.spellings)}

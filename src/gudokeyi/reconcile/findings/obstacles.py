@@ -2,12 +2,13 @@
 from __future__ import annotations
 
 import enum
+from collections.abc import Mapping
 from dataclasses import dataclass
 
-from gudokeyi.domain.changes import Option
 from gudokeyi.domain.findings import ANYWAY, LEAVE_OUT, Obstacle, Suggestion, columns
 from gudokeyi.domain.kinds import Field
-from gudokeyi.domain.messages import counted
+from gudokeyi.domain.messages import Worded
+from gudokeyi.domain.wording import Counted, OptionalPart, Quoted, Text
 from gudokeyi.reconcile.findings.plausibility import RowOf
 
 # What keeps a sheet from being taken, though it can be read: each kind as data, and in words.
@@ -15,7 +16,7 @@ from gudokeyi.reconcile.findings.plausibility import RowOf
 STRICT = "--strict"
 
 
-class LooksLike(enum.Enum):
+class LooksLike(Worded):
     """What a sheet looks like."""
 
     ANOTHER_FLOCK = "another flock"
@@ -65,12 +66,6 @@ class Guard(Obstacle):
 
     like: LooksLike
 
-    def why(self) -> str:
-        raise NotImplementedError
-
-    def words(self) -> str:
-        return f"{self.why()}: {self.like.words()}"
-
     def suggestions(self) -> tuple[Suggestion, ...]:
         return (Suggestion("if it is right all the same", (ANYWAY,)),)
 
@@ -82,8 +77,11 @@ class IdsLack(Guard):
     title: str
     like: LooksLike
 
-    def why(self) -> str:
-        return f"the sheet lacks the column '{self.title}', which had the book's ids, and no other column has them"
+    code = "ids lack"
+    message = Text(
+        "the sheet lacks the column '{title}', which had the book's ids, and no other column has them: {like}"
+    )
+    page_message = message
 
 
 @dataclass(frozen=True, slots=True)
@@ -94,9 +92,13 @@ class ManyGone(Guard):
     had_row: int
     like: LooksLike
 
-    def why(self) -> str:
-        count = counted(self.had_row, "animal")
-        return f"{self.gone} of the {count} that had a row in the last sheet have none in this one"
+    code = "many gone"
+    message = Counted(
+        "{gone} of the {had_row} animal that had a row in the last sheet have none in this one: {like}",
+        "{gone} of the {had_row} animals that had a row in the last sheet have none in this one: {like}",
+        "had_row",
+    )
+    page_message = message
 
 
 @dataclass(frozen=True, slots=True)
@@ -107,8 +109,13 @@ class ManyDropped(Guard):
     had_row: int
     like: LooksLike
 
-    def why(self) -> str:
-        return f"{self.dropped} of the {counted(self.had_row, 'animal')} that had a row would be dropped from the book"
+    code = "many dropped"
+    message = Counted(
+        "{dropped} of the {had_row} animal that had a row would be dropped from the book: {like}",
+        "{dropped} of the {had_row} animals that had a row would be dropped from the book: {like}",
+        "had_row",
+    )
+    page_message = message
 
 
 class Changed(enum.Enum):
@@ -132,10 +139,13 @@ class ManyOthers(Guard):
     first: tuple[RowOf, ...]
     like: LooksLike
 
-    def why(self) -> str:
-        first = ", ".join(one.words() for one in self.first)
-        count = counted(self.both, "animal")
-        return f"{self.changed} of {count} have other {self.what_changed.value} than in the book, the first are {first}"
+    code = "many others"
+    message = Counted(
+        "{changed} of {both} animal have other {what_changed} than in the book, the first are {first}: {like}",
+        "{changed} of {both} animals have other {what_changed} than in the book, the first are {first}: {like}",
+        "both",
+    )
+    page_message = message
 
 
 @dataclass(frozen=True, slots=True)
@@ -148,9 +158,12 @@ class ParentsLack(Guard):
     like: LooksLike
     title: str
 
-    def why(self) -> str:
-        texts = ", ".join(f"'{text}'" for text in self.texts)
-        return f"{self.lost} of {self.links} parents have no row, the first are {texts}"
+    code = "parents lack"
+    message = Text("{lost} of {links} parents have no row, the first are {first}: {like}")
+    page_message = Text("{lost} of {links} parents have no row, the first are {texts}: {like}")
+
+    def values(self) -> Mapping[str, object]:
+        return {"first": Quoted(self.texts)}
 
     def suggestions(self) -> tuple[Suggestion, ...]:
         anyway = Guard.suggestions(self)
@@ -161,13 +174,30 @@ class ParentsLack(Guard):
 
 
 @dataclass(frozen=True, slots=True)
+class LettersUnsaid(Obstacle):
+    """Nobody said with what the numbers of a new book begin."""
+
+    has_breed: bool
+    has_country: bool
+
+    code = "letters unsaid"
+    message = Text(
+        "each animal gets a number that begins with its breed and country, which nobody said yet: say them once by --breed "
+        "and --country, three letters each, as --breed SKU --country DEU"
+    )
+    page_message = Text(
+        "each animal gets a number that begins with its breed and country, which nobody said yet: write both, and look anew"
+    )
+
+
+@dataclass(frozen=True, slots=True)
 class NoRowTaken(Obstacle):
     """Each row is left out."""
 
     path: str
 
-    def words(self) -> str:
-        return f"{self.path} has no row that can be taken"
+    code = "no row taken"
+    message = Text("{path} has no row that can be taken")
 
 
 @dataclass(frozen=True, slots=True)
@@ -176,18 +206,15 @@ class StrictlyNothing(Obstacle):
 
     left_out: str
 
-    def words(self) -> str:
-        return f"{self.left_out}: with --strict nothing is taken"
+    code = "strictly nothing"
+    message = Text("{left_out}: with --strict nothing is taken")
+    page_message = Text("nothing is taken, since something would be left out")
 
     def suggestions(self) -> tuple[Suggestion, ...]:
         return (Suggestion("to take the rest", without=(STRICT,)),)
 
 
 # What keeps a pedigree from being taken, since coefficients would change: each kind as data, and in words.
-
-# so many words are suggested one by one
-MOST_WORDS = 4
-WHOLE = "write whole numbers (in pandas by astype('Int64'), in R with options(scipen = 99))"
 
 
 @dataclass(frozen=True, slots=True)
@@ -196,11 +223,14 @@ class LinksLost(Obstacle):
 
     links: int
 
-    def words(self) -> str:
-        return (
-            f"{counted(self.links, 'link')} can't stand in a book, and to leave a link out changes coefficients: mend the "
-            "lines, or take the pedigree without"
-        )
+    code = "links lost"
+    message = Counted(
+        "{links} link can't stand in a book, and to leave a link out changes coefficients: mend the lines, or take "
+        "the pedigree without",
+        "{links} links can't stand in a book, and to leave a link out changes coefficients: mend the lines, or "
+        "take the pedigree without",
+        "links",
+    )
 
     def suggestions(self) -> tuple[Suggestion, ...]:
         return (Suggestion("to take it without them", (LEAVE_OUT,)),)
@@ -212,12 +242,14 @@ class IdsUsedAgain(Obstacle):
 
     lines: int
 
-    def words(self) -> str:
-        have = "has an id" if self.lines == 1 else "have ids"
-        return (
-            f"{counted(self.lines, 'line')} {have} that the book has for another animal, and to take one for the other "
-            "changes coefficients"
-        )
+    code = "ids used again"
+    message = Counted(
+        "{lines} line has an id that the book has for another animal, and to take one for the other changes "
+        "coefficients",
+        "{lines} lines have ids that the book has for another animal, and to take one for the other changes "
+        "coefficients",
+        "lines",
+    )
 
     def suggestions(self) -> tuple[Suggestion, ...]:
         return (Suggestion("if they are the same animals", (ANYWAY,)),)
@@ -230,12 +262,14 @@ class SiresAndDams(Obstacle):
     animals: int
     told: str
 
-    def words(self) -> str:
-        are = "is" if self.animals == 1 else "are"
-        return (
-            f"{counted(self.animals, 'animal')} {are} both sire and dam: {self.told}. A book has each animal as a male or "
-            "as a female, and to leave a link out changes coefficients"
-        )
+    code = "sires and dams"
+    message = Counted(
+        "{animals} animal is both sire and dam: {told}. A book has each animal as a male or as a female, and to "
+        "leave a link out changes coefficients",
+        "{animals} animals are both sire and dam: {told}. A book has each animal as a male or as a female, and to "
+        "leave a link out changes coefficients",
+        "animals",
+    )
 
     def suggestions(self) -> tuple[Suggestion, ...]:
         case = "to exchange parents where that changes no coefficient, and to leave out the links that no choice of sexes fits"
@@ -251,14 +285,29 @@ class ParentsAlike(Obstacle):
     told: str
     are_numbers: bool
 
-    def words(self) -> str:
-        have = "has" if self.parents == 1 else "have"
-        alike = WHOLE if self.are_numbers else "write them alike"
-        return (
-            f"{counted(self.parents, 'parent')} {have} no line, and an animal that has one differs in capitals, blanks, "
-            f"signs, zeros, look-alike letters or the form of a number alone: {self.told}. To take a founder in its place "
-            f"changes coefficients: {alike}"
-        )
+    code = "parents alike"
+    message = Counted(
+        (
+            "{parents} parent has no line, and an animal that has one differs in capitals, blanks, signs, zeros, "
+            "look-alike letters or the form of a number alone: {told}. To take a founder in its place changes "
+            "coefficients: {maybe_are_numbers}{maybe_are_words}"
+        ),
+        (
+            "{parents} parents have no line, and an animal that has one differs in capitals, blanks, signs, zeros, "
+            "look-alike letters or the form of a number alone: {told}. To take a founder in its place changes "
+            "coefficients: {maybe_are_numbers}{maybe_are_words}"
+        ),
+        "parents",
+    )
+    parts = {
+        "maybe_are_numbers": OptionalPart(
+            "write them as whole numbers, without a point or an exponent", when="are_numbers"
+        ),
+        "maybe_are_words": OptionalPart("write them alike", when="are_words"),
+    }
+
+    def values(self) -> Mapping[str, object]:
+        return {"are_words": not self.are_numbers}
 
     def suggestions(self) -> tuple[Suggestion, ...]:
         return (Suggestion("if they are other animals, to take them as founders", (LEAVE_OUT,)),)
@@ -271,12 +320,14 @@ class ParentsNamed(Obstacle):
     parents: int
     told: str
 
-    def words(self) -> str:
-        are = "has no line and is the name" if self.parents == 1 else "have no line and are names"
-        return (
-            f"{counted(self.parents, 'parent')} {are} of an animal of the book: {self.told}. To take another animal for a "
-            "parent changes coefficients: write the ids"
-        )
+    code = "parents named"
+    message = Counted(
+        "{parents} parent has no line and is the name of an animal of the book: {told}. To take another animal for "
+        "a parent changes coefficients: write the ids",
+        "{parents} parents have no line and are names of an animal of the book: {told}. To take another animal for "
+        "a parent changes coefficients: write the ids",
+        "parents",
+    )
 
     def suggestions(self) -> tuple[Suggestion, ...]:
         return (Suggestion("to take those of these names where they can be the parents", (LEAVE_OUT,)),)
@@ -289,12 +340,14 @@ class NumbersShortened(Obstacle):
     cells: int
     told: str
 
-    def words(self) -> str:
-        are = "is a number" if self.cells == 1 else "are numbers"
-        return (
-            f"{counted(self.cells, 'id')} {are} in the short form, in which digits may be lost: {self.told}. To take one "
-            f"animal for another changes coefficients: {WHOLE}"
-        )
+    code = "numbers shortened"
+    message = Counted(
+        "{cells} id is a number in the short form, in which digits may be lost: {told}. To take one animal for "
+        "another changes coefficients: read ids as texts, and write these (in pandas by dtype=str, in R by colClasses)",
+        "{cells} ids are numbers in the short form, in which digits may be lost: {told}. To take one animal for "
+        "another changes coefficients: read ids as texts, and write these (in pandas by dtype=str, in R by colClasses)",
+        "cells",
+    )
 
     def suggestions(self) -> tuple[Suggestion, ...]:
         return (Suggestion("to take them as they are written", (LEAVE_OUT,)),)
@@ -307,90 +360,14 @@ class NumbersTwice(Obstacle):
     ids: int
     told: str
 
-    def words(self) -> str:
-        are = "is the number" if self.ids == 1 else "are numbers"
-        return (
-            f"{counted(self.ids, 'id')} {are} of another animal in another form: {self.told}. To take one animal for two "
-            f"changes coefficients: {WHOLE}"
-        )
+    code = "numbers twice"
+    message = Counted(
+        "{ids} id is the number of another animal in another form: {told}. To take one animal for two changes "
+        "coefficients: write ids as whole numbers, without a point or an exponent",
+        "{ids} ids are numbers of another animal in another form: {told}. To take one animal for two changes "
+        "coefficients: write ids as whole numbers, without a point or an exponent",
+        "ids",
+    )
 
     def suggestions(self) -> tuple[Suggestion, ...]:
         return (Suggestion("to take them as they are written", (LEAVE_OUT,)),)
-
-
-@dataclass(frozen=True, slots=True)
-class WordsAsParents(Obstacle):
-    """Words without a line that are parents of several animals, and with where the first of them stand."""
-
-    words_found: tuple[str, ...]
-    told: str
-
-    def words(self) -> str:
-        count = len(self.words_found)
-        have = "has no line and is a parent" if count == 1 else "have no line and are parents"
-        return (
-            f"{counted(count, 'word')} {have} of several animals: {self.told}. To take an unknown parent for an animal "
-            "changes coefficients"
-        )
-
-    def suggestions(self) -> tuple[Suggestion, ...]:
-        several = len(self.words_found) > 1
-        words = [word for word in self.words_found if "," not in word][:MOST_WORDS]
-        unknown = [Suggestion(f"if '{word}' means an unknown parent", (Option("--unknown", word),)) for word in words]
-        known = Option("--known", ",".join(words)) if len(words) == len(self.words_found) else ANYWAY
-        return *unknown, Suggestion("if they are animals" if several else "if it is an animal", (known,))
-
-
-@dataclass(frozen=True, slots=True)
-class ManyWithoutLine(Obstacle):
-    """Many parents have no line, though others have; the first of them are told."""
-
-    lacking: int
-    parents: int
-    told: str
-
-    def words(self) -> str:
-        have = "has" if self.lacking == 1 else "have"
-        return (
-            f"{self.lacking} of {counted(self.parents, 'parent')} {have} no line, though others have: {self.told}. To take "
-            "founders in their place changes coefficients: do lines lack, or are ids written otherwise?"
-        )
-
-    def suggestions(self) -> tuple[Suggestion, ...]:
-        return (Suggestion("if they are founders", (ANYWAY,)),)
-
-
-@dataclass(frozen=True, slots=True)
-class ParentsInPart(Obstacle):
-    """No parent has a line, and most have the digits of an id; the first of them are told."""
-
-    parents: int
-    meant: int
-    told: str
-
-    def words(self) -> str:
-        return (
-            f"none of {counted(self.parents, 'parent')} has a line, and {self.meant} have the digits of an id: {self.told}. To "
-            "take founders in their place changes coefficients: write whole ids"
-        )
-
-    def suggestions(self) -> tuple[Suggestion, ...]:
-        return (Suggestion("if they are founders", (ANYWAY,)),)
-
-
-@dataclass(frozen=True, slots=True)
-class ParentsCut(Obstacle):
-    """Parents without a line that are an id once they begin or end as many ids do; the first of them are told."""
-
-    parents: int
-    told: str
-
-    def words(self) -> str:
-        are = "has no line, and is an id" if self.parents == 1 else "have no line, and are ids"
-        return (
-            f"{counted(self.parents, 'parent')} {are} without what many ids begin or end with: {self.told}. To take "
-            "founders in their place changes coefficients: write whole ids"
-        )
-
-    def suggestions(self) -> tuple[Suggestion, ...]:
-        return (Suggestion("if they are founders", (ANYWAY,)),)

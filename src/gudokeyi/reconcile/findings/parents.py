@@ -2,7 +2,7 @@
 from __future__ import annotations
 
 import datetime
-from collections.abc import Hashable
+from collections.abc import Hashable, Iterator, Mapping
 from dataclasses import dataclass
 
 from gudokeyi.domain.findings import Finding, LeftOut, Part, Severity, What
@@ -10,7 +10,7 @@ from gudokeyi.domain.kinds import Role
 from gudokeyi.domain.messages import MOST_NAMED
 from gudokeyi.domain.provenance import SexSource
 from gudokeyi.domain.refusals import Refusal
-from gudokeyi.reconcile.findings.animals import SEXES
+from gudokeyi.domain.wording import SEXES, Counted, Joined, OptionalPart, Text, Told, Word
 
 
 @dataclass(frozen=True, slots=True)
@@ -22,11 +22,10 @@ class FoundByName(Finding):
     id: str
 
     what = What.INFERRED
-
-    def words(self) -> str:
-        return (
-            f"its {self.role} '{self.written}' is {self.id} by its name: if another is meant, write the id of that one"
-        )
+    code = "found by name"
+    message = Text(
+        "its {role} '{written}' is {id} by its name: if another is meant, write the id of that one"
+    )
 
 
 @dataclass(frozen=True, slots=True)
@@ -38,12 +37,11 @@ class FoundInBook(Finding):
     id: str
 
     what = What.INFERRED
-
-    def words(self) -> str:
-        return (
-            f"its {self.role} '{self.written}' is {self.id} as before, which has another name now: if another is meant, "
-            "write the id of that one"
-        )
+    code = "found in book"
+    message = Text(
+        "its {role} '{written}' is {id} as before, which has another name now: if another is meant, write the id "
+        "of that one"
+    )
 
 
 @dataclass(frozen=True, slots=True)
@@ -55,12 +53,24 @@ class FoundByNearId(Finding):
     id: str
 
     what = What.INFERRED
+    code = "found by near id"
+    message = Text(
+        "its {role} '{written}' is {id}, whose id differs in case, blanks or zeros alone: if another is meant, "
+        "give that one a row"
+    )
 
-    def words(self) -> str:
-        return (
-            f"its {self.role} '{self.written}' is {self.id}, whose id differs in case, blanks or zeros alone: if "
-            "another is meant, give that one a row"
-        )
+
+@dataclass(frozen=True, slots=True)
+class FoundWithin(Finding):
+    """A parent whose cell has its id beside its name, or beside something else."""
+
+    role: Role
+    written: str
+    id: str
+
+    what = What.INFERRED
+    code = "found within"
+    message = Text("its {role} '{written}' is {id}, whose id stands there: if another is meant, write that id alone")
 
 
 @dataclass(frozen=True, slots=True)
@@ -75,17 +85,32 @@ class AddedAsParent(Finding):
     named: tuple[str, ...]
 
     what = What.ADDED
+    code = "added as parent"
+    stored_fields = {"offspring": "calf", "more_offspring": "more_calves"}
+    message = Counted(
+        "the {role} of {offspring}{maybe_more} has no row: added without parents{maybe_have}{maybe_likely}",
+        "the {role} of {offspring}{maybe_more} has no row: added without parents{maybe_have}{maybe_likely}",
+        "have",
+    )
+    parts = {
+        "maybe_more": OptionalPart(" and of {more} more"),
+        "maybe_have": OptionalPart(
+            " ({have} animals have this name, {first}: write the id of the one that is meant)",
+            one=" ({have} animal has this name, {first}: write the id of the one that is meant)",
+            value="have",
+        ),
+        "maybe_likely": OptionalPart(" (is {likely} meant?)"),
+        "maybe_meant": OptionalPart("; is {meant} meant?"),
+        "maybe_named": OptionalPart("; {named} have this name: write the id"),
+    }
 
-    def words(self) -> str:
-        more = f" and of {self.more_offspring} more" if self.more_offspring else ""
-        return f"the {self.role} of {self.offspring}{more} has no row: added without parents{self.hint()}"
-
-    def hint(self) -> str:
-        if self.named:
-            ids = ", ".join(self.named[:5])
-            have = "1 animal has" if len(self.named) == 1 else f"{len(self.named)} animals have"
-            return f" ({have} this name, {ids}: write the id of the one that is meant)"
-        return f" (is {self.meant} meant?)" if self.meant else ""
+    def values(self) -> Mapping[str, object]:
+        return {
+            "more": self.more_offspring,
+            "have": len(self.named) or None,
+            "first": Joined(self.named[:MOST_OF_NAME]),
+            "likely": "" if self.named else self.meant,
+        }
 
     def does(self) -> Severity:
         return Severity.PARENTS if self.meant or self.named else Severity.NONE
@@ -97,6 +122,17 @@ class ParentLeftOut(LeftOut):
 
 
 @dataclass(frozen=True, slots=True)
+class EitherParent(ParentLeftOut):
+    """A cell that names two animals, of which one is the parent."""
+
+    role: Role
+    written: str
+
+    code = "either parent"
+    message = Text("its {role} '{written}' is left out: it may be one or the other, and counts as unknown")
+
+
+@dataclass(frozen=True, slots=True)
 class OwnAncestor(ParentLeftOut):
     """An animal that would be its own ancestor: the path leads from it to a parent, and on to itself."""
 
@@ -104,33 +140,55 @@ class OwnAncestor(ParentLeftOut):
     parent: str
     path: tuple[str, ...]
 
-    def thing(self) -> str:
-        return f"its {self.role} {self.parent}"
+    code = "own ancestor"
+    message = Text("its {role} {parent} is left out: {first} would be its own ancestor ({steps})")
 
-    def why(self) -> str:
-        return f"{self.path[0]} would be its own ancestor ({path_of(self.path)})"
+    def values(self) -> Mapping[str, object]:
+        return {"first": Joined(self.path[:1]), "steps": path_of(self.path)}
 
 
 @dataclass(frozen=True, slots=True)
 class SameParentTwice(ParentLeftOut):
     parent: str
 
-    def thing(self) -> str:
-        return f"its dam {self.parent}"
-
-    def why(self) -> str:
-        return f"{self.parent} is its sire too, and no animal has one parent twice"
+    code = "same parent twice"
+    message = Text(
+        "its dam {parent} is left out: {parent} is its sire too, and no animal has one parent twice"
+    )
 
 
 @dataclass(frozen=True, slots=True)
-class DayFact:
+class DayFact(Told):
     """A day, and whether it is inferred."""
 
     day: datetime.date
     is_inferred: bool
 
-    def words(self) -> str:
-        return f"{self.day}{' (inferred)' if self.is_inferred else ''}"
+    message = Text("{day}{maybe_inferred}")
+    parts = {
+        "maybe_inferred": OptionalPart(" (inferred)", when="is_inferred"),
+    }
+
+
+@dataclass(frozen=True, slots=True)
+class OnLine(Told):
+    line: int
+
+    message = Text("line {line}")
+
+
+@dataclass(frozen=True, slots=True)
+class Born(Told):
+    day: DayFact
+
+    message = Text("born {day}")
+
+
+@dataclass(frozen=True, slots=True)
+class Left(Told):
+    day: DayFact
+
+    message = Text("left {day}")
 
 
 # what is wrong with a parent that the program refuses
@@ -158,40 +216,71 @@ class ParentRefused(ParentLeftOut):
     offspring: str
     offspring_born: DayFact
 
+    code = "parent refused"
+    stored_fields = {"offspring": "calf", "offspring_born": "calf_born"}
+    message = Text(
+        "its {role} {parent}{maybe_facts} is left out: {wrong} (refusal "
+        "{number}){maybe_sex}{maybe_offspring}{maybe_needs_embryo}"
+    )
+    parts = {
+        "maybe_facts": OptionalPart(" ({facts})"),
+        "maybe_sex": OptionalPart("; its sex is inferred: {sex}, {sex_source}", when="sex_is_inferred"),
+        "maybe_offspring": OptionalPart("; {offspring} was born {offspring_born}"),
+        "maybe_needs_embryo": OptionalPart(
+            "; offspring from a stored embryo needs 1 in the column embryo",
+            when="needs_embryo",
+        ),
+        "maybe_line": OptionalPart(" (line {line})"),
+        "maybe_parent_born": OptionalPart("; born on {parent_born}"),
+        "maybe_parent_left": OptionalPart("; left on {parent_left}"),
+    }
+
+    def values(self) -> Mapping[str, object]:
+        is_late, has_days = self.refusal is Refusal.DAM_LEFT_BEFORE, not self.is_of_sex()
+        return {
+            "facts": Joined(tuple(self.facts())),
+            "wrong": WRONG.get(self.refusal, self.refusal),
+            "number": int(self.refusal),
+            "sex": SEXES.get(self.sex, self.sex),
+            "sex_is_inferred": self.is_of_sex() and self.sex_source.is_inferred,
+            "parent_born": self.born if has_days and not is_late else None,
+            "parent_left": self.left if is_late else None,
+            "offspring_born": self.offspring_born if has_days else None,
+            "needs_embryo": is_late,
+        }
+
+    def facts(self) -> Iterator[Told]:
+        """Of the parent, that show what is wrong."""
+        if self.line:
+            yield OnLine(self.line)
+        if self.refusal is Refusal.DAM_LEFT_BEFORE and self.left:
+            yield Left(self.left)
+        elif not self.is_of_sex():
+            yield Born(self.born)
+
     def theme(self) -> Hashable:
         return self.refusal
 
     def is_of_sex(self) -> bool:
         return self.refusal in (Refusal.SIRE_NOT_MALE, Refusal.DAM_NOT_FEMALE)
 
-    def thing(self) -> str:
-        facts = [f"line {self.line}"] * bool(self.line)
-        if self.refusal is Refusal.DAM_LEFT_BEFORE and self.left:
-            facts.append(f"left {self.left.words()}")
-        elif not self.is_of_sex():
-            facts.append(f"born {self.born.words()}")
-        return f"its {self.role} {self.parent}" + (f" ({', '.join(facts)})" if facts else "")
-
-    def why(self) -> str:
-        why = f"{WRONG[self.refusal]} (refusal {self.refusal})"
-        if self.is_of_sex():
-            source = f"; its sex is inferred: {SEXES[self.sex]}, {self.sex_source.words()}"
-            return why + source * self.sex_source.is_inferred
-        embryo = "; offspring from a stored embryo needs 1 in the column embryo"
-        is_late = self.refusal is Refusal.DAM_LEFT_BEFORE
-        return f"{why}; {self.offspring} was born {self.offspring_born.words()}" + embryo * is_late
-
 
 @dataclass(frozen=True, slots=True)
-class Couple:
+class Couple(Told):
     """Two parents of an offspring, and its line, 0 where it stands in the book alone."""
 
     one: str
     mate: str
     line: int
 
-    def words(self) -> str:
-        return f"{self.one} and {self.mate} ({place(self.line).removeprefix('in ')})"
+    message = Text("{one} and {mate} ({maybe_line}{maybe_of_book})")
+    parts = {
+        "maybe_line": OptionalPart("line {line}"),
+        "maybe_of_book": OptionalPart("the book", when="is_of_book"),
+    }
+
+    def values(self) -> Mapping[str, object]:
+        return {"is_of_book": not self.line}
 
 
 @dataclass(frozen=True, slots=True)
@@ -202,13 +291,11 @@ class NoSexesFit(ParentLeftOut):
     couples: tuple[Couple, ...]
     more: int
 
-    def thing(self) -> str:
-        return f"its dam {self.dam}"
-
-    def why(self) -> str:
-        more = f" and {self.more} more" if self.more else ""
-        couples = ", ".join(couple.words() for couple in self.couples)
-        return f"no choice of sexes fits all of the couples {couples}{more}"
+    code = "no sexes fit"
+    message = Text("its dam {dam} is left out: no choice of sexes fits all of the couples {couples}{maybe_more}")
+    parts = {
+        "maybe_more": OptionalPart(" and {more} more"),
+    }
 
 
 @dataclass(frozen=True, slots=True)
@@ -224,12 +311,32 @@ class ParentsSwapped(Finding):
     dam_line: int
 
     what = What.CHANGED
+    code = "parents swapped"
+    message = Text(
+        "taken with the sire {its_sire} and the dam {its_dam}, since {both}{maybe_joined_to} is a sire "
+        "{maybe_sire_line}{maybe_sire_of_book} and a dam {maybe_dam_line}{maybe_dam_of_book}"
+    )
+    parts = {
+        "maybe_joined_to": OptionalPart(", which couples join to {joined_to},"),
+        "maybe_sire_line": OptionalPart("in line {sire_line}"),
+        "maybe_sire_of_book": OptionalPart("in the book", when="sire_of_book"),
+        "maybe_dam_line": OptionalPart("in line {dam_line}"),
+        "maybe_dam_of_book": OptionalPart("in the book", when="dam_of_book"),
+        "maybe_sire": OptionalPart(" (sire {sire})"),
+        "maybe_dam": OptionalPart(" (dam {dam})"),
+    }
 
-    def words(self) -> str:
-        couple = f"the sire {self.sire or 'unknown'} and the dam {self.dam or 'unknown'}"
-        joined = f", which couples join to {self.joined_to}," if self.joined_to else ""
-        places = f"a sire {place(self.sire_line)} and a dam {place(self.dam_line)}"
-        return f"taken with {couple}, since {self.both}{joined} is {places}"
+    def values(self) -> Mapping[str, object]:
+        return {
+            "its_sire": self.sire or Word.UNKNOWN,
+            "its_dam": self.dam or Word.UNKNOWN,
+            "sire_of_book": not self.sire_line,
+            "dam_of_book": not self.dam_line,
+        }
+
+
+# so many of those that have a name are told
+MOST_OF_NAME = 5
 
 
 def path_of(ids: tuple[str, ...]) -> str:
@@ -237,7 +344,3 @@ def path_of(ids: tuple[str, ...]) -> str:
     more = len(ids) - MOST_NAMED
     return " > ".join(ids if more <= 0 else [*ids[: MOST_NAMED - 1], f"{more} more", ids[-1]])
 
-
-def place(line: int) -> str:
-    """Where an offspring names its parents."""
-    return f"in line {line}" if line else "in the book"

@@ -2,12 +2,13 @@
 from __future__ import annotations
 
 import datetime
+from collections.abc import Mapping
 from dataclasses import dataclass
 
 from gudokeyi.domain.changes import Option
 from gudokeyi.domain.findings import DROP_GONE, Finding, Severity, Suggestion, What, columns
 from gudokeyi.domain.kinds import Field, Role
-from gudokeyi.domain.messages import counted
+from gudokeyi.domain.wording import Counted, OptionalPart, Text, Told
 
 
 class PlausibilityWarning(Finding):
@@ -15,19 +16,17 @@ class PlausibilityWarning(Finding):
     severity = Severity.FACTS
 
 
-def at_line(id: str, line: int) -> str:
-    return f"{id} (line {line})" if line else id
-
-
 @dataclass(frozen=True, slots=True)
-class RowOf:
+class RowOf(Told):
     """An animal and its line."""
 
     id: str
     line: int
 
-    def words(self) -> str:
-        return at_line(self.id, self.line)
+    message = Text("{id}{maybe_line}")
+    parts = {
+        "maybe_line": OptionalPart(" (line {line})"),
+    }
 
 
 @dataclass(frozen=True, slots=True)
@@ -38,10 +37,17 @@ class IdsAlike(PlausibilityWarning):
     line: int
 
     severity = Severity.ANIMALS
+    code = "ids alike"
+    message = Text(
+        "its id differs from {other} ({maybe_line}{maybe_of_book}) in case, blanks or zeros alone: are they one animal?"
+    )
+    parts = {
+        "maybe_line": OptionalPart("line {line}"),
+        "maybe_of_book": OptionalPart("in the book", when="is_of_book"),
+    }
 
-    def words(self) -> str:
-        where = f"line {self.line}" if self.line else "in the book"
-        return f"its id differs from {self.other} ({where}) in case, blanks or zeros alone: are they one animal?"
+    def values(self) -> Mapping[str, object]:
+        return {"is_of_book": not self.line}
 
 
 @dataclass(frozen=True, slots=True)
@@ -55,12 +61,15 @@ class YoungParent(PlausibilityWarning):
     limit: int
 
     severity = Severity.PARENTS
-
-    def words(self) -> str:
-        return (
-            f"its {self.role} {at_line(self.parent, self.line)} was {counted(self.days, 'day')} old at its birth, less "
-            f"than {self.limit}"
-        )
+    code = "young parent"
+    message = Counted(
+        "its {role} {parent}{maybe_line} was {days} day old at its birth, less than {limit}",
+        "its {role} {parent}{maybe_line} was {days} days old at its birth, less than {limit}",
+        "days",
+    )
+    parts = {
+        "maybe_line": OptionalPart(" (line {line})"),
+    }
 
     def suggestions(self) -> tuple[Suggestion, ...]:
         return (Suggestion("if that can be", (Option("--youngest", str(max(self.days, 0))),)),)
@@ -77,12 +86,15 @@ class BirthsTooNear(PlausibilityWarning):
     limit: int
 
     severity = Severity.PARENTS
-
-    def words(self) -> str:
-        return (
-            f"its dam {self.dam} bore {at_line(self.other, self.line)} {counted(self.days, 'day')} before, less than "
-            f"{self.limit}"
-        )
+    code = "births too near"
+    message = Counted(
+        "its dam {dam} bore {other}{maybe_line} {days} day before, less than {limit}",
+        "its dam {dam} bore {other}{maybe_line} {days} days before, less than {limit}",
+        "days",
+    )
+    parts = {
+        "maybe_line": OptionalPart(" (line {line})"),
+    }
 
     def suggestions(self) -> tuple[Suggestion, ...]:
         return (Suggestion("if that can be", (Option("--apart", str(self.days)),)),)
@@ -96,12 +108,14 @@ class SireLeftLongBefore(PlausibilityWarning):
     born: datetime.date
 
     severity = Severity.PARENTS
-
-    def words(self) -> str:
-        return (
-            f"its sire {at_line(self.sire, self.line)} left on {self.left}, more than a year before its birth on "
-            f"{self.born}: is it another sire, or frozen semen?"
-        )
+    code = "sire left long before"
+    message = Text(
+        "its sire {sire}{maybe_line} left on {left}, more than a year before its birth on {born}: is it another sire, "
+        "or frozen semen?"
+    )
+    parts = {
+        "maybe_line": OptionalPart(" (line {line})"),
+    }
 
 
 @dataclass(frozen=True, slots=True)
@@ -114,11 +128,50 @@ class CastratedSire(PlausibilityWarning):
     line: int
 
     severity = Severity.PARENTS
+    code = "castrated sire"
+    stored_fields = {"progeny": "calves"}
+    message = Counted(
+        "it is the sire of {first}{maybe_line}, and {maybe_word}{maybe_of_book}",
+        "it is the sire of {first}{maybe_line}{maybe_more}, and {maybe_word}{maybe_of_book}",
+        "progeny",
+    )
+    parts = {
+        "maybe_line": OptionalPart(" (line {line})"),
+        "maybe_more": OptionalPart(" and of {more} more"),
+        "maybe_word": OptionalPart("its sex is '{word}'"),
+        "maybe_of_book": OptionalPart("the book has it as castrated", when="is_of_book"),
+    }
 
-    def words(self) -> str:
-        more = f" and of {self.progeny - 1} more" if self.progeny > 1 else ""
-        sex = f"its sex is '{self.word}'" if self.word else "the book has it as castrated"
-        return f"it is the sire of {at_line(self.first, self.line)}{more}, and {sex}"
+    def values(self) -> Mapping[str, object]:
+        return {"more": self.progeny - 1 if self.progeny > 1 else None, "is_of_book": not self.word}
+
+
+@dataclass(frozen=True, slots=True)
+class NameAndDayTwice(PlausibilityWarning):
+    """Two animals have one name and birth day."""
+
+    other: str
+    line: int
+
+    severity = Severity.ANIMALS
+    code = "name and day twice"
+    message = Text("{other}{maybe_line} has its name and its birth day too: are they one animal?")
+    parts = {
+        "maybe_line": OptionalPart(" (line {line})"),
+    }
+
+
+@dataclass(frozen=True, slots=True)
+class NameAlike(PlausibilityWarning):
+    """A parent's name differs from that of another animal in accents or capitals alone."""
+
+    name: str
+    other: str
+    called: str
+
+    severity = Severity.PARENTS
+    code = "name alike"
+    message = Text("its name is '{name}', and {other} is called '{called}': is that one meant?")
 
 
 @dataclass(frozen=True, slots=True)
@@ -129,11 +182,10 @@ class OldAsLiving(PlausibilityWarning):
     years: int
     median: int
 
-    def words(self) -> str:
-        return (
-            f"born {self.born}, it counts as living, {self.years} years older than half of those that do "
-            f"({self.median}): has it left?"
-        )
+    code = "old as living"
+    message = Text(
+        "born {born}, it counts as living, {years} years older than half of those that do ({median}): has it left?"
+    )
 
 
 @dataclass(frozen=True, slots=True)
@@ -143,11 +195,11 @@ class ManyOldAsLiving(PlausibilityWarning):
     animals: int
     years: int
 
-    def words(self) -> str:
-        return (
-            f"{self.animals} animals count as living that were born {self.years} years and more before half of the "
-            "others that do: does the column of exits lack theirs?"
-        )
+    code = "many old as living"
+    message = Text(
+        "{animals} animals count as living that were born {years} years and more before half of the others that "
+        "do: does the column of exits lack theirs?"
+    )
 
 
 @dataclass(frozen=True, slots=True)
@@ -157,12 +209,14 @@ class ExitsWithdrawn(PlausibilityWarning):
     animals: int
     first: tuple[RowOf, ...]
 
-    def words(self) -> str:
-        first = ", ".join(one.words() for one in self.first)
-        return (
-            f"{self.animals} animals that had left count as living again, the first are {first}: does the column of exits "
-            "lack theirs?"
-        )
+    severity = Severity.ANIMALS
+    code = "exits withdrawn"
+    message = Counted(
+        "{animals} animal that had left counts as living again, {first}: does the column of exits lack it?",
+        "{animals} animals that had left count as living again, the first are {first}: does the column of exits "
+        "lack theirs?",
+        "animals",
+    )
 
     def suggestions(self) -> tuple[Suggestion, ...]:
         option = columns({Field.EXIT: ""})
@@ -177,10 +231,10 @@ class MostChanged(PlausibilityWarning):
     changed: int
     both: int
 
-    def words(self) -> str:
-        return (
-            f"{self.changed} of {self.both} animals have another {self.name} than before: is its column the right one?"
-        )
+    code = "most changed"
+    message = Text(
+        "{changed} of {both} animals have another {name} than before: is its column the right one?"
+    )
 
 
 @dataclass(frozen=True, slots=True)
@@ -193,12 +247,11 @@ class ColumnsSwapped(PlausibilityWarning):
     dams: str
 
     severity = Severity.ANIMALS
-
-    def words(self) -> str:
-        return (
-            f"{self.refused} of {self.links} parents are left out for their sex: are the sires in '{self.dams}', and the dams "
-            f"in '{self.sires}'?"
-        )
+    code = "columns swapped"
+    message = Text(
+        "{refused} of {links} parents are left out for their sex: are the sires in '{dams}', and the dams in "
+        "'{sires}'?"
+    )
 
     def suggestions(self) -> tuple[Suggestion, ...]:
         option = columns({Field.SIRE: self.dams, Field.DAM: self.sires})
@@ -214,11 +267,22 @@ class MayBeUnknown(PlausibilityWarning):
     dam_of: int
 
     severity = Severity.PARENTS
+    code = "may be unknown"
+    message = Text("{word} has no row, and is {maybe_sire_of}{maybe_has_both}{maybe_dam_of}")
+    page_message = Text(
+        "'{word}' has no row, and stands with several animals{maybe_sire_of_on_page}{maybe_dam_of_on_page}: is an "
+        "unknown animal meant?"
+    )
+    parts = {
+        "maybe_sire_of": OptionalPart("the sire of {sire_of}"),
+        "maybe_has_both": OptionalPart(" and ", when="has_both"),
+        "maybe_dam_of": OptionalPart("the dam of {dam_of}"),
+        "maybe_sire_of_on_page": OptionalPart(", as the sire of {sire_of}"),
+        "maybe_dam_of_on_page": OptionalPart(", as the dam of {dam_of}"),
+    }
 
-    def words(self) -> str:
-        counts = (Role.SIRE, self.sire_of), (Role.DAM, self.dam_of)
-        roles = " and ".join(f"the {role} of {count}" for role, count in counts if count)
-        return f"{self.word} has no row, and is {roles}"
+    def values(self) -> Mapping[str, object]:
+        return {"has_both": bool(self.sire_of and self.dam_of)}
 
     def suggestions(self) -> tuple[Suggestion, ...]:
         return (Suggestion("if it means an unknown parent", (Option("--unknown", self.word), DROP_GONE)),)
@@ -231,7 +295,11 @@ class MoreMayBeUnknown(PlausibilityWarning):
     count: int
 
     severity = Severity.PARENTS
-
-    def words(self) -> str:
-        are = "parents without a row are no numbers" if self.count > 1 else "parent without a row is no number"
-        return f"{self.count} more {are}, and of several animals: the report has all that were added"
+    code = "more may be unknown"
+    message = Counted(
+        "{count} more parent without a row is no number, and of several animals: the report has all that were "
+        "added",
+        "{count} more parents without a row are no numbers, and of several animals: the report has all that were "
+        "added",
+        "count",
+    )

@@ -2,19 +2,21 @@
 from __future__ import annotations
 
 import datetime
-from collections.abc import Hashable
+from collections.abc import Hashable, Mapping
 from dataclasses import dataclass
 
 from gudokeyi.domain.findings import ANYWAY, Finding, LeftOut, Part, Severity, Suggestion, What
 from gudokeyi.domain.kinds import CommandKind
 from gudokeyi.domain.provenance import Period
 from gudokeyi.domain.refusals import Refusal
+from gudokeyi.domain.wording import OptionalPart, Text
 from gudokeyi.ingest.findings.cells import IdUsedAgain
 
 
 @dataclass(frozen=True, slots=True)
 class BornAfterOffspring(LeftOut):
-    """The row has the name and the sex that the book has, but a birth day years later, and after that of an offspring."""
+    """The row has the name and the sex that the book has, but a birth day years later, and after that of an
+    offspring."""
 
     born_there: datetime.date
     born_here: datetime.date
@@ -23,17 +25,13 @@ class BornAfterOffspring(LeftOut):
 
     part = Part.ROW
     severity = Severity.ANIMALS
-    otherwise = IdUsedAgain.otherwise
 
-    def thing(self) -> str:
-        return "the row"
-
-    def why(self) -> str:
-        return (
-            f"born {self.born_here}, it would be younger than its offspring {self.offspring}, born {self.offspring_born}; "
-            f"the book has born {self.born_there}: if the day is mistyped, mend it; if {self.otherwise}, give "
-            "this animal an id of its own, also where its offspring name it"
-        )
+    code = "born after offspring"
+    message = Text(
+        "the row is left out: born {born_here}, it would be younger than its offspring {offspring}, born "
+        "{offspring_born}; the book has born {born_there}: if the day is mistyped, mend it; if the tag was used "
+        "again, give this animal an id of its own, also where its offspring name it"
+    )
 
     def suggestions(self) -> tuple[Suggestion, ...]:
         return (Suggestion("if it is the same animal, born on this day", (ANYWAY,)),)
@@ -44,10 +42,20 @@ class IdOfAnother(IdUsedAgain):
     """The id of a pedigree's line is that of another animal of the book."""
 
     part = Part.LINE
-    otherwise = "these are two animals"
 
-    def thing(self) -> str:
-        return "the line"
+    code = "id of another"
+    message = Text(
+        "the line is left out: {maybe_line}{maybe_of_book} has this id for another animal ({maybe_name_there}born "
+        "{born_there}; here {maybe_name_here}born {born_here}){maybe_named_in}: if these are two animals, give this "
+        "one an id of its own, also where its offspring name it"
+    )
+    parts = {
+        "maybe_line": OptionalPart("line {line}"),
+        "maybe_of_book": OptionalPart("the book", when="is_of_book"),
+        "maybe_name_there": OptionalPart("'{name_there}', "),
+        "maybe_name_here": OptionalPart("'{name_here}', "),
+        "maybe_named_in": OptionalPart("; as a parent in line {named_in} it means the first"),
+    }
 
 
 @dataclass(frozen=True, slots=True)
@@ -55,10 +63,13 @@ class LineAfterOffspring(BornAfterOffspring):
     """The same of a pedigree's line."""
 
     part = Part.LINE
-    otherwise = IdOfAnother.otherwise
 
-    def thing(self) -> str:
-        return "the line"
+    code = "line after offspring"
+    message = Text(
+        "the line is left out: born {born_here}, it would be younger than its offspring {offspring}, born "
+        "{offspring_born}; the book has born {born_there}: if the day is mistyped, mend it; if these are two "
+        "animals, give this animal an id of its own, also where its offspring name it"
+    )
 
 
 @dataclass(frozen=True, slots=True)
@@ -71,12 +82,11 @@ class BirthMovedByYears(Finding):
 
     what = What.WARNING
     severity = Severity.ANIMALS
-
-    def words(self) -> str:
-        return (
-            f"its birth day is {self.now}, and was {self.before}: is this another animal, whose tag was used again? Then "
-            "undo this, and give it an id of its own, also where its offspring name it"
-        )
+    code = "birth moved by years"
+    message = Text(
+        "its birth day is {now}, and was {before}: is this another animal, whose tag was used again? Then undo "
+        "this, and give it an id of its own, also where its offspring name it"
+    )
 
 
 @dataclass(frozen=True, slots=True)
@@ -90,14 +100,24 @@ class CommandLeftOut(LeftOut):
     line: int
 
     part = Part.CELL
+    code = "command left out"
+    message = Text(
+        "its {command} on {day} is left out: {refusal}{maybe_offspring}{maybe_offspring_of_book} (refusal "
+        "{number}){maybe_gone}"
+    )
+    parts = {
+        "maybe_offspring": OptionalPart(" ({offspring} in line {line})"),
+        "maybe_offspring_of_book": OptionalPart(" ({offspring_of_book})"),
+        "maybe_gone": OptionalPart("; the animal counts as gone", when="is_gone"),
+        "maybe_offspring_told": OptionalPart(" ({offspring})"),
+    }
 
-    def thing(self) -> str:
-        return f"its {self.command.value} on {self.day}"
-
-    def why(self) -> str:
-        named = f" ({self.offspring}{f' in line {self.line}' if self.line else ''})" if self.offspring else ""
-        gone = "; the animal counts as gone" if self.command is CommandKind.EXIT else ""
-        return f"{self.refusal.words()}{named} (refusal {self.refusal}){gone}"
+    def values(self) -> Mapping[str, object]:
+        return {
+            "offspring_of_book": "" if self.line else self.offspring,
+            "number": int(self.refusal),
+            "is_gone": self.command is CommandKind.EXIT,
+        }
 
     def theme(self) -> Hashable:
         return self.command, self.refusal
@@ -113,12 +133,11 @@ class OwnerDayMoved(Finding):
 
     what = What.WARNING
     severity = Severity.FACTS
-
-    def words(self) -> str:
-        return (
-            f"it has been of '{self.owner}' since {self.now}, and not since {self.before}, which can't be with its birth, "
-            "its exit or its owner before"
-        )
+    code = "owner day moved"
+    message = Text(
+        "it has been of '{owner}' since {now}, and not since {before}, which can't be with its birth, its exit or "
+        "its owner before"
+    )
 
 
 @dataclass(frozen=True, slots=True)
@@ -131,9 +150,8 @@ class OwnerDayBack(Finding):
     now: datetime.date
 
     what = What.CHANGED
-
-    def words(self) -> str:
-        return f"its first day with '{self.owner}' is {self.now} again, as was given, and not {self.before}"
+    code = "owner day back"
+    message = Text("its first day with '{owner}' is {now} again, as was given, and not {before}")
 
 
 @dataclass(frozen=True, slots=True)
@@ -144,9 +162,8 @@ class OwnerDayInferred(Finding):
     period: Period
 
     what = What.INFERRED
-
-    def words(self) -> str:
-        return f"owner since {self.day}, from {self.period.words()}"
+    code = "owner day inferred"
+    message = Text("owner since {day}, from {period}")
 
 
 @dataclass(frozen=True, slots=True)
@@ -158,7 +175,7 @@ class OwnerDayOfOther(Finding):
     owner: str
 
     what = What.INFERRED
-
-    def words(self) -> str:
-        what = f"'{self.text}' isn't taken as the first day of the owner '{self.owner}'"
-        return f"{what}: it stood there for '{self.before}' too"
+    code = "owner day of other"
+    message = Text(
+        "'{text}' isn't taken as the first day of the owner '{owner}': it stood there for '{before}' too"
+    )

@@ -11,7 +11,7 @@ from collections.abc import Callable, Iterator
 from dataclasses import dataclass
 
 from gudokeyi.domain.animals import NO_OWNER, SocietyRecord
-from gudokeyi.domain.commands import Command, RegisterRecord, read_commands, replay
+from gudokeyi.domain.commands import Command, RegisterRecord, first_owner_codes, read_commands
 from gudokeyi.domain.kinds import CELL_FIELDS, Field, Remembered, Standing
 from gudokeyi.domain.messages import Mistake
 from gudokeyi.domain.provenance import OwnerDay
@@ -35,7 +35,7 @@ class OldBook:
     """What the files say."""
 
     commands: list[Command]
-    known: dict[str, SocietyRecord]
+    society_records: dict[str, SocietyRecord]
     owners: dict[str, int]
     remembered: list[Meaning]
 
@@ -90,22 +90,22 @@ def clear(folder: pathlib.Path) -> None:
 def last_cells(
     in_book: dict[str, SocietyRecord], records: dict[str, RegisterRecord], owners: dict[int, str]
 ) -> dict[Values, Values]:
-    """What the last sheet said of the animals that had a row, as far as the book shows it: such a folder has no cells, and
-    what is filed by hand is compared with them."""
-    ids = {known.registration_number: id for id, known in in_book.items()} | {"": ""}
+    """What the last sheet said of the animals that had a row, as far as the book shows it: such a folder has no cells,
+    and what is filed by hand is compared with them."""
+    ids = {animal.registration_number: id for id, animal in in_book.items()} | {"": ""}
     cells: dict[Values, Values] = {}
-    for id, known in in_book.items():
-        _, born, sire, dam, embryo, owner_code, _, left, _ = records[known.registration_number]
-        exit = known.exit.text or (known.exit.period.text if known.exit.period else str(left or ""))
+    for id, animal in in_book.items():
+        _, born, sire, dam, embryo, owner_code, _, left, _ = records[animal.registration_number]
+        exit = animal.exit.text or (animal.exit.period.text if animal.exit.period else str(left or ""))
         said = {
-            Field.NAME: known.name, Field.SEX: known.registration_number[6] * (not known.sex.is_inferred),
-            Field.BIRTH: str(born) * (not known.birth.is_inferred), Field.SIRE: known.written_sire or ids[sire],
-            Field.DAM: known.written_dam or ids[dam], Field.OWNER: "" if owner_code == NO_OWNER else owners.get(
+            Field.NAME: animal.name, Field.SEX: animal.registration_number[6] * (not animal.sex.is_inferred),
+            Field.BIRTH: str(born) * (not animal.birth.is_inferred), Field.SIRE: animal.written_sire or ids[sire],
+            Field.DAM: animal.written_dam or ids[dam], Field.OWNER: "" if owner_code == NO_OWNER else owners.get(
                 owner_code, str(owner_code)
             ),
             Field.EXIT: exit, Field.EMBRYO: "1" * embryo,
         }  # fmt: skip
-        if known.standing.had_row():
+        if animal.standing.had_row():
             cells[id,] = (id, *map(said.get, CELL_FIELDS))
     return cells
 
@@ -115,12 +115,12 @@ def read(folder: pathlib.Path, file: FileAll) -> OldBook:
     path = folder / COMMANDS
     if are_exports(folder):
         raise Mistake(
-            f"{path_of(folder)}, the book, is missing or empty: {folder / IDS} was only written from it. Restore a backup, "
-            "by the word restore, or take the sheet into another folder"
+            f"{path_of(folder)}, the book, is missing or empty: {folder / IDS} was only written from it. Restore a "
+            "backup, by the word restore, or take the sheet into another folder"
         )
     if not path.exists():
         raise Mistake(f"the folder {folder} has files of version 0.11, and no {COMMANDS}: restore it")
-    listed = [known_of(folder, row) for row in read_table(folder, IDS, ID_TITLES)]
+    listed = [society_record_of(folder, row) for row in read_table(folder, IDS, ID_TITLES)]
     commands = read_commands(path)
     refused = file(commands)
     if refused:
@@ -129,7 +129,7 @@ def read(folder: pathlib.Path, file: FileAll) -> OldBook:
             f"{path}: command {place + 1} is refused: {refusal.words()} (refusal {refusal}). "
             "Somebody has changed this file: restore it, or take the sheet into another folder"
         )
-    known = read_known(folder, listed, set(replay(commands)))
+    society_records = read_society_records(folder, listed, set(first_owner_codes(commands)))
     owners = read_table(folder, OWNERS, ["herd", "owner"])
     if not all(owner_code.isdecimal() for owner_code, _ in owners):
         raise changed(folder / OWNERS)
@@ -139,30 +139,32 @@ def read(folder: pathlib.Path, file: FileAll) -> OldBook:
     if not all(option in (one.value for one in Remembered) for option, _ in options):
         raise changed(folder / OPTIONS)
     remembered = [Meaning(Remembered(option), word) for option, word in options]
-    return OldBook(commands, known, {owner: int(owner_code) for owner_code, owner in owners}, remembered)
+    return OldBook(commands, society_records, {owner: int(owner_code) for owner_code, owner in owners}, remembered)
 
 
-def read_known(folder: pathlib.Path, listed: list[SocietyRecord], numbers: set[str]) -> dict[str, SocietyRecord]:
+def read_society_records(
+    folder: pathlib.Path, listed: list[SocietyRecord], numbers: set[str]
+) -> dict[str, SocietyRecord]:
     """The animals that are in the book, and those that were dropped."""
     there = (one for one in listed if one.standing is not Standing.DROPPED)
     lost = next((one for one in there if one.registration_number not in numbers), None)
     if lost:
         raise Mistake(
-            f"{folder / IDS} has {lost.id} ({lost.registration_number}), whose birth isn't in {folder / COMMANDS}: restore "
-            "both files, or take the sheet into another folder"
+            f"{folder / IDS} has {lost.id} ({lost.registration_number}), whose birth isn't in {folder / COMMANDS}: "
+            "restore both files, or take the sheet into another folder"
         )
-    named_in_both = (known for known in listed if known.registration_number in numbers)
-    in_book = [known._replace(standing=in_book_as(known.standing)) for known in named_in_both]
-    each_once(folder / IDS, [known.registration_number for known in in_book])
-    each_once(folder / IDS, [known.id for known in in_book])
-    found = {known.id: known for known in listed if known.standing is Standing.DROPPED}
-    found |= {known.id: known for known in in_book}
-    named = {known.registration_number for known in in_book}
+    named_in_both = (animal for animal in listed if animal.registration_number in numbers)
+    in_book = [animal._replace(standing=in_book_as(animal.standing)) for animal in named_in_both]
+    each_once(folder / IDS, [animal.registration_number for animal in in_book])
+    each_once(folder / IDS, [animal.id for animal in in_book])
+    found = {animal.id: animal for animal in listed if animal.standing is Standing.DROPPED}
+    found |= {animal.id: animal for animal in in_book}
+    named = {animal.registration_number for animal in in_book}
     found |= {number: SocietyRecord(number, number) for number in numbers - named}
     for id, role, text in read_table(folder, PARENTS, ["id", "role", "written"], needed=False):
         if id in found:
-            known = found[id]
-            found[id] = known._replace(written_sire=text) if role == "sire" else known._replace(written_dam=text)
+            animal = found[id]
+            found[id] = animal._replace(written_sire=text) if role == "sire" else animal._replace(written_dam=text)
     return found
 
 
@@ -177,7 +179,7 @@ def in_book_as(standing: Standing) -> Standing:
     return Standing.GONE if standing is Standing.DROPPED else standing
 
 
-def known_of(folder: pathlib.Path, row: list[str]) -> SocietyRecord:
+def society_record_of(folder: pathlib.Path, row: list[str]) -> SocietyRecord:
     number, id, name, standing, *words = row
     birth, exit, sex = read_birth(words[0]), read_exit(words[1]), read_sex(words[2])
     if standing not in STANDING_OF or birth is None or exit is None or sex is None:

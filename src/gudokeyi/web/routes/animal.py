@@ -2,8 +2,9 @@
 from __future__ import annotations
 
 import datetime
+from collections.abc import Mapping
 
-from flask import Blueprint, abort, render_template, request
+from flask import Blueprint, abort, render_template, request, url_for
 from markupsafe import Markup
 from werkzeug.wrappers import Response
 
@@ -11,17 +12,21 @@ from gudokeyi.domain.animals import SocietyRecord
 from gudokeyi.domain.settings import Setting
 from gudokeyi.render.certificates import Issue, certificates_page
 from gudokeyi.render.pedigree_pictures import Pedigree
-from gudokeyi.services.animals import kept_coefficients, known_of, relatives_of
+from gudokeyi.services.certificates import GENERATIONS, MOST_GENERATIONS as MOST_CERTIFIED, begin_certificates
+from gudokeyi.services.animals import animal_numbered, kept_coefficients, society_record_of, relatives_of
+from gudokeyi.services.notes import notes_of
 from gudokeyi.services.opening import Book
 from gudokeyi.services.selection import Choice, chosen
+from gudokeyi.services.seals import last_sealed, sealed_certificate
 from gudokeyi.services.settings import settings_of
 from gudokeyi.web.access import printed
 from gudokeyi.web.breed_work import kinship_of
-from gudokeyi.web.changing import refuse_to_print
+from gudokeyi.web.verification import refuse_to_certify
 from gudokeyi.web.language import page_language
 from gudokeyi.web.served_book import Answer, served_book, with_book
 from gudokeyi.web.views.animals import Shower, drawn_within
 from gudokeyi.web.views.changes import own_changes
+from gudokeyi.web.views.own_columns import own_values_shown
 
 page = Blueprint("animal", __name__)
 # so many generations are drawn on the page of an animal, and so many are printed at most
@@ -31,32 +36,50 @@ DRAWN, MOST_GENERATIONS = 4, 10
 @page.get("/animal/<number>", endpoint="page")
 @with_book
 def animal(book: Book, number: str) -> Answer:
-    known = animal_of(book, number)
-    row = book.row(known)
+    animal = animal_of(book, number)
+    row = book.row(animal)
     coefficients, words = kept_coefficients(book), page_language()
-    pedigree = Pedigree(book, known, coefficients, DRAWN, words.language)
+    pedigree = Pedigree(book, animal, coefficients, DRAWN, words.printed(), address_of)
+    shower = Shower(book, coefficients, words)
     return render_template(
-        "animal.html", animal=Shower(book, coefficients, words).shown(row, relatives_of(book, known)),
-        pedigree=Markup(drawn_within(pedigree, words("pedigree of", known.id))), changes=own_changes(
-            book, known.id, words
+        "animal.html", animal=shower.shown(row, relatives_of(book, animal)),
+        ancestors=shower.ancestors(animal.registration_number, DRAWN),
+        pedigree=Markup(drawn_within(pedigree, words.gettext("Pedigree of {}", animal.id))), changes=own_changes(
+            book, animal.id, words
         ),
-        kinship=kinship_of(served_book(), book, known.registration_number),
+        kinship=kinship_of(served_book(), book, animal.registration_number),
+        own_values=own_values_shown(book, animal, words), notes=notes_of(book, animal),
         generations=range(1, MOST_GENERATIONS + 1), drawn=DRAWN,
     )  # fmt: skip
 
 
+def address_of(number: str) -> str:
+    return url_for("animal.page", number=number)
+
+
 def animal_of(book: Book, number: str) -> SocietyRecord:
     """The animal with a number; a page that isn't there where there is none."""
-    known = book.read_numbered(number)
-    if known is None:
+    animal = animal_numbered(book, number)
+    if animal is None:
         abort(404)
-    return known
+    return animal
 
 
 @page.get("/animal/<number>/certificate")
 @with_book
 def certificate(book: Book, number: str) -> Answer:
-    return certificates(book, [animal_of(book, number)])
+    generations = certificate_generations()
+    others = {
+        count: url_for("animal.certificate", number=number, generations=count)
+        for count in range(GENERATIONS, MOST_CERTIFIED + 1)
+    }
+    return certificates(book, [animal_of(book, number)], generations, others)
+
+
+def certificate_generations() -> int:
+    """So many as are asked for, else as many as the program's certificates have."""
+    asked = request.args.get("generations", "")
+    return int(asked) if asked in map(str, range(GENERATIONS, MOST_CERTIFIED + 1)) else GENERATIONS
 
 
 @page.get("/certificates")
@@ -64,25 +87,43 @@ def certificate(book: Book, number: str) -> Answer:
 def certificates_of_many(book: Book) -> Answer:
     """Those of the living animals, or of an owner's."""
     owner = " ".join(request.args.get("owner", "").split())
-    animals = [known_of(row) for row in chosen(book, Choice(True, "", owner))]
+    animals = [society_record_of(row) for row in chosen(book, Choice(True, "", owner))]
     if not animals:
         abort(404)
     return certificates(book, animals)
 
 
-def certificates(book: Book, animals: list[SocietyRecord]) -> Response:
-    refuse_to_print(served_book(), book)
+@page.get("/animal/<number>/certificate.txt")
+@with_book
+def sealed(book: Book, number: str) -> Answer:
+    """The file of a certificate, which anyone can check who has the seal that was published last."""
+    animal = animal_of(book, number)
+    made = sealed_certificate(book, served_book().program, animal)
+    response = Response(made.text, mimetype="text/plain")
+    response.headers["Content-Disposition"] = f"attachment; filename=certificate-{animal.registration_number}.txt"
+    return response
+
+
+def certificates(
+    book: Book, animals: list[SocietyRecord], generations: int = GENERATIONS, others: Mapping[int, str] | None = None
+) -> Response:
+    refuse_to_certify(served_book(), book)
+    numbers = [animal.registration_number for animal in animals]
+    certified = begin_certificates(book, served_book().program, numbers, generations)
     settings = settings_of(book)
-    issue = Issue("", settings[Setting.NAME], settings[Setting.ADDRESS], datetime.date.today())
-    return printed(certificates_page(book, animals, page_language().language, issue), "text/html")
+    issue = Issue(
+        "", settings[Setting.NAME], settings[Setting.ADDRESS], datetime.date.today(), last_sealed(book),
+        lambda number: url_for("animal.sealed", number=number), generations, others or {},
+    )  # fmt: skip
+    return printed(certificates_page(book, animals, certified, page_language().printed(), issue), "text/html")
 
 
 @page.get("/animal/<number>/pedigree")
 @with_book
 def pedigree(book: Book, number: str) -> Answer:
     """The pedigree on a page of its own, or on several."""
-    refuse_to_print(served_book(), book)
+    refuse_to_certify(served_book(), book)
     asked = request.args.get("generations", "")
     generations = int(asked) if asked in map(str, range(1, MOST_GENERATIONS + 1)) else DRAWN
-    found = Pedigree(book, animal_of(book, number), kept_coefficients(book), generations, page_language().language)
+    found = Pedigree(book, animal_of(book, number), kept_coefficients(book), generations, page_language().printed())
     return printed(found.text(), "text/html" if found.is_long else "image/svg+xml")

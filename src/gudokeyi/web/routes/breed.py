@@ -4,17 +4,16 @@ from __future__ import annotations
 from flask import Blueprint, render_template, request
 from markupsafe import Markup
 
-from gudokeyi.domain.changes import Mark
 from gudokeyi.domain.messages import Mistake
-from gudokeyi.services.history import change_numbered
+from gudokeyi.render.page_wording import MessageView
 from gudokeyi.services.opening import Book
+from gudokeyi.services.option_values import years
 from gudokeyi.services.selection import as_known
 from gudokeyi.web.breed_work import BREED, Measured, Whom, measures_of
-from gudokeyi.web.language import page_language
+from gudokeyi.web.language import on_page, page_language
+from gudokeyi.web.mating_work import has_had
 from gudokeyi.web.served_book import Answer, served_book, with_book
-from gudokeyi.web.views.animals import born_between
-from gudokeyi.web.views.messages import MessageView, on_page
-from gudokeyi.web.workers import Stage
+from gudokeyi.web.workers import Job, Stage
 
 page = Blueprint("breed", __name__)
 
@@ -25,7 +24,7 @@ def breed(book: Book) -> Answer:
     """What is there is shown, of which change, and how far the work on the book of now is."""
     served, given = served_book(), request.args
     try:
-        born = born_between(given.get("from", "").strip(), given.get("to", "").strip())
+        born = years(given.get("from", "").strip(), given.get("to", "").strip())
         whom = Whom(as_known(given.get("owner", ""), book.owners), born)
         job = measures_of(served, book, whom)
     except Mistake as mistake:
@@ -37,23 +36,17 @@ def breed(book: Book) -> Answer:
         assert isinstance(job.value, Measured)
         return page_with(book, job.value, [])
     # an earlier state of the same animals is shown meanwhile
-    before = served.jobs.latest(BREED)
-    value = before.value if before and before.key[2] == whom else None
+    before = served.jobs.latest(BREED, whom)
+    value = before.value if before else None
     earlier = value if isinstance(value, Measured) and has_had(book, value.mark) else None
-    return page_with(book, earlier, [], (job.told, job.seconds))
-
-
-def has_had(book: Book, mark: Mark) -> bool:
-    """Is it that of a state of this book? One of another history may have the number of one of its changes."""
-    change = change_numbered(book, mark[0])
-    return change is not None and change.mark == mark
+    return page_with(book, earlier, [], job)
 
 
 def page_with(
-    book: Book, measured: Measured | None, faults: list[MessageView], under_way: tuple[str, int] | None = None
+    book: Book, measured: Measured | None, faults: list[MessageView], under_way: Job | None = None
 ) -> str:
     assert book.change is not None
-    part = Markup(measured.parts[page_language().language.name]) if measured else ""
+    part = Markup(measured.parts[page_language().name]) if measured else ""
     return render_template(
         "breed.html", given=request.args, part=part, of=measured.mark[0] if measured else 0, now=book.change.number,
         faults=faults, under_way=under_way, owners=sorted(book.owners),

@@ -10,9 +10,8 @@ from werkzeug.wrappers import Response
 from gudokeyi.domain.messages import Mistake
 from gudokeyi.web.access import OPEN_TO_ALL, the_person
 from gudokeyi.web.folders import books_found, chosen, documents, remember
-from gudokeyi.web.language import page_language
+from gudokeyi.web.language import gettext, on_page
 from gudokeyi.web.served_book import Answer
-from gudokeyi.web.views.messages import on_page
 
 page = Blueprint("folder", __name__)
 EXTENSION = "menu"
@@ -50,7 +49,7 @@ def ask_first() -> Response | None:
 
 @page.get("/folder", endpoint="page")
 def folder() -> Answer:
-    return asked(the_desk().faults, str(documents() / page_language()("desk")))
+    return asked(the_desk().faults, str(documents() / gettext("Herd book")))
 
 
 def asked(faults: tuple[str, ...], given: str) -> str:

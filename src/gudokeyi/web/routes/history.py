@@ -12,11 +12,12 @@ from gudokeyi.services.folder_files import report_text
 from gudokeyi.services.history import change_numbered, last_changes, last_that_changed, taken_back_by
 from gudokeyi.services.opening import Book
 from gudokeyi.services.restoring import copy_of_book, last_backup, remember
+from gudokeyi.services.taking_back import StoodOn, can_be_taken_back, later_on, take_back
 from gudokeyi.services.undoing import undo
 from gudokeyi.web.access import is_of_another_site, the_logins
 from gudokeyi.web.files import download
 from gudokeyi.web.forms import change_once, mark_text, sent_form, sent_mark
-from gudokeyi.web.language import page_language
+from gudokeyi.web.language import gettext, on_page, page_language
 from gudokeyi.web.paging import part_read
 from gudokeyi.web.served_book import Answer, served_book, with_book
 from gudokeyi.web.views.changes import differences_of, given_of, line_of, lines_of, told_of_change
@@ -24,6 +25,8 @@ from gudokeyi.web.views.changes import differences_of, given_of, line_of, lines_
 page = Blueprint("history", __name__)
 # so many animals that a change changed are shown, and so many changes that would be taken back
 MOST_SHOWN, MOST_TOLD = 200, 20
+# numbers of changes are shorter
+MOST_DIGITS = 10
 
 
 @page.get("/history", endpoint="page")
@@ -51,7 +54,7 @@ def change(book: Book, number: int) -> Answer:
         "change.html", change=line_of(book, found, words), source=found.source,
         given=given_of(found, words), length=found.length, edition=found.edition, count=count, differences=shown,
         groups=told_of_change(book, number, words), last=last_that_changed(book),
-        by=taken_back_by(book, number),
+        by=taken_back_by(book, number), can_be_taken_back=can_be_taken_back(book, found),
     )  # fmt: skip
 
 
@@ -94,9 +97,49 @@ def bring_back(number: int) -> Answer:
 
     made = change_once(served, form, make)
     if made is None:
-        flash(page_language()("book changed"), "look")
+        flash(gettext("Somebody changed the book meanwhile. This is what is there now."), "look")
         return redirect(url_for("history.page"))
-    flash(page_language()("brought back", number), "done")
+    flash(gettext("The state after change {} is brought back.", number), "done")
+    return redirect(url_for("history.change", number=made.number))
+
+
+@page.get("/history/<change:number>/take-back")
+@with_book
+def ask_take_back(book: Book, number: int) -> Answer:
+    """Asks whether a change alone is taken back, or with those that stand on it."""
+    change = change_numbered(book, number)
+    if change is None or not can_be_taken_back(book, change):
+        abort(404)
+    words, later = page_language(), {*later_on(book, number), *numbers_asked()}
+    others = lines_of(book, filter(None, (change_numbered(book, one) for one in sorted(later, reverse=True))), words)
+    return render_template(
+        "take_back.html", change=line_of(book, change, words), later=others, looked=mark_text(mark_of(book))
+    )
+
+
+def numbers_asked() -> set[int]:
+    """The changes that are named in the address, or sent by the form, beside one that is taken back."""
+    return {int(one) for one in request.values.getlist("also") if one.isdecimal() and len(one) < MOST_DIGITS}
+
+
+@page.post("/history/<change:number>/take-back")
+def take_it_back(number: int) -> Answer:
+    """Takes it back, if the book is the one of which it was asked; where more stands on it that is asked then."""
+    served, looked, form, also = served_book(), sent_mark(), sent_form(), numbers_asked()
+
+    def make(book: Book) -> Change | None:
+        return take_back(book, served.program, number, also, form) if mark_of(book) == looked else None
+
+    try:
+        made = change_once(served, form, make)
+    except StoodOn as stood_on:
+        for sentence in on_page(stood_on.sentences):
+            flash(sentence.text, "look")
+        return redirect(url_for("history.ask_take_back", number=number, also=stood_on.later))
+    if made is None:
+        flash(gettext("Somebody changed the book meanwhile. This is what is there now."), "look")
+        return redirect(url_for("history.change", number=number))
+    flash(gettext("It is taken back: change {}.", made.number), "done")
     return redirect(url_for("history.change", number=made.number))
 
 

@@ -1,26 +1,30 @@
 """The page of matings: a dam with all sires, or the plan for all dams."""
 from __future__ import annotations
 
-from collections.abc import Sequence
+from collections.abc import Callable, Sequence
 from fractions import Fraction
-from typing import NamedTuple
+from typing import Any, NamedTuple
 
 from flask import Blueprint, abort, render_template, request
 from werkzeug.wrappers import Response
 
 from gudokeyi.domain.messages import Mistake
+from gudokeyi.domain.options import PLAN, Kind
+from gudokeyi.render.csv_files import in_language
+from gudokeyi.render.languages import MARKS, Mark
+from gudokeyi.render.page_wording import MessageView
 from gudokeyi.services.matings import Advice
 from gudokeyi.services.opening import Book
 from gudokeyi.services.option_values import coefficient, days, positive
-from gudokeyi.services.plans import Asked, Assume
+from gudokeyi.services.plans import PlanRules
 from gudokeyi.services.search import find
 from gudokeyi.services.tables import Cell
-from gudokeyi.web.language import page_language
-from gudokeyi.web.mating_work import Bounds, PlanMade, advice_for, plan_for, told_of, usual_of
+from gudokeyi.web.language import gettext, on_page, page_language
+from gudokeyi.web.mating_work import Bounds, PlanMade, advice_for, plan_for, usual_of
 from gudokeyi.web.paging import part_of
 from gudokeyi.web.served_book import Answer, served_book, with_book
 from gudokeyi.web.sheet_work import read
-from gudokeyi.web.views.messages import MessageView, on_page
+from gudokeyi.web.work_places import PLANNING
 from gudokeyi.web.workers import Stage
 
 page = Blueprint("matings", __name__)
@@ -33,7 +37,7 @@ class Sire(NamedTuple):
 
     id: str
     name: str
-    number: str
+    registration_number: str
     born: str
     fraction: str
     percent: str
@@ -57,7 +61,7 @@ def matings(book: Book) -> Answer:
         return render_template("matings.html", given=request.args, faults=on_page(mistake.sentences))
     job = advice_for(served_book(), book, dam, request.args.get("left") == "1")
     if job.stage is Stage.UNDER_WAY:
-        return render_template("waiting.html", what="mating", told=job.told, seconds=job.seconds)
+        return render_template("waiting.html", title=gettext("The register is asked for each sire"), job=job)
     if job.stage is Stage.FAILED:
         served_book().jobs.forget(job.key)
         return render_template("matings.html", given=request.args, dam=dam, faults=on_page(job.failed.sentences))
@@ -69,11 +73,11 @@ def matings(book: Book) -> Answer:
     )  # fmt: skip
 
 
-def sire_of(id: Cell, name: Cell, number: Cell, birth: Cell, fraction: Cell, _: Cell, percent: Cell) -> Sire:
+def sire_of(id: Cell, name: Cell, number: Cell, birth: Cell, fraction: Cell, _: Cell, __: Cell) -> Sire:
     words, value = page_language(), Fraction(fraction)
     day, _, mark = str(birth).partition(" (")
-    born = f"{words.day(day)} ({words.language.texts[mark[:-1]]})" if mark else words.day(day)
-    return Sire(str(id), str(name), str(number), born, str(fraction), words.percent(str(percent)), level_of(value))
+    born = f"{words.day(day)} ({words.gettext(MARKS[Mark(mark[:-1])])})" if mark else words.day(day)
+    return Sire(str(id), str(name), str(number), born, str(fraction), words.percent_of(value), level_of(value))
 
 
 @page.get("/matings.csv")
@@ -84,8 +88,9 @@ def file(book: Book) -> Answer:
     job.is_over.wait()
     if not isinstance(job.value, Advice):
         raise Mistake(*job.failed.sentences)
-    semicolons = page_language().language.name != "en"
-    return csv_of(job.value.table.text(semicolons), semicolons, "matings.csv")
+    semicolons = not page_language().is_english
+    table = in_language(job.value.table, page_language())
+    return csv_of(table.text(semicolons), semicolons, "matings.csv")
 
 
 def csv_of(text: str, semicolons: bool, name: str) -> Response:
@@ -94,13 +99,16 @@ def csv_of(text: str, semicolons: bool, name: str) -> Response:
     return response
 
 
-def asked_of(given: dict[str, str]) -> Asked:
+# the fields of the form of a plan, by their names there, and what reads a value of each kind
+PLAN_FIELDS = {"age": PLAN["minimum-age"], "most": PLAN["most-for-a-sire"], "at_most": PLAN["at-most"]}
+READERS: dict[Kind, Callable[[str], Any]] = {Kind.BOUND: positive, Kind.COEFFICIENT: coefficient, Kind.DAYS: days}
+
+
+def asked_of(given: dict[str, str]) -> PlanRules:
     """What the form says; a field that is empty is no bound, and for one that isn't there the usual is assumed."""
-    return Asked(
-        read(positive, given["most"].strip()) if "most" in given else Assume.USUAL,
-        read(coefficient, given.get("at_most", "").strip()),
-        read(days, given["age"].strip()) if "age" in given else Assume.USUAL,
-    )
+    there = {name: one for name, one in PLAN_FIELDS.items() if name in given}
+    said: dict[str, Any] = {one.attribute: read(READERS[one.kind], given[name].strip()) for name, one in there.items()}
+    return PlanRules(**said)
 
 
 @page.get("/matings/plan")
@@ -115,7 +123,8 @@ def plan(book: Book) -> Answer:
     except Mistake as mistake:
         return plan_page(given, usual_of(served, book), on_page(mistake.sentences))
     if job.stage is Stage.UNDER_WAY:
-        return render_template("waiting.html", what="planning", told=told_of(served, book, asked), seconds=job.seconds)
+        beside = served.jobs.under_way(PLANNING, asked) or job
+        return render_template("waiting.html", title=gettext("The plan is made"), job=beside)
     if job.stage is Stage.FAILED:
         served.jobs.forget(job.key)
         return plan_page(given, usual_of(served, book), on_page(job.failed.sentences))
@@ -130,7 +139,7 @@ def plan_page(
     it is made."""
     fields = {"most": text_of(used.most_for_a_sire), "age": text_of(used.minimum_age)} | given
     page = render_template(
-        "plan.html", given=fields, plan=made, faults=faults, level=level_of,
+        "plan.html", given=fields, fields=PLAN_FIELDS, plan=made, faults=faults, level=level_of,
         part=part_of(made.pairs) if made else None, assumed=on_page(used.assumed),
     )  # fmt: skip
     return (page, 400) if faults else page
@@ -146,5 +155,6 @@ def plan_file(book: Book) -> Answer:
     job = plan_for(served_book(), book, asked_of(dict(request.args)))
     if not isinstance(job.value, PlanMade):
         abort(404)
-    semicolons = page_language().language.name != "en"
-    return csv_of(job.value.text[semicolons], semicolons, "plan.csv")
+    semicolons = not page_language().is_english
+    table = in_language(job.value.table, page_language())
+    return csv_of(table.text(semicolons), semicolons, "plan.csv")

@@ -1,24 +1,32 @@
-"""The pages on which a keeper restores a backup: a file is dropped, then it is seen what it has, and then it is put in the
-place of the book, or left."""
+"""The pages on which a keeper restores a backup: a file is dropped, then it is seen what it has, and then it is put in
+the place of the book, or left."""
 from __future__ import annotations
 
 from flask import Blueprint, abort, flash, redirect, render_template, request, url_for
 from werkzeug.wrappers import Response
 
-from gudokeyi.domain.changes import NO_MARK
+from gudokeyi.domain.changes import NO_MARK, Mark
+from gudokeyi.domain.messages import Mistake
+from gudokeyi.render.page_wording import MessageView
+from gudokeyi.services.cache import mark_of
 from gudokeyi.services.restoring import mark_now
 from gudokeyi.web.access import the_name
-from gudokeyi.web.backup_work import Backup, looked_into, restored
+from gudokeyi.web.backup_work import Backup, looked_into, restored, taken_away
 from gudokeyi.web.files import Upload
 from gudokeyi.web.forms import mark_text, sent_mark
-from gudokeyi.web.language import page_language
+from gudokeyi.web.language import gettext, ngettext, on_page
 from gudokeyi.web.routes.sheet import is_taken
 from gudokeyi.web.served_book import Answer, served_book
 from gudokeyi.web.sheet_work import LOOKING, Imported
-from gudokeyi.web.views.messages import MessageView, on_page
 from gudokeyi.web.workers import TAKING, Job, Stage
 
 page = Blueprint("restoring", __name__)
+# the button that restores also behind what others file meanwhile
+ANYWAY = "anyway"
+MEANWHILE = (
+    "{} change that came meanwhile is in the folder old of the book alone.",
+    "{} changes that came meanwhile are in the folder old of the book alone.",
+)
 
 
 @page.get("/restore", endpoint="page")
@@ -30,7 +38,7 @@ def restoring() -> Answer:
 def drop() -> Answer:
     file = request.files.get("backup")
     if file is None or not file.filename:
-        return render_template("restore.html", faults=[MessageView(page_language()("no file"))]), 400
+        return render_template("restore.html", faults=[MessageView(gettext("Choose a file first."))]), 400
     return to_look(served_book().uploads.add(file, the_name()))
 
 
@@ -51,17 +59,29 @@ def look(token: str) -> Answer:
     job = served.jobs.of((LOOKING, token), looked_into, (upload.path,))
     if job.stage is Stage.DONE:
         assert isinstance(job.value, Backup)
-        now = mark_now(served.folder) or NO_MARK
+        now, gone = state_of(job.value)
         return render_template(
-            "backup.html", upload=upload, backup=job.value, is_there=now != NO_MARK, looked=mark_text(now)
-        )
+            "backup.html", upload=upload, backup=job.value, is_there=now != NO_MARK, looked=mark_text(now), gone=gone,
+            was_changed=upload.looks,
+        )  # fmt: skip
     return not_done(job)
+
+
+def state_of(backup: Backup) -> tuple[Mark, int]:
+    """The mark of the book that is there, and how many of its changes a backup takes away; of a damaged one nobody
+    knows that."""
+    served = served_book()
+    try:
+        with served.opened() as book:
+            return (mark_of(book), taken_away(book, backup)) if book else (NO_MARK, 0)
+    except Mistake:
+        return mark_now(served.folder) or NO_MARK, 0
 
 
 def not_done(job: Job) -> Answer:
     """A page that asks again by itself, or why it came to nothing."""
     if job.stage is Stage.UNDER_WAY:
-        return render_template("waiting.html", what="restoring", told=job.told, seconds=job.seconds)
+        return render_template("waiting.html", title=gettext("The backup is looked at"), job=job)
     served = served_book()
     served.jobs.forget(job.key)
     return render_template("restore.html", faults=on_page(job.failed.sentences)), 400
@@ -69,10 +89,10 @@ def not_done(job: Job) -> Answer:
 
 @page.post("/restore/<token>")
 def bring_back(token: str) -> Answer:
-    """Restores it, if the book has the change that was looked at; who files meanwhile waits. The session sees by
-    itself that the book is another one."""
+    """Restores it, if the book is the one that was looked at, or also with what others file until then where that is
+    wished; who files meanwhile waits. The session sees by itself that the book is another one."""
     upload, served = upload_of(token), served_book()
-    values = (served.folder, upload.path, sent_mark())
+    values = (served.folder, upload.path, sent_mark(), ANYWAY in request.form)
     served.jobs.in_turn((TAKING, token), restored, values, lambda value: is_taken(served, value))
     return redirect(url_for("restoring.under_way", token=token))
 
@@ -89,11 +109,11 @@ def under_way(token: str) -> Answer:
     served.jobs.forget(job.key)
     assert isinstance(job.value, Imported)
     if job.value.book_changed:
-        flash(page_language()("book changed"), "look")
+        upload.look_anew()
+        flash(gettext("Somebody changed the book meanwhile. This is what is there now."), "look")
         return to_look(upload)
     served.uploads.drop(token)
-    words = page_language()
-    flash(words("backup restored", upload.path.name), "done")
+    flash(gettext("The backup {} is restored.", upload.path.name), "done")
     if job.value.meanwhile:
-        flash(words.counted("changed meanwhile", job.value.meanwhile), "look")
+        flash(ngettext(*MEANWHILE, job.value.meanwhile), "look")
     return redirect(url_for("history.change", number=job.value.change))

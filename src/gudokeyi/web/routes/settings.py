@@ -5,21 +5,28 @@ from flask import Blueprint, flash, redirect, render_template, request, url_for
 
 from gudokeyi.domain.kinds import Remembered
 from gudokeyi.domain.messages import Mistake
+from gudokeyi.domain.options import IMPORT
 from gudokeyi.domain.settings import Setting
+from gudokeyi.render.page_wording import MessageView
 from gudokeyi.services.opening import Book
-from gudokeyi.services.settings import change_settings, checked, letters_for, lines_of, settings_of
-from gudokeyi.web.language import page_language
+from gudokeyi.services.settings import change_settings, checked, letters_said, lines_of, settings_of
+from gudokeyi.web.changing import in_turn
+from gudokeyi.web.language import gettext, on_page
 from gudokeyi.web.served_book import Answer, served_book, with_book
-from gudokeyi.web.views.messages import MessageView, on_page
 
 page = Blueprint("settings", __name__)
 MOST_LETTERS = 2_000
 # the field that says what the page had
 SHOWN = "shown-{}"
+SET_MEANWHILE = "{}: somebody else wrote “{}” meanwhile. Look at it, and keep the settings again."
 LABELS = {
-    Setting.NAME: "society name", Setting.ADDRESS: "address", Setting.BREED: "breed of new",
-    Setting.COUNTRY: "country of new", Setting.UNKNOWN: "option unknown", Setting.LANGUAGE: "language of book",
-}  # fmt: skip
+    Setting.NAME: "Name of the society",
+    Setting.ADDRESS: "Address",
+    Setting.BREED: "Breed in new numbers",
+    Setting.COUNTRY: "Country in new numbers",
+    Setting.UNKNOWN: IMPORT["unknown"].label,
+    Setting.LANGUAGE: "Language of these pages, where nobody chose one",
+}
 
 
 @page.get("/settings", endpoint="page")
@@ -33,29 +40,33 @@ def settings(book: Book) -> Answer:
 def as_shown(book: Book) -> dict[Setting, str]:
     """The settings as the page has them, with the letters with which new numbers begin."""
     given = settings_of(book)
-    begin = letters_for(book)
-    return given | {Setting.BREED: begin[:3], Setting.COUNTRY: begin[3:]}
+    breed, country = letters_said(book)
+    return given | {Setting.BREED: breed, Setting.COUNTRY: country}
 
 
 @page.post("/settings")
 def change() -> Answer:
     """Keeps what somebody wrote otherwise than the page had it; where that was set otherwise meanwhile it is told."""
     served = served_book()
-    with served.jobs.turn:
-        with served.opened() as book:
-            now = as_shown(book or Book(served.folder, None))
-        said = {one: request.form.get(one.value, "")[:MOST_LETTERS] for one in Setting if is_written(one)}
-        wrong = {setting.value: told for setting, text in said.items() if (told := wrong_setting(setting, text))}
-        faults = [*wrong.values(), *(set_meanwhile(one, now[one]) for one in said if is_other(one, now[one]))]
-        try:
+    said = {one: request.form.get(one.value, "")[:MOST_LETTERS] for one in Setting if is_written(one)}
+    wrong = {setting.value: told for setting, text in said.items() if (told := wrong_setting(setting, text))}
+    try:
+        with in_turn(served):
+            now = settings_now()
+            faults = [*wrong.values(), *(set_meanwhile(one, now[one]) for one in said if is_other(one, now[one]))]
             if not faults:
                 change_settings(served.folder, said)
-        except Mistake as mistake:
-            faults = on_page(mistake.sentences)
+    except Mistake as mistake:
+        now, faults = settings_now(), on_page(mistake.sentences)
     if faults:
         return render_template("settings.html", given=now | said, now=now, faults=faults, wrong=wrong), 400
-    flash(page_language()("settings kept"), "done")
+    flash(gettext("The settings are kept."), "done")
     return redirect(url_for("settings.page"))
+
+
+def settings_now() -> dict[Setting, str]:
+    with served_book().opened() as book:
+        return as_shown(book or Book(served_book().folder, None))
 
 
 def is_written(setting: Setting) -> bool:
@@ -72,8 +83,8 @@ def is_other(setting: Setting, text: str) -> bool:
 
 
 def set_meanwhile(setting: Setting, now: str) -> MessageView:
-    words = page_language()
-    return MessageView(words("set meanwhile", words(LABELS[setting]), ", ".join(now.splitlines()) or "–"))
+    told = gettext(SET_MEANWHILE, gettext(LABELS[setting]), ", ".join(now.splitlines()) or "–")
+    return MessageView(told)
 
 
 def wrong_setting(setting: Setting, text: str) -> MessageView | None:

@@ -2,7 +2,7 @@
 then it is taken or left. Nothing is written before that."""
 from __future__ import annotations
 
-from collections.abc import Collection
+from collections.abc import Collection, Mapping
 
 from flask import Blueprint, abort, flash, redirect, render_template, request, url_for
 from werkzeug.datastructures import FileStorage
@@ -11,29 +11,39 @@ from werkzeug.wrappers import Response
 from gudokeyi.domain.changes import NO_MARK, Option
 from gudokeyi.domain.findings import DROP_GONE, Entry, What
 from gudokeyi.domain.kinds import Field
+from gudokeyi.domain.own_columns import OwnKind
+from gudokeyi.render.page_wording import MessageView, sentence_in, sentence_of, sentence_of_entry
 from gudokeyi.services.opening import Book
+from gudokeyi.services.sheet_previews import MOST_OTHERS
 from gudokeyi.web.access import the_name
 from gudokeyi.web.changing import go_on
 from gudokeyi.web.files import EXAMPLE, Upload
-from gudokeyi.web.forms import cleaned, made_by, mark_text, sent_form, sent_mark, wrong_fields
-from gudokeyi.web.language import page_language
+from gudokeyi.web.forms import SHEET_FIELDS, cleaned, made_by, mark_text, sent_form, sent_mark, wrong_fields
+from gudokeyi.web.language import gettext, ngettext, on_page, page_language, without_paths
 from gudokeyi.web.served_book import Answer, ServedBook, served_book
-from gudokeyi.web.sheet_work import LOOKING, Chosen, Imported, Look, Seen, imported, looked_at, seen_of
+from gudokeyi.web.sheet_work import LOOKING, Asked, Chosen, Imported, Look, Seen, imported, looked_at, seen_of
 from gudokeyi.web.views.findings import (
     COLUMNS, Proposed, choose as choose_suggested, field_of, groups_of, labels_of, proposed, suggestions_of,
 )  # fmt: skip
-from gudokeyi.web.views.messages import MessageView, on_page, sentence_in, sentence_of, sentence_of_entry, without_paths
-from gudokeyi.web.workers import TAKING, Job, Stage
+from gudokeyi.web.views.own_columns import kinds
+from gudokeyi.web.workers import TAKING, Job, Key, Stage
 
 page = Blueprint("sheet", __name__)
-# the fields of the form beside the columns
-OPTIONS = (
-    "unknown", "known", "sexes", "no_animal", "animal", "owner", "breed", "country", "day", "youngest", "apart",
-    "worksheet", "drop_gone", "month_first", "day_first", "anyway",
-)  # fmt: skip
 MOST_LETTERS = 500
+# the options by which it is said with what numbers begin
+LETTERS = ("breed", "country")
 # the place of a look's page at which they stand
 FINDINGS = "findings"
+BOOK_CHANGED = "Somebody changed the book meanwhile. This is what is there now."
+CHANGED_BY_OTHERS = (
+    "Somebody changed {} animal meanwhile that the sheet changes too. Look at what it would change of that one now: all "
+    "else is as you saw it.",
+    "Somebody changed {} animals meanwhile that the sheet changes too. Look at what it would change of these now: all "
+    "else is as you saw it.",
+)
+READ_OTHERWISE = (
+    "The settings, or what was chosen for this sheet, changed meanwhile. This is what it would change now."
+)
 
 
 @page.get("/sheet", endpoint="page")
@@ -45,7 +55,7 @@ def sheet() -> Answer:
 def drop() -> Answer:
     file = request.files.get("sheet")
     if file is None or not file.filename:
-        return render_template("sheet.html", faults=[page_language()("no file")]), 400
+        return render_template("sheet.html", faults=[gettext("Choose a file first.")]), 400
     return to_look(served_book().uploads.add(file, the_name()))
 
 
@@ -77,11 +87,23 @@ def wrong_in(upload: Upload) -> dict[str, str]:
 
 
 def job_of(upload: Upload, wrong: Collection[str]) -> Job:
-    """The look at a file for the book as it is now, without the fields that can't be read."""
-    served, chosen = served_book(), Chosen.of(upload.columns, upload.options, wrong)
-    with served.opened() as book:
-        seen = seen_of(book or Book(served.folder, None), chosen)
-    return served.jobs.of((LOOKING, upload.token, seen), looked_at, (served.folder, upload.path, chosen))
+    """The look at a file, which is of the book as it was when it began, without the fields that can't be read."""
+    served, chosen = served_book(), Chosen.of(upload.columns, upload.options, wrong, upload.others)
+    key = key_of(upload, chosen)
+    served.jobs.stop_others(key)
+    return served.jobs.of(key, looked_at, (served.folder, upload.path, chosen, upload.again))
+
+
+def key_of(upload: Upload, chosen: Chosen) -> Key:
+    with served_book().opened() as book:
+        seen = seen_of(book or Book(served_book().folder, None), chosen)
+    return (LOOKING, upload.token, seen.reading, upload.looks)
+
+
+def shown_at(upload: Upload, chosen: Chosen, looked: Seen) -> Mapping[str, bytes] | None:
+    """What the look showed of each animal; none where it isn't that one any more."""
+    job = served_book().jobs.found(key_of(upload, chosen))
+    return job.value.by_animal if job and isinstance(job.value, Look) and job.value.seen == looked else None
 
 
 @page.get("/sheet/<token>")
@@ -90,7 +112,7 @@ def look(token: str) -> Answer:
     wrong = wrong_in(upload)
     job = job_of(upload, wrong)
     if job.stage is Stage.UNDER_WAY:
-        return waiting("looking", job)
+        return waiting(gettext("The sheet is looked at"), job)
     if job.stage is Stage.FAILED:
         served_book().jobs.forget(job.key)
         return render_template("look.html", upload=upload, look=None, faults=on_page(job.failed.sentences)), 400
@@ -102,15 +124,15 @@ def look(token: str) -> Answer:
     words = page_language()
     sentences = [*told_of(found), *without_paths(sentence_of(one, words) for one in found.obstacles)]
     is_read = found.after is not None
-    groups = groups_of(found.entries, words, found.totals, found.days)
+    groups = groups_of(found.again, words) if upload.again else groups_of(found.entries, words, found.totals, found.days)
     return render_template(
-        "look.html", upload=upload, look=found, looked=mark_text(found.seen.mark), fields=list(Field),
-        given=upload.options,
+        "look.html", upload=upload, look=found, looked=mark_text(found.seen.mark), fields=list(Field), options=SHEET_FIELDS,
+        given=upload.options, letters=LETTERS, own_kinds=kinds(page_language()),
         wrong={name: sentence_in(sentence, words) for name, sentence in wrong.items()},
         faults=[] if is_read else sentences, guards=sentences if is_read else [],
         groups=groups, has_choices=any(line.choices for group in groups for line in group.lines),
         remembered=[label for one in found.remembered for label in labels_of(one, words)],
-        drop_gone=dropped_by(found), solutions=proposed(suggestions_of(found.obstacles), words),
+        drop_gone=dropped_by(found) if not upload.again else None, solutions=proposed(suggestions_of(found.obstacles), words),
     )  # fmt: skip
 
 
@@ -118,7 +140,7 @@ def dropped_by(look: Look) -> Proposed | None:
     """What drops the animals that are gone, if any are and they stay."""
     if look.after is None or look.after.drops_gone or not look.totals.get(What.GONE):
         return None
-    return Proposed(page_language()("drop these"), (DROP_GONE,))
+    return Proposed(gettext("Drop these from the book, but for ancestors of others"), (DROP_GONE,))
 
 
 def told_of(look: Look) -> list[MessageView]:
@@ -129,9 +151,9 @@ def told_of(look: Look) -> list[MessageView]:
     )
 
 
-def waiting(what: str, job: Job) -> Answer:
+def waiting(title: str, job: Job) -> Answer:
     """A page that asks again by itself, until the work is done."""
-    return render_template("waiting.html", what=what, told=job.told, seconds=job.seconds)
+    return render_template("waiting.html", title=title, job=job)
 
 
 @page.post("/sheet/<token>/columns")
@@ -144,9 +166,17 @@ def choose(token: str) -> Answer:
         if title is not None and title != given.get(f"understood-{name}", ""):
             columns[name.value] = title[:MOST_LETTERS]
     upload.columns = columns
-    read = {name: cleaned(name, given.get(name, "")[:MOST_LETTERS]) for name in OPTIONS}
+    upload.others = {title: kind for title, kind in others_chosen(given).items() if title not in columns.values()}
+    read = {name: cleaned(name, given.get(name, "")[:MOST_LETTERS]) for name in SHEET_FIELDS}
     upload.options = {name: text for name, text in read.items() if text}
+    upload.look_anew()
     return to_look(upload)
+
+
+def others_chosen(given: Mapping[str, str]) -> dict[str, str]:
+    """What other columns are kept as, by their titles."""
+    titles = {at: given[name][:MOST_LETTERS] for at in range(MOST_OTHERS) if (name := f"other-title-{at}") in given}
+    return {title: kind for at, title in titles.items() if (kind := given.get(f"other-kind-{at}", "")) in list(OwnKind)}
 
 
 @page.post("/sheet/<token>/suggested")
@@ -154,7 +184,8 @@ def take_suggestion(token: str) -> Answer:
     """Chooses what a finding suggests, and looks anew, at the findings."""
     upload, given = upload_of(token), request.form
     options = [Option(name, word) for name, word in zip(given.getlist("option"), given.getlist("word"))]
-    choose_suggested(upload, [one for one in options if one.option == COLUMNS or field_of(one) in OPTIONS])
+    choose_suggested(upload, [one for one in options if one.option == COLUMNS or field_of(one) in SHEET_FIELDS])
+    upload.look_anew()
     return redirect(url_for("sheet.look", token=upload.token, at=FINDINGS))
 
 
@@ -167,8 +198,8 @@ def take(token: str) -> Answer:
         upload = upload_of(token)
         if wrong_in(upload):
             return to_look(upload)
-        chosen = Chosen.of(upload.columns, upload.options)
-        values = (served.folder, upload.path, chosen, looked, form)
+        chosen = Chosen.of(upload.columns, upload.options, others=upload.others)
+        values = (served.folder, upload.path, chosen, Asked(looked, shown_at(upload, chosen, looked), form))
         job = served.jobs.of((TAKING, form), imported, values, lambda value: is_taken(served, value))
         job.address = to
     return redirect(to)
@@ -193,7 +224,7 @@ def taking(token: str, form: str) -> Answer:
     served = served_book()
     job = served.jobs.found((TAKING, form))
     if job and job.stage is Stage.UNDER_WAY:
-        return waiting("taking", job)
+        return waiting(gettext("The sheet is taken"), job)
     number = taken_by(form)
     if number:
         return to_taken(token, number)
@@ -203,8 +234,12 @@ def taking(token: str, form: str) -> Answer:
     served.jobs.forget(job.key)
     if job.stage is Stage.FAILED:
         return render_template("look.html", upload=upload, look=None, faults=on_page(job.failed.sentences)), 400
-    otherwise = isinstance(job.value, Imported) and job.value.read_otherwise
-    flash(page_language()("sheet read otherwise" if otherwise else "book changed"), "look")
+    assert isinstance(job.value, Imported)
+    upload.look_anew(job.value.otherwise)
+    if job.value.otherwise:
+        flash(ngettext(*CHANGED_BY_OTHERS, len(job.value.otherwise)), "look")
+    else:
+        flash(gettext(READ_OTHERWISE if job.value.read_otherwise else BOOK_CHANGED), "look")
     return to_look(upload)
 
 
@@ -214,7 +249,7 @@ def to_taken(token: str, number: int) -> Response:
     upload = uploads.of(token, the_name())
     if upload:
         uploads.drop(token)
-        flash(page_language()("sheet taken", upload.path.name), "done")
+        flash(gettext("{} is taken.", upload.path.name), "done")
     return redirect(url_for("history.change", number=number))
 
 
@@ -222,5 +257,5 @@ def to_taken(token: str, number: int) -> Response:
 def leave(token: str) -> Answer:
     name = upload_of(token).path.name
     served_book().uploads.drop(token)
-    flash(page_language()("sheet left", name), "done")
+    flash(gettext("{} is left, and nothing is changed.", name), "done")
     return redirect(url_for("start.page"))

@@ -32,7 +32,9 @@ function offer(input) {
     list.replaceChildren(...(await answer.json()).map((animal) => {
       const option = document.createElement("option");
       option.value = animal.id;
-      option.label = [animal.id, animal.name, animal.born].filter(Boolean).join("  ");
+      const label = [animal.id, animal.name, animal.born, animal.why].filter(Boolean).join("  ");
+      // a browser offers what has the typed text alone, also where it is written otherwise
+      option.label = label.toLowerCase().includes(words.toLowerCase()) ? label : `${label}  (${words})`;
       return option;
     }));
   }));

@@ -1,47 +1,62 @@
 """The changes of a book's history as pages show them, with the options with which each was made."""
 from __future__ import annotations
 
-import collections
 import contextlib
 from collections.abc import Iterable, Iterator
 from dataclasses import dataclass
 from typing import NamedTuple
 
-from gudokeyi.domain.animals import NO_OWNER
 from gudokeyi.domain.changes import Change, Option
 from gudokeyi.domain.findings import What
-from gudokeyi.domain.kinds import ChangeKind
+from gudokeyi.domain.kinds import ChangeKind, Field
 from gudokeyi.domain.messages import Mistake
-from gudokeyi.ingest.titles import read_given
-from gudokeyi.ingest.unknown_parents import unknown_words
-from gudokeyi.locale import TEXTS
-from gudokeyi.reconcile.findings.animals import CommandRefused
-from gudokeyi.reconcile.stored_findings import entry_of, kind_named
-from gudokeyi.render.history import facts, is_said_by_rows
-from gudokeyi.services.opening import Book
-from gudokeyi.store.animal_rows import AnimalRow
-from gudokeyi.store.changed_animals import (
-    id_of_command, ids_changed, names_of_parents, renamed_by, rows_around, rows_by_change, rows_of_owner_codes,
-    told_by_kind, told_of_animal,
+from gudokeyi.domain.options import IMPORT
+from gudokeyi.render.page_language import PageLanguage, name_of
+from gudokeyi.render.page_wording import MessageView, PageWording, sentence_of, word_of
+from gudokeyi.services.facts import Fact, Facts
+from gudokeyi.services.history import (
+    FILED_BY_HAND, AnimalChange, Filed, animals_changed, filed_by, first_entries, history_of, numbers_taken_back,
 )  # fmt: skip
-from gudokeyi.store.history import FILED_BY_HAND, change_numbered, told_by
-from gudokeyi.store.state import names_now
-from gudokeyi.web.language import PageLanguage
-from gudokeyi.web.views.animals import facts_said
+from gudokeyi.services.imports import is_unknown, read_given
+from gudokeyi.services.opening import Book
+from gudokeyi.web.views.own_columns import own_said
 from gudokeyi.web.views.findings import MOST_SHOWN, Group, groups_of
-from gudokeyi.web.views.messages import MessageView, sentence_of, word_of
 
 # A change of a book's history in a line: what it did, of which animal, and whether the register refused it.
 
 # what is counted of a change, in this order behind its animals; what may be wrong the change itself shows
-COUNTED = ("new", What.ADDED, What.CHANGED, What.GONE, What.LEFT_OUT, What.INFERRED)
-
-
-class Filed(NamedTuple):
-    """The id of the animal of a command that was filed by hand, and why it was refused, if it was."""
-
-    id: str
-    refused: CommandRefused | None
+COUNTED = {
+    "new": ("{} new", "{} new"),
+    What.ADDED: ("{} added as a parent", "{} added as parents"),
+    What.CHANGED: ("{} changed", "{} changed"),
+    What.GONE: ("{} gone", "{} gone"),
+    What.LEFT_OUT: ("{} left out", "{} left out"),
+    What.INFERRED: ("{} inferred", "{} inferred"),
+    "refused": ("{} refused", "{} refused"),
+}
+REFUSED = "The register refused it, and nothing changed: {}."
+# what a change did, with a place for its sheet, its backup, or the state that it brought back
+DID = {
+    ChangeKind.TAKE: "took the sheet {}",
+    ChangeKind.PEDIGREE: "took the pedigree {}",
+    ChangeKind.BIRTH: "filed a birth",
+    ChangeKind.PARENTS: "filed parents",
+    ChangeKind.TRANSFER: "filed a transfer",
+    ChangeKind.EXIT: "filed an exit",
+    ChangeKind.UNDO: "brought back the state after change {}",
+    ChangeKind.RESTORE: "restored the backup {}",
+    ChangeKind.FOLDER: "took over the folder of version 0.11",
+    ChangeKind.CORRECTION: "corrected an animal",
+    ChangeKind.BATCH: "filed commands of another program",
+    ChangeKind.NOTE: "wrote a note",
+    ChangeKind.OWN_VALUES: "wrote own columns",
+    ChangeKind.OWN_COLUMNS: "set up own columns",
+    ChangeKind.MEMBER: "changed an owner's record",
+    ChangeKind.MERGE: "made one owner of two",
+    ChangeKind.ERASURE: "erased what was personal of an owner",
+    ChangeKind.LITTER: "filed a litter",
+    ChangeKind.TAKEN_BACK: "took back change {}",
+}
 
 
 @dataclass(frozen=True, slots=True)
@@ -63,8 +78,8 @@ def lines_of(book: Book, changes: Iterable[Change], words: PageLanguage) -> list
 
 
 def line_of(book: Book, change: Change, words: PageLanguage) -> ChangeLine:
-    id, found = filed_by(book, change) if change.kind in FILED_BY_HAND else ("", None)
-    refused = words("was refused", why(found, words)) if found else ""
+    id, found = filed_by(book, change) if change.kind in FILED_BY_HAND else Filed("", None)
+    refused = words.gettext(REFUSED, PageWording(words).told(found.why())) if found else ""
     counts = "" if change.kind in FILED_BY_HAND else counts_of(change, words)
     what = what_of(change, words)
     return ChangeLine(change.number, words.time(change.time), change.login, what, id, counts, refused)
@@ -73,40 +88,30 @@ def line_of(book: Book, change: Change, words: PageLanguage) -> ChangeLine:
 def counts_of(change: Change, words: PageLanguage) -> str:
     """All animals, and behind them how many are new and what became of how many others."""
     counts = change.counts
-    parts = [words.counted(f"counted {what}", counts[what]) for what in COUNTED if counts.get(what)]
+    parts = [words.ngettext(*texts, counts[what]) for what, texts in COUNTED.items() if counts.get(what)]
     if not counts.get("animals"):
         return ", ".join(parts)
-    animals = words.counted("counted animals", counts["animals"])
+    animals = words.ngettext("{} animal", "{} animals", counts["animals"])
     return f"{animals}{words.colon} {', '.join(parts)}" if parts else animals
 
 
 def what_of(change: Change, words: PageLanguage) -> str:
     if change.kind is ChangeKind.UNDO and not change.undone_to:
-        return words("change to empty")
-    named = change.source.name if change.source else change.undone_to or ""
-    return words(f"change {change.kind.value}", named)
-
-
-def filed_by(book: Book, change: Change) -> Filed:
-    """Of which animal a command was, and its reply, as the history has them."""
-    entries = [entry_of(one) for one in told_by(book.connection, change.number)]
-    refused = next((one.finding for one in entries if isinstance(one.finding, CommandRefused)), None)
-    return Filed(entries[0].id if entries else id_of_command(book.connection, change), refused)
-
-
-def why(refused: CommandRefused, words: PageLanguage) -> str:
-    since = f"; {words('owner since inferred', words.day(refused.owner_since))}" if refused.owner_since else ""
-    return words(f"refusal {refused.refusal.value}") + since
+        return words.gettext("brought back the empty book")
+    named = change.source.name if change.source else change.undone_to or ", ".join(numbers_taken_back(change))
+    return words.gettext(DID[change.kind], named)
 
 
 # The options with which a change was made, in words: the history has them as a terminal would.
 
-# what the fields of the forms are called, where it isn't by their names
+# what the fields of the forms are called
 FIELDS = {
-    "to": "new owner", "from": "owner before", "embryo": "from embryo", "breed": "option breed",
-    "country": "option country",
+    "id": "Id", "name": "Name", "sex": "Sex", "sire": "Sire", "dam": "Dam", "owner": "Owner", "to": "New owner",
+    "from": "Owner before", "embryo": "from a stored embryo", "breed": IMPORT["breed"].label,
+    "country": IMPORT["country"].label, "castrated": "castrated", "born": "Birth day", "exit": "Exit",
+    "exit-day": "Day of the exit", "reason": "reason of the exit",
 }  # fmt: skip
-DAYS = {"birth": "birth day", "exit": "day of exit", "transfer": "day of transfer"}
+DAYS = {ChangeKind.BIRTH: "Birth day", ChangeKind.LITTER: "Birth day", ChangeKind.EXIT: "Day of the exit", ChangeKind.TRANSFER: "Day of the change"}
 
 
 class Given(NamedTuple):
@@ -118,35 +123,36 @@ class Given(NamedTuple):
 
 def given_of(change: Change, words: PageLanguage) -> list[Given]:
     """All that was said, in the order in which it was."""
-    return [given for option in change.options for given in said_of(change, option, words)]
+    options = () if change.kind is ChangeKind.TAKEN_BACK else change.options
+    return [given for option in options for given in said_of(change, option, words)]
 
 
 def said_of(change: Change, option: Option, words: PageLanguage) -> Iterator[Given]:
     name = option.option.removeprefix("--")
     if name == "columns":
         yield from columns_of(option, words)
-    elif change.kind in FILED_BY_HAND:
-        what = DAYS.get(change.kind.value, name) if name == "day" else FIELDS.get(name, name)
-        yield Given(words(what) if what in TEXTS else name, value_of(name, option.word, words))
+    elif change.kind in (*FILED_BY_HAND, ChangeKind.LITTER):
+        label = DAYS.get(change.kind, name) if name == "day" else FIELDS.get(name, name)
+        yield Given(words.pgettext(f"field {name}", label), value_of(name, option.word, words))
     else:
-        what = f"option {name.replace('-', ' ')}"
-        yield Given(words(what) if what in TEXTS else name, value_of(name, option.word, words))
+        label = IMPORT[name].label if name in IMPORT else name
+        yield Given(words.gettext(label), value_of(name, option.word, words))
 
 
 def columns_of(option: Option, words: PageLanguage) -> Iterator[Given]:
     """Which column each field is read from."""
     with contextlib.suppress(Mistake):
         for field, title in read_given([option.word]).items():
-            yield Given(words(f"field {field}"), title or words("no column"))
+            yield Given(name_of(Field(field), words), title or words.gettext("– no column –"))
         return
-    yield Given(words("option columns"), option.word)
+    yield Given(words.gettext("Columns"), option.word)
 
 
 def value_of(name: str, text: str, words: PageLanguage) -> str:
     if name == "sex":
         return word_of(name, text.upper(), words)
-    if name in ("sire", "dam") and text.casefold() in unknown_words([]):
-        return words("unknown")
+    if name in ("sire", "dam") and is_unknown(text):
+        return words.gettext("unknown")
     return word_of(name, text, words)
 
 
@@ -170,43 +176,34 @@ class Difference(NamedTuple):
     values: list[Value]
 
 
-# the owners' names by their herds, before a change and after it
-Owners = tuple[dict[int, str], dict[int, str]]
-
-
 def differences_of(book: Book, number: int, words: PageLanguage, most: int) -> tuple[int, list[Difference]]:
     """How many animals a change changed, and the first of them."""
-    former, then = renamed_by(book.connection, number)
-    same = {row.id: row for row in rows_of_owner_codes(book.connection, [*then], number)}
-    changed, first = ids_changed(book.connection, number, most)
-    ids = sorted({*same, *first})[:most]
-    before, after = (same | rows_around(book.connection, ids, column, number) for column in ("until", "since"))
-    names = names_of_parents(book.connection, [*before.values(), *after.values()])
-    owners = names_now(book.connection) | {NO_OWNER: ""}
-    both = owners | former, owners | then
-    return changed + len(same), [difference(id, before.get(id), after.get(id), names, both, words) for id in ids]
+    count, changed = animals_changed(book, number, most)
+    return count, [difference(one, words) for one in changed]
 
 
-def difference(
-    id: str, before: AnimalRow | None, after: AnimalRow | None, names: dict[
-        str, str
-    ], owners: Owners, words: PageLanguage
-) -> Difference:
-    both = tuple(zip((before, after), owners))
-    former, now = (facts(row, names, its) if row else {} for row, its in both)
-    said = [facts_said(row, names, its, words) if row else {} for row, its in both]
-    changed = (what for what in now or former if now.get(what, "") != former.get(what, ""))
-    values = [Value(words(f"fact {what}"), *(one.get(what, "") for one in said)) for what in changed]
-    return Difference(id, before is None, after is None, values)
+def difference(one: AnimalChange, words: PageLanguage) -> Difference:
+    values = [
+        Value(name_of(fact, words), *(value_said(facts, fact, words) for facts in (one.before, one.after)))
+        for fact in one.changed()
+    ]
+    values += [
+        Value(
+            said.title or words.gettext("Note"), own_said(said.kind, said.before, words),
+            own_said(said.kind, said.after, words),
+        )
+        for said in one.others
+    ]
+    return Difference(one.id, one.before is None, one.after is None, values)
+
+
+def value_said(facts: Facts | None, fact: Fact, words: PageLanguage) -> str:
+    return str(PageWording(words).shown("", facts[fact])) if facts else ""
 
 
 def told_of_change(book: Book, number: int, words: PageLanguage) -> list[Group]:
     """What a change told, by kind: of each kind of finding the first."""
-    counts, told = told_by_kind(book.connection, number, MOST_SHOWN)
-    entries = [entry_of(one) for one in told]
-    totals = collections.Counter[What]()
-    for kind, count in counts.items():
-        totals[kind_named(kind).what] += count
+    totals, entries = first_entries(book, number, MOST_SHOWN)
     return groups_of(entries, words, totals)
 
 
@@ -220,18 +217,10 @@ class OwnChange(NamedTuple):
 
 def own_changes(book: Book, id: str, words: PageLanguage) -> list[OwnChange]:
     """What the history has of one animal, the newest first."""
-    began, ended = (rows_by_change(book.connection, id, column) for column in ("since", "until"))
-    told = told_of_animal(book.connection, id)
-    names = names_of_parents(book.connection, [*began.values(), *ended.values()])
-    owners = names_now(book.connection) | {NO_OWNER: ""}
-    found = []
-    for number in sorted(began.keys() | ended.keys() | told.keys(), reverse=True):
-        change = change_numbered(book.connection, number)
-        assert change is not None
-        entries = [entry_of(one) for one in told.get(number, [])]
-        sentences = [sentence_of(entry.finding, words) for entry in entries if not is_said_by_rows(entry)]
-        is_changed = number in began or number in ended
-        rows = ended.get(number), began.get(number)
-        changed = difference(id, *rows, names, (owners, owners), words) if is_changed else None
-        found.append(OwnChange(line_of(book, change, words), changed, sentences))
-    return found
+    return [
+        OwnChange(
+            line_of(book, change, words), difference(did, words) if did else None,
+            [sentence_of(entry.finding, words) for entry in told],
+        )
+        for change, did, told in reversed(history_of(book, id))
+    ]  # fmt: skip

@@ -9,16 +9,17 @@ from typing import NamedTuple
 
 from gudokeyi.domain.changes import Option
 from gudokeyi.domain.findings import DROP_GONE, OPPOSITE, REPEATED, Entry, Finding, Severity, Suggestion, What
-from gudokeyi.ingest.titles import parts_of, read_given, read_sexes
-from gudokeyi.reconcile.findings.plausibility import BirthsTooNear, YoungParent
+from gudokeyi.domain.kinds import Field
+from gudokeyi.domain.options import IMPORT
+from gudokeyi.render.page_language import PageLanguage, name_of
+from gudokeyi.render.page_wording import MessageView, sentence_of
+from gudokeyi.services.imports import BirthsTooNear, YoungParent, parts_of, read_given, read_sexes
 from gudokeyi.web.files import Upload
 from gudokeyi.web.forms import BETWEEN
-from gudokeyi.web.language import PageLanguage
-from gudokeyi.web.views.messages import MessageView, sentence_of
 
 # What findings suggest for the reading of a sheet, as choices of its page.
 
-COLUMNS, SEXES, OWNER = "--columns", "--sexes", "--owner"
+COLUMNS, SEXES, OWNER, NEW_TAG = "--columns", "--sexes", "--owner", "--new-tag"
 # options with a number of days below which something is told
 BOUNDS = ("--youngest", "--apart")
 # by these a row is left out, or taken
@@ -26,6 +27,10 @@ ROWS = ("--no-animal", "--animal")
 # options without a word, which a page has as boxes
 SET = "1"
 MOST_LETTERS = 500
+# what a button says that sets a bound, and one that says what a row is
+LIMIT = "That can be: warn only below {} days"
+LIMIT_OF_SEVERAL = "That can be: warn only below {} days ({} of these {} warnings go)"
+LEAVE_OUT_LINE, TAKE_LINE = "Leave out line {}", "It is an animal: take line {}"
 # for each bound the numbers of days of all that is told for it
 Days = Mapping[str, Sequence[int]]
 
@@ -54,8 +59,20 @@ def proposed(suggestions: Sequence[Suggestion], words: PageLanguage) -> list[Pro
     found = []
     for one in suggestions:
         options = [option for option in one.options if option != DROP_GONE or len(one.options) == 1]
-        found.append(Proposed("; ".join(label for option in options for label in labels_of(option, words)), (*options,)))
+        for those in decisions(options):
+            label = "; ".join(label for option in those for label in labels_of(option, words))
+            found.append(Proposed(label, (*those,)))
     return list(dict.fromkeys(found))
+
+
+def decisions(options: Sequence[Option]) -> Iterator[Sequence[Option]]:
+    """The options, but for columns that a sheet may lack: whether it lacks one is decided field by field."""
+    titles = read_given([one.word for one in options if one.option == COLUMNS])
+    if not titles or any(titles.values()) or len(options) > 1:
+        yield options
+        return
+    for name in titles:
+        yield [Option(COLUMNS, f"{name}=")]
 
 
 def proposed_for(entry: Entry, days: Days, words: PageLanguage) -> list[Proposed]:
@@ -66,12 +83,12 @@ def proposed_for(entry: Entry, days: Days, words: PageLanguage) -> list[Proposed
         if option.option in BOUNDS:
             limit, all_days = int(option.word), days[option.option]
             gone = sum(day >= limit for day in all_days)
-            which = "bound is" if len(all_days) > 1 else "bound is (one)"
-            label = words(which, words.count(limit), words.count(gone), words.count(len(all_days)))
+            which = LIMIT_OF_SEVERAL if len(all_days) > 1 else LIMIT
+            label = words.gettext(which, words.count(limit), words.count(gone), words.count(len(all_days)))
             found.append(Proposed(label, one.options))
         elif option.option in ROWS:
-            what = "leave out line" if option.option == "--no-animal" else "take line"
-            found.append(Proposed(words(what, entry.line), one.options))
+            what = LEAVE_OUT_LINE if option.option == "--no-animal" else TAKE_LINE
+            found.append(Proposed(words.gettext(what, entry.line), one.options))
         else:
             found.append(one)
     return found
@@ -83,20 +100,25 @@ def is_choice(suggestion: Suggestion) -> bool:
 
 
 def labels_of(option: Option, words: PageLanguage) -> list[str]:
-    field = field_of(option)
     if option.option == COLUMNS:
-        titles = read_given([option.word]).items()
-        return [f"{words(f'field {name}')}{words.colon} {title or words('no column')}" for name, title in titles]
+        titles = [(name_of(Field(name), words), title) for name, title in read_given([option.word]).items()]
+        return [
+            words.gettext("{}: read it from the column '{}'", name, title) if title
+            else words.gettext("Read no column for: {}", name) for name, title in titles
+        ]  # fmt: skip
     if option.option == SEXES:
         said = [part.partition("=")[0].strip() for part in parts_of([option.word])]
         sexes = zip(said, read_sexes([option.word]).values())
-        return [words("means", text, words("male" if sex == "M" else "female")) for text, sex in sexes]
+        return [words.gettext("'{}' means: {}", text, words.sex(sex)) for text, sex in sexes]
     if option.option == OWNER:
         before, _, now = option.word.partition("=")
-        return [words("owner is", before, now)]
+        return [words.gettext("'{}' is written '{}' from now on", before, now)]
+    if option.option == NEW_TAG:
+        pairs = [part.partition("=")[::2] for part in parts_of([option.word])]
+        return [words.gettext("{} has the tag {} from now on", before, now) for before, now in pairs]
     if option.option == "--unknown":
-        return [words("means", option.word, words("unknown parent"))]
-    label = words(f"option {field}".replace("_", " "))
+        return [words.gettext("'{}' means: {}", option.word, words.gettext("unknown parent"))]
+    label = words.gettext(IMPORT[option.option.removeprefix("--")].label)
     return [f"{label}{words.colon} {option.word}" if option.word else label]
 
 
@@ -141,7 +163,16 @@ ORDER = (What.WARNING, What.NEW, What.CHANGED, What.LEFT_OUT, What.INFERRED, Wha
 MOST_SHOWN = 200
 # more than so many of these are told in one sentence
 FEW = 3
-FOLDED: dict[type, str] = {BirthsTooNear: "births near", YoungParent: "parents young"}
+FOLDED: dict[type, str] = {
+    BirthsTooNear: (
+        "{} births came less than {} days after the same dam's one before, from {} to {} days. If that can be in your "
+        "herd, nothing need be done."
+    ),
+    YoungParent: (
+        "{} parents were younger than {} days at a birth, from {} to {} days. If that can be in your herd, nothing "
+        "need be done."
+    ),
+}
 
 
 @dataclass(frozen=True, slots=True)
@@ -168,8 +199,8 @@ class Group(NamedTuple):
 def groups_of(
     entries: Sequence[Entry], words: PageLanguage, totals: Mapping[What, int] | None = None, days: Days | None = None
 ) -> list[Group]:
-    """The entries by kind; `totals` are how many there are of each, where these are the first alone. With `days` each has
-    what may be chosen for it."""
+    """The entries by kind; `totals` are how many there are of each, where these are the first alone. With `days` each
+    has what may be chosen for it."""
     found = []
     counts = totals or totals_of(entries)
     for what in ORDER:
@@ -177,7 +208,7 @@ def groups_of(
         lines = list(folded(own[:MOST_SHOWN], words, days))
         if own:
             more = max(counts[what], len(own)) - len(own[:MOST_SHOWN])
-            found.append(Group(what, words(f"what {what.value}"), len(lines) + more, lines))
+            found.append(Group(what, name_of(what, words), len(lines) + more, lines))
     return found
 
 
@@ -199,7 +230,7 @@ def line_of_all(entries: Sequence[Entry], words: PageLanguage, days: Days | None
     least, most = min(by_days), max(by_days)
     finding = bounded(entries[0])
     values = map(words.count, (len(entries), finding.limit, least, most))
-    sentence = MessageView(words(FOLDED[type(finding)], *values))
+    sentence = MessageView(words.gettext(FOLDED[type(finding)], *values))
     choices = line_of(by_days[least], words, days).choices
     return Line(0, "", sentence, choices, tuple(line_of(entry, words, days) for entry in entries))
 

@@ -1,7 +1,7 @@
 -- `relationships`: what `of` requires, and its result.
 use Rattle.std.proofs.lemmas.Result.{IfOk-weaker}
 use Rattle.herd_lineage.specs.declared.TheConstants.{DEPTH_LIMIT, MOST_ANIMALS}
-use Rattle.herd_advice.proofs.lemmas.FrozenFacts.{coefficients-lineage, long, relationships-book}
+use Rattle.herd_advice.proofs.lemmas.FrozenFacts.{known-lineage, long, relationships-book}
 use Rattle.herd_advice.proofs.book_relationships.relationships.Goals as goal
 
 pub of-requires-clause-rank : goal.of-requires-clause-rank
@@ -12,7 +12,7 @@ of-requires-clause-rank g c =
 pub of-requires-clause-coefficients : goal.of-requires-clause-coefficients
 of-requires-clause-coefficients g c =
     let its = c.lineage.ensures in
-    coefficients-lineage DEPTH_LIMIT MOST_ANIMALS c.args.frozen.now its.frozen c.lineage.result.now its.value its.lineage c.args.coefficients.now c.requires.coefficients
+    known-lineage DEPTH_LIMIT MOST_ANIMALS c.args.frozen.now its.frozen c.lineage.result.now its.value its.lineage c.args.coefficients.now c.args.rank c.requires.rank c.requires.coefficients
 
 pub returns : goal.returns
 returns g c =

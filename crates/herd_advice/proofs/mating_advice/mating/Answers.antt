@@ -1,9 +1,10 @@
 -- `mating`: its clauses, and what its calls require.
-use Rattle.std.proofs.Common.{◌≡◌, ◌*◌, ◌-◌, Some, lit<, arith, refl, ◌∙◌}
+use Rattle.std.proofs.Common.{◌≡◌, ◌*◌, ◌-◌, ◌∷◌, [], Some, lit<, arith, refl, ◌∙◌}
 use Rattle.herd_frozen.specs.declared.TheConstants.{DEPTH_LIMIT}
 use Rattle.herd_frozen.specs.freezing.Frozen.{book_of}
 use Rattle.herd_advice.specs.FrozenAncestry.{ancestry_of}
 use Rattle.herd_advice.specs.Mating.{candidates_fault, mating_fault}
+use Rattle.herd_advice.proofs.lemmas.FrozenFacts.{knows-ancestors}
 use Rattle.herd_advice.proofs.lemmas.MatingFacts.{candidate-there, dam-missing, fault-of_candidates, mating-by, sire-missing}
 use Rattle.herd_advice.specs.declared.mating_advice.MatingFault.TheVariants.{SireMissing, DamMissing}
 use Rattle.herd_kinship.proofs.lemmas.ancestry.Table.{entry-bound}
@@ -43,6 +44,11 @@ returns-in_err-check-clause-refused g c =
 pub returns-in_err-check-clause-memory : goal.returns-in_err-check-clause-memory
 returns-in_err-check-clause-memory g c =
     let is = told g (goal.at.returns-in_err-check-clause-memory g c).In-Some-of ∙ c.in_err-check.ensures in rw is (grind arith)
+
+pub relationships-requires-clause-coefficients : goal.relationships-requires-clause-coefficients
+relationships-requires-clause-coefficients g c =
+    knows-ancestors DEPTH_LIMIT c.args.frozen.now (c.args.dam.now ∷ []) c.args.coefficients.now c.requires c.in-Some-of.dam.rank c.args.dam.now
+    c.in-Some-of.ensures.there.rank (0, omega arith, refl)
 
 pub with-requires : goal.with-requires
 with-requires g c = let each = c.in-Ok.ensures.each in let within = c.in-Some.ensures.there.within in omega (arith, each, within)

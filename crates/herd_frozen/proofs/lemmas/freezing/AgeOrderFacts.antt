@@ -62,6 +62,13 @@ keys-of_enumerated book =
     get_or-enumerate_from 0 book k d within ∙ (λ j. (zero_more j, get_or_from_slice_get book k entry.0 d.1 entry.1 j)) in
     rw item (record { animal = entry.0.1; entry = entry.1; birth = refl }))
 
+-- so is each of the same keys in another order
+pub key_among : (book : Book) (keys : List AgeKey) → IsPermutation (map age_key (enumerate_from 0 book)) keys → (i : ℕ) (key : AgeKey) → slice_get keys i ≡ Some key → IsKeyOf book key
+key_among book keys same i key at =
+    subst (IsKeyOf book) (get_or_from_slice_get keys i key key at)
+    (All-get_or (IsKeyOf book) keys i key (slice_get_within keys i key at)
+    (All-permutation (IsKeyOf book) (map age_key (enumerate_from 0 book)) keys same (keys-of_enumerated book)))
+
 module _ (book : Book) (keys : List AgeKey) (order : IsAgeOrder book keys) where
   pub length-keys : length keys ≡ length book
   length-keys =
@@ -70,10 +77,7 @@ module _ (book : Book) (keys : List AgeKey) (order : IsAgeOrder book keys) where
       ∙ length-enumerate_from 0 book
 
   pub key-at : (i : ℕ) (key : AgeKey) → slice_get keys i ≡ Some key → IsKeyOf book key
-  key-at i key at =
-      subst (IsKeyOf book) (get_or_from_slice_get keys i key key at)
-      (All-get_or (IsKeyOf book) keys i key (slice_get_within keys i key at)
-      (All-permutation (IsKeyOf book) (map age_key (enumerate_from 0 book)) keys order.same (keys-of_enumerated book)))
+  key-at = key_among book keys order.same
 
   -- an older animal stands before
   pub older-before : (i j : ℕ) (x y : AgeKey) → slice_get keys i ≡ Some x → slice_get keys j ≡ Some y → x.birth <ℤ y.birth → i < j

@@ -1,6 +1,6 @@
 use Rattle.herd_lineage.specs.declared.TheConstants.{DEPTH_LIMIT}
 use Rattle.herd_kinship.specs.Coefficients.{IsBefore, KnowsReached}
-use Rattle.herd_kinship.specs.CalfCoefficients.{IsReady}
+use Rattle.herd_kinship.specs.Mates.{IsReady}
 use Rattle.herd_kinship.proofs.coefficients.write_by_sires.Given as goal
 
 -- the calves of the sires so far have their coefficients

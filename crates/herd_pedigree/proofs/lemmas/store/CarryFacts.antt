@@ -5,7 +5,7 @@ use Rattle.std.proofs.lemmas.List.Elements.{Contains-get_or, All-cons, All-nil, 
 use Rattle.std.proofs.lemmas.Bool.{cases_eq, false_from_ne_true, ltb-true}
 use Rattle.herd_frozen.specs.rules.Paths.{Parentage, has_path}
 use Rattle.herd_frozen.specs.rules.Depths.{IsParent, AreDepths, depth_above, depth_from}
-use Rattle.herd_pedigree.specs.store.Exchange.{IsSettled, HavePaths, AddsCalves}
+use Rattle.herd_pedigree.specs.store.Carrying.{IsSettled, HavePaths, AddsCalves}
 use Rattle.herd_frozen.specs.places.Places.{parentage_at}
 use Rattle.herd_frozen.proofs.lemmas.rules.PathFacts.{Path, path-from_test, test-from_path, path-there, depths-shallow}
 use Rattle.herd_frozen.proofs.lemmas.Contained.{contains_cases, contains_none}

@@ -8,7 +8,8 @@ use Rattle.herd_frozen.specs.rules.Paths.{has_path}
 use Rattle.herd_frozen.specs.places.Places.{parent_at}
 use Rattle.herd_pedigree.specs.declared.store.correction.Correction.{Correction}
 use Rattle.herd_pedigree.specs.store.Correction.{corrected}
-use Rattle.herd_pedigree.specs.store.Exchange.{AddsCalves, IsSettled, exchanged}
+use Rattle.herd_pedigree.specs.store.Carrying.{AddsCalves, IsSettled}
+use Rattle.herd_pedigree.specs.store.Exchange.{exchanged}
 use Rattle.herd_pedigree.proofs.lemmas.store.CarryFacts.{settled-deep, settled-shallow}
 use Rattle.herd_frozen.proofs.lemmas.Contained.{contains_here, contains_cases, contains_none, filter-keeps, filter-only}
 use Rattle.herd_pedigree.proofs.lemmas.store.ProgenyFacts.{parent-within}

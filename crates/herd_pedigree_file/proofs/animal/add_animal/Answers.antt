@@ -1,5 +1,5 @@
 -- `add_animal`: the animal that was added is the record's, and so is its fault.
-use Rattle.std.proofs.Common.{◌≡◌, ◌∙◌, ◌<◌, ℕ, None, Some, ap, length, subst, sym, arith}
+use Rattle.std.proofs.Common.{◌∙◌, ◌<◌, ℕ, None, Some, ap, length, subst, sym, arith}
 use Rattle.std.specs.Prelude.{IfSome}
 use Rattle.csv.specs.Records.{fields_of}
 use Rattle.csv_records.specs.Fields.{field}

@@ -1,5 +1,5 @@
 -- `number_in`: a text that writes a number is read.
-use Rattle.std.proofs.Common.{rules, ◌≡◌, ◌∙◌, decimal, subst, sym, ap, arith, false, true, Ok, refl}
+use Rattle.std.proofs.Common.{◌≡◌, ◌∙◌, decimal, subst, sym, ap, arith, false, true, Ok}
 use Rattle.std.specs.Str.{IsUtf8, bytes_eq}
 use Rattle.std.proofs.lemmas.Bool.{false≢true}
 use Rattle.std.proofs.lemmas.Fmt.{IsAscii-decimal, parse-decimal}

@@ -1,5 +1,5 @@
 -- `rank_in`: its clause `rank`.
-use Rattle.std.proofs.Common.{arith, rules, sym, ◌∙◌}
+use Rattle.std.proofs.Common.{arith, rules, sym}
 use Rattle.herd_pedigree_file.proofs.lemmas.NumberFacts.{rank_in-no_number, rank_in-number, rank_in-outside}
 use Rattle.herd_pedigree_file.proofs.number.rank_in.Goals as goal
 

@@ -1,9 +1,7 @@
 -- `ranks_of`: one more rank; and a name that tells none.
 use Rattle.std.proofs.Common.{◌∙◌, ◌≡◌, ◌<◌, ℕ, ◌++◌, ◌∷◌, [], ap, get_or, sym, None, Some}
 use Rattle.std.proofs.lemmas.List.Elements.{All-push}
-use Rattle.std.proofs.lemmas.List.Folds.{list_all_at}
 use Rattle.herd_pedigree_report.proofs.lemmas.NamedFacts.{ranks_more, there_more}
-use Rattle.herd_pedigree_report.specs.Named.{is_there}
 use Rattle.herd_pedigree_report.proofs.named.ranks_of.Goals as goal
 
 pub loop-animal-preserved : goal.loop-animal-preserved

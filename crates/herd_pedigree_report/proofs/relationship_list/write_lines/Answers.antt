@@ -1,5 +1,5 @@
 -- `write_lines`: its lines are those of its column.
-use Rattle.std.proofs.Common.{◌<◌, All, ap, length, arith, subst, sym}
+use Rattle.std.proofs.Common.{◌<◌, All, length, arith, subst, sym}
 use Rattle.herd_text.proofs.lemmas.Exits.{on_err}
 use Rattle.herd_text.proofs.lemmas.TextFacts.{front_nothing, some_after}
 use Rattle.herd_pedigree_report.proofs.lemmas.PairFacts.{column_lines-are, some_lines_with}

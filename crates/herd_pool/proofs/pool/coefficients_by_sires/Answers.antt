@@ -4,7 +4,8 @@ use Rattle.std.specs.List.{All}
 use Rattle.std.proofs.lemmas.List.{get_or-replicate, length-replicate}
 use Rattle.std.proofs.lemmas.List.Elements.{All-nil}
 use Rattle.herd_lineage.specs.declared.TheConstants.{DEPTH_LIMIT, MOST_ANIMALS}
-use Rattle.herd_kinship.specs.CalfCoefficients.{AreWritten, HaveValues, IsReady}
+use Rattle.herd_kinship.specs.CalfCoefficients.{AreWritten, HaveValues}
+use Rattle.herd_kinship.specs.Mates.{IsReady}
 use Rattle.herd_kinship.specs.Coefficients.{AreCoefficients, IsLessDeep, coefficient_at}
 use Rattle.herd_kinship.specs.declared.calves.CalfCoefficient.{CalfCoefficient}
 use Rattle.herd_kinship.proofs.lemmas.sires.BySires.{coefficients-below_one, less_deep-all, reached-start}

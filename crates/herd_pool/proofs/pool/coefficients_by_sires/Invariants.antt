@@ -1,6 +1,6 @@
 use Rattle.std.specs.List.{All}
 use Rattle.herd_lineage.specs.declared.TheConstants.{DEPTH_LIMIT}
-use Rattle.herd_kinship.specs.CalfCoefficients.{IsReady}
+use Rattle.herd_kinship.specs.Mates.{IsReady}
 use Rattle.herd_pool.specs.Sires.{KnowsCalvesBelow}
 use Rattle.herd_pool.proofs.pool.coefficients_by_sires.Given as goal
 

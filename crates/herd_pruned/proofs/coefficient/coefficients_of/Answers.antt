@@ -1,5 +1,5 @@
 -- `coefficients_of`: what `spread` requires, and its result.
-use Rattle.std.proofs.Common.{◌≡◌, ℕ, ◌<◌, Contains, List, length, get_or, take, drop, ◌++◌, arith, ap, subst, sym, ◌∙◌}
+use Rattle.std.proofs.Common.{◌≡◌, ℕ, ◌<◌, Contains, List, length, get_or, arith, ap, subst, sym, ◌∙◌}
 use Rattle.std.proofs.lemmas.List.{length-replicate}
 use Rattle.herd_lineage.specs.Lineage.{IsLineage}
 use Rattle.herd_lineage.specs.declared.lineage.Parents.{Parents}
@@ -7,7 +7,7 @@ use Rattle.herd_lineage.specs.declared.TheConstants.{DEPTH_LIMIT, MOST_ANIMALS}
 use Rattle.herd_kinship.proofs.lemmas.Lists.{take-written}
 use Rattle.herd_kinship.specs.Coefficients.{AreCoefficients}
 use Rattle.herd_pruned.specs.Known.{AreCoefficientsOf}
-use Rattle.herd_pruned.specs.Pruned.{IsPrunedOf, KeepsAncestorsOf, Pruned}
+use Rattle.herd_pruned.specs.Pruned.{Pruned}
 use Rattle.herd_pruned.proofs.lemmas.EntryFacts.{coefficients-spread, kept-within}
 use Rattle.herd_pruned.proofs.coefficient.coefficients_of.Given.{Over}
 use Rattle.herd_pruned.proofs.coefficient.coefficients_of.Goals.{After-deref_mut}

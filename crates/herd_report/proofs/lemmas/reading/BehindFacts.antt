@@ -1,7 +1,7 @@
 -- Fields that stand behind others.
 use Rattle.std.proofs.Common.{◌≡◌, ◌∙◌, ◌+◌, ℕ, zero, suc, [], ◌∷◌, drop, refl, ap, arith}
 use Rattle.csv.specs.Records.{field_at}
-use Rattle.herd_report.specs.reading.Grammar.{Fields, field}
+use Rattle.csv_records.specs.Fields.{Fields, field}
 
 -- the field at a place behind so many others
 pub field_behind : (others place : ℕ) (fields : Fields) → field place (drop others fields) ≡ field (others + place) fields

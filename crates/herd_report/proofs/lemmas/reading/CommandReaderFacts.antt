@@ -4,8 +4,9 @@ use Rattle.std.proofs.lemmas.Bool.{cond-false, false≢true, le-ltb}
 use Rattle.herd_register.specs.declared.command.Command.{Command}
 use Rattle.herd_report.specs.reading.CommandFile.{CommandFile, commands_from, one_then}
 use Rattle.herd_report.specs.reading.CommandReader.{HasGiven, TakesNext}
-use Rattle.herd_report.specs.reading.Grammar.{Fields, command_of}
-use Rattle.herd_report.specs.reading.Upcoming.{TakesRecord}
+use Rattle.csv_records.specs.Fields.{Fields}
+use Rattle.herd_report.specs.reading.Grammar.{command_of}
+use Rattle.csv_records.specs.Upcoming.{TakesRecord}
 use Rattle.herd_report.specs.declared.reading.command_reader.CommandReader.{CommandReader}
 use Rattle.herd_report.specs.declared.reading.line_fault.LineCause.{LineCause}
 use Rattle.herd_report.specs.declared.reading.version.Version.{Version}

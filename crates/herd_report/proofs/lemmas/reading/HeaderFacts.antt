@@ -6,7 +6,8 @@ use Rattle.std.specs.Cmp.Lexicographic.{pointwise}
 use Rattle.std.specs.Str.{bytes_eq}
 use Rattle.csv.specs.Records.{field_at}
 use Rattle.herd_report.specs.reading.Columns.{are_names}
-use Rattle.herd_report.specs.reading.Grammar.{Fields, Texts, texts_in, field, first_columns, is_header}
+use Rattle.csv_records.specs.Fields.{Fields, field}
+use Rattle.herd_report.specs.reading.Grammar.{Texts, texts_in, first_columns, is_header}
 use Rattle.herd_report.specs.declared.reading.version.Version.TheVariants.{One, Two}
 
 -- the fields at so many places, from one on

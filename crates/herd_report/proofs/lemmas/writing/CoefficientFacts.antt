@@ -2,14 +2,13 @@
 use Rattle.std.proofs.Common.{◌≡◌, ◌∙◌, ℕ, ◌<◌, List, length, slice_index, slice_get, Some, ap, arith}
 use Rattle.std.proofs.lemmas.Option.{slice_get_within}
 use Rattle.herd_frozen.specs.declared.freezing.frozen.Row.{Row}
-use Rattle.herd_frozen.specs.freezing.Frozen.{numbers_of}
 use Rattle.herd_advice.specs.BookCoefficients.{AreBookCoefficients}
 use Rattle.herd_advice.specs.FrozenAncestry.{ancestry_of}
 use Rattle.herd_kinship.specs.Table.{coefficient}
-use Rattle.herd_advice.proofs.lemmas.FrozenFacts.{length-numbers_of, number_of_row-is}
-use Rattle.herd_report.proofs.lemmas.writing.CertificateFacts.{number_at_rank}
-use Rattle.herd_report.proofs.lemmas.writing.TextFacts.{some_after}
-use Rattle.herd_report.specs.writing.CoefficientText.{coefficient_line, coefficient_line_end}
+use Rattle.herd_advice.proofs.lemmas.FrozenFacts.{number_of_row-is}
+use Rattle.herd_text.proofs.lemmas.TextFacts.{some_after}
+use Rattle.herd_text.specs.CoefficientText.{coefficient_line_end}
+use Rattle.herd_report.specs.writing.CoefficientLine.{coefficient_line}
 
 -- the numerator at a rank is the coefficient of the row there
 pub numerator_is : (l : ℕ) (rows : List Row) (numerators : List ℕ) → AreBookCoefficients l rows numerators
@@ -18,14 +17,6 @@ pub numerator_is : (l : ℕ) (rows : List Row) (numerators : List ℕ) → AreBo
 numerator_is l rows numerators are rank row there =
     are.right rank (slice_get_within rows rank row there)
     ∙ ap (coefficient (ancestry_of rows) l) (number_of_row-is rows rank row there)
-
--- the numerator at the rank of a number is its coefficient
-pub coefficient_at_rank : (l : ℕ) (rows : List Row) (numerators : List ℕ) → AreBookCoefficients l rows numerators
-    → (rank : ℕ) (number : List ℕ) → slice_get (numbers_of rows) rank ≡ Some number
-    → slice_index numerators rank ≡ coefficient (ancestry_of rows) l number
-coefficient_at_rank l rows numerators are rank number stands =
-    let within : rank < length rows = rw (← length-numbers_of rows) (slice_get_within (numbers_of rows) rank number stands) in
-    are.right rank within ∙ ap (coefficient (ancestry_of rows) l) (number_at_rank rows rank number stands)
 
 -- a line isn't empty
 pub some_coefficient_line : (number : List ℕ) (numerator : ℕ) → 0 < length (coefficient_line number numerator)

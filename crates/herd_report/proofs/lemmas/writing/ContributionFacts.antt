@@ -14,8 +14,9 @@ use Rattle.herd_lineage.specs.Lineage.{dam_rank, sire_rank}
 use Rattle.herd_advice.proofs.lemmas.FrozenFacts.{dam_at, sire_at}
 use Rattle.herd_advice.specs.FrozenAncestry.{number_of_row}
 use Rattle.herd_kinship.specs.Fraction.{fraction_text}
-use Rattle.herd_report.proofs.lemmas.writing.TextFacts.{some_after, some_before}
-use Rattle.herd_report.specs.writing.InverseList.{IsWithin, contribution_line, contributions_text, value_line_end}
+use Rattle.herd_text.proofs.lemmas.TextFacts.{some_after, some_before}
+use Rattle.herd_report.specs.writing.InverseList.{IsWithin, contribution_line, contributions_text}
+use Rattle.herd_text.specs.CoefficientText.{value_line_end}
 
 -- of the six elements the first ones are those that count
 take-filled : (f : ℕ × ℕ → Contribution) (i : ℕ) (s d : Option ℕ)

@@ -8,8 +8,8 @@ use Rattle.herd_advice.specs.FrozenAncestry.{book_ancestry}
 use Rattle.herd_advice.specs.Mating.{mating_fault, number_of_mating_fault}
 use Rattle.herd_kinship.specs.Table.{entry}
 use Rattle.herd_report.proofs.lemmas.writing.CoefficientFacts.{some_coefficient_line}
-use Rattle.herd_report.proofs.lemmas.writing.TextFacts.{some_after, some_before}
-use Rattle.herd_report.specs.writing.CoefficientText.{coefficient_line}
+use Rattle.herd_text.proofs.lemmas.TextFacts.{some_after, some_before}
+use Rattle.herd_report.specs.writing.CoefficientLine.{coefficient_line}
 use Rattle.herd_report.specs.writing.MatingList.{mating_line, mating_text, refused_line}
 use Rattle.herd_report.specs.writing.RefusedText.{refused_line_end}
 

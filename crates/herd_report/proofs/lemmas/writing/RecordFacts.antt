@@ -1,5 +1,5 @@
 -- The lines of records.
-use Rattle.std.proofs.Common.{append-nil, ◌≡◌, ◌∙◌, ℕ, ◌<◌, false, List, [], ◌++◌, codes, length, slice_get, Option, Some, None, refl, ap, sym, arith}
+use Rattle.std.proofs.Common.{append-nil, ◌≡◌, ◌∙◌, ℕ, ◌<◌, false, List, ◌++◌, codes, length, slice_get, Some, refl, ap, sym, arith}
 use Rattle.herd_frozen.specs.declared.rules.animal.Animal.{Animal}
 use Rattle.herd_frozen.specs.declared.freezing.frozen.Row.{Row}
 use Rattle.herd_frozen.specs.declared.TheConstants.{DEPTH_LIMIT, MOST_ANIMALS}
@@ -7,8 +7,8 @@ use Rattle.herd_frozen.specs.freezing.Frozen.{IsFrozen, book_of, numbers_of}
 use Rattle.herd_frozen.specs.rules.Book.{Book, is_there, record_of}
 use Rattle.herd_advice.proofs.lemmas.FrozenFacts.{record_at-row}
 use Rattle.herd_report.proofs.lemmas.writing.CertificateFacts.{nothing_without, row_at_rank}
-use Rattle.herd_report.proofs.lemmas.writing.TextFacts.{some_after}
-use Rattle.herd_report.specs.writing.RecordLine.{record_line, record_text}
+use Rattle.herd_text.proofs.lemmas.TextFacts.{some_after}
+use Rattle.herd_record_line.specs.RecordLine.{record_line, record_text}
 use Rattle.herd_report.specs.writing.RecordList.{line_under}
 
 -- a line isn't empty

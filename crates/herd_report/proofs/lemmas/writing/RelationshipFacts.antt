@@ -1,9 +1,9 @@
 -- The lines of relationships, and the animals that they are of.
-use Rattle.std.proofs.Common.{◌≡◌, ◌∙◌, ℕ, ◌+◌, ◌-◌, ◌*◌, ◌<◌, ◌^◌, Bool, true, false, List, [], ◌∷◌, ◌++◌, All, codes, length, drop, slice_get, slice_index, take, Option, Some, option_map, refl, ap, ap₂, sym, arith}
+use Rattle.std.proofs.Common.{◌≡◌, ◌∙◌, ℕ, ◌+◌, ◌-◌, ◌*◌, ◌<◌, ◌^◌, Bool, true, false, List, [], ◌∷◌, ◌++◌, All, Contains, codes, length, drop, slice_get, slice_index, take, Option, Some, option_map, refl, ap, ap₂, subst, sym, arith}
 use Rattle.std.specs.List.{filter}
 use Rattle.std.proofs.lemmas.List.{append-nil, drop-map, drop_more, length-drop, map-append}
 use Rattle.std.proofs.Math.Seq.{take-length}
-use Rattle.std.proofs.lemmas.List.Elements.{All-head, All-nil, All-push, All-tail, All-weaker, filter-append}
+use Rattle.std.proofs.lemmas.List.Elements.{All-contains_itself, All-filter, All-get_or, All-head, All-nil, All-push, All-tail, All-weaker, filter-append}
 use Rattle.std.proofs.lemmas.Option.{get_or_from_slice_get, slice_get-map, slice_get_within}
 use Rattle.herd_frozen.specs.declared.TheConstants.{DEPTH_LIMIT}
 use Rattle.herd_frozen.specs.declared.freezing.frozen.Row.{Row}
@@ -15,11 +15,11 @@ use Rattle.herd_kinship.specs.Fraction.{fraction_text, halved}
 use Rattle.herd_kinship.specs.Table.{entry}
 use Rattle.herd_advice.proofs.lemmas.FrozenFacts.{length-numbers_of}
 use Rattle.herd_report.proofs.lemmas.writing.CertificateFacts.{number_is_there}
-use Rattle.herd_report.proofs.lemmas.writing.TextFacts.{Holds, front_waiting, holds_passed, holds_piece, passes_nothing, some_after, some_before}
+use Rattle.herd_text.proofs.lemmas.TextFacts.{Holds, front_waiting, holds_passed, holds_piece, passes_nothing, some_after, some_before}
 use Rattle.herd_report.specs.declared.writing.relationship_list.Asked.{Asked}
-use Rattle.herd_report.specs.writing.InverseList.{value_line_end}
+use Rattle.herd_text.specs.CoefficientText.{value_line_end}
 use Rattle.herd_report.specs.writing.RelationshipList.{AreAsked, IsAsked, absent_line, column_lines, lines_with, names_of, pair_lines, partners_of, relationship_line}
-use Rattle.herd_report.specs.writing.Text.{AppendsFront, PassesOn}
+use Rattle.herd_text.specs.Text.{AppendsFront, PassesOn}
 
 -- ---- how their text grows
 
@@ -47,6 +47,21 @@ asked_more rows numbers asked one is are =
           ∙ ap (λ more. filter test numbers ++ more) (sym kept) ∙ sym (filter-append test numbers (one.number ∷ []));
       each = All-push (IsAsked rows) asked one are.each is;
     }
+
+-- the number of the animal at a place
+pub names-at : (asked : List Asked) (place : ℕ) (one : Asked) → slice_get asked place ≡ Some one → slice_get (names_of asked) place ≡ Some one.number
+names-at asked place one there = slice_get-map (λ (animal : Asked). animal.number) asked place ∙ ap (option_map (λ (animal : Asked). animal.number)) there
+
+-- each of them is one of the numbers
+pub asked_named : (rows : List Row) (numbers : List (List ℕ)) (asked : List Asked) (place : ℕ) (one : Asked) → AreAsked rows numbers asked
+    → slice_get asked place ≡ Some one → Contains numbers one.number
+asked_named rows numbers asked place one are there =
+    let each : All (Contains numbers) (names_of asked) =
+    subst (λ names. All (Contains numbers) names) (sym are.names)
+    (All-filter (is_there (book_of rows)) (Contains numbers) numbers (All-contains_itself numbers)) in
+    let at : slice_get (names_of asked) place ≡ Some one.number = names-at asked place one there in
+    subst (λ name. Contains numbers name) (get_or_from_slice_get (names_of asked) place one.number one.number at)
+    (All-get_or (Contains numbers) (names_of asked) place one.number (slice_get_within (names_of asked) place one.number at) each)
 
 -- none of no numbers
 pub asked_nothing : (rows : List Row) (asked : List Asked) → asked ≡ [] → AreAsked rows [] asked
@@ -83,10 +98,6 @@ partners-names : (among : Bool) (others asked : List Asked) (place : ℕ)
     → names_of (partners_of among others (drop place asked)) ≡ partners_of among (names_of others) (drop place (names_of asked))
 partners-names true others asked place = sym (drop-map (λ (animal : Asked). animal.number) place asked)
 partners-names false others asked place = refl
-
--- the number of the animal at a place
-pub names-at : (asked : List Asked) (place : ℕ) (one : Asked) → slice_get asked place ≡ Some one → slice_get (names_of asked) place ≡ Some one.number
-names-at asked place one there = slice_get-map (λ (animal : Asked). animal.number) asked place ∙ ap (option_map (λ (animal : Asked). animal.number)) there
 
 -- the lines of the first that is left, and those of the rest
 pub pair_lines-next : (book : Book) (among : Bool) (others asked : List Asked) (place : ℕ) (first : Asked) → slice_get asked place ≡ Some first

@@ -6,7 +6,7 @@ use Rattle.herd_register.specs.declared.reply.Reply.{Reply}
 use Rattle.herd_register.specs.declared.reply.Reply.TheVariants.{Accepted, Refused}
 use Rattle.herd_register.specs.declared.step.Step.{Step}
 use Rattle.herd_report.specs.writing.Replies.{reply_line, reply_line_end, reply_lines_from}
-use Rattle.herd_report.proofs.lemmas.writing.TextFacts.{some_after}
+use Rattle.herd_text.proofs.lemmas.TextFacts.{some_after}
 
 -- the line of the step at a place, and those after it
 pub reply_lines_from-drop : (steps : List Step) (place : ℕ) (step : Step) → place < length steps → step ≡ get_or steps place step

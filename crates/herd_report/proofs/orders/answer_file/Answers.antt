@@ -5,7 +5,7 @@ use Rattle.herd_register.specs.Limits.{Limits}
 use Rattle.herd_register.specs.Register.{Register}
 use Rattle.herd_register.specs.Run.{commands_of}
 use Rattle.herd_report.specs.reading.CommandFile.{IsRead, commands}
-use Rattle.herd_report.proofs.lemmas.Exits.{if_err}
+use Rattle.herd_text.proofs.lemmas.Exits.{if_err}
 use Rattle.herd_report.proofs.RunFacts.{stops_replying}
 use Rattle.herd_report.proofs.orders.answer_file.Goals as goal
 

@@ -1,11 +1,12 @@
 -- What was read and filed is what the file says.
-use Rattle.std.proofs.Common.{◌≡◌, ◌∙◌, ℕ, None, Some, ap, inl, refl, subst}
+use Rattle.std.proofs.Common.{◌≡◌, ◌∙◌, ℕ, List, length, None, Some, ap, inl, refl, subst}
 use Rattle.std.proofs.lemmas.Option.{IfSome_then}
 use Rattle.herd_frozen.specs.freezing.Frozen.{IsFrozenFrom}
 use Rattle.herd_frozen.specs.declared.TheConstants.{DEPTH_LIMIT, MOST_ANIMALS}
 use Rattle.herd_register.specs.Limits.{Limits}
 use Rattle.herd_register.specs.Register.{Register, register_book}
 use Rattle.herd_register.specs.Run.{commands_of}
+use Rattle.herd_register.specs.declared.step.Step.{Step}
 use Rattle.herd_report.specs.reading.CommandFile.{IsRead, IsReadUpTo, commands}
 use Rattle.herd_report.specs.Run.{HasFiled}
 use Rattle.herd_report.proofs.RunFacts.{frozen_file}
@@ -52,5 +53,5 @@ returns-clause-ok g c =
     let frozen : IsFrozenFrom DEPTH_LIMIT MOST_ANIMALS (register_book register) rows =
     subst (λ book. IsFrozenFrom DEPTH_LIMIT MOST_ANIMALS book rows) c.pedigree.ensures.book c.in_ok-frozen.ensures in
     IfSome_then (g.R.Read.remaining c.args.reader) (rw steps at c.in_ok-commands.ensures.opens)
-    (λ bytes given. frozen_file limits (commands bytes limits.steps) list register rows
-    (subst (λ (l : Limits). IsRead l.steps (commands bytes limits.steps) list None) same (read (commands bytes limits.steps) given)) filed frozen)
+    (λ bytes given. frozen_file limits (commands bytes limits.steps) list register (length c.journal.result.now) rows
+    (subst (λ (l : Limits). IsRead l.steps (commands bytes limits.steps) list None) same (read (commands bytes limits.steps) given)) filed (ap (λ (l : List Step). length l) c.journal.ensures.value) frozen)

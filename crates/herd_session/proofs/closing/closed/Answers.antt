@@ -15,7 +15,7 @@ returns-in-Ok-clause-begins g c =
     let some : 0 < length inspectors = grind (arith, nat_tests, c.in_ok-desks.field-0.inspectors.ok.0, c.is_empty.ensures) in
     let there : slice_get (set inspectors 0 came) 0 ≡ Some came =
     slice_get-get_or (set inspectors 0 came) 0 came (omega (arith, some, length-set inspectors 0 came)) ∙ ap Some (get_or-set_same inspectors 0 came came some) in
-    prefix_trans c.args.told.now.history came.history c.in-Ok.register.journal c.learn.ensures.that
+    prefix_trans c.args.longest_written.now.history came.history c.in-Ok.register.journal c.learn.ensures.that
     (c.in-Ok.ensures.closed.inspectors_begin 0 came there)
 
 pub returns-in-Ok-clause-desks : goal.returns-in-Ok-clause-desks
@@ -24,5 +24,5 @@ returns-in-Ok-clause-desks g c =
     let desks = c.in_ok-desks.field-0.desks.items in (
       map (λ (d : Desk _ _). d.number) desks,
       journal_of_desks g.N.SessionName.records c.in-Ok.register.journal desks (rw c.in_ok-desks.was at c.requires)
-          closed.sum closed.each closed.desks_begin,
+          closed.sum closed.each closed.desks_begin closed.apart,
     )

@@ -2,7 +2,7 @@
 use Rattle.std.proofs.Common.{◌≡◌, ◌∙◌, ◌++◌, List, ℕ, ap, decimal, length, rules, subst}
 use Rattle.std.specs.Prelude.{OnErr, codes}
 use Rattle.herd_register.specs.Register.{register_book}
-use Rattle.herd_report.specs.writing.Text.{PassesOn}
+use Rattle.herd_text.specs.Text.{PassesOn}
 use Rattle.herd_session.proofs.PieceFacts.{joined_four}
 use Rattle.herd_session.specs.Closing.{last_line}
 use Rattle.herd_session.proofs.closing.write_last_line.Goals as goal

@@ -1,6 +1,6 @@
 -- A record more was read.
 use Rattle.csv.specs.Records.{fields_of}
-use Rattle.herd_report.specs.reading.Upcoming.{upcoming}
+use Rattle.csv_records.specs.Upcoming.{upcoming}
 use Rattle.herd_session.proofs.IntakeFacts.{taken_if_known}
 use Rattle.herd_session.proofs.intake.take_each.Goals as goal
 

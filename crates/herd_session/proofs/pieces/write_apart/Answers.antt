@@ -2,8 +2,8 @@
 use Rattle.std.proofs.Common.{◌++◌, [], List, ℕ, Bor}
 use Rattle.std.proofs.KnownBytes.{Appends-kept}
 use Rattle.std.specs.List.{flat_map}
-use Rattle.herd_report.proofs.lemmas.Exits.{on_err}
-use Rattle.herd_report.proofs.lemmas.writing.TextFacts.{passes_before}
+use Rattle.herd_text.proofs.lemmas.Exits.{on_err}
+use Rattle.herd_text.proofs.lemmas.TextFacts.{passes_before}
 use Rattle.herd_session.proofs.PieceFacts.{on_ok, passed_behind, passed_whole}
 use Rattle.herd_session.proofs.pieces.write_apart.Goals as goal
 

@@ -1,5 +1,5 @@
 -- A front of the piece that wasn't written to its end, behind those before it.
-use Rattle.herd_report.proofs.lemmas.Exits.{on_err}
+use Rattle.herd_text.proofs.lemmas.Exits.{on_err}
 use Rattle.herd_session.proofs.PieceFacts.{passed_within}
 use Rattle.herd_session.proofs.pieces.write_each.Goals as goal
 

@@ -1,7 +1,7 @@
 -- A number more, and the fields behind it.
 use Rattle.std.proofs.Common.{◌≡◌, ◌∙◌, ◌+◌, ◌<◌, ◌++◌, ◌∷◌, [], List, ℕ, suc, ap, append_assoc, arith, drop, length, rules, sym}
 use Rattle.csv.specs.Records.{fields_of}
-use Rattle.herd_report.specs.reading.Grammar.{field}
+use Rattle.csv_records.specs.Fields.{field}
 use Rattle.herd_session.proofs.FieldFacts.{drop_field}
 use Rattle.herd_session.proofs.question.numbers_from.Goals as goal
 

@@ -1,5 +1,5 @@
 -- The texts are those under the id.
-use Rattle.std.proofs.Common.{◌≡◌, ◌==◌, Bor, List, ap, length, map, not, refl, sym, ℕ}
+use Rattle.std.proofs.Common.{◌≡◌, Bor, List, ap, length, map, not, refl, ℕ}
 use Rattle.std.proofs.lemmas.List.{length-map}
 use Rattle.clap.specs.Words.{found_of, rows_of}
 use Rattle.herdbook.specs.Words.{texts_of}

@@ -1,6 +1,6 @@
 -- What was done for a request ends the program.
 use Rattle.herdbook.specs.declared.arguments.Request.TheVariants.{File}
-use Rattle.herdbook.proofs.ProgramFacts.{ended-pedigree, ended-run, ended-words, ended-session, possible-pedigree, possible-run, possible-session}
+use Rattle.herdbook.proofs.ProgramFacts.{ended-check, ended-pedigree, ended-run, ended-words, ended-session, possible-check, possible-pedigree, possible-run, possible-session}
 use Rattle.herdbook.proofs.program.carry_out.Goals as goal
 
 pub returns-in-Ok-File-clause-ended : goal.returns-in-Ok-File-clause-ended
@@ -12,6 +12,16 @@ pub returns-in-Ok-File-clause-possible : goal.returns-in-Ok-File-clause-possible
 returns-in-Ok-File-clause-possible g c =
     let asked = rw c.in-Ok-File.field-0-is at c.in-Ok-File.ensures.asked in
     rw c.of_run.ensures (possible-run _ (File c.in-Ok-File.book) c.answer_file.result c.in-Ok-File.ensures.taken asked c.answer_file.ensures.fault)
+
+pub returns-in-Ok-Check-clause-ended : goal.returns-in-Ok-Check-clause-ended
+returns-in-Ok-Check-clause-ended g c =
+    let asked = rw c.in-Ok-Check.field-0-is at c.in-Ok-Check.ensures.asked in
+    rw c.of_check.ensures (ended-check (g.R.Read.remaining c.args.reader) _ _ _ c.in-Ok-Check.plan c.answer_certificate.result c.in-Ok-Check.ensures.taken asked c.answer_certificate.ensures.told c.answer_certificate.ensures.early)
+
+pub returns-in-Ok-Check-clause-possible : goal.returns-in-Ok-Check-clause-possible
+returns-in-Ok-Check-clause-possible g c =
+    let asked = rw c.in-Ok-Check.field-0-is at c.in-Ok-Check.ensures.asked in
+    rw c.of_check.ensures (possible-check _ c.in-Ok-Check.plan c.answer_certificate.result c.in-Ok-Check.ensures.taken asked)
 
 pub returns-in-Ok-Session-clause-ended : goal.returns-in-Ok-Session-clause-ended
 returns-in-Ok-Session-clause-ended g c =

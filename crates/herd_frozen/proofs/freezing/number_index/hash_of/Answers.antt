@@ -1,8 +1,8 @@
 -- `hash_of`: its result.
-use Rattle.std.proofs.Common.{refl}
+use Rattle.std.proofs.Common.{rules}
 use Rattle.herd_frozen.specs.freezing.NumberIndex.{hash_of}
 use Rattle.herd_frozen.proofs.freezing.number_index.hash_of.Goals as goal
 
 pub returns : goal.returns
 unfolding hash_of
-returns c = rw (c.finish.ensures, c.hash.ensures, c.default-hasher.ensures) refl
+returns c = search rules

@@ -1,7 +1,6 @@
 -- `Pending::take_nearest`: its clauses `found`, `nearest`, `taken` and `empty`.
-use Rattle.std.proofs.Common.{ℕ, List, ◌+◌, ◌*◌, ◌/◌, ◌%◌, ◌<◌, ◌≤◌, ◌≡◌, ⊎_elim, length, get_or, set, arith, ap, subst}
+use Rattle.std.proofs.Common.{ℕ, List, ◌+◌, ◌*◌, ◌<◌, ◌≤◌, ◌≡◌, ⊎_elim, length, set, arith, ap, subst}
 use Rattle.std.proofs.lemmas.Bool.{cases_lt}
-use Rattle.std.proofs.lemmas.Nat.Bits.{bit_at-lt}
 use Rattle.herd_kinship.specs.Pending.{mark}
 use Rattle.std.proofs.lemmas.List.{get_or_read}
 use Rattle.herd_kinship.proofs.lemmas.numbers.PendingFacts.{IsNearest, nearest-cleared}

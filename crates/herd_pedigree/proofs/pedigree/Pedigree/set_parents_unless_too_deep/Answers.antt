@@ -12,7 +12,8 @@ use Rattle.herd_frozen.specs.places.Places.{IsIndexIn}
 use Rattle.herd_pedigree.specs.Pedigree.{IsCorrection, IsFaultWith, changed_to}
 use Rattle.herd_frozen.specs.declared.rules.parent_fault.ParentFault.{ParentFault}
 use Rattle.herd_frozen.specs.declared.rules.parent_fault.ParentFault.TheVariants.{TooDeep}
-use Rattle.herd_pedigree.specs.store.Exchange.{IsSettled, exchanged}
+use Rattle.herd_pedigree.specs.store.Carrying.{IsSettled}
+use Rattle.herd_pedigree.specs.store.Exchange.{exchanged}
 use Rattle.herd_pedigree.specs.store.Records.{IsStoredAt, animal_of, set_value_at}
 use Rattle.herd_pedigree.specs.store.Undo.{IsHeld, TakesBack}
 use Rattle.herd_frozen.specs.declared.TheConstants.{DEPTH_LIMIT, MOST_ANIMALS}

@@ -1,7 +1,7 @@
 use Rattle.std.proofs.Common.{◌≡◌}
 use Rattle.herd_lineage.specs.Lineage.{level_of}
 use Rattle.herd_lineage.specs.declared.TheConstants.{DEPTH_LIMIT}
-use Rattle.herd_kinship.specs.CalfCoefficients.{IsReady}
+use Rattle.herd_kinship.specs.Mates.{IsReady}
 use Rattle.herd_pool.specs.Levels.{block_of}
 use Rattle.herd_pool.specs.Sires.{AreCalvesAmong}
 use Rattle.herd_pool.proofs.sires.SireLevelWork.compute.Given as goal

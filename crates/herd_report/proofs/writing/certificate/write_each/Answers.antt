@@ -1,9 +1,12 @@
--- `write_each`: its loop and its clause `err`.
+-- `write_each`: what `push_certificate_under` requires, its loop and its clause `err`.
+use Rattle.std.proofs.Common.{sym}
 use Rattle.std.proofs.lemmas.Result.{on_err_weaker}
+use Rattle.herd_advice.proofs.lemmas.FrozenFacts.{known-one}
+use Rattle.herd_frozen.specs.declared.TheConstants.{DEPTH_LIMIT}
 use Rattle.herd_frozen.proofs.lemmas.ListFacts.{slice_get-item}
-use Rattle.herd_report.proofs.lemmas.Exits.{on_err}
-use Rattle.herd_report.proofs.lemmas.writing.TextFacts.{front_passed, front_waiting, holds_passed}
-use Rattle.herd_report.proofs.lemmas.writing.Pieces.{holds_element, some_left}
+use Rattle.herd_text.proofs.lemmas.Exits.{on_err}
+use Rattle.herd_text.proofs.lemmas.TextFacts.{front_passed, front_waiting, holds_passed}
+use Rattle.herd_text.proofs.lemmas.Pieces.{holds_element, some_left}
 use Rattle.herd_report.specs.writing.Certificate.{certificate_of}
 use Rattle.herd_report.proofs.writing.certificate.write_each.Goals as goal
 
@@ -17,6 +20,11 @@ returns-in_err-push_certificate_under-clause-err g c =
     let there = slice_get-item numbers place c.number-item.result c.loop-number-test.true c.number-item.is in
     let some = some_left (certificate_of c.args.frozen.now) numbers place c.number-item.result there c.in_err-push_certificate_under.ensures.some in
     on_err c.from_residual-in_err-push_certificate_under.result (front_passed (holds_passed c.loop-number.invariant c.in_ok-pass_on.ensures.ok) some)
+
+pub push_certificate_under-requires : goal.push_certificate_under-requires
+push_certificate_under-requires g c =
+    known-one DEPTH_LIMIT c.args.frozen.now c.args.numbers.now c.args.coefficients.now c.requires c.number-item.result
+    (c.loop-number.number-index, c.loop-number-test.true, sym c.number-item.is)
 
 pub loop-number-preserved : goal.loop-number-preserved
 loop-number-preserved g c =

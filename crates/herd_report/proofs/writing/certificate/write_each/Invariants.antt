@@ -1,6 +1,6 @@
 -- `write_each`: what was written, what waits and the certificates of the numbers that are left are the whole text.
 use Rattle.std.proofs.Common.{drop}
-use Rattle.herd_report.proofs.lemmas.writing.TextFacts.{Holds}
+use Rattle.herd_text.proofs.lemmas.TextFacts.{Holds}
 use Rattle.herd_report.specs.writing.Certificate.{certificates_of}
 use Rattle.herd_report.proofs.writing.certificate.write_each.Given as goal
 

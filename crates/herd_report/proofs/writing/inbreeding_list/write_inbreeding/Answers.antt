@@ -5,12 +5,12 @@ use Rattle.herd_frozen.specs.declared.TheConstants.{DEPTH_LIMIT}
 use Rattle.herd_frozen.specs.declared.freezing.frozen.Row.{Row}
 use Rattle.herd_advice.specs.FrozenAncestry.{ancestry_of}
 use Rattle.herd_kinship.specs.Table.{coefficient}
-use Rattle.herd_report.proofs.lemmas.Exits.{on_err}
+use Rattle.herd_text.proofs.lemmas.Exits.{on_err}
 use Rattle.herd_report.proofs.lemmas.writing.CertificateFacts.{row_at_rank}
 use Rattle.herd_report.proofs.lemmas.writing.CoefficientFacts.{numerator_is, some_coefficient_line}
-use Rattle.herd_report.proofs.lemmas.writing.TextFacts.{front_passed, front_waiting, holds_passed}
-use Rattle.herd_report.proofs.lemmas.writing.Pieces.{holds_element, some_left}
-use Rattle.herd_report.specs.writing.CoefficientText.{coefficient_line}
+use Rattle.herd_text.proofs.lemmas.TextFacts.{front_passed, front_waiting, holds_passed}
+use Rattle.herd_text.proofs.lemmas.Pieces.{holds_element, some_left}
+use Rattle.herd_report.specs.writing.CoefficientLine.{coefficient_line}
 use Rattle.herd_report.proofs.writing.inbreeding_list.write_inbreeding.Goals as goal
 
 pub returns-in_err-pass_on-clause-err : goal.returns-in_err-pass_on-clause-err

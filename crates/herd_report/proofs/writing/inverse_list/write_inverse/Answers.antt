@@ -5,9 +5,9 @@ use Rattle.std.proofs.lemmas.List.{drop_all}
 use Rattle.std.proofs.lemmas.List.FromFn.{length-range_with_len}
 use Rattle.std.proofs.lemmas.Result.{on_err_weaker, on_ok_weaker}
 use Rattle.herd_frozen.proofs.lemmas.ListFacts.{slice_get-range}
-use Rattle.herd_report.proofs.lemmas.Exits.{on_err}
-use Rattle.herd_report.proofs.lemmas.writing.TextFacts.{appends_waiting, front_passed, front_waiting, holds_passed}
-use Rattle.herd_report.proofs.lemmas.writing.Pieces.{holds_element, some_left}
+use Rattle.herd_text.proofs.lemmas.Exits.{on_err}
+use Rattle.herd_text.proofs.lemmas.TextFacts.{appends_waiting, front_passed, front_waiting, holds_passed}
+use Rattle.herd_text.proofs.lemmas.Pieces.{holds_element, some_left}
 use Rattle.herd_report.proofs.lemmas.writing.ContributionFacts.{some_contributions_text}
 use Rattle.herd_report.specs.writing.InverseList.{contributions_text}
 use Rattle.herd_report.proofs.writing.inverse_list.write_inverse.Goals as goal

@@ -1,6 +1,6 @@
 use Rattle.std.proofs.Common.{drop, length}
 use Rattle.std.specs.List.{flat_map, range_with_len}
-use Rattle.herd_report.proofs.lemmas.writing.TextFacts.{Holds}
+use Rattle.herd_text.proofs.lemmas.TextFacts.{Holds}
 use Rattle.herd_report.specs.writing.InverseList.{contributions_text, inverse_text}
 use Rattle.herd_report.proofs.writing.inverse_list.write_inverse.Given as goal
 

@@ -1,9 +1,9 @@
 -- `write_advice`: its loop and its clause `err`.
 use Rattle.std.proofs.lemmas.Result.{on_err_weaker}
 use Rattle.herd_frozen.proofs.lemmas.ListFacts.{slice_get-item}
-use Rattle.herd_report.proofs.lemmas.Exits.{on_err}
-use Rattle.herd_report.proofs.lemmas.writing.TextFacts.{front_passed, front_waiting, holds_passed}
-use Rattle.herd_report.proofs.lemmas.writing.Pieces.{holds_element, some_left}
+use Rattle.herd_text.proofs.lemmas.Exits.{on_err}
+use Rattle.herd_text.proofs.lemmas.TextFacts.{front_passed, front_waiting, holds_passed}
+use Rattle.herd_text.proofs.lemmas.Pieces.{holds_element, some_left}
 use Rattle.herd_report.proofs.lemmas.writing.MatingFacts.{some_mating_line}
 use Rattle.herd_report.specs.writing.MatingList.{mating_line}
 use Rattle.herd_report.proofs.writing.mating_list.write_advice.Goals as goal

@@ -1,6 +1,6 @@
 -- `write_advice`: what was written, what waits and the lines of the sires that are left are the whole text.
 use Rattle.std.proofs.Common.{drop}
-use Rattle.herd_report.proofs.lemmas.writing.TextFacts.{Holds}
+use Rattle.herd_text.proofs.lemmas.TextFacts.{Holds}
 use Rattle.herd_report.specs.writing.MatingList.{mating_text}
 use Rattle.herd_report.proofs.writing.mating_list.write_advice.Given as goal
 

@@ -1,8 +1,8 @@
 -- `write_mating`: its clause `err` where there is no memory for the dam's relationships.
 use Rattle.std.proofs.Common.{arith}
 use Rattle.herd_frozen.specs.freezing.Frozen.{book_of}
-use Rattle.herd_report.proofs.lemmas.Exits.{on_err}
-use Rattle.herd_report.proofs.lemmas.writing.TextFacts.{front_nothing}
+use Rattle.herd_text.proofs.lemmas.Exits.{on_err}
+use Rattle.herd_text.proofs.lemmas.TextFacts.{front_nothing}
 use Rattle.herd_report.proofs.lemmas.writing.MatingFacts.{some_mating_text}
 use Rattle.herd_report.proofs.writing.mating_list.write_mating.Goals as goal
 

@@ -1,7 +1,7 @@
 -- The line at the rank of a number is that of the number, and isn't empty; a number that isn't there has none.
 use Rattle.std.proofs.Common.{ℕ, ◌<◌, List, length, subst}
 use Rattle.herd_frozen.specs.freezing.Frozen.{book_of}
-use Rattle.herd_report.proofs.lemmas.Exits.{on_err}
+use Rattle.herd_text.proofs.lemmas.Exits.{on_err}
 use Rattle.herd_report.proofs.lemmas.writing.RecordFacts.{line_at_rank, no_line, some_record_line}
 use Rattle.herd_report.proofs.writing.record_list.push_line_under.Goals as goal
 

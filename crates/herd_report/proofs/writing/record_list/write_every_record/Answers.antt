@@ -1,11 +1,11 @@
 -- `write_every_record`: its loop and its clause `err`.
 use Rattle.std.proofs.lemmas.Result.{on_err_weaker}
 use Rattle.herd_frozen.specs.declared.freezing.frozen.Row.{Row}
-use Rattle.herd_report.proofs.lemmas.Exits.{on_err}
-use Rattle.herd_report.proofs.lemmas.writing.TextFacts.{front_passed, front_waiting, holds_passed}
-use Rattle.herd_report.proofs.lemmas.writing.Pieces.{holds_element, some_left}
+use Rattle.herd_text.proofs.lemmas.Exits.{on_err}
+use Rattle.herd_text.proofs.lemmas.TextFacts.{front_passed, front_waiting, holds_passed}
+use Rattle.herd_text.proofs.lemmas.Pieces.{holds_element, some_left}
 use Rattle.herd_report.proofs.lemmas.writing.RecordFacts.{some_record_line}
-use Rattle.herd_report.specs.writing.RecordLine.{record_line}
+use Rattle.herd_record_line.specs.RecordLine.{record_line}
 use Rattle.herd_report.proofs.writing.record_list.write_every_record.Goals as goal
 
 pub returns-in_err-pass_on-clause-err : goal.returns-in_err-pass_on-clause-err

@@ -1,6 +1,6 @@
 -- `write_every_record`: what was written, what waits and the lines of the animals that are left are the whole text.
 use Rattle.std.proofs.Common.{drop}
-use Rattle.herd_report.proofs.lemmas.writing.TextFacts.{Holds}
+use Rattle.herd_text.proofs.lemmas.TextFacts.{Holds}
 use Rattle.herd_report.specs.writing.RecordList.{every_record}
 use Rattle.herd_report.proofs.writing.record_list.write_every_record.Given as goal
 

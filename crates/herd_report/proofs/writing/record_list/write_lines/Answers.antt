@@ -2,9 +2,9 @@
 use Rattle.std.proofs.lemmas.Result.{on_err_weaker}
 use Rattle.herd_frozen.proofs.lemmas.ListFacts.{slice_get-item}
 use Rattle.herd_frozen.specs.freezing.Frozen.{book_of}
-use Rattle.herd_report.proofs.lemmas.Exits.{on_err}
-use Rattle.herd_report.proofs.lemmas.writing.TextFacts.{front_passed, front_waiting, holds_passed}
-use Rattle.herd_report.proofs.lemmas.writing.Pieces.{holds_element, some_left}
+use Rattle.herd_text.proofs.lemmas.Exits.{on_err}
+use Rattle.herd_text.proofs.lemmas.TextFacts.{front_passed, front_waiting, holds_passed}
+use Rattle.herd_text.proofs.lemmas.Pieces.{holds_element, some_left}
 use Rattle.herd_report.specs.writing.RecordList.{line_under}
 use Rattle.herd_report.proofs.writing.record_list.write_lines.Goals as goal
 

@@ -2,7 +2,7 @@
 use Rattle.std.proofs.Common.{drop}
 use Rattle.std.specs.List.{flat_map}
 use Rattle.herd_frozen.specs.freezing.Frozen.{book_of}
-use Rattle.herd_report.proofs.lemmas.writing.TextFacts.{Holds}
+use Rattle.herd_text.proofs.lemmas.TextFacts.{Holds}
 use Rattle.herd_report.specs.writing.RecordList.{line_under}
 use Rattle.herd_report.proofs.writing.record_list.write_lines.Given as goal
 

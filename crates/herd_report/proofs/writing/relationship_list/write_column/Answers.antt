@@ -1,9 +1,9 @@
 -- `write_column`: its loop.
 use Rattle.std.proofs.Common.{slice_index}
 use Rattle.herd_frozen.proofs.lemmas.ListFacts.{slice_get-item}
-use Rattle.herd_report.proofs.lemmas.Exits.{on_err}
-use Rattle.herd_report.proofs.lemmas.writing.TextFacts.{front_passed, front_waiting, holds_passed}
-use Rattle.herd_report.proofs.lemmas.writing.Pieces.{holds_element, some_left}
+use Rattle.herd_text.proofs.lemmas.Exits.{on_err}
+use Rattle.herd_text.proofs.lemmas.TextFacts.{front_passed, front_waiting, holds_passed}
+use Rattle.herd_text.proofs.lemmas.Pieces.{holds_element, some_left}
 use Rattle.herd_report.proofs.lemmas.writing.RelationshipFacts.{holds_made, some_relationship_line}
 use Rattle.herd_report.specs.declared.writing.relationship_list.Asked.{Asked}
 use Rattle.herd_report.specs.writing.RelationshipList.{column_lines, relationship_line}

@@ -1,6 +1,6 @@
 -- `write_column`: what was written, what waits and the lines with the partners that are left are the whole text.
 use Rattle.std.proofs.Common.{◌++◌, drop}
-use Rattle.herd_report.proofs.lemmas.writing.TextFacts.{Holds}
+use Rattle.herd_text.proofs.lemmas.TextFacts.{Holds}
 use Rattle.herd_report.specs.writing.RelationshipList.{column_lines}
 use Rattle.herd_report.proofs.writing.relationship_list.write_column.Given as goal
 

@@ -2,8 +2,8 @@
 use Rattle.std.proofs.Common.{◌<◌, length, arith}
 use Rattle.std.proofs.lemmas.List.{length-map}
 use Rattle.herd_frozen.specs.freezing.Frozen.{book_of}
-use Rattle.herd_report.proofs.lemmas.Exits.{on_err}
-use Rattle.herd_report.proofs.lemmas.writing.TextFacts.{front_nothing, some_after}
+use Rattle.herd_text.proofs.lemmas.Exits.{on_err}
+use Rattle.herd_text.proofs.lemmas.TextFacts.{front_nothing, some_after}
 use Rattle.herd_report.proofs.lemmas.writing.RelationshipFacts.{column_lines-are, some_lines_with, within-column}
 use Rattle.herd_report.specs.declared.writing.relationship_list.Asked.{Asked}
 use Rattle.herd_report.specs.writing.RelationshipList.{lines_with, names_of}

@@ -1,7 +1,7 @@
 -- `write_relationships`: what was written, what waits and the lines of the animals that are left are the whole text.
 use Rattle.std.proofs.Common.{◌==◌, drop, length}
 use Rattle.herd_frozen.specs.freezing.Frozen.{book_of}
-use Rattle.herd_report.proofs.lemmas.writing.TextFacts.{Holds}
+use Rattle.herd_text.proofs.lemmas.TextFacts.{Holds}
 use Rattle.herd_report.specs.writing.RelationshipList.{names_of, pair_lines, relationships_text}
 use Rattle.herd_report.proofs.writing.relationship_list.write_relationships.Given as goal
 

@@ -1,8 +1,8 @@
 -- `write_replies`: its loop and its clause `err`.
 use Rattle.std.proofs.Common.{◌+◌, drop}
 use Rattle.std.proofs.lemmas.Result.{on_err_weaker}
-use Rattle.herd_report.proofs.lemmas.Exits.{on_err}
-use Rattle.herd_report.proofs.lemmas.writing.TextFacts.{front_passed, front_waiting, holds_passed, holds_piece, some_before}
+use Rattle.herd_text.proofs.lemmas.Exits.{on_err}
+use Rattle.herd_text.proofs.lemmas.TextFacts.{front_passed, front_waiting, holds_passed, holds_piece, some_before}
 use Rattle.herd_report.proofs.lemmas.writing.ReplyLines.{reply_lines_from-drop, some_reply_line}
 use Rattle.herd_report.specs.writing.Replies.{reply_line, reply_lines_from}
 use Rattle.herd_report.proofs.writing.replies.write_replies.Goals as goal

@@ -21,7 +21,7 @@ invariant_of-self-2 g c =
     let task = c.args.task.now in
     let old = c.args.self.now.desk in
     let told = c.in_ok-filed.ensures in
-    let mine : task.desk ≡ old.number = grind (arith, nat_tests, c.from.ensures, c.number.ensures.value) in
+    let mine : task.number ≡ old.number = grind (arith, nat_tests, c.from.ensures, c.number.ensures.value) in
     let later : c.args.self.now.next ≤ task.before = grind (arith, nat_tests) in
     record {
       filed =
@@ -32,6 +32,6 @@ invariant_of-self-2 g c =
           filed_below_more records c.args.self.now.next task.before task.tag old c.file.new.desk c.in_ok-command.command
           c.in_ok-filed.filed.reply later
           (subst (λ n. IsAskedOfDesk records task.before n task.tag (Ok c.in_ok-command.command)) mine
-          (subst (IsAskedOfDesk records task.before task.desk task.tag) c.in_ok-command.was asked))
+          (subst (IsAskedOfDesk records task.before task.number task.tag) c.in_ok-command.was asked))
           told.number told.answered told.begins told.longer (rw told.held told.ends) was));
     }

@@ -7,4 +7,4 @@ use Rattle.herd_session.proofs.output.Output.answer.Goals as goal
 pub write-requires : goal.write-requires
 write-requires g c =
     subst (λ (t : List ℕ). ∥ IsAnswer g.N.OfficeName.limits g.N.SessionName.records c.args.answer.now.of.history t ∥₁)
-    (sym (append-nil c.as_slice.result.now ∙ c.as_slice.ensures.value)) c.args.answer.now.told
+    (sym (append-nil c.as_slice.result.now ∙ c.as_slice.ensures.value)) c.args.answer.now.answers

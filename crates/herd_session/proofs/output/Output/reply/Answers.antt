@@ -24,7 +24,7 @@ write-requires g c =
     ∙ sym (append_assoc task.tag (codes ",") (reply_line steps Accepted)) in
     ∥∥₁_map task.asked
     (λ asked.
-    reply_answers g.N.OfficeName.limits g.N.SessionName.records task.before task.desk task.tag task.wanted filed.slip.history filed.reply text
+    reply_answers g.N.OfficeName.limits g.N.SessionName.records task.before task.number task.tag task.wanted filed.slip.history filed.reply text
     asked c.requires.wanted c.requires.ends c.requires.legal
     (subst (λ (r : Reply). text ≡ reply_text task.tag steps r) (sym c.in-Accepted.is) told))
 
@@ -46,6 +46,6 @@ write-requires-in-Refused g c =
     ∙ sym (append_assoc task.tag (codes ",") (reply_line steps (Refused refusal))) in
     ∥∥₁_map task.asked
     (λ asked.
-    reply_answers g.N.OfficeName.limits g.N.SessionName.records task.before task.desk task.tag task.wanted filed.slip.history filed.reply text
+    reply_answers g.N.OfficeName.limits g.N.SessionName.records task.before task.number task.tag task.wanted filed.slip.history filed.reply text
     asked c.requires.wanted c.requires.ends c.requires.legal
     (subst (λ (r : Reply). text ≡ reply_text task.tag steps r) (sym c.in-Refused.is) told))

@@ -13,7 +13,7 @@ invariant_of-self g c =
       answers =
           ∥∥₁_map self.answers
           (λ has.
-          has_later g.N.OfficeName.limits g.N.SessionName.records self.told.history c.learn.new.self.history self.has_failed
+          has_later g.N.OfficeName.limits g.N.SessionName.records self.longest_written.history c.learn.new.self.history self.has_failed
           g.N.SessionName.before (g.W.Write.contents self.writer) self.waiting.items c.learn.ensures.this has);
     }
 
@@ -34,8 +34,8 @@ invariant_of-self-2 g c =
           (λ has.
           ∥∥₁_map c.requires
           (λ told.
-          has_written c.write_pieces-written.result limits records self.told.history c.args.of.now.history c.learn.new.self.history before now
+          has_written c.write_pieces-written.result limits records self.longest_written.history c.args.of.now.history c.learn.new.self.history before now
           (g.W.Write.contents c.write_pieces-written.new.writer) self.waiting.items text c.write_pieces-written.new.waiting.items
-          (subst (λ (f : Bool). HasAnswers limits records self.told.history f before now self.waiting.items) sound has)
+          (subst (λ (f : Bool). HasAnswers limits records self.longest_written.history f before now self.waiting.items) sound has)
           c.learn.ensures.this told c.learn.ensures.that c.write_pieces-written.ensures.ok c.write_pieces-written.ensures.err)));
     }

@@ -3,7 +3,7 @@ use Rattle.std.proofs.Common.{rules, refl, sym, ap, ◌∙◌, subst, arith, ℕ
 use Rattle.std.proofs.lemmas.Bool.{lt-ltb}
 use Rattle.std.proofs.lemmas.List.{append-nil, length-set}
 use Rattle.herd_pedigree.specs.store.Correction.{corrected}
-use Rattle.herd_pedigree.specs.store.Exchange.{IsSettled, HavePaths}
+use Rattle.herd_pedigree.specs.store.Carrying.{IsSettled, HavePaths}
 use Rattle.herd_frozen.specs.declared.TheConstants.{DEPTH_LIMIT}
 use Rattle.herd_pedigree.proofs.lemmas.store.CarryFacts.{first-path, no-paths, paths-within, some-path}
 use Rattle.herd_pedigree.proofs.store.correction.Correction.carry.Goals as goal

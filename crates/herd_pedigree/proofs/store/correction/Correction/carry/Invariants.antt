@@ -1,7 +1,7 @@
 -- All but the pending are settled, and from each of these there is a path as long as the rounds.
 use Rattle.std.proofs.Common.{◌≡◌, ℕ, List, length, slice_index}
 use Rattle.herd_pedigree.specs.store.Correction.{corrected}
-use Rattle.herd_pedigree.specs.store.Exchange.{IsSettled, HavePaths}
+use Rattle.herd_pedigree.specs.store.Carrying.{IsSettled, HavePaths}
 use Rattle.herd_pedigree.specs.store.Undo.{TakesBack}
 use Rattle.herd_frozen.specs.declared.TheConstants.{DEPTH_LIMIT}
 use Rattle.herd_pedigree.proofs.store.correction.Correction.carry.Given as goal

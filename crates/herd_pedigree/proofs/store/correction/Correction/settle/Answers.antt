@@ -4,7 +4,7 @@ use Rattle.std.proofs.lemmas.List.{drop_more, drop_all}
 use Rattle.std.proofs.lemmas.List.Elements.{All-get_or}
 use Rattle.herd_pedigree.specs.store.Correction.{corrected}
 use Rattle.herd_frozen.specs.rules.Paths.{has_path}
-use Rattle.herd_pedigree.specs.store.Exchange.{IsSettled}
+use Rattle.herd_pedigree.specs.store.Carrying.{IsSettled}
 use Rattle.herd_pedigree.specs.store.Undo.{TakesBack}
 use Rattle.herd_frozen.specs.declared.TheConstants.{DEPTH_LIMIT}
 use Rattle.herd_pedigree.proofs.lemmas.store.CarryFacts.{settled-same, settled-set, paths-calves}

@@ -1,7 +1,7 @@
 -- The places that are left are pending, and the calves that were gathered.
 use Rattle.std.proofs.Common.{◌≡◌, ℕ, List, suc, ◌++◌, length, drop, slice_index}
 use Rattle.herd_pedigree.specs.store.Correction.{corrected}
-use Rattle.herd_pedigree.specs.store.Exchange.{IsSettled, HavePaths}
+use Rattle.herd_pedigree.specs.store.Carrying.{IsSettled, HavePaths}
 use Rattle.herd_pedigree.specs.store.Undo.{TakesBack}
 use Rattle.herd_frozen.specs.declared.TheConstants.{DEPTH_LIMIT}
 use Rattle.herd_pedigree.proofs.store.correction.Correction.settle.Given as goal

@@ -1,7 +1,7 @@
 -- The record that was read is the command.
 use Rattle.std.proofs.Common.{◌≤◌, ◌+◌, ◌∙◌, sym, arith}
 use Rattle.csv.specs.Records.{fields_of}
-use Rattle.herd_report.specs.reading.Upcoming.{upcoming}
+use Rattle.csv_records.specs.Upcoming.{upcoming}
 use Rattle.herd_report.proofs.lemmas.reading.CommandReaderFacts.{takes_command}
 use Rattle.herd_report.proofs.reading.command_reader.CommandReader.read_command.Goals as goal
 

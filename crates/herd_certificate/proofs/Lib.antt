@@ -1,0 +1,2 @@
+pub mod AncestorFacts
+pub mod PartFacts

@@ -1,0 +1,3 @@
+pub mod Ancestors
+pub mod Sealed
+pub mod Parts

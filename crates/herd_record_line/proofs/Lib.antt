@@ -1,0 +1,2 @@
+pub mod CutFacts
+pub mod ReadingFacts

@@ -1,0 +1,7 @@
+pub mod RowFacts
+pub mod FieldFacts
+pub mod SoundFacts
+mod TextFacts
+mod AnswerFacts
+mod FaultFacts
+mod PartsFacts

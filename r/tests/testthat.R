@@ -1,0 +1,4 @@
+library(testthat)
+library(gudokeyi)
+
+test_check("gudokeyi")

@@ -1,0 +1,156 @@
+"""Days as people write them besides: with two digits of the year, as a spreadsheet's number, within a text, and
+seasons. What such a cell says is read, and told once for a column; nothing is inferred in its place."""
+from __future__ import annotations
+
+import collections
+import datetime
+import functools
+import re
+import statistics
+from collections.abc import Iterable
+
+from gudokeyi.domain.kinds import Field
+from gudokeyi.ingest.days import (
+    FIRST_DAY, MONTHS, NAME, NOT_THAT_YEAR, Precision, Span, Unreadable, compared, is_span, month_of, span_within,
+    year_of,
+)  # fmt: skip
+from gudokeyi.ingest.findings.columns import SheetFinding
+from gudokeyi.ingest.findings.days import DayReading, DaysReadSo
+
+
+# the days of a spreadsheet are counted from this one, and those that animals of a book may have have five digits
+EPOCH, SERIAL = datetime.date(1899, 12, 30), re.compile(r"(\d{5})(?:[.,]\d+)?")
+# a number below it may be a postal code, or that of a tag
+FIRST_SERIAL = datetime.date(1960, 1, 1)
+TWO = re.compile(
+    rf"(?P<day>\d{{1,2}})(?P<sign>[ ./-]+)(?:(?P<month>\d{{1,2}})|(?P<name>{NAME}))[ ./-]+'?(?P<year>\d{{2}})(?!\d)",
+    re.IGNORECASE,
+)
+# a list marks days that were inferred for the book
+MARKED = re.compile(r".*\((?:inferred|invented)\)")
+# the first and the last month of a season; a winter has months of two years
+SEASONS = {
+    "frühjahr frühling spring printemps": (3, 5),
+    "sommer summer été ete": (6, 8),
+    "herbst autumn fall automne": (9, 11),
+    "anfang beginning early début debut": (1, 4),
+    "mitte middle mid mi": (5, 8),
+    "ende end late fin": (9, 12),
+}
+SEASON_WORDS = {word: months for words, months in SEASONS.items() for word in words.split()}
+SEASON = re.compile(
+    rf"\b({'|'.join(SEASON_WORDS)})\b[ -]*(?:of |de |d'|du )?((?:19|20|21)\d{{2}})(?!\d)", re.IGNORECASE
+)
+# a year of four digits
+YEAR = re.compile(r"(?<!\d)(?:19|20)\d{2}(?!\d)")
+
+
+class DayForms:
+    """Reads such texts. `days` are texts of the sheet's own days, and `born` days of the book: they show the
+    century."""
+
+    def __init__(self, days: Iterable[str], born: Iterable[datetime.date], month_first: bool) -> None:
+        self.days, self.born, self.month_first, self.today = days, born, month_first, datetime.date.today()
+
+    @functools.cached_property
+    def usual_year(self) -> int:
+        """The middle of the years that the sheet and the book have."""
+        years = [int(year) for text in set(self.days) for year in YEAR.findall(text)]
+        years += [day.year for day in self.born]
+        years = [year for year in years if year <= self.today.year]
+        return int(statistics.median(years)) if years else self.today.year
+
+    def read(self, text: str) -> tuple[Span, DayReading] | None:
+        """The days of a text, and how it is read; nothing where it is read otherwise or not at all."""
+        if is_span(text) or MARKED.match(text):
+            return None
+        if (serial := self.serial(text)) or (two := TWO.fullmatch(text)) is None:
+            return (serial, DayReading.SERIAL) if serial else self.within(text)
+        day = self.two_digits(two)
+        return (day, DayReading.TWO_DIGITS) if day else None
+
+    def serial(self, text: str) -> Span | None:
+        found = SERIAL.fullmatch(text)
+        day = EPOCH + datetime.timedelta(int(found[1])) if found else FIRST_DAY
+        return Span(day, day) if FIRST_SERIAL <= day <= self.today else None
+
+    def two_digits(self, found: re.Match[str]) -> Span | None:
+        """A day of the century that is nearest to the other days; of a month that hasn't this day its days."""
+        day, month = int(found["day"]), MONTHS[compared(found["name"])] if found["name"] else int(found["month"])
+        if self.month_first and found["sign"].strip() in ("/", "-") and not found["name"]:
+            day, month = month, day
+        years = [century + int(found["year"]) for century in (1900, 2000)]
+        years = [year for year in years if year <= self.today.year]
+        year = min(years, key=lambda one: abs(one - self.usual_year))
+        if not 1 <= month <= 12:
+            return None
+        try:
+            whole = datetime.date(year, month, day)
+        except ValueError:
+            return month_of(year, month, found[0])
+        return Span(whole, whole)
+
+    def within(self, text: str) -> tuple[Span, DayReading] | None:
+        """The only day, month or season within a text; none where the text says that it isn't that one."""
+        if season := season_of(text):
+            return season, DayReading.WITHIN
+        if NOT_THAT_YEAR.search(text):
+            return None
+        two = TWO.search(text)
+        if two and not YEAR.search(text) and not re.search(r"[\w.,/-]", text[max(two.start() - 1, 0) : two.start()]):
+            day = self.two_digits(two)
+            return (day, DayReading.TWO_DIGITS) if day else None
+        span = span_within(text, self.month_first)
+        if span is None or span.precision is Precision.YEAR:
+            return None
+        return (span if span.is_day else span._replace(text=text)), DayReading.WITHIN
+
+    def can_read(self, text: str) -> bool:
+        """Is it such a day?"""
+        try:
+            return self.read(text) is not None
+        except Unreadable:
+            return False
+
+
+def not_that(before: str) -> bool:
+    """Does the word before a season say that another time is meant?"""
+    words = before.split()
+    return bool(words) and NOT_THAT_YEAR.fullmatch(words[-1]) is not None
+
+
+def season_of(text: str) -> Span | None:
+    """The days of a season of a year, as of `Frühjahr 2018`."""
+    found = SEASON.search(text)
+    if found is None or len(YEAR.findall(text)) > 1 or not_that(text[: found.start()]):
+        return None
+    (first, last), year = SEASON_WORDS[found[1].casefold()], int(found[2])
+    begin, end = month_of(year, first).first, month_of(year, last).last
+    return year_of(year, text=text)._replace(first=begin, last=end)
+
+
+def last_month(span: Span) -> Span:
+    """That of a season, on whose last day an exit is."""
+    if span.precision is Precision.YEAR and span.text and (span.first.month, span.last.month) != (1, 12):
+        return month_of(span.last.year, span.last.month)
+    return span
+
+
+class Readings:
+    """Which cells of which columns were read so."""
+
+    def __init__(self, titles: dict[str, str]) -> None:
+        self.titles = titles
+        self.counts: collections.Counter[tuple[Field, DayReading]] = collections.Counter()
+        self.first: dict[tuple[Field, DayReading], tuple[int, str, str]] = {}
+
+    def add(self, field: Field, reading: DayReading, line: int, text: str, span: Span) -> None:
+        self.counts[field, reading] += 1
+        day = span.first.isoformat() if span.is_day else span.period().text
+        self.first.setdefault((field, reading), (line, text, day))
+
+    def told(self) -> list[SheetFinding]:
+        return [
+            DaysReadSo(self.titles[field], reading, count, *self.first[field, reading])
+            for (field, reading), count in self.counts.items()
+        ]

@@ -1,0 +1,52 @@
+"""What is found of cells with days in no usual form: each kind as data, and in words."""
+from __future__ import annotations
+
+from collections.abc import Mapping
+from dataclasses import dataclass
+
+from gudokeyi.domain.messages import Worded
+from gudokeyi.domain.wording import Counted, OptionalPart
+from gudokeyi.ingest.findings.columns import SheetFinding
+
+
+class DayReading(Worded):
+    """How a text is read that has a day in no usual form."""
+
+    TWO_DIGITS = "two digits"
+    SERIAL = "serial"
+    WITHIN = "within"
+
+    def words(self) -> str:
+        return READINGS[self]
+
+
+READINGS = {
+    DayReading.TWO_DIGITS: "two digits of the year",
+    DayReading.SERIAL: "a spreadsheet's number for a day",
+    DayReading.WITHIN: "a day and a text",
+}
+
+
+@dataclass(frozen=True, slots=True)
+class DaysReadSo(SheetFinding):
+    """Cells of a column whose days are read as it is told here: how many, and the first of them."""
+
+    title: str
+    reading: DayReading
+    count: int
+    line: int
+    text: str
+    day: str
+
+    code = "days read so"
+    message = Counted(
+        "{reading} in {count} cell of the column '{title}': '{text}' in line {line} is read as {day}{maybe_more}",
+        "{reading} in {count} cells of the column '{title}': '{text}' in line {line} is read as {day}{maybe_more}",
+        "count",
+    )
+    parts = {
+        "maybe_more": OptionalPart(", and the others alike", when="are_more"),
+    }
+
+    def values(self) -> Mapping[str, object]:
+        return {"are_more": self.count > 1}

@@ -1,0 +1,127 @@
+"""What is found of rows that are read otherwise than cell by cell: each kind as data, and in words."""
+from __future__ import annotations
+
+from collections.abc import Mapping
+from dataclasses import dataclass
+
+from gudokeyi.domain.findings import Finding, Severity, Suggestion, What, is_animal
+from gudokeyi.domain.kinds import Field
+from gudokeyi.domain.wording import Counted, OptionalPart, Text
+from gudokeyi.ingest.findings.cells import RowLeftOut
+from gudokeyi.ingest.findings.columns import SheetFinding, column
+
+
+@dataclass(frozen=True, slots=True)
+class NoteRow(RowLeftOut):
+    """A row that reads like a heading or a note, and says nothing of an animal."""
+
+    text: str
+
+    code = "note row"
+    message = Text("the row is left out: '{text}' reads like a heading or a note, and the row says nothing else")
+
+    def suggestions(self) -> tuple[Suggestion, ...]:
+        return (Suggestion("if it is an animal", (is_animal(self.text),)),)
+
+
+@dataclass(frozen=True, slots=True)
+class CellsRepeated(SheetFinding):
+    """Cells with a mark that stands for the cell above: how many, the first one, and what stands above it."""
+
+    title: str
+    count: int
+    line: int
+    text: str
+    above: str
+
+    code = "cells repeated"
+    message = Counted(
+        "{count} cell of the column '{title}' repeats the one above: {text} in line {line} means '{above}'",
+        "{count} cells of the column '{title}' repeat the one above: {text} in line {line} means '{above}'",
+        "count",
+    )
+
+
+@dataclass(frozen=True, slots=True)
+class StatusRead(SheetFinding):
+    """A column of words that is read beside that of the exits: in so many rows it alone tells of one."""
+
+    title: str
+    of_exits: str
+    count: int
+
+    severity = Severity.FACTS
+    code = "status read"
+    message = Counted(
+        "the column '{title}' tells of an exit in {count} row where '{of_exits}' doesn't: its word is taken there",
+        "the column '{title}' tells of an exit in {count} rows where '{of_exits}' doesn't: its words are taken there",
+        "count",
+    )
+
+    def suggestions(self) -> tuple[Suggestion, ...]:
+        return (Suggestion(f"if '{self.title}' tells of no exits", (column(Field.STATUS, ""),)),)
+
+
+@dataclass(frozen=True, slots=True)
+class StatusDisagrees(Finding):
+    """Of an exit and a status one tells that the animal left, and the other that it lives, or they have other days."""
+
+    exit_title: str
+    exit: str
+    status_title: str
+    status: str
+    is_gone: bool = True
+
+    what = What.WARNING
+    severity = Severity.FACTS
+    code = "status disagrees"
+    message = Text(
+        "'{exit_title}' says '{exit}', and '{status_title}' says '{status}': the animal counts as gone{maybe_day}"
+    )
+    parts = {
+        "maybe_day": OptionalPart(", on the day of the first", when="has_day"),
+    }
+
+    def values(self) -> Mapping[str, object]:
+        return {"has_day": self.is_gone}
+
+
+@dataclass(frozen=True, slots=True)
+class StatusUnread(SheetFinding):
+    """A column that isn't read, and most of whose cells tell that an animal lives or left."""
+
+    title: str
+    count: int
+    texts: tuple[str, ...]
+    as_field: Field = Field.STATUS
+
+    severity = Severity.ANIMALS
+    code = "status unread"
+    message = Counted(
+        "the column '{title}' isn't read, and {count} cell of it tells that an animal lives or left: {said}",
+        "the column '{title}' isn't read, and {count} cells of it tell that animals live or left: {said}",
+        "count",
+    )
+
+    def values(self) -> Mapping[str, object]:
+        return {"said": self.texts}
+
+    def suggestions(self) -> tuple[Suggestion, ...]:
+        return (Suggestion("if it tells of exits", (column(self.as_field, self.title),)),)
+
+
+@dataclass(frozen=True, slots=True)
+class SoldWithin(Finding):
+    """An animal that was sold to an owner of the list, or of the book: it hasn't left."""
+
+    owner: str
+    before: str
+    text: str
+
+    what = What.INFERRED
+    severity = Severity.FACTS
+    code = "sold within"
+    message = Text("owner {owner}{maybe_before}, since the list has the owner that '{text}' names: it hasn't left")
+    parts = {
+        "maybe_before": OptionalPart(", before {before}"),
+    }

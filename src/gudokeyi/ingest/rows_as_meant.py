@@ -1,0 +1,224 @@
+"""The rows of a sheet as they are meant: without headings and notes between them, with the cell above in place of a
+mark that repeats it, and with what a column of words such as `Status` says of exits."""
+from __future__ import annotations
+
+import collections
+import re
+from collections.abc import Collection, Mapping
+from dataclasses import replace
+from typing import Container
+
+from gudokeyi.domain.findings import Report
+from gudokeyi.domain.kinds import Field
+from gudokeyi.ingest.findings.rows import CellsRepeated, NoteRow, StatusDisagrees, StatusRead
+from gudokeyi.ingest.sheets import Sheet, SheetRow
+from gudokeyi.ingest.words import DEAD, KNOWN_SUMS, KNOWN_YES, exit_word, lives, nearly, plain
+
+# Rows that are headings between animals, or notes below them: they say nothing of an animal, and don't read like the
+# ids of the others.
+
+SIGNS = ":;.,=–-"
+# what headings begin or end with
+MARKED = re.compile(r"[-=*_~#–—>.]{2,}.*|.*[-=*_~–—]{2,}|.*:", re.DOTALL)
+WORD = re.compile(r"[^\W\d_]{4,}")
+LETTERS, NUMBERS = re.compile(r"[^\W\d_]+"), re.compile(r"\d+")
+# so few other rows of a shape may be headings too
+FEW = 5
+
+
+def shape(id: str) -> str:
+    """What ids that are written alike have in common: `CH 120.1` is `A 9.9`."""
+    return NUMBERS.sub("9", LETTERS.sub("A", id))
+
+
+class Notes:
+    """Finds such rows. `animals` are ids that are animals, whatever the row says."""
+
+    def __init__(self, sheet: Sheet, columns: Mapping[str, int], animals: Container[str]) -> None:
+        self.sheet, self.columns, self.animals = sheet, columns, animals
+        self.id = columns[Field.ID]
+
+    def found(self) -> dict[int, str]:
+        """The texts of such rows by their lines."""
+        likely = [row for row in self.sheet.rows if self.says_an_id_alone(row)]
+        if not likely or 2 * len(likely) > len(self.sheet.rows):
+            return {}
+        lines = {row.line for row in likely}
+        shapes = collections.Counter(
+            shape(row.cells[self.id]) for row in self.sheet.rows if row.line not in lines and self.id < len(row.cells)
+        )
+        parents = {
+            nearly(cell) for role in (Field.SIRE, Field.DAM) if role in self.columns
+            for cell in set(self.sheet.column(self.columns[role]))
+        }  # fmt: skip
+        texts = {row.line: row.cells[self.id] for row in likely}
+        free = {line: text for line, text in texts.items() if text not in self.animals and nearly(text) not in parents}
+        return {line: text for line, text in free.items() if reads_so(text, shapes)}
+
+    def says_an_id_alone(self, row: SheetRow) -> bool:
+        return self.id < len(row.cells) and bool(row.cells[self.id]) and sum(map(bool, row.cells)) == 1
+
+
+def reads_so(text: str, shapes: Mapping[str, int]) -> bool:
+    """Does it read like a heading or a note, beside the shapes of the other ids? What sums up is told by itself."""
+    first = text.split()[0].strip(SIGNS)
+    if plain(first) in KNOWN_SUMS or plain(text) in KNOWN_SUMS:
+        return False
+    if MARKED.fullmatch(text):
+        return WORD.search(text) is not None or not re.search(r"\w", text)
+    return shapes.get(shape(text), 0) == 0 and WORD.search(text) is not None
+
+
+# Marks that stand for the cell above.
+
+DITTO = {
+    '"', "''", "”", "“", "„", "〃", "″", '-"-', '- " -', "-''-", "dito", "dto", "dto.", "ditto", "do.", "idem", "id.",
+    "s.o.", "s. o.", "siehe oben", "wie oben", "as above", "same as above", "same", "ci-dessus", "voir ci-dessus",
+    "comme ci-dessus",
+}  # fmt: skip
+# the columns in which they stand for something
+REPEATED = (
+    Field.OWNER, Field.BIRTH, Field.SIRE, Field.DAM, Field.SEX, Field.SINCE, Field.EXIT, Field.STATUS,
+)  # fmt: skip
+
+
+def repeat(rows: list[SheetRow], sheet: Sheet, columns: Mapping[str, int], report: Report) -> list[SheetRow]:
+    """The rows with the cells above in place of such marks; each column with some is told."""
+    for field in REPEATED:
+        at = columns.get(field)
+        if at is None or not any(text.casefold() in DITTO for text in set(sheet.column(at))):
+            continue
+        rows, told = repeated(rows, at)
+        if told:
+            line, text, above = told[0]
+            report.add(0, "", CellsRepeated(sheet.titles[at], len(told), line, text, above))
+    return rows
+
+
+def repeated(rows: list[SheetRow], at: int) -> tuple[list[SheetRow], list[tuple[int, str, str]]]:
+    found, told, above = list[SheetRow](), list[tuple[int, str, str]](), ""
+    for row in rows:
+        text = row.cells[at] if at < len(row.cells) else ""
+        if above and text.casefold() in DITTO:
+            told.append((row.line, text, above))
+            row = with_cell(row, at, above)
+        elif text.casefold() in DITTO:
+            # it repeats nothing
+            row, above = with_cell(row, at, ""), ""
+        else:
+            above = text
+        found.append(row)
+    return found, told
+
+
+def with_cell(row: SheetRow, at: int, text: str) -> SheetRow:
+    cells = row.cells + [""] * (at + 1 - len(row.cells))
+    return SheetRow(row.line, [*cells[:at], text, *cells[at + 1 :]])
+
+
+# A column of words that tells of exits beside one of their days.
+
+# titles of columns in which yes is said of the living, and what stands before them where no is said
+OF_LIVING = {
+    plain(title) for title in
+    ("lebt", "lebend", "lebendig", "aktiv", "im Bestand", "alive", "living", "active", "vivant", "en vie", "actif")
+}  # fmt: skip
+NO_WORDS = {"nein": "nicht", "n": "nicht", "no": "not", "non": "pas", "false": "not", "falsch": "nicht", "0": "nicht"}
+# an owner who takes an animal
+TAKER = re.compile(
+    r"\b(?:verkauft|verk|abgegeben|weggegeben|umgestellt|gewechselt|sold|transferred|given|vendue?|cédée?|donnée?)\b\.?"
+    r".*?\b(?:an|zu|to|à|a|au|aux)\s+(?P<taker>\S.*)",
+    re.IGNORECASE,
+)
+
+
+def said_of(status: str, title: str) -> str:
+    """What a status says, as a cell of exits says it."""
+    if plain(title) in OF_LIVING:
+        if status.casefold() in KNOWN_YES:
+            return title
+        if status.casefold() in NO_WORDS:
+            return f"{NO_WORDS[status.casefold()]} {title}"
+    return status
+
+
+class Statuses:
+    """Takes what the status says where the column of exits says nothing, and tells where they disagree."""
+
+    def __init__(self, sheet: Sheet, columns: Mapping[str, int], unknown: Container[str], report: Report) -> None:
+        self.sheet, self.unknown, self.report = sheet, unknown, report
+        self.id, self.exit, self.status = (columns[one] for one in (Field.ID, Field.EXIT, Field.STATUS))
+        self.titles = sheet.titles[self.exit], sheet.titles[self.status]
+        self.taken = 0
+
+    def rows(self, rows: list[SheetRow]) -> list[SheetRow]:
+        found = [self.row(row) for row in rows]
+        if self.taken:
+            self.report.add(0, "", StatusRead(self.titles[1], self.titles[0], self.taken))
+        return found
+
+    def row(self, row: SheetRow) -> SheetRow:
+        exit, status = (row.cells[at] if at < len(row.cells) else "" for at in (self.exit, self.status))
+        said = said_of(status, self.titles[1])
+        if not said or said in self.unknown and not DEAD.search(said):
+            return row
+        tells, stays = bool(exit_word(said)), lives(said)
+        says_exit = exit not in self.unknown and not lives(exit)
+        if not exit or exit in self.unknown:
+            self.taken += tells or not stays
+            return with_cell(row, self.exit, said) if tells or not stays else row
+        if says_exit and tells and TAKER.search(said):
+            return with_cell(row, self.exit, f"{said} {exit}")
+        if says_exit and stays:
+            self.tell(row, exit, status, True)
+        elif not says_exit and tells:
+            self.tell(row, exit, status, False)
+            return with_cell(row, self.exit, said)
+        return row
+
+    def tell(self, row: SheetRow, exit: str, status: str, has_day: bool) -> None:
+        found = StatusDisagrees(self.titles[0], exit, self.titles[1], status, has_day)
+        self.report.add(row.line, row.cells[self.id] if self.id < len(row.cells) else "", found)
+
+
+# All of these.
+
+
+def as_meant(
+    sheet: Sheet, columns: Mapping[str, int], unknown: Container[str], animals: Container[str], report: Report
+) -> Sheet:
+    """The sheet with its rows as they are meant; what is read so is told. `animals` are the ids of animals for sure."""
+    notes = Notes(sheet, columns, animals).found()
+    for line, text in notes.items():
+        report.add(line, "", NoteRow(text))
+    rows = [row for row in sheet.rows if row.line not in notes] if notes else sheet.rows
+    rows = repeat(rows, sheet, columns, report)
+    if Field.STATUS in columns and Field.EXIT in columns:
+        rows = Statuses(sheet, columns, unknown, report).rows(rows)
+    return sheet if rows is sheet.rows else replace(sheet, rows=rows, kept={})
+
+
+# Owners to whom animals are sold within the society.
+
+
+class Takers:
+    """Finds the owner of a list who is meant where an animal is sold."""
+
+    def __init__(self, owners: Collection[str]) -> None:
+        self.by_words = {owner: words_of(owner) for owner in owners if owner and words_of(owner)}
+
+    def of(self, text: str) -> str:
+        """The only owner whose name has all words that stand behind `verkauft an`; empty where there is none."""
+        found = TAKER.search(text)
+        words = words_of(found["taker"]) if found else frozenset()
+        if not words:
+            return ""
+        whole = [owner for owner, its in self.by_words.items() if its == words]
+        within = whole or [owner for owner, its in self.by_words.items() if words <= its]
+        return within[0] if len(within) == 1 else ""
+
+
+def words_of(name: str) -> frozenset[str]:
+    """The words of a name as they are compared, without days and what stands in brackets."""
+    said = re.sub(r"\(.*?\)|\d+[./-][\d./-]*|\b(?:19|20)\d\d\b|\b(?:am|im|on|in|le|en)\b", " ", name)
+    return frozenset(plain(word) for word in re.split(r"[\s,;.]+", said) if plain(word))

@@ -1,0 +1,62 @@
+"""What is found of a row that contradicts its offspring, or may be an animal of the book: each kind as data, and in
+words."""
+from __future__ import annotations
+
+from collections.abc import Mapping
+from dataclasses import dataclass
+
+from gudokeyi.domain.changes import Option
+from gudokeyi.domain.findings import Severity, Suggestion, quoted
+from gudokeyi.domain.kinds import Role
+from gudokeyi.domain.wording import SEXES, Counted, OptionalPart, Text
+from gudokeyi.reconcile.findings.plausibility import PlausibilityWarning
+
+# the option by which an animal of the book has another id
+NEW_TAG = "--new-tag"
+
+
+@dataclass(frozen=True, slots=True)
+class SexAgainstOffspring(PlausibilityWarning):
+    """The cell of a sex that offspring, or the book and offspring, speak against: the parent stays one."""
+
+    written: str
+    sex: str
+    role: Role
+    progeny: int
+    first: str
+    in_book: bool
+
+    severity = Severity.ANIMALS
+    code = "sex against offspring"
+    message = Counted(
+        "its sex '{written}' is wrong, or its offspring are: it is the {role} of {progeny} animal, {first}"
+        "{maybe_in_book}, so it is taken as {sex}",
+        "its sex '{written}' is wrong, or its offspring are: it is the {role} of {progeny} animals, as of {first}"
+        "{maybe_in_book}, so it is taken as {sex}",
+        "progeny",
+    )
+    parts = {
+        "maybe_in_book": OptionalPart(", and {sex} in the book", when="in_book"),
+    }
+
+    def values(self) -> Mapping[str, object]:
+        return {"sex": SEXES.get(self.sex, self.sex)}
+
+
+@dataclass(frozen=True, slots=True)
+class NewTag(PlausibilityWarning):
+    """A new row that has the name, the birth day and the parents of an animal that has no row any more."""
+
+    before: str
+    now: str
+
+    severity = Severity.ANIMALS
+    code = "new tag"
+    message = Text(
+        "it has the name, the birth day and the parents of {before}, which has no row any more: it is taken as another "
+        "animal"
+    )
+
+    def suggestions(self) -> tuple[Suggestion, ...]:
+        return (Suggestion("if it is that one with a new tag", (Option(NEW_TAG, quoted(f"{self.before}={self.now}")),),
+                           undoes=True),)  # fmt: skip

@@ -1,0 +1,14 @@
+"""Limits in days: how old a parent is at least at a birth, and how far two births of one dam are from one another."""
+from __future__ import annotations
+
+from dataclasses import dataclass
+
+YOUNGEST, APART = 180, 100
+
+
+@dataclass(frozen=True, slots=True)
+class Limits:
+    """How many days old a parent is at least, and how far the births of one dam are from one another."""
+
+    youngest: int = YOUNGEST
+    apart: int = APART

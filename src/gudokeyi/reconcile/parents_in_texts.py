@@ -1,0 +1,58 @@
+"""Parents whose cell has more than an id: one with its name, as `012 / Max`, or one animal or another."""
+from __future__ import annotations
+
+import re
+from collections.abc import Iterator, Mapping
+
+from gudokeyi.domain.findings import Report
+from gudokeyi.ingest.animals import SheetAnimal, links_outside
+from gudokeyi.ingest.words import nearly
+from gudokeyi.reconcile.findings.parents import EitherParent, FoundWithin
+from gudokeyi.reconcile.parents import can_be, ids_given
+from gudokeyi.store.book import Book
+
+# what stands between two animals of which one is the parent, and between an id and a name
+EITHER = re.compile(r"\s+(?:oder|od\.?|or|ou|bzw\.?|resp\.?)\s+|\s*/\s*oder\s*|\s+\?\s+", re.IGNORECASE)
+# so many words of a text are looked at
+MOST_WORDS = 12
+BETWEEN = re.compile(r"\s*[/;,()\[\]|]\s*|\s+[-–—]\s+")
+
+
+class ParentsInTexts:
+    """`animals` are those of the sheet and of the book."""
+
+    def __init__(self, rows: dict[str, SheetAnimal], animals: Mapping[str, SheetAnimal], book: Book) -> None:
+        self.rows, self.animals, self.book = rows, animals, book
+
+    def find(self, report: Report) -> None:
+        with_id = self.rows.keys() | ids_given(self.book)
+        links = links_outside(self.rows.values(), with_id)
+        links = [link for link in links if " " in link[2] or BETWEEN.search(link[2])]
+        if not links:
+            return
+        self.ids = {nearly(id): id for id in with_id & self.animals.keys()}
+        self.names = {animal.name.casefold() for animal in self.animals.values() if animal.name}
+        for offspring, role, text in links:
+            if nearly(text) in self.ids or text.casefold() in self.names:
+                continue
+            if len([part for part in EITHER.split(text) if part.strip()]) > 1:
+                offspring.set_parent(role, "")
+                report.add(offspring.line, offspring.id, EitherParent(role, text))
+                continue
+            found = {*self.named(text)}
+            if len(found) > 1:
+                offspring.set_parent(role, "")
+                report.add(offspring.line, offspring.id, EitherParent(role, text))
+            elif found and (id := found.pop()) != offspring.id and can_be(self.animals[id], role, offspring):
+                offspring.set_parent(role, id)
+                report.add(offspring.line, offspring.id, FoundWithin(role, text, id))
+
+    def named(self, text: str) -> Iterator[str]:
+        """The animals whose ids are parts of a text, or stand before or behind some of its words: there an id has
+        digits, since `n b` names no animal b."""
+        words = text.split()[:MOST_WORDS]
+        ends = [" ".join(part) for at in range(1, len(words)) for part in (words[:at], words[at:])]
+        ends = [part for part in ends if any(letter.isdigit() for letter in part)]
+        for part in (*filter(None, BETWEEN.split(text)), *ends):
+            if id := self.ids.get(nearly(part)):
+                yield id

@@ -1,0 +1,1 @@
+"""English texts that stand in tables, by the members of enums that they name; German and French are in `locale`."""

@@ -1,0 +1,131 @@
+"""The publishing of a book's seal, and whether published seals are those of the journal that the book keeps."""
+from __future__ import annotations
+
+import datetime
+import pathlib
+import re
+from collections.abc import Callable, Iterator, Sequence
+from dataclasses import dataclass
+
+from gudokeyi.domain.changes import Change
+from gudokeyi.domain.messages import Count, MessageText, Mistake
+from gudokeyi.domain.mistakes import BookBusy, BookNotWhole
+from gudokeyi.domain.seals import PublishedSeal, Seal, SealFault
+from gudokeyi.services.book_program import BookProgram
+from gudokeyi.services.cache import mark_of
+from gudokeyi.services.opening import only_read
+from gudokeyi.services.seals import journal_of, published_seals, seal_at, seal_of
+from gudokeyi.services.verification import verify
+from gudokeyi.store.book import Book
+from gudokeyi.store.history import all_changes
+from gudokeyi.store.journal import Journal
+from gudokeyi.store.published_seals import common_length, keep_published, length_of
+from gudokeyi.store.transactions import Overtaken
+
+LINE = re.compile(r"(\d{4}-\d\d-\d\d),([1-9]\d{0,8}|0),(\d{1,12}),(\d{1,12}),([0-9a-f]{64})")
+
+
+def publish_seal(
+    folder: pathlib.Path, program: BookProgram, see_whole: Callable[[Book], object] | None = None
+) -> PublishedSeal:
+    """Keeps the seal of the book as it is now as one that is published today, once it is seen that the book is whole.
+    Nobody else waits for that. Where this seal was published already that line stays."""
+    with only_read(folder) as book:
+        if see_whole:
+            see_whole(book)
+        else:
+            verify(book, program, quickly=True)
+        made = PublishedSeal(datetime.date.today(), book.journal.edition, seal_of(book, program))
+        looked = mark_of(book)
+    try:
+        kept = keep_published(folder, looked, made)
+    except Overtaken:
+        raise BookBusy(SealFault.OTHER_BOOK.said()) from None
+    if kept.seal != made.seal:
+        raise BookNotWhole(SealFault.DIFFERS.said(line=kept.line(), seal=made.seal.line()))
+    return kept
+
+
+# Published lines beside the journal.
+
+
+@dataclass(frozen=True, slots=True)
+class GivenLine:
+    """A line of a file, with its place there."""
+
+    place: int
+    published: PublishedSeal
+
+
+def verify_published(book: Book, program: BookProgram, path: pathlib.Path) -> tuple[int, list[MessageText]]:
+    """Recomputes each line of a file of published seals from the journal that the book keeps. Answers how many there
+    are, and what is told of those whose journal was written anew since, or that the book doesn't keep. The first that
+    differs is a mistake."""
+    lines, kept = list(read_lines(path)), {journal_of(one): one for one in published_seals(book)}
+    changes, notes = all_changes(book.connection), list[MessageText]()
+    for line in lines:
+        refuse_other(book, program, line, kept.get(journal_of(line.published)))
+        notes += told_of(book, line, journal_of(line.published) in kept, changes)
+    return len(lines), notes
+
+
+def read_lines(path: pathlib.Path) -> Iterator[GivenLine]:
+    """The lines of a file, but for empty ones."""
+    try:
+        text = path.read_text(encoding="utf-8-sig", errors="replace")
+    except OSError as error:
+        raise Mistake(SealFault.CANT_BE_READ.said(path=path, error=error)) from None
+    for place, line in enumerate(text.splitlines(), 1):
+        if line.strip():
+            yield GivenLine(place, read_line(path, place, line.strip()))
+
+
+def read_line(path: pathlib.Path, place: int, line: str) -> PublishedSeal:
+    found = LINE.fullmatch(line)
+    try:
+        if found:
+            day, edition, steps, animals, digits = found.groups()
+            return PublishedSeal(datetime.date.fromisoformat(day), int(edition), Seal(digits, int(steps), int(animals)))
+    except ValueError:
+        pass
+    raise Mistake(SealFault.NO_LINE.said(path=path, line=place))
+
+
+def refuse_other(book: Book, program: BookProgram, given: GivenLine, kept: PublishedSeal | None) -> None:
+    """A mistake where a line isn't the one of the journal."""
+    published, place = given.published, given.place
+    there = length_of(book.connection, published.edition)
+    if there is None:
+        raise BookNotWhole(SealFault.NO_EDITION.said(line=place, edition=published.edition))
+    if published.seal.steps > there:
+        commands = Count(there, "command")
+        raise BookNotWhole(SealFault.EDITION_SHORT.said(line=place, edition=published.edition, commands=commands))
+    seal = seal_at(book, program, journal_of(published))
+    if seal != published.seal:
+        raise BookNotWhole(SealFault.LINE_DIFFERS.said(line=place, seal=seal.line()))
+    if kept and kept.day != published.day:
+        raise BookNotWhole(SealFault.DAY_DIFFERS.said(line=place, day=kept.day))
+
+
+def told_of(book: Book, given: GivenLine, is_kept: bool, changes: Sequence[Change]) -> Iterator[MessageText]:
+    """What is to be seen of a line that doesn't differ."""
+    if not is_kept:
+        yield SealFault.NOT_KEPT.said(line=given.place)
+    journal = journal_of(given.published)
+    since = written_anew_since(book, journal, changes)
+    if since:
+        kept = common_length(book.connection, journal, book.journal)
+        yield SealFault.WRITTEN_ANEW.said(
+            line=given.place, edition=journal.edition, day=since.time.astimezone().date(), change=since.number,
+            kept=kept, commands=Count(journal.length, "command"),
+        )  # fmt: skip
+
+
+def written_anew_since(book: Book, journal: Journal, changes: Sequence[Change]) -> Change | None:
+    """The change since which the book's journal doesn't begin with this one any more; none where it does."""
+    found = None
+    for change in reversed(changes):
+        if common_length(book.connection, journal, Journal(change.edition, change.length)) == journal.length:
+            break
+        found = change
+    return found

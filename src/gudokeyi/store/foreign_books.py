@@ -1,0 +1,61 @@
+"""Whether the database of a backup, which anybody may have made, is one as a herd book has it: its tables, and the
+names, actors and times in them."""
+from __future__ import annotations
+
+import contextlib
+import pathlib
+import re
+import sqlite3
+import time
+from collections.abc import Iterator
+
+from gudokeyi.domain.messages import Mistake
+from gudokeyi.store.database import empty
+from gudokeyi.store.messages import BackupFault
+
+COMMENT = re.compile(r"--[^\n]*")
+CONTROL = re.compile(r"[\x00-\x08\x0b-\x1f\x7f-\x9f\u2028\u2029]")
+# so long names and actors are at most: books of earlier versions have longer ones than are filed now
+MOST_LETTERS = 2_000
+# in microseconds since 1970 began: no change was made before 1990, and none later than tomorrow
+FIRST_TIME, A_DAY = 631_152_000_000_000, 86_400_000_000
+# what is shown of a book, by its tables and columns
+TEXTS = {
+    "change": ("login", "file", "path", "form"), "animal": ("id", "name", "exit_text", "written_sire", "written_dam"),
+    "owner": ("name",), "setting": ("setting", "value"), "former_id": ("id",), "note": ("author", "text"),
+    "own_column": ("title",), "own_value": ("value",), "member": ("member_number", "address", "mail", "telephone"),
+}  # fmt: skip
+
+
+def refuse_foreign(connection: sqlite3.Connection, path: pathlib.Path) -> None:
+    """A mistake where a database of this version isn't a book's."""
+    with contextlib.closing(empty()) as own:
+        if tables_of(connection) != tables_of(own):
+            raise Mistake(BackupFault.OTHER_TABLES.said(path=path))
+    number = connection.execute(
+        "SELECT change FROM change WHERE time NOT BETWEEN ? AND ? LIMIT 1", (FIRST_TIME, time.time_ns() // 1000 + A_DAY)
+    ).fetchone()
+    if number:
+        raise Mistake(BackupFault.NO_TIME.said(path=path, change=number[0]))
+    if any(is_foreign(text) for text in texts_of(connection)):
+        raise Mistake(BackupFault.ODD_NAMES.said(path=path))
+    if connection.execute("SELECT 1 FROM change WHERE trim(login) = '' LIMIT 1").fetchone():
+        raise Mistake(BackupFault.ODD_NAMES.said(path=path))
+
+
+def tables_of(connection: sqlite3.Connection) -> set[tuple[str, str, str]]:
+    """The tables and indexes, as they were made, without comments and blanks."""
+    made = "sql IS NOT NULL AND name NOT LIKE 'sqlite_stat%'"
+    rows = connection.execute(f"SELECT type, name, sql FROM sqlite_schema WHERE {made}")
+    return {(kind, name, "".join(COMMENT.sub("", sql).split())) for kind, name, sql in rows}
+
+
+def texts_of(connection: sqlite3.Connection) -> Iterator[str]:
+    for table, columns in TEXTS.items():
+        for column in columns:
+            for (text,) in connection.execute(f"SELECT DISTINCT {column} FROM {table} WHERE {column} IS NOT NULL"):
+                yield text
+
+
+def is_foreign(text: str) -> bool:
+    return len(text) > MOST_LETTERS or CONTROL.search(text) is not None

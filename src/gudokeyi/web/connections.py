@@ -1,0 +1,229 @@
+"""The connections of browsers: how much and how slowly each may send and take, and the threads that answer them, of
+which half are for those who change something."""
+from __future__ import annotations
+
+import contextlib
+import copy
+import threading
+import time
+from collections import deque
+from collections.abc import Callable
+from typing import Any
+
+from flask import Flask, g, request
+from waitress.channel import HTTPChannel
+from waitress.parser import HTTPRequestParser
+from waitress.task import ThreadedTaskDispatcher, WSGITask
+
+from gudokeyi.domain.messages import Mistake
+from gudokeyi.domain.waiting import SECONDS_OF_PAGE
+from gudokeyi.web.access import MOST_FORM_BYTES, READS, WAITS_UNTIL, most_of_file, the_logins, the_person
+from gudokeyi.web.files import CONNECTION
+
+# How many connections there are, and how long they may take. What is idle goes first where there are many.
+
+MOST_CONNECTIONS, MANY_CONNECTIONS, MOST_HEADER_BYTES = 400, 300, 32 << 10
+# so long a connection may be idle, and the head of a request may take, in seconds
+SECONDS_IDLE, SECONDS_FOR_HEAD = 60, 10
+# so much longer than its bytes need at the least rate a body may take, or the taking of an answer
+SECONDS_BESIDE, LEAST_RATE = 20, 8 << 10
+# what waitress is told of them
+SETTINGS = {
+    "connection_limit": MOST_CONNECTIONS, "max_request_header_size": MOST_HEADER_BYTES, "cleanup_interval": 1,
+    "channel_timeout": SECONDS_IDLE, "asyncore_use_poll": True,
+}  # fmt: skip
+
+
+def end_slow(channels: dict[int, Any]) -> None:
+    """Ends the connections that take too long; where there are many also those that have been idle, or at the head of
+    a request, for longest."""
+    now = time.monotonic()
+    waiting = sorted((one for one in channels.values() if is_at_head(one)), key=lambda one: float(one.since))
+    for one in waiting[: max(0, len(channels) - MANY_CONNECTIONS)]:
+        one.handle_close()
+    for one in channels.values():
+        if one.connected and is_too_slow(one, now):
+            # whoever takes nothing isn't told of it
+            one.handle_close()
+
+
+def is_at_head(channel: Any) -> bool:
+    """Has it no request of which the head is there?"""
+    is_busy = channel.requests or channel.total_outbufs_len
+    return not is_busy and not (channel.request and channel.request.headers_finished)
+
+
+def is_too_slow(channel: Any, now: float) -> bool:
+    if channel.total_outbufs_len:
+        # what is to be taken is seen by what was sent since it was seen first
+        if channel.taking is None:
+            channel.taking, channel.sent = now, 0
+        return bool(now - channel.taking > SECONDS_BESIDE + channel.sent / LEAST_RATE)
+    channel.taking = None
+    if channel.requests:
+        return False
+    if channel.request and channel.request.headers_finished:
+        return bool(now - channel.since > SECONDS_BESIDE + channel.got / LEAST_RATE)
+    is_fresh = channel.request is not None or not channel.answered
+    return bool(now - channel.since > (SECONDS_FOR_HEAD if is_fresh else SECONDS_IDLE))
+
+
+# What is received of a body, and how long whoever sent it waits.
+
+# what is a little too large for a page is told to somebody who is known, in their language; the rest isn't received
+MOST_TOLD = 1 << 20
+# what counts only once it arrived
+SENT_TO_END = ("/book.sqlite",)
+# what WSGI wants to be told beside of a request
+SOMEWHERE = {"SERVER_NAME": "localhost", "SERVER_PORT": "80", "wsgi.url_scheme": "http"}
+
+
+def bound_of(app: Flask, headers: dict[str, str], address: str) -> int:
+    """The bytes that are received of a body at most. A file's are received of somebody alone who may drop it there."""
+    sender = {"HTTP_COOKIE": headers.get("COOKIE", ""), "REQUEST_METHOD": "POST", "PATH_INFO": address}
+    with app.request_context(SOMEWHERE | sender):
+        # accounts that can't be read are told by the page
+        with contextlib.suppress(Mistake):
+            g.person = the_logins().person()
+        if the_person() is None:
+            return MOST_FORM_BYTES
+        return MOST_TOLD + most_of_file(request.endpoint or "")
+
+
+def bounded_channel(app: Callable[[], Flask]) -> Any:
+    """The class of the connections of the app of the moment. Of a body no more is received than whoever sends it may
+    send; a request for a file ends its connection, which it has, so that it is seen whether that arrived."""
+
+    def parse_header(self: Any, header: bytes) -> None:
+        HTTPRequestParser.parse_header(self, header)
+        if self.content_length or self.chunked:
+            # others have these bounds too; waitress refuses what is as long as its bound
+            self.adj = copy.copy(self.adj)
+            self.adj.max_request_body_size = bound_of(app(), self.headers, self.path) + 1
+        if self.path in SENT_TO_END:
+            self.headers["CONNECTION"] = "close"
+
+    def get_environment(self: Any) -> dict[str, Any]:
+        environ: dict[str, Any] = WSGITask.get_environment(self)
+        environ[WAITS_UNTIL] = self.request.arrived + SECONDS_OF_PAGE
+        if environ["PATH_INFO"] in SENT_TO_END:
+            environ[CONNECTION] = self.channel.socket
+        return environ
+
+    # waitress has no types from which a class may be made
+    parser: Any = type("BoundedParser", (HTTPRequestParser,), {"parse_header": parse_header, "arrived": 0.0})
+    task: Any = type("ConnectedTask", (WSGITask,), {"get_environment": get_environment})
+    return type("BoundedChannel", (HTTPChannel,), {"parser_class": parser, "task_class": task, **timed_channel()})
+
+
+# what is told where a body can't be kept: no page can be made of it
+NO_ROOM = "There is no room on the server's disk: nothing is changed. Make room there."
+
+
+class NoRoom:
+    """An error as waitress answers it."""
+
+    def to_response(self) -> tuple[str, list[tuple[str, str]], bytes]:
+        return "507 Insufficient Storage", [("Content-Type", "text/plain; charset=utf-8")], NO_ROOM.encode()
+
+
+def timed_channel() -> dict[str, Any]:
+    """What of a connection says how long it takes: since when it is idle, or a request comes, with its bytes; and since
+    when an answer is taken, with those."""
+
+    def begin(self: Any, *given: Any, **named: Any) -> None:
+        self.since, self.got, self.sent, self.taking, self.answered = time.monotonic(), 0, 0, None, False
+        HTTPChannel.__init__(self, *given, **named)
+
+    def received(self: Any, data: bytes) -> Any:
+        if self.request is None and not self.requests:
+            self.since, self.got = time.monotonic(), 0
+        self.got += len(data)
+        try:
+            return HTTPChannel.received(self, data)
+        except OSError:
+            # what is received stands on a disk, which is full
+            with self.requests_lock:
+                self.request.error, self.request.completed = NoRoom(), True
+                self.requests.append(self.request)
+                self.request = None
+                if len(self.requests) == 1:
+                    self.server.add_task(self)
+            return True
+
+    def send(self: Any, data: bytes, do_close: bool = True) -> Any:
+        count = HTTPChannel.send(self, data, do_close)
+        self.sent += count or 0
+        return count
+
+    def service(self: Any) -> None:
+        HTTPChannel.service(self)
+        self.since, self.got, self.answered = time.monotonic(), 0, True
+
+    return {"__init__": begin, "received": received, "send": send, "service": service}
+
+
+# The threads: those who change something have half of them, so that whoever only reads waits for nobody.
+
+
+class Waiting:
+    """The requests that wait for a thread, in the order in which they came; of those that change something so many are
+    answered at once."""
+
+    def __init__(self, most_writing: int) -> None:
+        self.most_writing, self.at_work, self.lock = most_writing, 0, threading.Lock()
+        self.reading, self.writing = deque[Any](), deque[Any]()
+
+    def append(self, channel: Any) -> None:
+        first = channel.requests[0]
+        first.arrived = time.monotonic()
+        is_reading = first.error or getattr(first, "command", "") in READS
+        (self.reading if is_reading else self.writing).append(channel)
+
+    def __len__(self) -> int:
+        """How many may be answered now."""
+        return len(self.reading) + min(len(self.writing), self.most_writing - self.at_work)
+
+    def popleft(self) -> Any:
+        may_write = self.writing and self.at_work < self.most_writing
+        if may_write and (not self.reading or arrival(self.writing[0]) < arrival(self.reading[0])):
+            with self.lock:
+                self.at_work += 1
+            return Writing(self.writing.popleft(), self)
+        return self.reading.popleft()
+
+
+def arrival(channel: Any) -> float:
+    # one that was ended meanwhile has none
+    return float(channel.requests[0].arrived) if channel.requests else 0.0
+
+
+class Writing:
+    """A request that changes something, as a thread answers it."""
+
+    def __init__(self, channel: Any, waiting: Waiting) -> None:
+        self.channel, self.waiting = channel, waiting
+
+    def service(self) -> None:
+        try:
+            self.channel.service()
+        finally:
+            with self.waiting.lock:
+                self.waiting.at_work -= 1
+
+    def cancel(self) -> None:
+        self.channel.cancel()
+
+
+def threads(count: int) -> Any:
+    """So many, of which half answer whoever changes something."""
+    dispatcher: Any = ThreadedTaskDispatcher()
+    dispatcher.queue = Waiting(count // 2)
+    dispatcher.set_thread_count(count)
+    return dispatcher
+
+
+def bound(server: Any, app: Callable[[], Flask]) -> None:
+    """Has a server of waitress these bounds."""
+    server.channel_class = bounded_channel(app)
+    server.maintenance = lambda _: end_slow(dict(server.active_channels))

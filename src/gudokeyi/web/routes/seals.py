@@ -1,0 +1,101 @@
+"""The pages of seals: a certificate of anybody's is checked, and the seals that the society published are shown. A
+keeper publishes the seal of now."""
+from __future__ import annotations
+
+import tempfile
+
+from flask import Blueprint, flash, redirect, render_template, request, url_for
+from werkzeug.datastructures import FileStorage
+from werkzeug.wrappers import Response
+
+from gudokeyi.domain.messages import Mistake
+from gudokeyi.domain.requests import WebFault
+from gudokeyi.domain.seals import PublishedSeal
+from gudokeyi.render.page_wording import MessageView
+from gudokeyi.services.book_program import BookProgram
+from gudokeyi.services.cache import stamp_of
+from gudokeyi.services.opening import Book
+from gudokeyi.services.seal_publishing import publish_seal
+from gudokeyi.services.seals import CheckedCertificate, check_file, first_with, published_seals
+from gudokeyi.web.language import gettext, on_page, page_language
+from gudokeyi.web.served_book import Answer, served_book, with_book
+from gudokeyi.web.verification import verified
+from gudokeyi.web.views.seals import line_of, view_of
+
+page = Blueprint("seals", __name__)
+
+
+@page.get("/seals", endpoint="page")
+def seals() -> Answer:
+    return shown([], "")
+
+
+def shown(faults: list[MessageView], given: str) -> str:
+    """The page, also where there is no book: a certificate may be another society's. `given` is a seal that somebody
+    wrote."""
+    with served_book().opened() as book:
+        has_book = book is not None and book.change is not None
+        published = published_seals(book) if book and has_book else []
+        is_of_now = bool(published) and book is not None and is_sealed(book, published[-1])
+    lines = [line_of(one, page_language()) for one in reversed(published)]
+    return render_template(
+        "seals.html", faults=faults, given={"seal": given}, has_book=has_book, lines=lines, is_of_now=is_of_now
+    )
+
+
+def is_sealed(book: Book, published: PublishedSeal) -> bool:
+    """Is it the seal of the book as it is now?"""
+    return (published.edition, published.seal.steps) == book.journal
+
+
+@page.get("/seals.csv")
+@with_book
+def lines(book: Book) -> Answer:
+    """The lines as others have them, and as `verify --published` reads them."""
+    text = "".join(f"{one.line()}\n" for one in published_seals(book))
+    response = Response(text, mimetype="text/csv")
+    response.headers["Content-Disposition"] = "attachment; filename=seals.csv"
+    return response
+
+
+@page.post("/seals")
+def publish() -> Answer:
+    """Publishes the seal of now. Sent twice it is published once, and nobody who files waits for it."""
+    served = served_book()
+    if served.is_closing:
+        raise Mistake(WebFault.CLOSING.said())
+
+    def see_whole(book: Book) -> None:
+        if stamp_of(book) != served.trusted:
+            verified(served, book)
+
+    # by a run of its own, which answers for the book that is read here, whoever files meanwhile
+    kept = publish_seal(served.folder, BookProgram(), see_whole)
+    flash(gettext("The seal {} … {} is published.", *kept.seal.ends), "done")
+    return redirect(url_for("seals.page"))
+
+
+@page.post("/seals/check")
+def check() -> Answer:
+    """What the program says of a certificate's file, under a seal. Of the file nothing else is shown."""
+    seal, file = "".join(request.form.get("seal", "").split()), request.files.get("certificate")
+    if file is None or not file.filename:
+        return shown([MessageView(gettext("Choose a file first."))], seal), 400
+    try:
+        checked = checked_of(file, seal)
+    except Mistake as mistake:
+        return shown(on_page(mistake.sentences), seal), 400
+    with served_book().opened() as book:
+        published = first_with(book, seal) if book else None
+    return render_template("checked.html", checked=view_of(checked, seal, published, page_language()))
+
+
+def checked_of(file: FileStorage, seal: str) -> CheckedCertificate:
+    """What the program says of a file that was sent, which is kept nowhere longer than that takes."""
+    with tempfile.TemporaryFile() as kept:
+        try:
+            file.save(kept)
+            kept.seek(0)
+        except OSError as error:
+            raise Mistake(WebFault.NOT_KEPT.said(error=error)) from None
+        return check_file(kept, seal)

@@ -1,0 +1,42 @@
+"""The page of a year: births, exits and new owners, to be printed or saved."""
+from __future__ import annotations
+
+import datetime
+
+from flask import Blueprint, redirect, render_template, request, url_for
+from werkzeug.wrappers import Response
+
+from gudokeyi.domain.kinds import ExitReason
+from gudokeyi.render.page_language import name_of
+from gudokeyi.services.opening import Book
+from gudokeyi.services.years import events_of, table_of
+from gudokeyi.web.language import page_language
+from gudokeyi.web.served_book import Answer, with_book
+
+page = Blueprint("years", __name__)
+
+
+@page.get("/year")
+def this_year() -> Answer:
+    asked = request.args.get("year", "")
+    year = int(asked) if asked.isdecimal() and len(asked) == 4 else datetime.date.today().year
+    return redirect(url_for("years.page", year=year))
+
+
+@page.get("/year/<int:year>", endpoint="page")
+@with_book
+def of_year(book: Book, year: int) -> Answer:
+    words = page_language()
+    reasons = {one.value: name_of(one, words) for one in ExitReason}
+    return render_template("year.html", year=year, events=events_of(book, year), reasons=reasons)
+
+
+@page.get("/year/<int:year>.csv")
+@with_book
+def file(book: Book, year: int) -> Answer:
+    """As CSV. German and French spreadsheets want semicolons."""
+    semicolons = not page_language().is_english
+    text = table_of(book, year).text(semicolons)
+    response = Response(text.encode("utf-8-sig" if semicolons else "utf-8"), mimetype="text/csv")
+    response.headers["Content-Disposition"] = f"attachment; filename=year-{year}.csv"
+    return response

@@ -1,0 +1,89 @@
+"""Places for heavy work: each kind has some, with a limit of time, and whoever asked for least has one first. So a
+sheet that is taken waits for no plan, and nobody for somebody who asks for much."""
+from __future__ import annotations
+
+import itertools
+import threading
+from collections import Counter
+from collections.abc import Callable
+from concurrent.futures import ThreadPoolExecutor
+from dataclasses import dataclass, field
+from typing import Generic, TypeVar
+
+# the kinds: what changes the book, what looks at something that was dropped, what is said of the breed, and the process
+# of a plan of matings
+TAKING, LOOKING, BREED, PLANNING = "taking", "looking", "breed", "plan beside"
+
+
+@dataclass(frozen=True)
+class Bounds:
+    """So many of a kind work at once, each for so many seconds at most, and so little they take from others."""
+
+    places: int
+    seconds: int
+    niceness: int
+
+
+BOUNDS = {TAKING: Bounds(1, 3600, 0), LOOKING: Bounds(2, 1800, 2), BREED: Bounds(1, 900, 10), PLANNING: Bounds(1, 1800, 10)}
+OTHERS = Bounds(1, 900, 10)
+# so many of a kind one person may have asked for that aren't over
+MOST_OF_PERSON = 6
+
+Work = TypeVar("Work")
+
+
+@dataclass
+class Waiting(Generic[Work]):
+    person: str
+    work: Work
+    do: Callable[[Work], object]
+
+
+@dataclass
+class Places(Generic[Work]):
+    """The places of a kind, and who waits for one."""
+
+    bounds: Bounds
+    waiting: list[Waiting[Work]] = field(default_factory=list)
+    at_work: Counter[str] = field(default_factory=Counter)
+    # when each person had a place last, by a count of all
+    had: dict[str, int] = field(default_factory=dict)
+    count: itertools.count[int] = field(default_factory=lambda: itertools.count(1))
+    lock: threading.Lock = field(default_factory=threading.Lock)
+
+    def __post_init__(self) -> None:
+        self.executor = ThreadPoolExecutor(self.bounds.places)
+
+    def add(self, person: str, work: Work, do: Callable[[Work], object]) -> None:
+        one = Waiting(person, work, do)
+        with self.lock:
+            self.waiting.append(one)
+        try:
+            self.executor.submit(self.do_next)
+        except RuntimeError:
+            with self.lock:
+                self.waiting.remove(one)
+            raise
+
+    def asked_by(self, person: str) -> int:
+        """How many of a person wait or work."""
+        with self.lock:
+            return self.at_work[person] + sum(one.person == person for one in self.waiting)
+
+    def do_next(self) -> None:
+        """Does the work of whoever has fewest places and had one longest ago."""
+        with self.lock:
+            if not self.waiting:
+                return
+            one = min(self.waiting, key=lambda one: (self.at_work[one.person], self.had.get(one.person, 0)))
+            self.waiting.remove(one)
+            self.at_work[one.person] += 1
+            self.had[one.person] = next(self.count)
+        try:
+            one.do(one.work)
+        finally:
+            with self.lock:
+                self.at_work[one.person] -= 1
+
+    def end(self) -> None:
+        self.executor.shutdown(wait=True)

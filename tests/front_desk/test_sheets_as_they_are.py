@@ -1,0 +1,227 @@
+"""Sheets as societies keep them: what a list says plainly is neither lost nor replaced by an invention."""
+from __future__ import annotations
+
+import io
+
+import openpyxl
+import pytest
+
+from front_desk.desk import Desk
+
+TITLES = "Ohrmarke;Name;Geschlecht;geb;Vater;Mutter;Besitzer;Abgang\n"
+PAIR = "001;Max;m;01.02.2010;;;Huber;\n002;Eva;w;03.02.2010;;;Huber;\n"
+
+
+@pytest.mark.parametrize(
+    "cell, born, told",
+    [
+        ("3.2.13", "2013-02-03", "two digits of the year in 1 cell of the column 'geb'"),
+        ("27/2/25", "2025-02-27", "two digits of the year in 1 cell"),
+        ("3. Mai '12", "2012-05-03", "two digits of the year in 1 cell"),
+        ("42109", "2015-04-15", "a spreadsheet's number for a day in 1 cell"),
+        ("13.01.2019 (lt. Besitzer)", "2019-01-13", "a day and a text in 1 cell"),
+        ("ca. 3/2019", "2019-03-16", "a day and a text in 1 cell"),
+        ("Frühjahr 2018", "2018-04-16", "a day and a text in 1 cell"),
+        ("31.02.2021", "2021-02-15", "from the month 2021-02, since there is no day 31.02.2021"),
+        ("2014/3/15", "2014-03-15", ""),
+    ],
+)
+def test_day_in_the_cell(desk: Desk, cell: str, born: str, told: str) -> None:
+    """It is that of the animal, however it is written, and how it is read is told among the first lines."""
+    done = desk.take(TITLES + PAIR + f"003;A;w;{cell};001;002;Huber;\n")
+    assert desk.born()["003"] == born
+    assert told in done.out.partition("rows below the titles")[0]
+
+
+@pytest.mark.parametrize("cell", ["14.05.1887", "12.04.2087", "vor 5.2014"])
+def test_day_that_cannot_be(desk: Desk, cell: str) -> None:
+    """A day is inferred beside what the cell says, which is told by the animal's name among the first lines."""
+    first = desk.take(TITLES + PAIR + f"003;A;w;{cell};001;002;Huber;\n").out.partition("rows below the titles")[0]
+    told = "line 4: 003: inferred: birth day 2012-02-03, from its parents, and not what its cell has: "
+    assert f"{told}'{cell}'" in first
+
+
+def owner_of(desk: Desk, id: str) -> str:
+    """By the last command that names one."""
+    lines = [line.split(",") for line in desk.commands()]
+    herds = [line[6] for line in lines if line[0] in ("birth", "transfer") and line[1] == desk.numbers()[id]]
+    return dict(desk.owners())[int(herds[-1])]
+
+
+STATUS = TITLES.replace("\n", " am;Status\n")
+
+
+@pytest.mark.parametrize(
+    "row, owner, exit, told",
+    [
+        ("Huber;;tot", "Huber", "day unknown: 'tot'", "tells of an exit in 1 row where 'Abgang am' doesn't"),
+        ("Huber;;†", "Huber", "day unknown: '†'", "tells of an exit in 1 row"),
+        ("Huber;;geschlachtet Herbst 2021", "Huber", "the month 2021-11", "tells of an exit in 1 row"),
+        ("Huber;03.04.2022;lebt", "Huber", "2022-04-03", "'Abgang am' says '03.04.2022', and 'Status' says 'lebt'"),
+        ("Huber;lebt;verendet", "Huber", "day unknown: 'verendet'", "'Abgang am' says 'lebt', and 'Status' says"),
+        ("Huber;;verkauft an Fremd", "Huber", "day unknown: 'verkauft an Fremd'", "tells of an exit in 1 row"),
+        ("Huber;;verkauft an Meier", "Meier Ida", "", "owner Meier Ida, before Huber, since the list has the owner"),
+        ("Huber;01.02.2021;verkauft an Meier Ida", "Meier Ida", "", "owner Meier Ida, before Huber"),
+        ("Huber;;aktiv", "Huber", "", ""),
+    ],
+)
+def test_status_beside_exits(desk: Desk, row: str, owner: str, exit: str, told: str) -> None:
+    """What a column of words says of an exit is taken where that of the days says none; who was sold to an owner of the
+    list has him since then; where the columns disagree it is told."""
+    pair = "001;Max;m;01.02.2010;;;Huber;;lebt\n002;Eva;w;03.02.2010;;;Meier Ida;;lebt\n"
+    done = desk.take(STATUS + pair + f"003;A;w;3.2.2013;001;002;{row}\n")
+    [animal] = [one for one in desk.table("book/ids.csv") if one["id"] == "003"]
+    left = [line.split(",")[2] for line in desk.commands() if line.startswith("exit")]
+    assert (owner_of(desk, "003"), animal["exit"] or "".join(left)) == (owner, exit)
+    moved = [line.split(",")[2] for line in desk.commands() if line.startswith("transfer")]
+    assert bool(moved) == (owner != "Huber") and ("01.02.2021" not in row or moved == ["2021-02-01"])
+    assert told in done.out.partition("rows below the titles")[0]
+    # the same sheet says nothing new
+    assert " 0 changed" in desk.take(STATUS + pair + f"003;A;w;3.2.2013;001;002;{row}\n").last
+
+
+def test_status_that_is_not_read(desk: Desk) -> None:
+    """A column of such words is told first where no title says what it has, with what reads it."""
+    words = ["tot", "lebt", "verkauft", "lebt"]
+    rows = "".join(f"{at + 1:03};;w;2.2.2019;;;Huber;;{word}\n" for at, word in enumerate(words))
+    done = desk.take(STATUS.replace("Status", "Bemerkung") + rows)
+    first = "to look at: the column 'Bemerkung' isn't read, and 4 cells of it tell that animals live or left"
+    assert done.out.startswith(first) and done.commands()[0].endswith("--columns status=Bemerkung")
+    desk.typed(done.commands()[0])
+    assert [bool(one["exit"]) for one in desk.table("book/ids.csv")] == [True, False, True, False]
+
+
+def test_rows_that_are_no_animals(desk: Desk) -> None:
+    """Headings and notes are left out and told, and taken where somebody says so; a mark repeats the cell above."""
+    text = (
+        TITLES + PAIR + '003;A;w;3.2.2013;001;002;";\n--- Jahrgang 2020 ---;;;;;;;\n004;B;w;3.2.2020;dito;idem;dito;\n'
+        "Alle Angaben ohne Gewähr;;;;;;;\n"
+    )
+    done = desk.take(text)
+    assert [one["id"] for one in desk.table("book/ids.csv")] == ["001", "002", "003", "004"]
+    assert {owner_of(desk, id) for id in ("003", "004")} == {"Huber"}
+    done.tells(
+        "line 5: the row is left out: '--- Jahrgang 2020 ---' reads like a heading or a note, and the row says nothing "
+        "else; if it is an animal, say '--animal=--- Jahrgang 2020 ---'",
+        "to look at: 2 cells of the column 'Besitzer' repeat the one above: \" in line 4 means 'Huber'",
+        "to look at: 1 cell of the column 'Vater' repeats the one above: dito in line 6 means '001'",
+    )
+    desk.take(text, "--animal", "Alle Angaben ohne Gewähr")
+    assert [one["id"] for one in desk.table("book/ids.csv")][-1] == "Alle Angaben ohne Gewähr"
+    # the book's animal is one in later sheets too
+    assert "Gewähr' reads like" not in desk.take(text).out
+
+
+NAMED = (
+    "001;Chäspi;m;01.02.2010;;;Huber;\n002;Eva;w;03.02.2010;;;Huber;\n009;Rex;m;03.02.2010;;;Huber;\n"
+    "003;A;w;3.2.2013;001 / Chäspi;002;Huber;\n004;B;w;3.2.2014;001 oder 009;Eva;Huber;\n"
+    "005;C;w;1.2.2016;Chäspi, 001;002;Huber;\n006;D;w;1.2.2017;001;002;Huber;\n"
+)
+
+
+def test_parents_with_more_than_an_id(desk: Desk) -> None:
+    """An id beside a name is that animal, and one or the other is unknown; both are told."""
+    done = desk.take(TITLES + NAMED)
+    assert desk.parents() == {
+        "001": ("", ""), "002": ("", ""), "009": ("", ""), "003": ("001", "002"), "004": ("", "002"),
+        "005": ("001", "002"), "006": ("001", "002"),
+    }  # fmt: skip
+    assert "line 6: 004: its sire '001 oder 009' is left out: it may be one or the other, and counts" in done.out
+    assert "line 5: 003: inferred: its sire '001 / Chäspi' is 001, whose id stands there" in done.told
+
+
+@pytest.mark.parametrize("word", ["m", "Kastrat"])
+def test_sex_against_offspring(desk: Desk, word: str) -> None:
+    """The sex is what may be wrong, and the first that is said; the parent stays one in its role."""
+    done = desk.take(TITLES + NAMED.replace("Eva;w", f"Eva;{word}"))
+    first = (
+        f"line 3: 002: to look at: its sex '{word}' is wrong, or its offspring are: it is the dam of 4 animals, as of "
+        "003, so it is taken as female"
+    )
+    assert done.out.splitlines()[0] == first and "isn't female" not in done.told
+    assert [desk.parents()[id][1] for id in ("003", "004", "005", "006")] == ["002"] * 4
+
+
+def test_sex_that_changes_later(desk: Desk) -> None:
+    """It is one finding about the sex, and no parent changes, also one that is written by its name, or with it."""
+    desk.take(TITLES + NAMED)
+    before = desk.parents()
+    done = desk.take(TITLES + NAMED.replace("Chäspi;m", "Chäspi;w").replace("Eva;w", "Eva;m"))
+    assert desk.parents() == before and " 0 changed" in done.last
+    assert done.out.count("is wrong, or its offspring are") == 2 and "isn't" not in done.told
+
+
+def test_parents_without_a_row_any_more(desk: Desk) -> None:
+    """A parent whose animal lost its row in a later sheet is still that animal, however it is written."""
+    desk.take(TITLES + NAMED)
+    rows = [row for row in NAMED.splitlines(keepends=True) if row[:3] not in ("001", "002")]
+    before = desk.parents()
+    done = desk.take(TITLES + "".join(rows) + "007;N;w;1.2.2020;1 / Chäspi;Eva;Huber;\n", "--anyway")
+    assert desk.parents() == before | {"007": ("001", "002")} and " 0 added, 2 gone" in done.last
+
+
+def test_new_tag(desk: Desk) -> None:
+    """A row with the name, the birth day and the parents of an animal that has no row any more is proposed as that one,
+    and is it where somebody says so, also as a parent of others; undone, all is as before."""
+    desk.take(TITLES + NAMED)
+    later = NAMED.replace("006;D", "777;D") + "008;N;w;1.2.2020;001;006;Huber;\n"
+    done = desk.take(TITLES + later, "--preview")
+    assert "line 8: 777: to look at: it has the name, the birth day and the parents of 006" in done.out
+    [command] = [one for one in done.commands() if "--new-tag" in one]
+    assert " 8 animals, 1 new" in desk.typed(command.replace(" --preview", "")).last
+    assert desk.parents()["008"] == ("001", "777") and "006" not in desk.numbers()
+    # also in the next sheet, which says the old tag of a parent
+    assert " 0 new, 0 changed" in desk.take(TITLES + later).last
+    desk.good("undo", "--to", "1")
+    assert "777" not in desk.numbers() and "006" in desk.numbers()
+
+
+def workbook(rows: list[list[object]], formula: str = "", merged: str = "") -> bytes:
+    """An `.xlsx` file in which texts are texts, also those that begin with an equals sign; and one with a formula."""
+    book, data = openpyxl.Workbook(), io.BytesIO()
+    sheet = book.active
+    for row in rows:
+        sheet.append(row)
+    for cell in (cell for row in sheet.iter_rows() for cell in row if str(cell.value).startswith("=")):
+        cell.data_type = "s"
+    if formula:
+        sheet[formula] = "=1+1"
+    if merged:
+        sheet.merge_cells(merged)
+    book.save(data)
+    return data.getvalue()
+
+
+TABLE: list[list[object]] = [
+    ["Ohrmarke", "Name", "Geschlecht", "geb", "Vater", "Mutter", "Besitzer", "Bemerkung"],
+    ["001", "=Alpha", "m", "1.2.2010", None, None, "Huber", "ok"],
+    ["002", "Eva", "w", "1.2.2010", None, None, None, None],
+    ["003", "Ada", "w", "1.2.2013", "001", "002", "Meier", None],
+]
+
+
+def test_workbook(desk: Desk) -> None:
+    """A text that begins with an equals sign is one, a formula without a value stops only where its column is read, and
+    a cell that is merged with the one below stands for both."""
+    desk.write("herd.xlsx", workbook(TABLE, "H3", "G2:G3"))
+    desk.good("import", "herd.xlsx")
+    assert [one["name"] for one in desk.table("book/ids.csv")] == ["'=Alpha", "Eva", "Ada"]
+    assert [owner_of(desk, id) for id in ("001", "002", "003")] == ["Huber", "Huber", "Meier"]
+    desk.write("herd.xlsx", workbook(TABLE, "G3"))
+    desk.wrong("has 1 formula without a value, the first in the cell G3", "import", "herd.xlsx")
+
+
+def test_names_are_no_ids(desk: Desk) -> None:
+    """Where no title is known for the ids, that is asked, though the parents are written by their names."""
+    text = "Rufname;Geschlecht;geb;Vater;Mutter\nMax;m;1.2.2010;;\nEva;w;1.2.2010;;\nAda;w;1.2.2013;Max;Eva\n"
+    desk.wrong("no column for id is found", "import", desk.write("sheet.csv", text))
+    desk.good("import", "sheet.csv", "--columns", "id=Rufname")
+    assert desk.parents()["Ada"] == ("Max", "Eva")
+
+
+def test_exits_that_the_next_list_lacks(desk: Desk) -> None:
+    """The first line says how many animals would live again."""
+    rows = "".join(f"{100 + at};;w;1.2.2019;001;002;Huber;1.3.2021\n" for at in range(9))
+    desk.take(TITLES + PAIR + rows)
+    done = desk.take(TITLES + PAIR + rows.replace("1.3.2021", ""), "--preview")
+    assert done.out.startswith("to look at: 9 animals that had left count as living again, the first are 100 (line 4)")

@@ -1,0 +1,138 @@
+"""Who waits for others at a server, and how long: whoever reads for nobody, whoever files for ten seconds; and
+connections that take too long are ended."""
+from __future__ import annotations
+
+import contextlib
+import pathlib
+import socket
+import sqlite3
+import threading
+import time
+from collections.abc import Iterator
+
+import pytest
+
+from web.said import in_each
+from web.server import SECONDS
+from web.site import shown
+from front_desk.desk import Desk
+from gudokeyi.domain.waiting import SECONDS_OF_PAGE
+from gudokeyi.store.messages import AccountFault, BookFault
+from gudokeyi.web.connections import MANY_CONNECTIONS, MOST_CONNECTIONS, SECONDS_FOR_HEAD
+from serving.server import Browser, Server
+from serving.visitor import Served, Visitor, with_accounts
+
+# so long a page may take that waits for nobody, on a machine that does much else
+AT_ONCE = 8
+FIELDS = {"id": "GK-17/472c", "day": "2024-05-01"}
+
+
+@pytest.fixture
+def server(society_desk: Desk, cheap: None) -> Iterator[Server]:
+    with_accounts(society_desk.room / "book")
+    running = Server(society_desk.room, society_desk.program)
+    yield running
+    running.end()
+
+
+@contextlib.contextmanager
+def locked(path: pathlib.Path, how: str) -> Iterator[None]:
+    """Somebody else changes a database until this ends."""
+    with contextlib.closing(sqlite3.connect(path, isolation_level=None)) as connection:
+        connection.execute(f"BEGIN {how}")
+        yield
+
+
+def seconds(browser: Browser, path: str) -> float:
+    began = time.monotonic()
+    browser.get(path)
+    return time.monotonic() - began
+
+
+def test_filings(server: Server, society_desk: Desk) -> None:
+    """While the book is locked elsewhere 45 people file: readers are answered at once, and each filing comes back with
+    a sentence and what was written; then it is filed."""
+    clerks = [Browser(server, "Carl") for _ in range(45)]
+    reader = Browser(server, "Ines")
+    told: list[tuple[int, str, float]] = []
+
+    def file(clerk: Browser) -> None:
+        began = time.monotonic()
+        status, _, page = clerk.post("/file/exit", **FIELDS)
+        told.append((status, page, time.monotonic() - began))
+
+    threads = [threading.Thread(target=file, args=(one,)) for one in clerks]
+    with locked(society_desk.room / "book/book.sqlite", "IMMEDIATE"):
+        for one in threads:
+            one.start()
+        while any(one.is_alive() for one in threads):
+            assert max(seconds(reader, path) for path in ("/animals", "/history", "/settings")) < AT_ONCE
+        for one in threads:
+            one.join()
+    sentence = BookFault.BUSY_NOW.value.format(seconds=SECONDS_OF_PAGE)
+    for status, page, took in told:
+        assert status == 400 and sentence.lower() in shown(page).lower() and f'value="{FIELDS["id"]}"' in page
+        assert FIELDS["day"] in page and took < SECONDS_OF_PAGE + 5
+    assert clerks[0].post("/file/exit", **FIELDS)[1] == "/answer/2"
+
+
+def test_accounts(served: Served, monkeypatch: pytest.MonkeyPatch) -> None:
+    """While the accounts are locked elsewhere who is logged in goes on, and a login comes back with the name."""
+    monkeypatch.setattr("gudokeyi.web.access.SECONDS_OF_PAGE", 0.5)
+    clerk, other = Visitor(served, "Carl"), Visitor(served)
+    with locked(served.gate.accounts.path, "EXCLUSIVE"):
+        assert clerk.is_in()
+        answer = other.log_in("Clara")
+        page = answer.get_data(as_text=True)
+        assert answer.status_code == 400 and AccountFault.BUSY.value.lower() in shown(page).lower()
+        assert 'value="Clara"' in page
+        assert clerk.post("/file/exit", **FIELDS).status_code == 302
+    assert other.log_in("Clara").status_code == 302
+
+
+def test_settings(served: Served, monkeypatch: pytest.MonkeyPatch) -> None:
+    """The settings come back as they were written."""
+    monkeypatch.setattr("gudokeyi.web.access.SECONDS_OF_PAGE", 0.5)
+    keeper = Visitor(served, "Kim")
+    keeper.get("/language/de")
+    with locked(served.desk.folder / "book.sqlite", "IMMEDIATE"):
+        answer = keeper.post("/settings", name="Verein der Wartenden")
+    page = answer.get_data(as_text=True)
+    assert answer.status_code == 400 and 'value="Verein der Wartenden"' in page
+    assert in_each(BookFault.BUSY_NOW.value)[1].partition("{")[0] in shown(page)
+
+
+def test_slow(server: Server) -> None:
+    """Connections that are idle, or of which the head or the body drips, keep nobody from being answered, and are
+    ended."""
+    head = f"POST /login HTTP/1.1\r\nHost: {server.host}\r\nContent-Length: 5000\r\n"
+    kinds = [b"", b"GET /login HT", head.encode(), head.encode() + b"\r\nname="]
+    slow = [socket.create_connection(("127.0.0.1", server.port), timeout=SECONDS) for _ in range(210)]
+    for at, one in enumerate(slow):
+        one.sendall(kinds[at % len(kinds)])
+    browser = Browser(server, "Ines")
+    ends = time.monotonic() + SECONDS_FOR_HEAD + 3
+    while time.monotonic() < ends:
+        assert seconds(browser, "/animals") < AT_ONCE
+        # a byte now and then doesn't help
+        for at, one in enumerate(slow):
+            with contextlib.suppress(OSError):
+                one.sendall(b"x" if at % len(kinds) else b"")
+        time.sleep(1)
+    for at, one in enumerate(slow):
+        if at % len(kinds) < 3:
+            one.setblocking(False)
+            with contextlib.suppress(ConnectionError):
+                assert one.recv(1) == b"", at
+        one.close()
+
+
+def test_many(server: Server) -> None:
+    """Where very many connections are idle the oldest of them give way."""
+    place, count = ("127.0.0.1", server.port), MOST_CONNECTIONS + 100
+    slow = [socket.create_connection(place, timeout=SECONDS) for _ in range(count)]
+    began = time.monotonic()
+    Browser(server, "Ines")
+    assert time.monotonic() - began < AT_ONCE + 2 and MANY_CONNECTIONS < MOST_CONNECTIONS
+    for one in slow:
+        one.close()

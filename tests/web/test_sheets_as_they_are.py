@@ -1,0 +1,94 @@
+"""The look at a sheet as societies keep them: what is read otherwise than cell by cell is said first, in three
+languages, and each choice is one button that says what it does."""
+from __future__ import annotations
+
+import pytest
+
+from web.looks import buttons_of, look_at, part, press
+from web.site import Site, shown
+from gudokeyi.domain.settings import LANGUAGES
+from gudokeyi.render.page_language import PageLanguage
+
+TITLES = "Ohrmarke;Name;Geschlecht;geb;Vater;Mutter;Besitzer;Abgang am;Status\n"
+LIST = TITLES + (
+    "001;Chäspi;m;01.02.2010;;;Huber Hans;;lebt\n002;Eva;m;03.02.2010;;;Meier Ida;;lebt\n"
+    "003;A;w;3.2.13;001 / Chäspi;002;Huber Hans;;tot\n--- Jahrgang 2014 ---;;;;;;;;\n"
+    '004;B;w;42000;001;002;"""";;verkauft an Meier\n005;C;w;13.01.2019 (lt. Besitzer);001 oder 009;002;dito;;lebt\n'
+    "006;D;w;14.05.1887;;;Huber Hans;01.02.2020;lebt\nAlle Angaben ohne Gewähr;;;;;;;;\n"
+)
+SAID = (
+    "as of 003, so it is taken as female", "two digits of the year in 1 cell of the column 'geb'",
+    "a spreadsheet's number for a day in 1 cell", "a day and a text in 1 cell of the column 'geb'",
+    "2 cells of the column 'Besitzer' repeat the one above", "owner Meier Ida, before Huber Hans",
+    "'Abgang am' says '01.02.2020', and 'Status' says 'lebt'", "and not what its cell has: '14.05.1887'",
+)  # fmt: skip
+
+
+def test_what_is_said_first(empty_site: Site) -> None:
+    """All that is read so stands among what may be wrong; the rest among what is left out or inferred."""
+    address, page = look_at(empty_site, LIST)
+    first, left_out = shown(part(page, "May be wrong")), shown(part(page, "Left out"))
+    assert not [one for one in SAID if one not in first]
+    assert "it may be one or the other, and counts as unknown" in left_out
+    assert left_out.count("reads like a heading or a note") == 2
+    assert {"It is an animal: take line 5", "It is an animal: take line 9"} <= {*buttons_of(page)}
+    page = press(empty_site, address, page, "It is an animal: take line 9")
+    assert shown(part(page, "Left out")).count("reads like a heading or a note") == 1
+    empty_site.take(address)
+    with empty_site.desk.opened() as book:
+        assert book and "Alle Angaben ohne Gewähr" in book.society_records
+
+
+@pytest.mark.parametrize("language", LANGUAGES[1:])
+def test_in_other_languages(empty_site: Site, language: str) -> None:
+    """No sentence of it stands in English."""
+    empty_site.get(f"/language/{language}")
+    _, page = look_at(empty_site, LIST)
+    told = shown(part(page, "May be wrong", language)) + shown(part(page, "Left out", language))
+    assert "1887" in told and not [one for one in (" the ", "column", " and ", "row ") if one in told]
+
+
+@pytest.mark.parametrize("language", LANGUAGES)
+def test_new_tag(empty_site: Site, language: str) -> None:
+    """One click makes a new row the animal that has no row any more."""
+    site, words = empty_site, PageLanguage(language)
+    address, _ = look_at(site, LIST)
+    site.take(address)
+    site.get(f"/language/{language}")
+    address, page = look_at(site, LIST.replace("003;A", "777;A"))
+    page = press(site, address, page, words.gettext("{} has the tag {} from now on", "003", "777"))
+    site.take(address)
+    with site.desk.opened() as book:
+        assert book and "777" in book.society_records and "003" not in book.society_records
+
+
+def test_one_decision_for_a_button(empty_site: Site) -> None:
+    """Whether a sheet has no column for the sire, or none for the dam, are two buttons, each with its words."""
+    _, page = look_at(empty_site, "Ohrmarke;Geschlecht;geb\n1;m;1.2.2010\n2;w;1.2.2010\n")
+    assert buttons_of(page) == ["Read no column for: Sire", "Read no column for: Dam"]
+
+
+@pytest.mark.parametrize(
+    "language, titles, castrated, inferred",
+    [
+        ("en", "id,name,number,sex,birth,sire,dam,owner,exit", "male castrated", "Birth day: inferred"),
+        ("de", "Ohrmarke;Name;Nummer;Geschlecht;Geburtstag;Vater;Mutter;Besitzer;Abgang", "männlich kastriert",
+         "Geburtstag: erschlossen"),
+        ("fr", "Boucle;Nom;Numéro;Sexe;Date de naissance;Père;Mère;Propriétaire;Sortie", "mâle castré",
+         "Date de naissance : déduit"),
+    ],
+)  # fmt: skip
+def test_file_of_animals(empty_site: Site, language: str, titles: str, castrated: str, inferred: str) -> None:
+    """It has the titles of the page's language, castrated males as such, and what is inferred in a column of its own;
+    dropped again it changes nothing."""
+    site = empty_site
+    rows = "001;Max;m;3.2.2010;;;Huber;;\n002;Moritz;Kastrat;3/2012;001;;Huber;1.2.2020;\n"
+    address, _ = look_at(site, TITLES + rows)
+    site.take(address)
+    site.get(f"/language/{language}")
+    text = site.get("/animals.csv").get_data(as_text=True).removeprefix("\ufeff")
+    assert text.startswith(titles) and castrated in text and inferred in text.replace("\u00a0", " ")
+    assert "2012-03-16," in text.replace(";", ",")
+    site.get("/language/en")
+    page = site.page(site.drop("again.csv", text.encode()))
+    assert "of these in the book already 2" in shown(page) and "Changed" not in shown(page)

@@ -1,0 +1,93 @@
+"""The places for heavy work: who has one first, what is ended, and what is stopped by whom."""
+from __future__ import annotations
+
+import threading
+import time
+
+import pytest
+
+from web.site import Site
+from front_desk.desk import TOP
+from gudokeyi.domain.messages import Mistake
+from gudokeyi.domain.people import WORKER
+from gudokeyi.domain.requests import WebFault
+from gudokeyi.web import workers
+from gudokeyi.web.work_places import BOUNDS, BREED, LOOKING, MOST_OF_PERSON, TAKING, Bounds, Places
+from gudokeyi.web.workers import Job, Jobs, Stage
+
+
+@pytest.fixture(autouse=True)
+def of_tests(monkeypatch: pytest.MonkeyPatch) -> None:
+    """The processes find what these tests do."""
+    monkeypatch.setenv("PYTHONPATH", str(TOP / "tests"))
+
+
+def slept(seconds: float, _: object) -> float:
+    time.sleep(seconds)
+    return seconds
+
+
+def test_turns() -> None:
+    """Whoever asked for little has a place before somebody's many."""
+    places, order, first = Places[str](Bounds(1, 60, 0)), list[str](), threading.Event()
+    places.add("Ines", "i0", lambda _: first.wait(10) and None)
+    for at in range(1, 4):
+        places.add("Ines", f"i{at}", order.append)
+    places.add("Carl", "c1", order.append)
+    first.set()
+    places.end()
+    assert order == ["c1", "i1", "i2", "i3"]
+
+
+def test_much() -> None:
+    """One person has so many of a kind under way; others, and other kinds, aren't kept by that."""
+    found = Jobs()
+    WORKER.set("Ines")
+    jobs = [found.of((BREED, at), slept, (60,)) for at in range(MOST_OF_PERSON)]
+    assert found.of((BREED, 0), slept, (60,)) is jobs[0]
+    with pytest.raises(Mistake, match="you have asked for much"):
+        found.of((BREED, "one more"), slept, (60,))
+    WORKER.set("Carl")
+    assert found.of((TAKING, "sheet"), slept, (0,)).is_over.wait(30)
+    assert found.of((LOOKING, "sheet"), slept, (0,)).is_over.wait(30)
+    WORKER.set("")
+    found.end()
+    assert all(job.stage is Stage.FAILED for job in jobs)
+
+
+def ended(job: Job, sentence: str) -> bool:
+    return job.is_over.wait(30) and job.stage is Stage.FAILED and job.failed.sentences == (sentence,)
+
+
+def test_ended(monkeypatch: pytest.MonkeyPatch) -> None:
+    """What takes too long is ended, and what nobody asks for any more, and what was asked for otherwise since."""
+    monkeypatch.setitem(BOUNDS, BREED, Bounds(1, 1, 0))
+    found = Jobs()
+    assert ended(found.of((BREED, "long"), slept, (60,)), WebFault.TOOK_LONG.said(minutes=0))
+    other = found.of((LOOKING, "sheet", "first"), slept, (60,))
+    again = found.of((LOOKING, "sheet", "second"), slept, (60,))
+    found.stop_others(again.key)
+    assert ended(other, WebFault.WORK_ENDED.said()) and not again.is_over.is_set()
+    monkeypatch.setattr(workers, "SECONDS_UNASKED", 1)
+    assert ended(again, WebFault.WORK_ENDED.said()) and found.found(again.key) is None
+    found.end()
+
+
+def test_stop(site: Site) -> None:
+    """Somebody stops work of their own, and of nobody else; asked for again it is begun anew."""
+    jobs = site.desk.jobs
+    job = jobs.of((BREED, "one"), slept, (60,))
+    WORKER.set("Ines")
+    other = jobs.of((LOOKING, "other"), slept, (60,))
+    WORKER.set("")
+    assert site.post(f"/jobs/{other.id}/stop").status_code == 404 and not other.is_over.is_set()
+    assert site.post(f"/jobs/{job.id}/stop").status_code == 302
+    assert ended(job, WebFault.WORK_STOPPED.said())
+    assert "It is stopped, and nothing is changed." in site.page("/")
+    assert site.post(f"/jobs/{job.id}/stop").status_code == 404
+    assert jobs.of((BREED, "one"), slept, (0,)).is_over.wait(30)
+
+
+def test_bounds() -> None:
+    """What changes the book has places of its own, and takes most of the processors."""
+    assert BOUNDS[TAKING].places and BOUNDS[TAKING].niceness == min(one.niceness for one in BOUNDS.values())
