@@ -8,6 +8,7 @@ from __future__ import annotations
 import itertools
 import os
 import pathlib
+import resource
 import signal
 
 import pytest
@@ -18,6 +19,8 @@ from counting import counts_of, sum_of
 pytest.register_assert_rewrite("front_desk.desk")
 
 TOP = pathlib.Path(__file__).resolve().parent.parent
+# what the process of the tests may use, and whatever is begun by it
+LIMITS = {one: resource.getrlimit(one) for one in (resource.RLIMIT_AS, resource.RLIMIT_CPU, resource.RLIMIT_FSIZE)}
 
 
 @pytest.fixture(scope="session")
@@ -45,8 +48,11 @@ def numbers() -> None:
 
 def pytest_runtest_setup() -> None:
     """What a test starts can be ended by Ctrl-C, also where a shell in the background ignores it for all that it
-    begins, or a change that an earlier test made without a process of its own."""
+    begins, or a change that an earlier test made without a process of its own; and it has the memory that the tests
+    began with, without which a browser doesn't start, also where an earlier test was a look at a sheet."""
     signal.signal(signal.SIGINT, signal.default_int_handler)
+    for one, limits in LIMITS.items():
+        resource.setrlimit(one, limits)
 
 
 def pytest_assertion_pass(item: pytest.Item) -> None:
