@@ -60,7 +60,7 @@ STATUS = TITLES.replace("\n", " am;Status\n")
         ("Huber;03.04.2022;lebt", "Huber", "2022-04-03", "'Abgang am' says '03.04.2022', and 'Status' says 'lebt'"),
         ("Huber;lebt;verendet", "Huber", "day unknown: 'verendet'", "'Abgang am' says 'lebt', and 'Status' says"),
         ("Huber;;verkauft an Fremd", "Huber", "day unknown: 'verkauft an Fremd'", "tells of an exit in 1 row"),
-        ("Huber;;verkauft an Meier", "Meier Ida", "", "owner Meier Ida, before Huber, since the list has the owner"),
+        ("Huber;;verkauft an Meier", "Meier Ida", "", "owner Meier Ida, before Huber: 'verkauft an Meier' names an owner"),
         ("Huber;01.02.2021;verkauft an Meier Ida", "Meier Ida", "", "owner Meier Ida, before Huber"),
         ("Huber;;aktiv", "Huber", "", ""),
     ],

@@ -26,7 +26,7 @@ def test_dead_thread(monkeypatch: pytest.MonkeyPatch) -> None:
         raise ValueError("a fault of the desk itself")
 
     with monkeypatch.context() as patched:
-        patched.setattr(workers, "started", fall)
+        patched.setattr(workers, "WorkerProcess", fall)
         found = Jobs()
         assert died(found.of((TAKING, "1"), print, ()), WebFault.WORK_ENDED.said())
     assert died(found.of((TAKING, "2"), str, (), fall), WebFault.WORK_ENDED.said())
@@ -45,7 +45,7 @@ def test_exports_behind_a_fault(
         calls.put(1)
         raise error("it can't be begun")
 
-    monkeypatch.setattr(workers, "started", fall)
+    monkeypatch.setattr(workers, "WorkerProcess", fall)
     exports = Exports(tmp_path, 0.01)
     for _ in range(2):
         exports.wish()

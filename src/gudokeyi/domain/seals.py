@@ -10,6 +10,12 @@ from gudokeyi.domain.messages import Message, Mistake
 
 # a seal has so many hexadecimal digits, of which so many are shown at each end where there is little room
 DIGITS, SHOWN_DIGITS = 64, 8
+# the titles above the lines in a file of a page, in its language: whoever reads such a file passes over them
+TITLES = {
+    "en": ("day", "edition", "steps", "animals", "seal"),
+    "de": ("Tag", "Ausgabe", "Vorgänge", "Tiere", "Siegel"),
+    "fr": ("Jour", "Édition", "Commandes", "Animaux", "Sceau"),
+}
 IS_SEAL = re.compile(rf"[0-9a-fA-F]{{{DIGITS}}}")
 
 
@@ -39,9 +45,9 @@ class PublishedSeal:
     edition: int
     seal: Seal
 
-    def line(self) -> str:
+    def line(self, separator: str = ",") -> str:
         """As it is published."""
-        return f"{self.day},{self.edition},{self.seal.steps},{self.seal.animals},{self.seal.digits}"
+        return separator.join(map(str, (self.day, self.edition, self.seal.steps, self.seal.animals, self.seal.digits)))
 
 
 @dataclass(frozen=True, slots=True)

@@ -7,6 +7,7 @@ from collections.abc import Callable
 
 from gudokeyi.domain.findings import Finding, Report
 from gudokeyi.domain.kinds import CELL_FIELDS, Field
+from gudokeyi.domain.messages import MOST_NAMED
 from gudokeyi.domain.provenance import ExitBasis, ExitSource
 from gudokeyi.domain.requests import MOST_IN_NAME, MOST_IN_OWNER
 from gudokeyi.ingest.animals import SheetAnimal
@@ -18,7 +19,7 @@ from gudokeyi.ingest.findings.cells import (
     DayLeftOut, EmbryoUnread, ErrorValue, ExitInferred, ExitsInOtherWords, ExitsWithoutDay, SexUnread, TextTooLong,
 )  # fmt: skip
 from gudokeyi.ingest.findings.columns import SheetFinding
-from gudokeyi.ingest.findings.rows import SoldWithin
+from gudokeyi.ingest.findings.rows import SoldWithin, TakerUnclear
 from gudokeyi.ingest.findings.sheets import MOST_TEXTS, Cells, CellsUnread, ErrorCells, ErrorColumn, TextCount
 from gudokeyi.ingest.rows_as_meant import Takers
 from gudokeyi.ingest.sexes import Sexes
@@ -147,7 +148,7 @@ class AnimalCells:
     ) -> None:  # fmt: skip
         self.unknown, self.sexes, self.unread, self.report = unknown, sexes, unread, report
         self.days, self.letters = DayCells(unknown, month_first, forms), Letters()
-        self.readings, self.takers = Readings(unread.titles), Takers(())
+        self.readings, self.takers = Readings(unread.titles), Takers({})
 
     def animal(self, line: int, id: str, cells: dict[str, str]) -> SheetAnimal:
         """The animal of a row, by the cells of its other columns."""
@@ -236,10 +237,13 @@ class AnimalCells:
             animal.exit_basis = ExitBasis(ExitSource.UNKNOWN_DAY, text=text)
 
     def is_sold_within(self, animal: SheetAnimal, text: str, exit: ExitCell) -> bool:
-        """Was it sold to an owner of the list? Then it has him, since the day that the text has."""
-        owner = self.takers.of(text)
-        if not owner:
+        """Was it sold to an owner of the society? Then it has him, since the day that the text has."""
+        named = self.takers.named(text)
+        if len(named) != 1:
+            if named:
+                self.report.add(animal.line, animal.id, TakerUnclear(text, named[:MOST_NAMED]))
             return False
+        [owner] = named
         self.unread.read[Field.EXIT] += 1
         before = animal.owner if animal.owner != owner else ""
         animal.owner, animal.owner_before, animal.since = owner, before, exit.day.span or animal.since

@@ -4,7 +4,7 @@ from __future__ import annotations
 
 import collections
 import re
-from collections.abc import Collection, Mapping
+from collections.abc import Mapping
 from dataclasses import replace
 from typing import Container
 
@@ -201,21 +201,34 @@ def as_meant(
 # Owners to whom animals are sold within the society.
 
 
+# what stands before the number of a member
+MEMBER_NAME = "Mitglied"
+MEMBER = {plain(word) for word in ("Mitglied", "Mitgl.", "Mitgliednr.", "Mitgliedsnr.", "member", "membre", "adhérent")}
+NUMBER = {plain(word) for word in ("Nr.", "Nummer", "No.", "N°", "number", "numéro")}
+
+
 class Takers:
-    """Finds the owner of a list who is meant where an animal is sold."""
+    """Finds the owner who is meant where an animal is sold. `owners` are those of the list and of the book, by the
+    names and the numbers of members that a text may have."""
 
-    def __init__(self, owners: Collection[str]) -> None:
-        self.by_words = {owner: words_of(owner) for owner in owners if owner and words_of(owner)}
+    def __init__(self, owners: Mapping[str, str]) -> None:
+        self.by_words = [(words, owner) for name, owner in owners.items() if owner and (words := words_of(name))]
 
-    def of(self, text: str) -> str:
-        """The only owner whose name has all words that stand behind `verkauft an`; empty where there is none."""
+    def named(self, text: str) -> tuple[str, ...]:
+        """The owners whose names have all words that stand behind `verkauft an`, or whose name those are."""
         found = TAKER.search(text)
         words = words_of(found["taker"]) if found else frozenset()
         if not words:
-            return ""
-        whole = [owner for owner, its in self.by_words.items() if its == words]
-        within = whole or [owner for owner, its in self.by_words.items() if words <= its]
-        return within[0] if len(within) == 1 else ""
+            return ()
+        if words & MEMBER:
+            words = words - NUMBER - MEMBER | {plain(MEMBER_NAME)}
+        whole = {owner for its, owner in self.by_words if its == words}
+        return tuple(sorted(whole or {owner for its, owner in self.by_words if words <= its}))
+
+
+def member_numbered(number: str) -> str:
+    """As a member is named by its number."""
+    return f"{MEMBER_NAME} {number}"
 
 
 def words_of(name: str) -> frozenset[str]:

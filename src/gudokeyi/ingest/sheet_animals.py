@@ -170,7 +170,7 @@ class Rows:
         month_first: bool = False,
         born: Mapping[str, datetime.date] | None = None,
         no_animals: Sequence[str] = (),
-        owners: Collection[str] = (),
+        owners: Mapping[str, str] | None = None,
     ) -> None:
         self.sheet, self.columns, self.unknown, self.report = sheet, columns, unknown, report
         self.no_animals = NoAnimals(no_animals)
@@ -183,7 +183,7 @@ class Rows:
         self.unread = Unread({name: sheet.titles[at] for name, at in columns.items()})
         self.forms = DayForms(self.texts(Field.BIRTH), (born or {}).values(), month_first)
         self.cells = AnimalCells(unknown, self.sexes, self.unread, report, month_first, self.forms)
-        self.cells.takers = Takers({*owners, *self.texts(Field.OWNER)})
+        self.cells.takers = Takers({one: one for one in self.texts(Field.OWNER)} | dict(owners or {}))
         self.same_ids = SameIds(unknown, month_first, born or {})
         # what keeps the sheet from being taken, and what may be wrong
         self.faults: list[SheetFinding] = []

@@ -11,7 +11,7 @@ from collections.abc import Callable
 from typing import TypeVar, cast
 
 from gudokeyi.domain.changes import NO_MARK, Mark
-from gudokeyi.store.book import Book
+from gudokeyi.store.book import Book, BookState
 from gudokeyi.store.database import with_unfinished
 
 Stamp = tuple[object, ...]
@@ -65,6 +65,25 @@ def state_of(path: pathlib.Path) -> Stamp:
     """That of a file; an empty one is as one that isn't there."""
     found = path.stat()
     return (found.st_ino, found.st_size, found.st_mtime_ns, found.st_ctime_ns) if found.st_size else ()
+
+
+class StateKept:
+    """All animals of the book that a process looked at last, for the next look at it: they are read again where the
+    book or its file is another."""
+
+    def __init__(self) -> None:
+        self.kept: tuple[pathlib.Path, Stamp, BookState] | None = None
+
+    def give(self, book: Book) -> None:
+        """The book has all animals."""
+        if not book.is_there:
+            return
+        stamp = stamp_of(book)
+        if self.kept and self.kept[:2] == (book.path, stamp):
+            book.begin_with(self.kept[2])
+        else:
+            self.kept = None
+            self.kept = book.path, stamp, book.state()
 
 
 # Files in the caches of who asks: nothing is lost where they go, and where none can be written there are none.

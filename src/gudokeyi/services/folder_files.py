@@ -7,10 +7,11 @@ import pathlib
 import sqlite3
 
 from gudokeyi.domain.changes import Change
+from gudokeyi.domain.findings import Entry
 from gudokeyi.store.book import Book
 from gudokeyi.store.database import DATABASE, connect, path_of
 from gudokeyi.store.exports import (
-    COMMANDS, IDS, LAST_BACKUP, NAMES, REPORT, REPORT_TITLES, SEMICOLONS, are_fresh, ids_text, turn,
+    COMMANDS, IDS, LAST_BACKUP, NAMES, REPORT, REPORT_TITLES as REPORT_TITLES, SEMICOLONS, are_fresh, ids_text, turn,
 )  # fmt: skip
 from gudokeyi.store.files import put, table, take_away_left
 from gudokeyi.store.history import told_by
@@ -49,10 +50,14 @@ def write_exports(book: Book) -> None:
 
 def report_text(book: Book, change: Change) -> bytes:
     """What the change told."""
+    semicolons = any(option.option == SEMICOLONS for option in change.options)
+    entries = entries_of(book, change)
+    rows = [(entry.line or "", entry.id, entry.what, entry.why, change.number) for entry in entries]
+    return table(REPORT_TITLES, zip(*rows), semicolons)
+
+
+def entries_of(book: Book, change: Change) -> list[Entry]:
     # whoever asks the book would wait for it
     from gudokeyi.reconcile.stored_findings import entry_of
 
-    semicolons = any(option.option == SEMICOLONS for option in change.options)
-    entries = map(entry_of, told_by(book.connection, change.number))
-    rows = [(entry.line or "", entry.id, entry.what, entry.why, change.number) for entry in entries]
-    return table(REPORT_TITLES, zip(*rows), semicolons)
+    return [*map(entry_of, told_by(book.connection, change.number))]

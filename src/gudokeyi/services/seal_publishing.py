@@ -10,7 +10,7 @@ from dataclasses import dataclass
 from gudokeyi.domain.changes import Change
 from gudokeyi.domain.messages import Count, MessageText, Mistake
 from gudokeyi.domain.mistakes import BookBusy, BookNotWhole
-from gudokeyi.domain.seals import PublishedSeal, Seal, SealFault
+from gudokeyi.domain.seals import TITLES, PublishedSeal, Seal, SealFault
 from gudokeyi.services.book_program import BookProgram
 from gudokeyi.services.cache import mark_of
 from gudokeyi.services.opening import only_read
@@ -22,7 +22,8 @@ from gudokeyi.store.journal import Journal
 from gudokeyi.store.published_seals import common_length, keep_published, length_of
 from gudokeyi.store.transactions import Overtaken
 
-LINE = re.compile(r"(\d{4}-\d\d-\d\d),([1-9]\d{0,8}|0),(\d{1,12}),(\d{1,12}),([0-9a-f]{64})")
+LINE = re.compile(r"(\d{4}-\d\d-\d\d)([,;])([1-9]\d{0,8}|0)\2(\d{1,12})\2(\d{1,12})\2([0-9a-f]{64})")
+TITLE_LINES = {separator.join(titles) for titles in TITLES.values() for separator in ",;"}
 
 
 def publish_seal(
@@ -70,13 +71,13 @@ def verify_published(book: Book, program: BookProgram, path: pathlib.Path) -> tu
 
 
 def read_lines(path: pathlib.Path) -> Iterator[GivenLine]:
-    """The lines of a file, but for empty ones."""
+    """The lines of a file, but for empty ones and titles above them."""
     try:
         text = path.read_text(encoding="utf-8-sig", errors="replace")
     except OSError as error:
         raise Mistake(SealFault.CANT_BE_READ.said(path=path, error=error)) from None
     for place, line in enumerate(text.splitlines(), 1):
-        if line.strip():
+        if line.strip() and line.strip() not in TITLE_LINES:
             yield GivenLine(place, read_line(path, place, line.strip()))
 
 
@@ -84,7 +85,7 @@ def read_line(path: pathlib.Path, place: int, line: str) -> PublishedSeal:
     found = LINE.fullmatch(line)
     try:
         if found:
-            day, edition, steps, animals, digits = found.groups()
+            day, _, edition, steps, animals, digits = found.groups()
             return PublishedSeal(datetime.date.fromisoformat(day), int(edition), Seal(digits, int(steps), int(animals)))
     except ValueError:
         pass

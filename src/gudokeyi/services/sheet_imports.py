@@ -3,31 +3,23 @@ nothing is refused, and told."""
 from __future__ import annotations
 
 import contextlib
-import functools
 import pathlib
 from collections.abc import Callable
 from dataclasses import dataclass
 
 from gudokeyi.domain.changes import Option, Source
-from gudokeyi.domain.findings import Call, ImportRefused, Report, StrictlyRefused, What
+from gudokeyi.domain.findings import Call, ImportRefused, StrictlyRefused, What
 from gudokeyi.domain.kinds import Field, Remembered
-from gudokeyi.domain.messages import MOST_NAMED
-from gudokeyi.ingest.animals import SheetAnimal
-from gudokeyi.ingest.columns import Columns, find_columns
 from gudokeyi.ingest.files import GivenFile
-from gudokeyi.ingest.rows_as_meant import as_meant
-from gudokeyi.ingest.sheet_animals import Rows
-from gudokeyi.ingest.sheets import Sheet, read_sheet
-from gudokeyi.ingest.titles import known_titles, parts_of, read_given, read_sexes
-from gudokeyi.ingest.unknown_parents import UnknownParents
 from gudokeyi.process import keep
 from gudokeyi.reconcile.all_animals import complete
 from gudokeyi.reconcile.commands import Filing
+from gudokeyi.reconcile.early_years import keep_early_years
 from gudokeyi.reconcile.exits import leave_out_early_exits, tell_most_changed, tell_withdrawn_exits
-from gudokeyi.reconcile.findings.obstacles import NoRowTaken, StrictlyNothing
+from gudokeyi.reconcile.findings.obstacles import StrictlyNothing
 from gudokeyi.reconcile.ids import call_as_now, give_numbers, letters_unsaid, numbers_begin
 from gudokeyi.reconcile.import_options import (
-    ImportOptions, RememberedWords, again, limits_of, remember, remember_columns, rename_owners, with_settings,
+    ImportOptions, again, limits_of, remember, remember_columns, rename_owners, with_settings,
 )  # fmt: skip
 from gudokeyi.reconcile.impossible_parents import leave_out_faulty_parents
 from gudokeyi.reconcile.limits import Limits
@@ -43,6 +35,7 @@ from gudokeyi.reconcile.plausibility import PlausibilityChecks, tell_swapped_col
 from gudokeyi.services.book_program import BookProgram
 from gudokeyi.services.output_files import check_place
 from gudokeyi.services.saving import Prepared, outcome_of, prepared_of
+from gudokeyi.services.sheet_reading import LastReading, ReadSheet, read_animals, titles_before
 from gudokeyi.store.book import Book
 from gudokeyi.store.files import source_of
 from gudokeyi.store.journal import Filed
@@ -60,7 +53,7 @@ class About:
     understood: Understood | None = None
     limits: Limits = Limits()
     invented: int = 0
-    # reads the society's own columns, once animals have their numbers
+    # reads the society's own columns and keeps early years as notes, once animals have their numbers
     take_own: Callable[[], None] = lambda: None
 
 
@@ -170,9 +163,10 @@ def import_sheet(
 
 def import_sheet_into(
     book: Book, file: GivenFile, import_options: ImportOptions, program: BookProgram,
-    bounds: Bounds = contextlib.nullcontext,
+    bounds: Bounds = contextlib.nullcontext, last: LastReading | None = None,
 ) -> tuple[Outcome, Prepared | None]:  # fmt: skip
-    """What a sheet makes of a book, and the change that is to be made, none for a preview."""
+    """What a sheet makes of a book, and the change that is to be made, none for a preview. `last` is what this process
+    read of a sheet before, where it looks again and again."""
     path, source = file.path, source_of(file.path, file.data)
     check_place(book, path)
     book.read_all()
@@ -181,7 +175,7 @@ def import_sheet_into(
     rename_owners(book, import_options)
     call_anew(book, import_options.new_tags)
     with bounds():
-        read = read_animals(file, import_options, book, words)
+        read = read_animals(file, import_options, book, words, last)
     keep(book, read)
     call_as_now(read.animals, book, read.report)
     next_book = NextBook(book, read.animals, set(read.columns.found), read.report, read.rows.cells.days)
@@ -192,6 +186,7 @@ def import_sheet_into(
 
     def take_own() -> None:
         take_own_values(next_book, own, read.sheet, bool(words[Remembered.MONTH_FIRST]))
+        keep_early_years(next_book, dict(read.columns.titles_found()))
 
     about = About(import_options.call(str(path)), understood.lines(), understood, limits_of(words), take_own=take_own)
     return finish(next_book, program, import_options, source, about)
@@ -210,54 +205,3 @@ def understood_of(path: pathlib.Path, read: ReadSheet, remembered: list[Option],
         tuple(remembered),
         dict(columns.titles_found()) == before,
     )
-
-
-@dataclass
-class ReadSheet:
-    """What was read of a sheet."""
-
-    sheet: Sheet
-    columns: Columns
-    rows: Rows
-    animals: dict[str, SheetAnimal]
-    report: Report
-
-
-def read_animals(file: GivenFile, import_options: ImportOptions, book: Book, words: RememberedWords) -> ReadSheet:
-    """The animals of a sheet; else a mistake with all that keeps it from being read."""
-    now = read_given(import_options.columns)
-    before = titles_before(book) | read_given(words[Remembered.COLUMNS])
-    sheet = sheet_of(file, frozenset({*before.values(), *now.values()}), import_options.worksheet)
-    unknown, report = UnknownParents(words[Remembered.UNKNOWN], words[Remembered.KNOWN]), Report()
-    columns = find_columns(sheet, now, {name: title for name, title in before.items() if name not in now}, unknown,
-                           [animal.id for animal in book.society_records.values() if animal.standing.had_row()])  # fmt: skip
-    month_first = bool(words[Remembered.MONTH_FIRST])
-    with_day = {id: animal for id, animal in book.society_records.items() if not animal.birth.is_inferred}
-    born = {id: book.records[animal.registration_number].born for id, animal in with_day.items()}
-    animals_for_sure = {*book.society_records, *parts_of(import_options.animal)}
-    meant = as_meant(sheet, columns.found, unknown, animals_for_sure, report) if Field.ID in columns.found else sheet
-    rows = Rows(
-        meant, {name: at for name, at in columns.found.items() if name != Field.STATUS}, unknown,
-        read_sexes(words[Remembered.SEXES]), report, month_first, born, words[Remembered.TOLD], book.owners,
-    )  # fmt: skip
-    animals = rows.animals() if Field.ID in columns.found else {}
-    formulas = sheet.formulas.told([*columns.found.values()]) if sheet.formulas else []
-    faults = [*sheet.faults, *formulas, *columns.faults, *rows.faults]
-    if faults:
-        raise ImportRefused(*faults)
-    for finding in [*columns.notes, *rows.notes]:
-        report.add(0, "", finding)
-    if not animals:
-        raise ImportRefused(NoRowTaken(str(file.path)), entries=report.entries[:MOST_NAMED])
-    return ReadSheet(sheet, columns, rows, animals, report)
-
-
-@functools.lru_cache(1)
-def sheet_of(file: GivenFile, titles: frozenset[str], worksheet: str) -> Sheet:
-    """The rows of a file; the titles are those that its columns had or are named by. A look at it reads it once."""
-    return read_sheet(file, lambda row: known_titles(row) + sum(title in titles for title in row), worksheet)
-
-
-def titles_before(book: Book) -> dict[str, str]:
-    """The titles of all columns of the last sheet, by field."""
-    return {one.word: one.meaning for one in book.remembered if one.what is Remembered.COLUMN}

@@ -9,21 +9,19 @@ from collections.abc import Collection, Iterable, Mapping, Sequence
 from dataclasses import dataclass
 
 from gudokeyi.domain.findings import Entry, Severity, What
-from gudokeyi.domain.kinds import Field, Remembered
+from gudokeyi.domain.kinds import Field
 from gudokeyi.domain.messages import Mistake
-from gudokeyi.ingest.columns import Columns, find_columns
+from gudokeyi.ingest.columns import Columns
 from gudokeyi.ingest.files import read_file
 from gudokeyi.ingest.findings.cells import OddRow
 from gudokeyi.ingest.messages import SheetFault
 from gudokeyi.ingest.sheets import Sheet as Sheet
-from gudokeyi.ingest.titles import read_given
-from gudokeyi.ingest.unknown_parents import UnknownParents
 from gudokeyi.ingest.words import plain
 from gudokeyi.reconcile.findings.animals import NewAnimal
 from gudokeyi.reconcile.findings.own_columns import OwnColumnRead
 from gudokeyi.reconcile.import_options import ImportOptions, remember, with_settings
 from gudokeyi.reconcile.own_sheet_columns import kind_said
-from gudokeyi.services.sheet_imports import sheet_of, titles_before
+from gudokeyi.services.sheet_reading import LastReading, read_columns
 from gudokeyi.store.book import Book
 from gudokeyi.store.own_data import columns_now
 
@@ -52,16 +50,13 @@ class ColumnsView:
         return next((title for title, name in zip(self.titles, self.fields) if name == field), "")
 
 
-def columns_shown(book: Book, path: pathlib.Path, import_options: ImportOptions) -> tuple[ColumnsView, Sheet]:
+def columns_shown(
+    book: Book, path: pathlib.Path, import_options: ImportOptions, last: LastReading | None = None
+) -> tuple[ColumnsView, Sheet]:
     """As an import finds them, and the sheet; a mistake where the file can't be read."""
     words = remember(book, with_settings(book, import_options))
-    now = read_given(import_options.columns)
-    before = titles_before(book) | read_given(words[Remembered.COLUMNS])
-    sheet = sheet_of(read_file(path), frozenset({*before.values(), *now.values()}), import_options.worksheet)
-    unknown = UnknownParents(words[Remembered.UNKNOWN], words[Remembered.KNOWN])
-    with_row = [animal.id for animal in book.society_records.values() if animal.standing.had_row()]
-    before = {name: title for name, title in before.items() if name not in now}
-    columns = find_columns(sheet, now, before, unknown, with_row)
+    columns = read_columns(read_file(path), import_options, book, words, last)
+    sheet = columns.sheet
     fields = {at: name for name, at in columns.found.items()}
     if not any(sheet.titles):
         raise Mistake(SheetFault.NO_TITLES.said(path=path))

@@ -6,6 +6,7 @@ import functools
 import pathlib
 import sqlite3
 from collections.abc import Iterable, Iterator, Mapping
+from dataclasses import dataclass
 
 from gudokeyi.background import Pieces
 from gudokeyi.domain.animals import NO_OWNER, SocietyRecord
@@ -29,6 +30,17 @@ from gudokeyi.store.state import (
 HAS_OTHER_ID = """
     EXISTS (SELECT 1 FROM animal AS now WHERE substr(now.number, 8) = substr(one.number, 8) AND until IS NULL AND id <> one.id)
 """
+
+
+@dataclass(frozen=True)
+class BookState:
+    """All animals of a book, as they were read: whoever opens the book in the same state needn't read them again."""
+
+    rows: list[AnimalRow]
+    society_records: Mapping[str, SocietyRecord]
+    names: Mapping[str, SocietyRecord]
+    records: Mapping[str, RegisterRecord]
+    cells: dict[Values, Values]
 
 
 class Book:
@@ -60,6 +72,16 @@ class Book:
         """Reads all animals at once, for whoever needs most of them."""
         self.society_records, self.names = whole(self.society_records), whole(self.names)
         self.records = whole(self.records)
+
+    def state(self) -> BookState:
+        """All animals, before anything is called otherwise."""
+        self.read_all()
+        return BookState(self.every_row, self.society_records, self.names, self.records, self.cells)
+
+    def begin_with(self, state: BookState) -> None:
+        """The animals are those that were read of the book in this state."""
+        self.every_row, self.cells = state.rows, state.cells
+        self.society_records, self.names, self.records = state.society_records, state.names, state.records
 
     @property
     def path(self) -> pathlib.Path:

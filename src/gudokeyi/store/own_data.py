@@ -6,6 +6,7 @@ from __future__ import annotations
 import json
 import sqlite3
 from collections.abc import Iterable, Mapping
+from typing import NamedTuple
 
 from gudokeyi.domain.folding import folded
 from gudokeyi.domain.own_columns import Note, OtherDifference, OwnColumn, OwnKind
@@ -28,6 +29,23 @@ def next_note(connection: sqlite3.Connection, digits: str) -> int:
     """A number that no note of the animal has or had."""
     found = connection.execute("SELECT ifnull(max(note), 0) + 1 FROM note WHERE digits = ?", (digits,))
     return int(found.fetchone()[0])
+
+
+class NoteEver(NamedTuple):
+    """A note that an animal has or had."""
+
+    number: int
+    text: str
+    is_now: bool
+
+
+def notes_ever(connection: sqlite3.Connection, digits: Iterable[str]) -> dict[str, list[NoteEver]]:
+    """All notes that some animals have or had, by the digits of these."""
+    asked = f"SELECT digits, note, text, {NOW} FROM note WHERE digits IN (SELECT value FROM json_each(?))"
+    found: dict[str, list[NoteEver]] = {}
+    for of, number, text, is_now in connection.execute(asked, (json.dumps([*digits]),)):
+        found.setdefault(of, []).append(NoteEver(number, text, bool(is_now)))
+    return found
 
 
 def rows_of_note(digits: str, before: Note | None, after: Note | None) -> Rows:

@@ -7,6 +7,7 @@ import enum
 from collections.abc import Iterable
 
 from flask import g, request, session
+from werkzeug.wrappers import Response
 
 from gudokeyi.domain.kinds import CommandKind, Field
 from gudokeyi.domain.messages import MessageText, Mistake
@@ -64,6 +65,13 @@ def command_name(kind: str) -> str:
 def field_name(field: str) -> str:
     """What a field of a sheet is called, by its own name."""
     return name_on_page(Field(field))
+
+
+def csv_file(text: str, name: str) -> Response:
+    """A file for spreadsheets. German and French ones want semicolons, and a mark of its letters."""
+    response = Response(text.encode("utf-8" if page_language().is_english else "utf-8-sig"), mimetype="text/csv")
+    response.headers["Content-Disposition"] = f"attachment; filename={name}"
+    return response
 
 
 # Mistakes as a page shows them.

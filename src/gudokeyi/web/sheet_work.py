@@ -19,7 +19,7 @@ from gudokeyi.domain.messages import Mistake
 from gudokeyi.domain.options import Kind
 from gudokeyi.domain.settings import Setting
 from gudokeyi.services.book_program import BookProgram
-from gudokeyi.services.cache import Stamp, mark_of, stamp_of
+from gudokeyi.services.cache import Stamp, StateKept, mark_of, stamp_of
 from gudokeyi.services.imports import BookAfter, ImportOptions, LettersUnsaid, read_file
 from gudokeyi.services.opening import Book, Overtaken, book_in, still_to_change, to_change, to_look_at, to_prepare
 from gudokeyi.services.option_values import day, days, three_letters
@@ -28,6 +28,7 @@ from gudokeyi.services.settings import settings_of
 from gudokeyi.services.sheet_imports import import_sheet_into
 from gudokeyi.services.recent import may_be_wrong
 from gudokeyi.services.saving import Prepared
+from gudokeyi.services.sheet_reading import LastReading
 from gudokeyi.services.sheet_previews import (
     ColumnsView, Sheet, animals_otherwise, cells_of, changes_by_animal, columns_shown, severity_of,
 )  # fmt: skip
@@ -42,6 +43,8 @@ from gudokeyi.web.workers import Tell
 Value = TypeVar("Value")
 # the field that drops what has no row, and so often a sheet is prepared while others file
 DROPS, TRIES_BESIDE = "drop_gone", 3
+# the book and the sheet that this process looked at last
+STATE, READING = StateKept(), LastReading()
 # the settings by which sheets are read
 OF_SHEETS = (Setting.BREED, Setting.COUNTRY, Setting.UNKNOWN)
 
@@ -133,16 +136,18 @@ def looked_at(folder: pathlib.Path, path: pathlib.Path, chosen: Chosen, again: C
     program = BookProgram()
     tell(Doing.COLUMNS)
     with to_look_at(folder, program) as book:
+        STATE.give(book)
         columns, sheet, failed = columns_of(book, path, chosen, folder)
         seen = seen_of(book, chosen)
     if failed:
         return look_of(seen, columns, failed)
     tell(Doing.CHANGES)
     with to_look_at(folder, program) as book:
+        STATE.give(book)
         seen = seen_of(book, chosen)
         try:
             outcome, _ = import_sheet_into(
-                book, read_file(path), replace(import_options_of(folder, chosen), preview=True), program
+                book, read_file(path), replace(import_options_of(folder, chosen), preview=True), program, last=READING
             )
         except Mistake as mistake:
             return look_of(seen, columns, mistake)
@@ -175,7 +180,7 @@ def columns_of(
 ) -> tuple[ColumnsView | None, Sheet | None, Mistake | None]:
     """The columns as they are understood, with the sheet, or why the file can't be read at all."""
     try:
-        return *columns_shown(book, path, import_options_of(folder, chosen)), None
+        return *columns_shown(book, path, import_options_of(folder, chosen), READING), None
     except Mistake as mistake:
         return None, None, mistake
 

@@ -5,106 +5,21 @@ from __future__ import annotations
 import contextlib
 import contextvars
 import enum
-import os
 import pathlib
-import pickle
 import secrets
-import signal
-import subprocess
 import sys
 import threading
 import time
 from collections import OrderedDict
-from collections.abc import Callable, Iterator
-from dataclasses import dataclass
-from typing import BinaryIO
+from collections.abc import Callable
 
 from gudokeyi.domain.messages import Mistake
 from gudokeyi.domain.people import WORKER
 from gudokeyi.domain.requests import WebFault
 from gudokeyi.domain.waiting import UNTIL
 from gudokeyi.services.folder_files import refresh
-from gudokeyi.web.work_places import BOUNDS, MOST_OF_PERSON, OTHERS, TAKING as TAKING, Bounds, Places
-
-# Work in a process beside the server, which may need much memory and time: how it is begun and done, and what it tells
-# of how far it is and of what comes of it.
-
-TOP = pathlib.Path(__file__).resolve().parent.parent.parent
-
-
-# told as a part of the work begins
-Tell = Callable[[str], None]
-
-
-@dataclass(frozen=True)
-class Progress:
-    """How far it is."""
-
-    what: str
-
-
-@dataclass(frozen=True)
-class Finished:
-    """What came of it."""
-
-    value: object
-
-
-@dataclass(frozen=True)
-class Failed:
-    """Why nothing came of it. A fault is one of the front desk itself."""
-
-    sentences: tuple[str, ...]
-    is_fault: bool = False
-
-
-WorkerMessage = Progress | Finished | Failed
-
-
-def started(work: Callable[..., object], values: tuple[object, ...], niceness: int = 0) -> subprocess.Popen[bytes]:
-    """The process, which does some work of a module with these values and one more, to tell how far it is. With
-    niceness it takes less from others."""
-    variables = {**os.environ, "PYTHONPATH": os.pathsep.join([str(TOP), os.environ.get("PYTHONPATH", "")])}
-    process = subprocess.Popen(
-        [sys.executable, "-m", "gudokeyi.web.worker_process"], stdin=subprocess.PIPE, stdout=subprocess.PIPE,
-        env=variables, start_new_session=True,
-    )  # fmt: skip
-    assert process.stdin
-    with process.stdin:
-        pickle.dump((WORKER.get(), niceness, work, values), process.stdin)
-    return process
-
-
-def messages_of(process: subprocess.Popen[bytes]) -> Iterator[WorkerMessage]:
-    """What it writes, to its end; a process that ends without a last message has failed."""
-    assert process.stdout
-    is_done = False
-    with process.stdout, contextlib.suppress(EOFError, pickle.UnpicklingError):
-        while True:
-            message: WorkerMessage = pickle.load(process.stdout)
-            is_done = not isinstance(message, Progress)
-            yield message
-    if process.wait() or not is_done:
-        yield Failed((WebFault.WORK_ENDED.said(),), True)
-
-
-def work_in_process(given: BinaryIO, out: BinaryIO) -> None:
-    def tell(message: WorkerMessage) -> None:
-        pickle.dump(message, out)
-        out.flush()
-
-    worker, niceness, work, values = pickle.load(given)
-    WORKER.set(worker)
-    os.nice(niceness)
-    try:
-        tell(Finished(work(*values, lambda what: tell(Progress(what)))))
-    except Mistake as mistake:
-        tell(Failed(mistake.sentences))
-    except MemoryError:
-        tell(Failed((WebFault.NO_MEMORY.said(),)))
-    except OSError as error:
-        tell(Failed((WebFault.NO_FILE.said(error=error),)))
-
+from gudokeyi.web.work_places import BOUNDS, LOOKING, MOST_OF_PERSON, OTHERS, TAKING as TAKING, Bounds, Places
+from gudokeyi.web.worker_processes import Failed, Finished, KeptProcesses, Progress, Tell as Tell, WorkerProcess
 
 # Work that goes on in processes beside the server: how far each is, and what came of it, kept with the state of the
 # book that it is of.
@@ -142,13 +57,18 @@ class Job:
         self.value: object = None
         self.failed = Failed(())
         self.is_over = threading.Event()
-        self.process: subprocess.Popen[bytes] | None = None
+        self.process: WorkerProcess | None = None
         # why it is ended before it is done
         self.stopped = ""
 
     @property
     def kind(self) -> str:
         return str(self.key[0])
+
+    @property
+    def of(self) -> Key:
+        """The kind, and what it is done with."""
+        return self.key[:2]
 
     @property
     def bounds(self) -> Bounds:
@@ -163,14 +83,22 @@ class Job:
         """Does it wait for a place?"""
         return not self.started and self.kind in BOUNDS
 
-    def do(self, work: Callable[..., object], values: tuple[object, ...]) -> None:
+    def do(
+        self, work: Callable[..., object], values: tuple[object, ...], kept: KeptProcesses | None = None
+    ) -> None:
+        """In a process, which is kept for the next look where this is one."""
         try:
             self.started = time.monotonic()
-            self.process = started(work, values, self.bounds.niceness if self.kind in BOUNDS else 0)
+            self.process = kept.taken(self.of) if kept else None
+            self.process = self.process or WorkerProcess(self.bounds.niceness if self.kind in BOUNDS else 0)
             if self.stopped:
-                end_all(self.process)
-            for message in messages_of(self.process):
+                self.process.kill()
+            for message in self.process.messages(work, values):
                 self.take(message)
+            if kept and self.stage is Stage.DONE:
+                kept.keep(self.of, self.process)
+            elif not self.process.ends_well():
+                self.take(Failed((WebFault.WORK_ENDED.said(),), True))
         except OSError as error:
             self.take(Failed((WebFault.NO_PROCESS.said(error=error),)))
         except BaseException:
@@ -204,7 +132,7 @@ class Job:
         """Ends it, also where it still waits for its place. What it was about to change isn't changed."""
         self.stopped = self.stopped or sentence
         if self.process and not self.is_over.is_set():
-            end_all(self.process)
+            self.process.kill()
 
     def take(self, message: object) -> None:
         if isinstance(message, Progress):
@@ -217,12 +145,6 @@ class Job:
             self.failed, self.stage = Failed((self.stopped,)) if self.stopped else message, Stage.FAILED
 
 
-def end_all(process: subprocess.Popen[bytes]) -> None:
-    """Ends a process and those that it began."""
-    with contextlib.suppress(ProcessLookupError, PermissionError):
-        os.killpg(process.pid, signal.SIGKILL)
-
-
 class Jobs:
     """The work that was begun, by what it is."""
 
@@ -233,6 +155,7 @@ class Jobs:
         # a process beside do so
         self.turn = threading.Lock()
         self.jobs: OrderedDict[Key, Job] = OrderedDict()
+        self.kept = KeptProcesses()
         self.is_ending, self.is_over = False, threading.Event()
         self.watching: threading.Thread | None = None
 
@@ -282,7 +205,7 @@ class Jobs:
             if job.stopped or (self.is_ending and job.kind != TAKING):
                 job.fail(job.stopped or WebFault.WORK_ENDED.said())
                 return
-            job.do(work, values)
+            job.do(work, values, self.kept if job.kind == LOOKING else None)
 
     def watch(self) -> None:
         """Begins to end what takes too long, or what nobody asks for any more. The lock is held."""
@@ -293,6 +216,7 @@ class Jobs:
     def end_stale(self) -> None:
         while not self.is_over.wait(SECONDS_BETWEEN):
             now = time.monotonic()
+            self.kept.end_unused()
             for job in self.not_over():
                 if job.started and now - job.started > job.bounds.seconds:
                     job.stop(WebFault.TOOK_LONG.said(minutes=job.bounds.seconds // 60))
@@ -313,7 +237,7 @@ class Jobs:
     def stop_others(self, key: Key) -> None:
         """Ends what is under way of the same kind on the same thing, which was asked for otherwise."""
         for job in self.not_over():
-            if job.key[:2] == key[:2] and job.key != key:
+            if job.of == key[:2] and job.key != key:
                 self.stop(job, WebFault.WORK_ENDED.said())
 
     def found(self, key: Key) -> Job | None:
@@ -366,6 +290,7 @@ class Jobs:
         self.is_over.set()
         for places in self.places.values():
             places.end()
+        self.kept.end()
 
 
 # Writes the files beside the database after a change, in a process beside, while pages are answered.

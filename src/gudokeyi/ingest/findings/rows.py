@@ -6,7 +6,7 @@ from dataclasses import dataclass
 
 from gudokeyi.domain.findings import Finding, Severity, Suggestion, What, is_animal
 from gudokeyi.domain.kinds import Field
-from gudokeyi.domain.wording import Counted, OptionalPart, Text
+from gudokeyi.domain.wording import AnyOf, Counted, OptionalPart, Text
 from gudokeyi.ingest.findings.cells import RowLeftOut
 from gudokeyi.ingest.findings.columns import SheetFinding, column
 
@@ -111,8 +111,26 @@ class StatusUnread(SheetFinding):
 
 
 @dataclass(frozen=True, slots=True)
+class TakerUnclear(Finding):
+    """An animal was sold to somebody who may be one or another owner."""
+
+    text: str
+    owners: tuple[str, ...]
+
+    what = What.WARNING
+    severity = Severity.FACTS
+    code = "taker unclear"
+    message = Text(
+        "'{text}' may mean {which}: the animal counts as gone; if it is with one of them, write that name in full"
+    )
+
+    def values(self) -> Mapping[str, object]:
+        return {"which": AnyOf(self.owners)}
+
+
+@dataclass(frozen=True, slots=True)
 class SoldWithin(Finding):
-    """An animal that was sold to an owner of the list, or of the book: it hasn't left."""
+    """An animal that was sold to an owner of the list, or of the book: it hasn't left the society."""
 
     owner: str
     before: str
@@ -121,7 +139,7 @@ class SoldWithin(Finding):
     what = What.INFERRED
     severity = Severity.FACTS
     code = "sold within"
-    message = Text("owner {owner}{maybe_before}, since the list has the owner that '{text}' names: it hasn't left")
+    message = Text("owner {owner}{maybe_before}: '{text}' names an owner of the society, so it hasn't left")
     parts = {
         "maybe_before": OptionalPart(", before {before}"),
     }

@@ -252,6 +252,17 @@ class NoteWritten(Finding):
 
 
 @dataclass(frozen=True, slots=True)
+class EarlyYearKept(Finding):
+    """A cell with a year that a book can't have is kept as a note."""
+
+    note: str
+
+    what = What.CHANGED
+    code = "early year kept"
+    message = Text("a book has no days before 1900, so what the cell says is kept as a note: '{note}'")
+
+
+@dataclass(frozen=True, slots=True)
 class OwnValueWritten(Finding):
     """A value of the society's own columns, and what it was before; each is empty where there is none."""
 

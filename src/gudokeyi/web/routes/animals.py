@@ -4,7 +4,6 @@ from __future__ import annotations
 from urllib.parse import urlencode
 
 from flask import Blueprint, jsonify, render_template, request, url_for
-from werkzeug.wrappers import Response
 
 from gudokeyi.domain.messages import Mistake
 from gudokeyi.domain.options import LIST, LIST_ON_PAGE
@@ -17,7 +16,7 @@ from gudokeyi.services.own_columns import columns_of, values_used
 from gudokeyi.services.search import why_found
 from gudokeyi.services.selection import Choice
 from gudokeyi.web.verification import refuse_to_certify
-from gudokeyi.web.language import on_page, page_language
+from gudokeyi.web.language import csv_file, on_page, page_language
 from gudokeyi.web.served_book import Answer, served_book, with_book
 from gudokeyi.web.views.animals import asked_by, fields_of, line_of, turned
 
@@ -58,14 +57,12 @@ def address(endpoint: str, fields: dict[str, str]) -> str:
 @page.get("/animals.csv")
 @with_book
 def file(book: Book) -> Answer:
-    """All animals that were asked for, as CSV. German and French spreadsheets want semicolons."""
+    """All animals that were asked for, as CSV."""
     # it has no place to tell that
     refuse_to_certify(served_book(), book)
-    semicolons = not page_language().is_english
-    text = in_language(file_of(book, asked_by(request.args)), page_language()).text(semicolons)
-    response = Response(text.encode("utf-8-sig" if semicolons else "utf-8"), mimetype="text/csv")
-    response.headers["Content-Disposition"] = "attachment; filename=animals.csv"
-    return response
+    words = page_language()
+    table = in_language(file_of(book, asked_by(request.args)), words)
+    return csv_file(table.text(not words.is_english), "animals.csv")
 
 
 @page.get("/search")

@@ -7,8 +7,9 @@ from flask import Blueprint, abort, flash, redirect, render_template, request, u
 from werkzeug.wrappers import Response
 
 from gudokeyi.domain.changes import Change
+from gudokeyi.render.csv_files import report_of
 from gudokeyi.services.cache import mark_of
-from gudokeyi.services.folder_files import report_text
+from gudokeyi.services.folder_files import entries_of, report_text
 from gudokeyi.services.history import change_numbered, last_changes, last_that_changed, taken_back_by
 from gudokeyi.services.opening import Book
 from gudokeyi.services.restoring import copy_of_book, last_backup, remember
@@ -17,7 +18,7 @@ from gudokeyi.services.undoing import undo
 from gudokeyi.web.access import is_of_another_site, the_logins
 from gudokeyi.web.files import download
 from gudokeyi.web.forms import change_once, mark_text, sent_form, sent_mark
-from gudokeyi.web.language import gettext, on_page, page_language
+from gudokeyi.web.language import csv_file, gettext, on_page, page_language
 from gudokeyi.web.paging import part_read
 from gudokeyi.web.served_book import Answer, served_book, with_book
 from gudokeyi.web.views.changes import differences_of, given_of, line_of, lines_of, told_of_change
@@ -61,13 +62,14 @@ def change(book: Book, number: int) -> Answer:
 @page.get("/history/<change:number>/report.csv")
 @with_book
 def report(book: Book, number: int) -> Answer:
-    """All that a change told, as the book's own report has it."""
-    found = change_numbered(book, number)
+    """All that a change told; in English as the book's own report has it."""
+    found, words = change_numbered(book, number), page_language()
     if found is None:
         abort(404)
-    response = Response(report_text(book, found), mimetype="text/csv")
-    response.headers["Content-Disposition"] = f"attachment; filename=report-{number}.csv"
-    return response
+    if words.is_english:
+        return csv_file(report_text(book, found).decode(), f"report-{number}.csv")
+    table = report_of(entries_of(book, found), number, words)
+    return csv_file(table.text(semicolons=True), f"report-{number}.csv")
 
 
 @page.get("/history/<change:number>/undo")

@@ -6,7 +6,6 @@ from fractions import Fraction
 from typing import Any, NamedTuple
 
 from flask import Blueprint, abort, render_template, request
-from werkzeug.wrappers import Response
 
 from gudokeyi.domain.messages import Mistake
 from gudokeyi.domain.options import PLAN, Kind
@@ -19,7 +18,7 @@ from gudokeyi.services.option_values import coefficient, days, positive
 from gudokeyi.services.plans import PlanRules
 from gudokeyi.services.search import find
 from gudokeyi.services.tables import Cell
-from gudokeyi.web.language import gettext, on_page, page_language
+from gudokeyi.web.language import csv_file, gettext, on_page, page_language
 from gudokeyi.web.mating_work import Bounds, PlanMade, advice_for, plan_for, usual_of
 from gudokeyi.web.paging import part_of
 from gudokeyi.web.served_book import Answer, served_book, with_book
@@ -88,15 +87,8 @@ def file(book: Book) -> Answer:
     job.is_over.wait()
     if not isinstance(job.value, Advice):
         raise Mistake(*job.failed.sentences)
-    semicolons = not page_language().is_english
-    table = in_language(job.value.table, page_language())
-    return csv_of(table.text(semicolons), semicolons, "matings.csv")
-
-
-def csv_of(text: str, semicolons: bool, name: str) -> Response:
-    response = Response(text.encode("utf-8-sig" if semicolons else "utf-8"), mimetype="text/csv")
-    response.headers["Content-Disposition"] = f"attachment; filename={name}"
-    return response
+    words = page_language()
+    return csv_file(in_language(job.value.table, words).text(not words.is_english), "matings.csv")
 
 
 # the fields of the form of a plan, by their names there, and what reads a value of each kind
@@ -155,6 +147,5 @@ def plan_file(book: Book) -> Answer:
     job = plan_for(served_book(), book, asked_of(dict(request.args)))
     if not isinstance(job.value, PlanMade):
         abort(404)
-    semicolons = not page_language().is_english
-    table = in_language(job.value.table, page_language())
-    return csv_of(table.text(semicolons), semicolons, "plan.csv")
+    words = page_language()
+    return csv_file(in_language(job.value.table, words).text(not words.is_english), "plan.csv")

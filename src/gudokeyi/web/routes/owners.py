@@ -4,11 +4,11 @@ from __future__ import annotations
 from collections.abc import Callable
 
 from flask import Blueprint, abort, flash, redirect, render_template, request, url_for
-from werkzeug.wrappers import Response
 
 from gudokeyi.domain.changes import Change
 from gudokeyi.domain.messages import Mistake
 from gudokeyi.domain.requests import OwnFault
+from gudokeyi.render.csv_files import in_language
 from gudokeyi.render.page_wording import MessageView
 from gudokeyi.services.book_session import BookMoved
 from gudokeyi.services.members import (
@@ -16,7 +16,7 @@ from gudokeyi.services.members import (
 )  # fmt: skip
 from gudokeyi.services.opening import Book
 from gudokeyi.web.forms import change_once, sent_form, token_with
-from gudokeyi.web.language import gettext, on_page, page_language
+from gudokeyi.web.language import csv_file, gettext, on_page, page_language
 from gudokeyi.web.served_book import Answer, served_book, with_book
 
 page = Blueprint("owners", __name__)
@@ -42,12 +42,9 @@ def is_found(member: Member, words: str) -> bool:
 @page.get("/owners.csv", endpoint="file")
 @with_book
 def file(book: Book) -> Answer:
-    """All owners as CSV. German and French spreadsheets want semicolons."""
-    semicolons = not page_language().is_english
-    text = members_table(book).text(semicolons)
-    response = Response(text.encode("utf-8-sig" if semicolons else "utf-8"), mimetype="text/csv")
-    response.headers["Content-Disposition"] = "attachment; filename=owners.csv"
-    return response
+    """All owners as CSV."""
+    words = page_language()
+    return csv_file(in_language(members_table(book), words).text(not words.is_english), "owners.csv")
 
 
 @page.get("/owner/<int:code>", endpoint="form")

@@ -6,18 +6,17 @@ import tempfile
 
 from flask import Blueprint, flash, redirect, render_template, request, url_for
 from werkzeug.datastructures import FileStorage
-from werkzeug.wrappers import Response
 
 from gudokeyi.domain.messages import Mistake
 from gudokeyi.domain.requests import WebFault
-from gudokeyi.domain.seals import PublishedSeal
+from gudokeyi.domain.seals import TITLES, PublishedSeal
 from gudokeyi.render.page_wording import MessageView
 from gudokeyi.services.book_program import BookProgram
 from gudokeyi.services.cache import stamp_of
 from gudokeyi.services.opening import Book
 from gudokeyi.services.seal_publishing import publish_seal
 from gudokeyi.services.seals import CheckedCertificate, check_file, first_with, published_seals
-from gudokeyi.web.language import gettext, on_page, page_language
+from gudokeyi.web.language import csv_file, gettext, on_page, page_language
 from gudokeyi.web.served_book import Answer, served_book, with_book
 from gudokeyi.web.verification import verified
 from gudokeyi.web.views.seals import line_of, view_of
@@ -51,11 +50,11 @@ def is_sealed(book: Book, published: PublishedSeal) -> bool:
 @page.get("/seals.csv")
 @with_book
 def lines(book: Book) -> Answer:
-    """The lines as others have them, and as `verify --published` reads them."""
-    text = "".join(f"{one.line()}\n" for one in published_seals(book))
-    response = Response(text, mimetype="text/csv")
-    response.headers["Content-Disposition"] = "attachment; filename=seals.csv"
-    return response
+    """The lines as others have them, below titles, and as `verify --published` reads them."""
+    words = page_language()
+    separator = "," if words.is_english else ";"
+    lines = [separator.join(TITLES[words.name]), *(one.line(separator) for one in published_seals(book))]
+    return csv_file("".join(f"{line}\n" for line in lines), "seals.csv")
 
 
 @page.post("/seals")

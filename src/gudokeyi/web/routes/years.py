@@ -4,13 +4,13 @@ from __future__ import annotations
 import datetime
 
 from flask import Blueprint, redirect, render_template, request, url_for
-from werkzeug.wrappers import Response
 
 from gudokeyi.domain.kinds import ExitReason
+from gudokeyi.render.csv_files import in_language
 from gudokeyi.render.page_language import name_of
 from gudokeyi.services.opening import Book
 from gudokeyi.services.years import events_of, table_of
-from gudokeyi.web.language import page_language
+from gudokeyi.web.language import csv_file, page_language
 from gudokeyi.web.served_book import Answer, with_book
 
 page = Blueprint("years", __name__)
@@ -34,9 +34,6 @@ def of_year(book: Book, year: int) -> Answer:
 @page.get("/year/<int:year>.csv")
 @with_book
 def file(book: Book, year: int) -> Answer:
-    """As CSV. German and French spreadsheets want semicolons."""
-    semicolons = not page_language().is_english
-    text = table_of(book, year).text(semicolons)
-    response = Response(text.encode("utf-8-sig" if semicolons else "utf-8"), mimetype="text/csv")
-    response.headers["Content-Disposition"] = f"attachment; filename=year-{year}.csv"
-    return response
+    words = page_language()
+    table = in_language(table_of(book, year), words, has_marks=False)
+    return csv_file(table.text(not words.is_english), f"year-{year}.csv")

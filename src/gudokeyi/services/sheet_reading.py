@@ -1,0 +1,197 @@
+"""What is read of a sheet: its columns, and the animals of its rows. A process that looks at one sheet again and again
+keeps both, as long as nothing is different by which they were read."""
+from __future__ import annotations
+
+import datetime
+import functools
+import operator
+from collections.abc import Collection, Mapping
+from dataclasses import dataclass, field, fields
+
+from gudokeyi.domain.animals import NO_OWNER
+from gudokeyi.domain.findings import Entry, ImportRefused, Report
+from gudokeyi.domain.kinds import Field, Remembered
+from gudokeyi.domain.messages import MOST_NAMED
+from gudokeyi.ingest.animals import SheetAnimal
+from gudokeyi.ingest.columns import Columns, find_columns
+from gudokeyi.ingest.files import GivenFile
+from gudokeyi.ingest.rows_as_meant import as_meant, member_numbered
+from gudokeyi.ingest.sheet_animals import Rows
+from gudokeyi.ingest.sheets import Sheet, read_sheet
+from gudokeyi.ingest.titles import known_titles, parts_of, read_given, read_sexes
+from gudokeyi.ingest.unknown_parents import UnknownParents
+from gudokeyi.reconcile.findings.obstacles import NoRowTaken
+from gudokeyi.reconcile.import_options import ImportOptions, RememberedWords
+from gudokeyi.store.book import Book
+from gudokeyi.store.members import members_by_code
+
+# The columns.
+
+
+@functools.lru_cache(1)
+def sheet_of(file: GivenFile, titles: frozenset[str], worksheet: str) -> Sheet:
+    """The rows of a file; the titles are those that its columns had or are named by. A look at it reads it once."""
+    return read_sheet(file, lambda row: known_titles(row) + sum(title in titles for title in row), worksheet)
+
+
+def titles_before(book: Book) -> dict[str, str]:
+    """The titles of all columns of the last sheet, by field."""
+    return {one.word: one.meaning for one in book.remembered if one.what is Remembered.COLUMN}
+
+
+@dataclass
+class ColumnsRead:
+    """The columns of a sheet, and by what they were found."""
+
+    read_by: tuple[object, ...]
+    columns: Columns
+
+
+# The animals of the rows.
+
+
+@dataclass
+class Reading:
+    """The rows of a sheet, and all by which they are read."""
+
+    sheet: Sheet
+    columns: dict[str, int]
+    unknown: UnknownParents
+    sexes: dict[str, str]
+    month_first: bool
+    no_animals: list[str]
+    # ids of animals for sure
+    sure: frozenset[str]
+    # of the book: the birth days of its animals, and its owners by all that a sheet may call them
+    born: dict[str, datetime.date]
+    owners: dict[str, str]
+    today: datetime.date = field(default_factory=datetime.date.today)
+
+    def read_by(self) -> tuple[object, ...]:
+        values = (dict(self.columns), self.unknown.more, self.unknown.known, dict(self.sexes), self.month_first)
+        return *values, [*self.no_animals], self.sure, self.born, self.owners, self.today
+
+    def animals(self, report: Report) -> tuple[Rows, dict[str, SheetAnimal]]:
+        has_ids = Field.ID in self.columns
+        meant = as_meant(self.sheet, self.columns, self.unknown, self.sure, report) if has_ids else self.sheet
+        rows = Rows(
+            meant, {name: at for name, at in self.columns.items() if name != Field.STATUS}, self.unknown, self.sexes,
+            report, self.month_first, self.born, self.no_animals, self.owners,
+        )  # fmt: skip
+        return rows, rows.animals() if has_ids else {}
+
+
+@dataclass
+class AnimalsRead:
+    """The animals of the rows as they were read, what was told of them, and by what they were read."""
+
+    sheet: Sheet
+    read_by: tuple[object, ...]
+    rows: Rows
+    animals: dict[str, SheetAnimal]
+    entries: list[Entry]
+
+
+VALUES_OF = operator.attrgetter(*(one.name for one in fields(SheetAnimal)))
+
+
+def copied(animal: SheetAnimal) -> SheetAnimal:
+    """The same, of which something may be found; its cells stay as they are."""
+    copy = SheetAnimal(*VALUES_OF(animal))
+    if animal.unread:
+        copy.unread = [*animal.unread]
+    return copy
+
+
+class LastReading:
+    """What was read of a sheet last. Each is read again where anything is different by which it was read."""
+
+    def __init__(self) -> None:
+        self.columns: ColumnsRead | None = None
+        self.animals: AnimalsRead | None = None
+
+    def columns_of(
+        self, sheet: Sheet, given: Mapping[str, str], before: Mapping[str, str], unknown: UnknownParents,
+        ids: Collection[str],
+    ) -> Columns:  # fmt: skip
+        read_by = (dict(given), dict(before), unknown.more, unknown.known, [*ids])
+        last = self.columns
+        if last is None or last.columns.sheet is not sheet or last.read_by != read_by:
+            self.columns = last = ColumnsRead(read_by, find_columns(sheet, given, before, unknown, ids))
+        return last.columns
+
+    def animals_of(self, reading: Reading, report: Report) -> tuple[Rows, dict[str, SheetAnimal]]:
+        """The animals, and what is told of them."""
+        last = self.animals
+        if last is None or last.sheet is not reading.sheet or last.read_by != reading.read_by():
+            self.animals = None
+            rows, animals = reading.animals(report)
+            kept = {id: copied(animal) for id, animal in animals.items()}
+            self.animals = AnimalsRead(reading.sheet, reading.read_by(), rows, kept, [*report.entries])
+            return rows, animals
+        report.entries = [*last.entries]
+        return last.rows, {id: copied(animal) for id, animal in last.animals.items()}
+
+
+# Both.
+
+
+@dataclass
+class ReadSheet:
+    """What was read of a sheet."""
+
+    sheet: Sheet
+    columns: Columns
+    rows: Rows
+    animals: dict[str, SheetAnimal]
+    report: Report
+
+
+def read_columns(
+    file: GivenFile, import_options: ImportOptions, book: Book, words: RememberedWords, last: LastReading | None = None
+) -> Columns:
+    """The columns of a sheet, which has its rows."""
+    now = read_given(import_options.columns)
+    before = titles_before(book) | read_given(words[Remembered.COLUMNS])
+    sheet = sheet_of(file, frozenset({*before.values(), *now.values()}), import_options.worksheet)
+    unknown = UnknownParents(words[Remembered.UNKNOWN], words[Remembered.KNOWN])
+    ids = [animal.id for animal in book.society_records.values() if animal.standing.had_row()]
+    before = {name: title for name, title in before.items() if name not in now}
+    found = last.columns_of if last else find_columns
+    return found(sheet, now, before, unknown, ids)
+
+
+def names_of_owners(book: Book) -> dict[str, str]:
+    """The owners of the book as they are written now, by their names of now and before and by their numbers as members,
+    also those who have no animal any more."""
+    now = {code: name for name, code in book.owners.items() if code != NO_OWNER}
+    names = {name: now[code] for name, code in book.owners_came().items() if code in now}
+    for code, (number, *_) in members_by_code(book.connection).items():
+        if number and code in now:
+            names[member_numbered(number)] = now[code]
+    return names | {name: name for name in now.values()}
+
+
+def read_animals(
+    file: GivenFile, import_options: ImportOptions, book: Book, words: RememberedWords, last: LastReading | None = None
+) -> ReadSheet:
+    """The animals of a sheet; else a mistake with all that keeps it from being read."""
+    columns, report = read_columns(file, import_options, book, words, last), Report()
+    sheet = columns.sheet
+    with_day = {id: animal for id, animal in book.society_records.items() if not animal.birth.is_inferred}
+    reading = Reading(
+        sheet, columns.found, UnknownParents(words[Remembered.UNKNOWN], words[Remembered.KNOWN]),
+        read_sexes(words[Remembered.SEXES]), bool(words[Remembered.MONTH_FIRST]), words[Remembered.TOLD],
+        frozenset({*book.society_records, *parts_of(import_options.animal)}),
+        {id: book.records[animal.registration_number].born for id, animal in with_day.items()}, names_of_owners(book),
+    )  # fmt: skip
+    rows, animals = last.animals_of(reading, report) if last else reading.animals(report)
+    formulas = sheet.formulas.told([*columns.found.values()]) if sheet.formulas else []
+    faults = [*sheet.faults, *formulas, *columns.faults, *rows.faults]
+    if faults:
+        raise ImportRefused(*faults)
+    for finding in [*columns.notes, *rows.notes]:
+        report.add(0, "", finding)
+    if not animals:
+        raise ImportRefused(NoRowTaken(str(file.path)), entries=report.entries[:MOST_NAMED])
+    return ReadSheet(sheet, columns, rows, animals, report)

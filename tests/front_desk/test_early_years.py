@@ -1,0 +1,54 @@
+"""Days before 1900, which no book can have: what their cells say is kept as notes, with the change that takes the
+sheet."""
+from __future__ import annotations
+
+import pytest
+
+from front_desk.desk import Desk
+from gudokeyi.services.book_program import BookProgram
+from gudokeyi.services.notes import notes_of, write_note
+from gudokeyi.services.opening import book_in, to_change
+
+TITLES = "Ohrmarke;Name;Geschlecht;geb;Vater;Mutter;Besitzer;Abgang\n"
+OLD = "001;Max;m;14.05.1887;;;Huber;\n002;Eva;w;ca. 1899;;;Huber;12.3.1899\n003;Ada;w;1.2.1905;001;002;Huber;\n"
+KEPT = {"001": {"geb: 14.05.1887"}, "002": {"geb: ca. 1899", "Abgang: 12.3.1899"}, "003": set[str]()}
+
+
+def notes(desk: Desk) -> dict[str, set[str]]:
+    with book_in(desk.room / "book") as book:
+        found = {id: notes_of(book, animal) for id, animal in book.society_records.items()}
+    assert all(len(those) == len({one.text for one in those}) for those in found.values())
+    return {id: {one.text for one in those} for id, those in found.items()}
+
+
+def test_kept_with_the_import(desk: Desk) -> None:
+    """A preview tells of them, the import writes them, taken again it writes none, and undone it takes them away."""
+    told = "line 2: 001: changed: a book has no days before 1900, so what the cell says is kept as a note: 'geb: 14.05.1887'"
+    assert told in desk.take(TITLES + OLD, "--preview").out
+    assert told in desk.take(TITLES + OLD).told and notes(desk) == KEPT
+    again = desk.take(TITLES.replace("geb", "geboren am") + OLD.replace("Max", "Moritz"))
+    assert "kept as a note" not in again.told and notes(desk) == KEPT
+    desk.good("undo", "--to", "0")
+    assert not notes(desk)
+    desk.take(TITLES + OLD)
+    assert notes(desk) == KEPT
+
+
+def test_removed_by_hand(desk: Desk, monkeypatch: pytest.MonkeyPatch) -> None:
+    """A note that somebody removed comes again where the cell is another alone."""
+    monkeypatch.setenv("HERDBOOK", desk.program)
+    desk.take(TITLES + OLD)
+    program = BookProgram()
+    with to_change(desk.room / "book", program) as book:
+        animal = book.society_records["001"]
+        [note] = notes_of(book, animal)
+        write_note(book, program, animal, "", book.records[animal.registration_number].born, note)
+    assert "kept as a note" not in desk.take(TITLES + OLD).told and not notes(desk)["001"]
+    desk.take(TITLES + OLD.replace("14.05.1887", "14.05.1888"))
+    assert notes(desk)["001"] == {"geb: 14.05.1888"}
+
+
+def test_no_note_of_days_that_a_book_has(desk: Desk) -> None:
+    """Nor of other numbers in such cells."""
+    desk.take(TITLES + OLD.replace("14.05.1887", "vor 2001").replace("ca. 1899", "Nr. 31899").replace("12.3.1899", "12.3.1999"))
+    assert not any(notes(desk).values())

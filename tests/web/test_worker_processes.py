@@ -1,0 +1,125 @@
+"""Processes that are kept for the next look at a sheet: which are, how long, and that nothing old is told by one."""
+from __future__ import annotations
+
+import os
+import pathlib
+from collections.abc import Iterator
+
+import pytest
+
+from front_desk.desk import TOP, Desk
+from front_desk.society_lists import GOATS, HORSES, Style, with_planted
+from web.looks import PAIR, TITLES
+from web.site import Site, shown
+from gudokeyi.services.cache import StateKept
+from gudokeyi.services.sheet_reading import LastReading
+from gudokeyi.web import sheet_work, worker_processes
+from gudokeyi.web.sheet_work import Chosen, Look, looked_at
+from gudokeyi.web.work_places import BREED, LOOKING
+from gudokeyi.web.worker_processes import MOST_KEPT
+from gudokeyi.web.workers import Job, Jobs, Stage
+
+
+@pytest.fixture(autouse=True)
+def of_tests(monkeypatch: pytest.MonkeyPatch) -> None:
+    """The processes find what these tests do."""
+    monkeypatch.setenv("PYTHONPATH", str(TOP / "tests"))
+
+
+def process_id(_: object) -> int:
+    return os.getpid()
+
+
+def fallen(_: object) -> int:
+    raise ValueError("a fault of the work")
+
+
+@pytest.fixture
+def jobs() -> Iterator[Jobs]:
+    found = Jobs()
+    yield found
+    found.end()
+
+
+def done(job: Job) -> object:
+    assert job.is_over.wait(30)
+    return job.value if job.stage is Stage.DONE else None
+
+
+def is_there(process: object) -> bool:
+    """Its entry, also where nobody waited for its end, would be there."""
+    return isinstance(process, int) and pathlib.Path(f"/proc/{process}").exists()
+
+
+def test_kept_for_the_next_look(jobs: Jobs, monkeypatch: pytest.MonkeyPatch) -> None:
+    """The next look at a sheet is done by the process of the last one, another sheet and other work by others."""
+    first = done(jobs.of((LOOKING, "a", 1), process_id, ()))
+    assert done(jobs.of((LOOKING, "a", 2), process_id, ())) == first and is_there(first)
+    other = done(jobs.of((LOOKING, "b", 1), process_id, ()))
+    assert other != first and not is_there(done(jobs.of((BREED, "a", 1), process_id, ())))
+    # of more sheets those that were looked at last
+    others = [done(jobs.of((LOOKING, at, 1), process_id, ())) for at in range(MOST_KEPT)]
+    assert all(map(is_there, others)) and not is_there(first) and not is_there(other)
+    monkeypatch.setattr(worker_processes, "SECONDS_KEPT", 0)
+    jobs.kept.end_unused()
+    assert not any(map(is_there, others))
+
+
+def test_fault_in_a_kept_process(jobs: Jobs) -> None:
+    """One that fell, or was killed since, isn't asked again."""
+    first = done(jobs.of((LOOKING, "a", 1), process_id, ()))
+    assert done(jobs.of((LOOKING, "a", 2), fallen, ())) is None and not is_there(first)
+    second = done(jobs.of((LOOKING, "a", 3), process_id, ()))
+    assert isinstance(second, int)
+    os.kill(second, 9)
+    os.waitid(os.P_PID, second, os.WEXITED | os.WNOWAIT)
+    third = done(jobs.of((LOOKING, "a", 4), process_id, ()))
+    assert third not in (None, second)
+    jobs.end()
+    assert not is_there(third)
+
+
+def press(site: Site, address: str, **options: str) -> str:
+    """What the page says behind something else that is chosen."""
+    return shown(site.page(site.post(f"{address}/columns", **options).headers["Location"]))
+
+
+def test_nothing_old(empty_site: Site, desk: Desk) -> None:
+    """What others did to the book since the last look, and another text in the file, are in the next one."""
+    site = empty_site
+    address = site.drop("herde.csv", (TITLES + PAIR).encode())
+    assert "The book would have 3 animals" in shown(site.page(address))
+    desk.take(TITLES + PAIR.replace("Huber", "Meier") + "044;Neu;w;2004-01-01;001;002;Meier\n")
+    found = press(site, address, anyway="1")
+    assert "The book would have 4 animals" in found and "owner: Huber, before Meier" in found
+    desk.good("correct", "001", "--name", "Moritz")
+    assert "Moritz" in press(site, address, unknown="zzz")
+    [upload] = site.desk.uploads.found.values()
+    upload.path.write_bytes((TITLES + PAIR.replace("Eva", "Else")).encode())
+    assert "name: Else, before Eva" in press(site, address, unknown="zzzz")
+
+
+CHOICES = ({}, {"anyway": "1"}, {"unknown": "Chäspi"}, {"drop_gone": "1", "known": "Chäspi"}, {"month_first": "1"}, {})
+
+
+@pytest.mark.parametrize("style", [GOATS, HORSES])
+@pytest.mark.parametrize("has_book", [False, True])
+def test_same_looks(
+    desk: Desk, program: str, monkeypatch: pytest.MonkeyPatch, style: Style, has_book: bool
+) -> None:
+    """A process that looked before sees what one sees that begins, whatever is chosen in turn."""
+    monkeypatch.setenv("HERDBOOK", program)
+    monkeypatch.setattr(sheet_work, "bound_look", lambda: None)
+    text = with_planted(style).text()
+    if has_book:
+        desk.take(text, "--anyway")
+    path = desk.room / desk.write("liste.csv", text.replace("Caduff", "Cadufff"))
+
+    def look(options: dict[str, str], anew: bool) -> Look:
+        if anew:
+            monkeypatch.setattr(sheet_work, "STATE", StateKept())
+            monkeypatch.setattr(sheet_work, "READING", LastReading())
+        return looked_at(desk.room / "book", path, Chosen.of({}, options), (), lambda _: None)
+
+    fresh = [look(options, anew=True) for options in CHOICES]
+    assert [look(options, anew=False) for options in CHOICES] == fresh and len({*map(str, fresh)}) > 2
