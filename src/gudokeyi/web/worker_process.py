@@ -12,8 +12,8 @@ from gudokeyi.web.worker_processes import work_in_process
 
 # so much memory it may use
 MOST_BYTES = 3 << 30
-# what a look makes of a large sheet is needed to its end: to look for what isn't as often as Python does by itself takes
-# 2 of 6 seconds at 60,000 rows; it is looked for behind each work
+# what a look makes of a large sheet is needed to its end: to look for what isn't, as often as Python does by itself,
+# takes 2 of 6 seconds at 60,000 rows; it is looked for behind each work
 OBJECTS, ROUNDS = 100_000, 1000
 
 if __name__ == "__main__":
