@@ -3,6 +3,8 @@ use Rattle.std.proofs.Common.{◌≡◌, ◌∙◌, ◌⊎◌, inl, inr, ℕ, ze
 use Rattle.std.proofs.lemmas.Bool.{cases_Bool}
 use Rattle.std.proofs.lemmas.Grind.{get_or_default_zero}
 use Rattle.std.proofs.lemmas.List.Elements.{All-nil, All-cons, Contains-get_or}
+use Rattle.std.proofs.lemmas.List.FromFn.{length-range_with_len}
+use Rattle.std.proofs.lemmas.List.Sums.{count_by-le-length, length-filter}
 use Rattle.std.specs.List.{range_with_len}
 use Rattle.std.specs.Option.{option_map_or}
 use Rattle.merkle_tree.specs.Shown.{IsAscending}
@@ -184,3 +186,32 @@ with_ancestors-within lineage rank = λ k d low.
 pub with_ancestors-ascend : (lineage : List Parents) (rank : ℕ) → IsAscending (with_ancestors lineage rank)
 unfolding with_ancestors
 with_ancestors-ascend lineage rank = filtered_ascends (λ (other : ℕ). is_led (length lineage) lineage other rank) 0 (length lineage)
+
+-- who is reached by a path is among them
+pub with_ancestors-reached : (l most : ℕ) (lineage : List Parents) (rank : ℕ) → IsLineage l most lineage → rank < length lineage
+    → (n z : ℕ) → PathTo (ranked lineage) n rank z → Contains (with_ancestors lineage rank) z
+unfolding with_ancestors
+with_ancestors-reached l most lineage rank f within n z path =
+    let short = path_short l most lineage f n rank z path in
+    filter-keeps (λ (other : ℕ). is_led (length lineage) lineage other rank) (range_with_len 0 (length lineage)) z
+    (rank-in (length lineage) z (omega (arith, short, within)))
+    (led_along n (length lineage) lineage z rank (omega (arith, short, within)) path)
+
+-- and to each of them there is a path
+pub with_ancestors-path : (lineage : List Parents) (rank z : ℕ) → Contains (with_ancestors lineage rank) z
+    → (n : ℕ) × PathTo (ranked lineage) n rank z
+unfolding with_ancestors
+with_ancestors-path lineage rank z c =
+    let stays = filter-only (λ (other : ℕ). is_led (length lineage) lineage other rank) (range_with_len 0 (length lineage)) z c in
+    path_found (length lineage) lineage z rank stays.1
+
+-- they are no more than the lineage has
+pub with_ancestors-few : (lineage : List Parents) (rank : ℕ) → length (with_ancestors lineage rank) ≤ length lineage
+unfolding with_ancestors
+with_ancestors-few lineage rank =
+    let led = λ (other : ℕ). is_led (length lineage) lineage other rank in
+    let all = range_with_len 0 (length lineage) in
+    let kept = length-filter led all in
+    let few = count_by-le-length led all in
+    let long = length-range_with_len 0 (length lineage) in
+    omega (arith, kept, few, long)

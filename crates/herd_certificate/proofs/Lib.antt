@@ -1,2 +1,5 @@
 pub mod AncestorFacts
 pub mod PartFacts
+mod ShownFacts
+mod FaultlessFacts
+mod AcceptedFacts

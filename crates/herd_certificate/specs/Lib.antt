@@ -1,3 +1,4 @@
 pub mod Ancestors
 pub mod Sealed
 pub mod Parts
+pub mod Faultless

@@ -12,6 +12,7 @@ use Rattle.herd_kinship.specs.Coefficients.{coefficient_at}
 use Rattle.herd_record_line.specs.RecordLine.{field_text}
 use Rattle.herd_text.specs.CoefficientText.{coefficient_text}
 use Rattle.herd_seal.specs.CertificateText.{certificate_text, row_line}
+use Rattle.herd_seal.specs.CheckFaults.{Parts}
 use Rattle.herd_seal.specs.Seal.{rows_of, seal_of}
 use Rattle.herd_seal.specs.declared.certificate.CertifiedRow.{CertifiedRow}
 use Rattle.herd_seal.specs.declared.certificate.Claim.{Claim}
@@ -55,6 +56,16 @@ coefficient_told rows place = coefficient_text (codes ",") (coefficient_at DEPTH
 -- the places of the rows that a certificate of the animal at a place shows
 abbrev pub places_shown : List Row → ℕ → List ℕ
 places_shown rows place = with_ancestors (map parents_of rows) place
+
+-- what the certificate of the animal at a place has
+abbrev pub parts_at : List Row → ℕ → ℕ → Parts
+parts_at rows steps place = record {
+  seal = seal_of steps (rows_of rows);
+  claim = claim_at rows steps place;
+  coefficient = coefficient_told rows place;
+  rows = rows_at rows (places_shown rows place);
+  digests = beside (digests_of (rows_of rows)) (places_shown rows place);
+}
 
 -- the certificate of the animal at a place
 unfoldable pub sealed_at : List Row → ℕ → ℕ → List ℕ
