@@ -21,6 +21,7 @@ class Group(enum.StrEnum):
     WORKBOOKS = "workbooks"
     PAGES = "pages"
     BROWSER = "browser"
+    PICTURES = "pictures"
     BREED = "breed"
     PEDIGREES = "pedigrees"
 

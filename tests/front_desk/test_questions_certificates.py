@@ -155,7 +155,7 @@ def test_society(society_desk: Desk) -> None:
     for page in pages(society_desk, "book/certificates.html"):
         assert words(classed(page, "letterhead")[0]) == "Goats <of> the Vale Church Lane 1"
         assert "Ausgestellt am 01.03.2026" in words(page)
-        assert "Für den Zuchtverband: Goats <of> the Vale" in words(page)
+        assert "Unterschrift, für den Zuchtverband: Goats <of> the Vale" in words(page)
         assert not re.search(r"\d{4}-\d\d-\d\d", words(page))
     shown = words(pages(society_desk, "book/certificates.html")[0])
     assert "1/32 = 0,03125" in shown and "21.11.2017" in shown

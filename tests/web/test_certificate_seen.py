@@ -10,6 +10,7 @@ from selenium import webdriver
 
 from web.screen import PHONE, Screen, chromium
 from front_desk.desk import Desk
+from web.test_picture import picture_of
 from gudokeyi.domain.settings import LANGUAGES
 
 __all__ = ["chromium"]
@@ -46,9 +47,15 @@ def full_sibs(before: str) -> str:
     return rows
 
 
+def settings(desk: Desk) -> None:
+    (desk.room / "goat.jpg").write_bytes(picture_of(1200, 900, "JPEG"))
+    said = "--name", SOCIETY, "--address", ADDRESS, "--breed-name", "Bunte Deutsche Edelziege", "--picture", "goat.jpg"
+    assert desk.good("settings", *said).last == "picture: 800 by 600 points"
+
+
 def test_boxes(chromium: webdriver.Chrome, desk: Desk) -> None:
     desk.take("id,name,sex,birth,sire,dam,owner\n" + "".join(map(full_sibs, BEFORE)))
-    desk.good("settings", "--name", SOCIETY, "--address", ADDRESS)
+    settings(desk)
     screen = Screen(chromium, "")
     for language in LANGUAGES:
         name = f"{language}.html"
@@ -70,7 +77,7 @@ def test_boxes(chromium: webdriver.Chrome, desk: Desk) -> None:
 @pytest.mark.parametrize("generations, boxes", [(4, 30), (5, 62)])
 def test_further_generations(chromium: webdriver.Chrome, desk: Desk, generations: int, boxes: int) -> None:
     desk.take("id,name,sex,birth,sire,dam,owner\n" + "".join(map(full_sibs, BEFORE)))
-    desk.good("settings", "--name", SOCIETY, "--address", ADDRESS)
+    settings(desk)
     ids = [f"{before}6f" for before in BEFORE]
     desk.good("certificate", *ids, "--generations", str(generations), "--language", "de", "--out", "long.html")
     screen = Screen(chromium, "")

@@ -150,6 +150,7 @@ def in_tables() -> Iterator[str]:
     yield from (
         certificates.NOTE,
         certificates.OF_PROGRAM,
+        certificates.BREEDER,
         COMMON_NOTE,
         pedigree_pictures.TREE_KEY,
         *certificates.MARK_NOTES.values(),

@@ -1,7 +1,9 @@
-"""What a society may say of itself, each with the name by which a book stores it; and the languages of pages."""
+"""What a society may say of itself, each with the name by which a book stores it, with its picture; and the languages
+of pages."""
 from __future__ import annotations
 
 import enum
+from dataclasses import dataclass
 
 LANGUAGES = ("en", "de", "fr")
 
@@ -12,6 +14,8 @@ class Setting(enum.StrEnum):
     # the society's
     NAME = "name"
     ADDRESS = "address"
+    # what the breed is called whose letters new numbers begin with
+    BREED_NAME = "breed-name"
     # with which new numbers begin
     BREED = "breed"
     COUNTRY = "country"
@@ -19,3 +23,17 @@ class Setting(enum.StrEnum):
     UNKNOWN = "unknown"
     # of the desk in a browser
     LANGUAGE = "language"
+
+
+# what kinds of files a picture may be
+PNG, JPEG = "image/png", "image/jpeg"
+
+
+@dataclass(frozen=True, slots=True)
+class Picture:
+    """The society's picture: its kind, its width and height in points, and its file."""
+
+    media_type: str
+    width: int
+    height: int
+    file: bytes

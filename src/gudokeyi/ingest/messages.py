@@ -1,4 +1,4 @@
-"""Why a sheet's file, or an option of its reading, can't be read."""
+"""Why a sheet's file, or an option of its reading, or a picture can't be read."""
 from __future__ import annotations
 
 import enum
@@ -59,3 +59,13 @@ class Where(Message):
     ANIMAL = "{id}: "
     AT_LINE = "{id} (line {line})"
     WITHOUT_LINE = "{id}"
+
+
+@enum.unique
+class PictureFault(Message):
+    """What can't be meant of the society's picture."""
+
+    MISSING = "the picture is missing: choose a PNG or JPEG file"
+    TOO_LARGE = "the picture has more than 1 MB: make it smaller"
+    MANY_POINTS = "the picture has more than {most} million points: make it smaller"
+    NO_PICTURE = "the file can't be read as a PNG or JPEG picture: save it as one of these, and choose that"

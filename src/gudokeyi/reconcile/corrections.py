@@ -77,7 +77,7 @@ class Corrected:
 
 def life_in(book: Book, known: SocietyRecord) -> Life:
     """What the journal tells of an animal of the book."""
-    return life_of(commands_of(book.connection, book.journal, known.registration_number))
+    return life_of(commands_of(book.connection, book.journal, [known.registration_number]))
 
 
 def owners_in(book: Book, known: SocietyRecord) -> tuple[OwnerSince, ...]:

@@ -1,6 +1,7 @@
 """An animal's certificate as a page for the printer, with the pedigree drawn."""
 from __future__ import annotations
 
+import base64
 import datetime
 import functools
 import itertools
@@ -9,15 +10,18 @@ from dataclasses import dataclass, field
 
 from gudokeyi.domain.animals import SocietyRecord
 from gudokeyi.domain.kinds import Role
+from gudokeyi.domain.settings import Picture, Setting
 from gudokeyi.reconcile.owner_day_known import owner_day_known
 from gudokeyi.render.drawing import DAM, FONT, GREY, INBRED, INBRED_INK, INK, LINE, PAPER, SIRE, rendered
 from gudokeyi.render.languages import MARKS, Language, Mark, mark_of
+from gudokeyi.render.own_values import own_said
 from gudokeyi.render.pedigree_boxes import COMMON_NOTE, common_ancestors, letters_named
 from gudokeyi.render.seals import seal_view
 from gudokeyi.services.certificates import GENERATIONS, MOST_GENERATIONS, Certified, coefficient_in
-from gudokeyi.services.seals import LastSealed
-from gudokeyi.render.own_values import own_said
+from gudokeyi.services.members import breeders_of
 from gudokeyi.services.own_columns import certified_values
+from gudokeyi.services.seals import LastSealed
+from gudokeyi.services.settings import letters_said, settings_of
 from gudokeyi.store.book import Book
 
 # those that have a word of their own
@@ -30,6 +34,7 @@ OF_PROGRAM = (
     "Numbers, sexes, days, parents and coefficients are lines of the proved program herdbook; all else is what the "
     "society wrote."
 )
+BREEDER = "The breeder is who owned the dam at the birth, by the society's book."
 MARK_NOTES = {
     Mark.INFERRED: (
         "(inferred): not known for certain; inferred from the year, the parents, the offspring or a name when the "
@@ -91,14 +96,52 @@ class CertificateView:
 
 
 @dataclass(frozen=True, slots=True)
+class PrintedPicture:
+    """The society's picture: its address, or all of it as one, and its width and height in points."""
+
+    address: str
+    width: int
+    height: int
+
+    @classmethod
+    def within(cls, picture: Picture | None) -> PrintedPicture | None:
+        """One that the page has itself, so that its file is enough."""
+        if picture is None:
+            return None
+        file = base64.b64encode(picture.file).decode()
+        return cls(f"data:{picture.media_type};base64,{file}", picture.width, picture.height)
+
+
+@dataclass(frozen=True, slots=True)
+class Society:
+    """What a society says of itself: the breed is that of the numbers that begin with these letters."""
+
+    name: str
+    address: str
+    breed: str
+    letters: str
+    picture: PrintedPicture | None
+
+    @classmethod
+    def of(cls, book: Book, picture: PrintedPicture | None) -> Society:
+        said = settings_of(book)
+        name, address, breed = (said[one] for one in (Setting.NAME, Setting.ADDRESS, Setting.BREED_NAME))
+        return cls(name, address, breed, letters_said(book)[0], picture)
+
+    def breed_of(self, number: str) -> str:
+        """What the breed of an animal is called, or else its letters."""
+        letters = number[: len(self.letters)]
+        return self.breed if self.breed and letters == self.letters else letters
+
+
+@dataclass(frozen=True, slots=True)
 class Issue:
     """What is the same on all certificates that are issued at once: the society, the day, the seal that was published
     last, if one was, and how many generations are drawn. An empty title is the usual one. `address_of` answers the
     address of the file of an animal by its number, where the page is shown in a browser."""
 
     title: str
-    society: str
-    address: str
+    society: Society
     day: datetime.date
     sealed: LastSealed | None = None
     address_of: Callable[[str], str] | None = None
@@ -109,12 +152,12 @@ class Issue:
 
 class Certificate:
     """What a certificate is made of: the program's lines of an animal and its ancestors, and beside these what the
-    society calls them."""
+    society calls them, and who bred the animal."""
 
     def __init__(
-        self, book: Book, animal: SocietyRecord, certified: Certified, language: Language, issue: Issue
+        self, book: Book, animal: SocietyRecord, breeder: str, certified: Certified, language: Language, issue: Issue
     ) -> None:
-        self.book, self.animal, self.certified = book, animal, certified
+        self.book, self.animal, self.breeder, self.certified = book, animal, breeder, certified
         self.language, self.issue = language, issue
         self.names = book.by_number()
         self.told = certified.facts(animal.registration_number)
@@ -154,6 +197,8 @@ class Certificate:
             (gettext("Sex"), self.language.marked(sex, mark_of(self.animal.sex))),
             (gettext("Born"), self.day(told["born"], mark_of(self.animal.birth))),
             (gettext("Left"), left),
+            (gettext("Breed"), self.issue.society.breed_of(told["animal"])),
+            (gettext("Breeder"), self.breeder or gettext("not known")),
             (gettext("Owner"), self.book.owner_of(int(told["herd"])) or gettext("not known")),
             (gettext("Owner since"), since or gettext("not known")),
             *self.own_facts(),
@@ -216,7 +261,7 @@ class Certificate:
         gettext = self.language.gettext
         common = [gettext(COMMON_NOTE, letters_named(self.common))] * bool(self.common)
         told = (gettext(MARK_NOTES[mark]) for mark in Mark if mark in marks)
-        return [gettext(NOTE), gettext(OF_PROGRAM), *common, *told]
+        return [gettext(NOTE), gettext(OF_PROGRAM), *[gettext(BREEDER)] * bool(self.breeder), *common, *told]
 
 
 def certificates_page(
@@ -229,7 +274,7 @@ def certificates_page(
     return rendered(
         "certificate.html",
         language=language.name, look=WARNING, _=gettext, title=title, heading=f"{title}: {one}",
-        society=issue.society, address=issue.address, issued=gettext("Issued on {}", language.day(issue.day)),
+        society=issue.society, issued=gettext("Issued on {}", language.day(issue.day)),
         seal=seal_view(issue.sealed.published, language) if issue.sealed else None,
         generations=issue.generations, others=issue.others,
         pages=views(book, animals, certified, language, issue),
@@ -240,7 +285,11 @@ def views(
     book: Book, animals: Sequence[SocietyRecord], certified: Certified, language: Language, issue: Issue
 ) -> Iterator[CertificateView]:
     """What stands on each page, made as the page is: those of many animals aren't there all at once."""
-    return (Certificate(book, animal, certified, language, issue).shown() for animal in animals)
+    breeders = breeders_of(book, [animal.registration_number for animal in animals])
+    return (
+        Certificate(book, animal, breeders[animal.registration_number], certified, language, issue).shown()
+        for animal in animals
+    )
 
 
 def lines_of(generations: int) -> list[list[str]]:

@@ -1,35 +1,38 @@
 """Owners as records: their names, addresses and member numbers, written, merged and erased as changes of their own; and
-the breeder of an animal."""
+the breeders of animals."""
 from __future__ import annotations
 
+import datetime
+import functools
+from collections.abc import Iterable
 from dataclasses import replace
 from typing import NamedTuple
 
-from gudokeyi.domain.animals import NO_OWNER, SocietyRecord
+from gudokeyi.domain.animals import NO_OWNER
 from gudokeyi.domain.changes import Change, ChangeDetails
 from gudokeyi.domain.commands import RegisterRecord
 from gudokeyi.domain.findings import Entry
 from gudokeyi.domain.kinds import ChangeKind, Field
 from gudokeyi.domain.members import MOST_IN_MEMBER, Member as Member
 from gudokeyi.domain.messages import Mistake
-from gudokeyi.domain.mistakes import InvalidValue
+from gudokeyi.domain.mistakes import InvalidValue, OwnerNotFound
 from gudokeyi.domain.requests import OwnFault, refuse_long
 from gudokeyi.engine.answers import records_of
 from gudokeyi.ingest.unknown_parents import names_no_owner
 from gudokeyi.ingest.words import clean
-from gudokeyi.reconcile.corrections import life_in
 from gudokeyi.reconcile.findings.animals import OwnerRenamed, OwnersMerged
 from gudokeyi.reconcile.import_options import rename
 from gudokeyi.reconcile.rewriting import Life, Rewriting, RewritingRefused, lives_of
 from gudokeyi.reconcile.stored_findings import told_of
 from gudokeyi.services.book_program import BookProgram
+from gudokeyi.services.selection import owner_code_named
 from gudokeyi.services.tables import Kind, Table
 from gudokeyi.services.verification import check_records
 from gudokeyi.services.writing import end, write, write_unended
 from gudokeyi.store import members as store
 from gudokeyi.store.animal_rows import row_of
 from gudokeyi.store.book import Book
-from gudokeyi.store.journal import Filed, accepted_commands
+from gudokeyi.store.journal import Filed, accepted_commands, commands_of
 from gudokeyi.store.state import MEMBERS, Rows, State, Values, rows_with_id
 
 
@@ -58,6 +61,19 @@ def member_of(book: Book, owner_code: int) -> Member | None:
     return Member(owner_code, name, *kept) if name and owner_code != NO_OWNER else None
 
 
+def member_named(book: Book, name: str) -> Member:
+    """The owner of a name; a mistake where there is none."""
+    found = member_of(book, owner_code_named(book, name))
+    if found is None:
+        raise OwnerNotFound(OwnFault.NO_SUCH_OWNER.said(name=name))
+    return found
+
+
+def member_line(book: Book, name: str) -> MemberLine:
+    member = member_named(book, name)
+    return MemberLine(member, *store.animals_by_code(book.connection).get(member.owner_code, (0, 0)))
+
+
 def members_table(book: Book) -> Table:
     columns = [(title, Kind.TEXT) for title in ("owner", "member_number", "address", "mail", "telephone")]
     columns += [("animals", Kind.PLAIN), ("living", Kind.PLAIN)]
@@ -68,17 +84,23 @@ def members_table(book: Book) -> Table:
     return Table.of_rows(columns, lines)
 
 
-def breeder_of(book: Book, animal: SocietyRecord) -> str:
-    """Who had its dam on the day of its birth; empty where the dam or that isn't known."""
-    record = book.records[animal.registration_number]
-    dam = book.by_number().get(record.dam) if record.dam else None
-    if dam is None:
-        return ""
-    life = life_in(book, dam)
-    had = int(life.birth.to_owner)
-    for transfer in life.transfers:
-        had = int(transfer.to_owner) if transfer.day <= record.born.isoformat() else had
-    return book.owner_of(had)
+def breeders_of(book: Book, numbers: Iterable[str]) -> dict[str, str]:
+    """Who had the dam of each of these animals on the day of its birth, by the animals' numbers; empty where the dam
+    or that isn't known."""
+    records = {number: book.records[number] for number in numbers}
+    dams = {record.dam for record in records.values() if record.dam}
+    lives = lives_of(commands_of(book.connection, book.journal, dams)) if dams else {}
+    found = dict.fromkeys(records, "")
+    for number, record in records.items():
+        if record.dam:
+            found[number] = book.owner_of(owner_on(lives[record.dam], record.born))
+    return found
+
+
+def owner_on(life: Life, day: datetime.date) -> int:
+    """The code of who had an animal on a day."""
+    given = (one for one in life.transfers if one.day <= day.isoformat())
+    return int(functools.reduce(lambda _, one: one.to_owner, given, life.birth.to_owner))
 
 
 # What is kept of an owner.

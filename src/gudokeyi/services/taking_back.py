@@ -115,7 +115,7 @@ def lives_at(book: Book, change: int, numbers: list[str]) -> dict[str, Life]:
     assert then is not None
     journal = Journal(then.edition, then.length)
     if len(numbers) <= FEW:
-        return {number: life_of(commands_of(book.connection, journal, number)) for number in numbers}
+        return {number: life_of(commands_of(book.connection, journal, [number])) for number in numbers}
     steps = steps_of(command_file(book.connection, journal), refusals_of(book.connection, journal))
     commands: list[Command] = [*accepted_commands(steps)]
     lives = lives_of(commands)

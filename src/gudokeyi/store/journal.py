@@ -2,6 +2,7 @@
 from __future__ import annotations
 
 import contextlib
+import json
 import pathlib
 import sqlite3
 from collections.abc import Collection, Iterable, Iterator
@@ -138,13 +139,14 @@ def givers_of(connection: sqlite3.Connection, journal: Journal) -> dict[str, int
     return found
 
 
-def commands_of(connection: sqlite3.Connection, journal: Journal, number: str) -> list[Command]:
-    """The accepted commands of an animal, in their order."""
+def commands_of(connection: sqlite3.Connection, journal: Journal, numbers: Iterable[str]) -> list[Command]:
+    """The accepted commands of some animals, in their order."""
     found: list[Command] = []
+    some = json.dumps([*numbers])
     for part in parts_of(connection, journal):
-        its = "edition = ? AND place BETWEEN ? AND ? AND animal = ? AND refusal = 0"
+        its = "edition = ? AND place BETWEEN ? AND ? AND animal IN (SELECT value FROM json_each(?)) AND refusal = 0"
         asked = f"SELECT {TEXT} FROM command WHERE {its} ORDER BY place"
-        found += [Command(*line.split(",")) for (line,) in connection.execute(asked, (*part, number))]
+        found += [Command(*line.split(",")) for (line,) in connection.execute(asked, (*part, some))]
     return found
 
 

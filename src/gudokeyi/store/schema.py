@@ -6,6 +6,7 @@ import enum
 from gudokeyi.domain.kinds import ChangeKind, CommandKind, ExitReason, Remembered, Standing
 from gudokeyi.domain.own_columns import OwnKind
 from gudokeyi.domain.provenance import BirthSource, ExitSource, OwnerDay, SexSource
+from gudokeyi.domain.settings import JPEG, PNG
 from gudokeyi.store.views import VIEWS
 
 # what tells a herd book from other databases: HERD
@@ -333,5 +334,17 @@ UPDATE sqlite_schema SET sql = replace(
 PRAGMA writable_schema = RESET;
 """
 
-MIGRATIONS = (FIRST, SECOND, THIRD, FOURTH, FIFTH, SIXTH, LITTERS)
+# the society's picture, which its certificates show: no part of the history
+PICTURE = f"""
+CREATE TABLE picture (
+    -- there is one at most
+    place INTEGER PRIMARY KEY CHECK (place = 1),
+    media_type TEXT NOT NULL CHECK (media_type IN ('{PNG}', '{JPEG}')),
+    width INTEGER NOT NULL CHECK (width >= 1),
+    height INTEGER NOT NULL CHECK (height >= 1),
+    file BLOB NOT NULL
+) STRICT;
+"""
+
+MIGRATIONS = (FIRST, SECOND, THIRD, FOURTH, FIFTH, SIXTH, LITTERS, PICTURE)
 VERSION = len(MIGRATIONS)

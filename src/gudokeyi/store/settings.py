@@ -6,11 +6,11 @@ import contextlib
 import os
 import pathlib
 import sqlite3
-from collections.abc import Mapping
+from collections.abc import Iterator, Mapping
 
 from gudokeyi.domain.mistakes import InvalidValue
 from gudokeyi.domain.requests import NotSuch
-from gudokeyi.domain.settings import LANGUAGES, Setting
+from gudokeyi.domain.settings import LANGUAGES, Picture, Setting
 from gudokeyi.process import stop_no_more
 from gudokeyi.store.book import Book
 from gudokeyi.store.transactions import changing, checkpoint, no_book
@@ -27,17 +27,38 @@ def settings_of(book: Book) -> dict[Setting, str]:
 def change_settings(folder: pathlib.Path, given: Mapping[Setting, str]) -> None:
     """Keeps these with the book, each in place of the one before; an empty one is none. Others stay."""
     kept = {setting: checked(setting, text) for setting, text in given.items()}
-    with changing(folder) as connection:
-        if connection is None:
-            raise no_book(folder)
+    with changed_at_once(folder) as connection:
         connection.executemany(
             "INSERT INTO setting VALUES (?, ?) ON CONFLICT DO UPDATE SET value = excluded.value",
             [(setting.value, text) for setting, text in kept.items()],
         )
+
+
+@contextlib.contextmanager
+def changed_at_once(folder: pathlib.Path) -> Iterator[sqlite3.Connection]:
+    """The book that is there, in which what is written within is kept."""
+    with changing(folder) as connection:
+        if connection is None:
+            raise no_book(folder)
+        yield connection
         stop_no_more()
         connection.execute("COMMIT")
         with contextlib.suppress(sqlite3.Error):
             checkpoint(connection)
+
+
+def picture_of(book: Book) -> Picture | None:
+    found = book.connection.execute("SELECT media_type, width, height, file FROM picture").fetchone()
+    return Picture(*found) if found else None
+
+
+def change_picture(folder: pathlib.Path, picture: Picture | None) -> None:
+    """Keeps a picture with the book in place of the one before, or none."""
+    with changed_at_once(folder) as connection:
+        connection.execute("DELETE FROM picture")
+        if picture:
+            one = (picture.media_type, picture.width, picture.height, picture.file)
+            connection.execute("INSERT INTO picture VALUES (1, ?, ?, ?, ?)", one)
 
 
 def lines_of(text: str) -> str:

@@ -20,6 +20,7 @@ from gudokeyi.domain.people import WORKER, AccountRole, Person
 from gudokeyi.domain.waiting import SECONDS_OF_PAGE, UNTIL
 from gudokeyi.services.imports import MOST_BACKUP_BYTES, MOST_BYTES
 from gudokeyi.services.seals import MOST_BYTES as MOST_CERTIFICATE_BYTES
+from gudokeyi.services.settings import MOST_PICTURE_BYTES
 
 # Who asks the desk, and what each may do at the book.
 
@@ -53,6 +54,7 @@ LEAST = {
     "history.report": INSPECTOR, "filing.answer": INSPECTOR, "settings.page": INSPECTOR,
     "seals.page": INSPECTOR, "seals.lines": INSPECTOR, "seals.check": INSPECTOR, "seals.publish": KEEPER,
     "sheet.page": CLERK, "sheet.drop": CLERK, "sheet.drop_example": CLERK, "sheet.look": CLERK, "sheet.choose": CLERK,
+    "sheet.keep": CLERK,
     "work.stop": INSPECTOR, "sheet.take_suggestion": CLERK, "sheet.take": CLERK, "sheet.taking": CLERK, "sheet.leave": CLERK,
     "history.backup": CLERK, "filing.page": CLERK, "filing.form": CLERK, "filing.file": CLERK,
     "correcting.form": CLERK, "correcting.correct": CLERK, "notes.form": CLERK, "notes.write": CLERK,
@@ -61,6 +63,7 @@ LEAST = {
     "own_columns.page": INSPECTOR, "own_columns.change": KEEPER, "own_columns.form": CLERK, "own_columns.write": CLERK,
     "litters.form": CLERK, "litters.file": CLERK,
     "history.ask_undo": KEEPER, "history.bring_back": KEEPER, "settings.change": KEEPER,
+    "settings.picture": INSPECTOR, "settings.change_picture": KEEPER,
     "history.ask_take_back": KEEPER, "history.take_it_back": KEEPER,
     "restoring.page": KEEPER, "restoring.drop": KEEPER, "restoring.look": KEEPER, "restoring.bring_back": KEEPER,
     "restoring.under_way": KEEPER,
@@ -107,7 +110,10 @@ MOST_FORM_BYTES, MOST_FIELDS, MOST_LETTERS, MOST_IN_NAME = 64 << 10, 200, 10_000
 # a file comes in a form, which has something beside it: so many parts, and of these so much in memory
 MOST_PARTS, MOST_BESIDE, MOST_IN_MEMORY = 20, 100_000, 512 << 10
 # the pages that take files, each with the bytes that a file of its kind has at most
-FILES = {"sheet.drop": MOST_BYTES, "restoring.drop": MOST_BACKUP_BYTES, "seals.check": MOST_CERTIFICATE_BYTES}
+FILES = {
+    "sheet.drop": MOST_BYTES, "restoring.drop": MOST_BACKUP_BYTES, "seals.check": MOST_CERTIFICATE_BYTES,
+    "settings.change_picture": MOST_PICTURE_BYTES,
+}  # fmt: skip
 # the bytes and the fields of an address behind its question mark
 MOST_QUERY_BYTES, MOST_QUERY_FIELDS = 4 << 10, 50
 

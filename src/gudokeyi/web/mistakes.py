@@ -44,6 +44,7 @@ TOO_LARGE = {
         "Restore it on the server, as docs/SERVING.md says."
     ),
     "seals.check": "The file is too large: 67 MB of a certificate are read at most.",
+    "settings.change_picture": "The picture has more than 1 MB: make it smaller.",
 }
 FAULT = "A fault of the desk itself: nothing is lost, and the window in which the desk was opened tells what it was."
 # so often a page is made anew since the book is changed, and how its address counts that

@@ -3,6 +3,7 @@ from __future__ import annotations
 
 import argparse
 import pathlib
+import sys
 
 from gudokeyi.cli.arguments import add_force, file, whole_number
 from gudokeyi.cli.output import tell
@@ -10,22 +11,28 @@ from gudokeyi.cli.parser import CommandWords
 from gudokeyi.cli.statuses import Status
 from gudokeyi.domain.changes import Change
 from gudokeyi.domain.messages import Mistake, counted
-from gudokeyi.domain.mistakes import BookNotWhole
+from gudokeyi.domain.mistakes import BookBusy, BookNotWhole
 from gudokeyi.domain.settings import Setting
+from gudokeyi.packages import Group, need
 from gudokeyi.render.history import details, heading
 from gudokeyi.services.book_program import BookProgram
-from gudokeyi.services.history import change_numbered, changes_of, last_that_changed
+from gudokeyi.services.history import change_numbered, changes_of, last_changes, last_that_changed
 from gudokeyi.services.opening import Book, export, opened, there_to_change
 from gudokeyi.services.restoring import backup, restore
-from gudokeyi.services.settings import change_settings, settings_of
+from gudokeyi.services.settings import (
+    MOST_PICTURE_BYTES, Picture, change_picture, change_settings, picture_of, picture_read, settings_of,
+)  # fmt: skip
 from gudokeyi.services.taking_back import StoodOn, take_back
 from gudokeyi.services.undoing import undo
 from gudokeyi.services.verification import verify
 
+# so many changes are told that an earlier state doesn't have
+MOST_TOLD = 20
 # what each setting is
 SETTINGS = {
     Setting.NAME: "the society's name",
     Setting.ADDRESS: "its address",
+    Setting.BREED_NAME: "what the breed is called on certificates",
     Setting.BREED: "the breed with which new numbers begin, three letters",
     Setting.COUNTRY: "the country in new numbers, three letters",
     Setting.UNKNOWN: "words for an unknown parent, as import --unknown names them",
@@ -54,10 +61,15 @@ def add_words(words: CommandWords) -> None:
         "settings",
         do_settings,
         "keep what the society says of itself, or write it",
-        "Certificates show name and address.",
+        "Certificates show name, address, breed and picture.",
     )
     for setting in Setting:
-        settings.add_argument(f"--{setting}", metavar="TEXT", help=f"{SETTINGS[setting]}, '' for none [as it is]")
+        settings.add_argument(
+            f"--{setting}", dest=setting.value, metavar="TEXT", help=f"{SETTINGS[setting]}, '' for none [as it is]"
+        )
+    settings.add_argument(
+        "--picture", metavar="FILE", help="its picture, a PNG or JPEG of at most 1 MB, '' for none [as it is]"
+    )
     whole = words.add_for_book(
         "verify",
         do_verify,
@@ -120,7 +132,10 @@ def seen(asked: argparse.Namespace, book: Book, program: BookProgram) -> object:
 
 def do_undo(asked: argparse.Namespace) -> None:
     program = BookProgram()
+    seen = None if asked.to is None else asked_to_bring_back(asked, program)
     with there_to_change(asked.book, program) as book:
+        if seen is not None and book.change != seen:
+            raise BookBusy("somebody changed the book meanwhile, and nothing is brought back: say it again")
         if asked.change is None or asked.change == last_that_changed(book):
             change = undo(book, program, asked.to)
         else:
@@ -129,6 +144,25 @@ def do_undo(asked: argparse.Namespace) -> None:
     print(heading(change))
     for note in notes:
         tell(note)
+
+
+def asked_to_bring_back(asked: argparse.Namespace, program: BookProgram) -> Change | None:
+    """The last change of the book of which is told what goes where an earlier state is brought back. Who sits at a
+    terminal is asked whether that is meant."""
+    with opened(asked.book, program) as book:
+        last = book.change
+        count = last.number - asked.to if last else 0
+        newest = last_changes(book, min(count, MOST_TOLD)) if count > 0 else []
+    if last and newest:
+        print(f"this takes back {counted(count, 'change')}, which `undo --to {last.number}` would bring back:")
+    for change in newest:
+        print(f"  {heading(change)}")
+    if count > len(newest) > 0:
+        print(f"  and {count - len(newest)} more")
+    sys.stdout.flush()
+    if newest and sys.stdin.isatty() and input("Bring it back? [y/N] ").strip().lower() not in ("y", "yes"):
+        raise Mistake("nothing is changed")
+    return last
 
 
 def taken_back(book: Book, program: BookProgram, number: int, with_later: bool) -> Change:
@@ -166,14 +200,28 @@ def verify_lines(asked: argparse.Namespace, book: Book, program: BookProgram) ->
 def do_settings(asked: argparse.Namespace) -> None:
     program = BookProgram()
     given = {Setting(name): text for name, text in vars(asked).items() if name in list(Setting) and text is not None}
-    with opened(asked.book, program) as book:
-        settings = settings_of(book)
+    with opened(asked.book, program):
+        # a book is there, and of this version
+        pass
+    if asked.picture is not None:
+        change_picture(asked.book, picture_in(asked.picture) if asked.picture else None)
     if given:
         change_settings(asked.book, given)
-        with opened(asked.book, program) as book:
-            settings = settings_of(book)
-    for setting, text in settings.items():
-        print(f"{setting}: {', '.join(text.splitlines()) or 'not said'}")
+    with opened(asked.book, program) as book:
+        for setting, text in settings_of(book).items():
+            print(f"{setting}: {', '.join(text.splitlines()) or 'not said'}")
+        picture = picture_of(book)
+    print(f"picture: {f'{picture.width} by {picture.height} points' if picture else 'none'}")
+
+
+def picture_in(name: str) -> Picture:
+    """That of a file."""
+    need(Group.PICTURES)
+    try:
+        with open(name, "rb") as file:
+            return picture_read(file.read(MOST_PICTURE_BYTES + 1))
+    except OSError as error:
+        raise Mistake(f"{name} can't be read: {error.strerror}: is the name right?") from None
 
 
 def do_backup(asked: argparse.Namespace, book: Book, program: BookProgram) -> None:

@@ -10,7 +10,7 @@ from gudokeyi.cli.parser import CommandWords
 from gudokeyi.domain.animals import SocietyRecord
 from gudokeyi.domain.messages import Mistake, counted
 from gudokeyi.domain.mistakes import WrongWords
-from gudokeyi.domain.settings import LANGUAGES, Setting
+from gudokeyi.domain.settings import LANGUAGES
 from gudokeyi.packages import Group
 from gudokeyi.render.drawing import file_name
 from gudokeyi.render.languages import Language
@@ -21,7 +21,7 @@ from gudokeyi.services.opening import Book
 from gudokeyi.services.output_files import write_outs, write_page
 from gudokeyi.services.seals import last_sealed
 from gudokeyi.services.search import find, named_in
-from gudokeyi.services.settings import settings_of
+from gudokeyi.services.settings import picture_of
 from gudokeyi.services.verification import refuse_to_certify
 
 
@@ -76,17 +76,14 @@ def certified(asked: argparse.Namespace, book: Book, program: BookProgram) -> ob
 
 
 def do_certificate(asked: argparse.Namespace, book: Book, program: BookProgram) -> None:
-    from gudokeyi.render.certificates import Issue, certificates_page
+    from gudokeyi.render.certificates import Issue, PrintedPicture, Society, certificates_page
 
     animals = animals_asked_for(asked, book)
     numbers = [animal.registration_number for animal in animals]
     certified = begin_certificates(book, program, numbers, asked.generations)
     refuse_to_certify(book, program)
-    settings = settings_of(book)
-    issue = Issue(
-        asked.title, settings[Setting.NAME], settings[Setting.ADDRESS], asked.day, last_sealed(book),
-        generations=asked.generations,
-    )  # fmt: skip
+    society = Society.of(book, PrintedPicture.within(picture_of(book)))
+    issue = Issue(asked.title, society, asked.day, last_sealed(book), generations=asked.generations)
     page = certificates_page(book, animals, certified, Language(asked.language), issue)
     name = file_name("certificate", animals[0].id, ".html") if len(animals) == 1 else "certificates.html"
     give(asked, book, page, name, f", {counted(len(animals), 'page')}" * (len(animals) > 1))

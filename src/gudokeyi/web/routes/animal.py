@@ -9,8 +9,7 @@ from markupsafe import Markup
 from werkzeug.wrappers import Response
 
 from gudokeyi.domain.animals import SocietyRecord
-from gudokeyi.domain.settings import Setting
-from gudokeyi.render.certificates import Issue, certificates_page
+from gudokeyi.render.certificates import Issue, PrintedPicture, Society, certificates_page
 from gudokeyi.render.pedigree_pictures import Pedigree
 from gudokeyi.services.certificates import GENERATIONS, MOST_GENERATIONS as MOST_CERTIFIED, begin_certificates
 from gudokeyi.services.animals import animal_numbered, kept_coefficients, society_record_of, relatives_of
@@ -18,7 +17,7 @@ from gudokeyi.services.notes import notes_of
 from gudokeyi.services.opening import Book
 from gudokeyi.services.selection import Choice, chosen
 from gudokeyi.services.seals import last_sealed, sealed_certificate
-from gudokeyi.services.settings import settings_of
+from gudokeyi.services.settings import picture_of
 from gudokeyi.web.access import printed
 from gudokeyi.web.breed_work import kinship_of
 from gudokeyi.web.verification import refuse_to_certify
@@ -110,9 +109,10 @@ def certificates(
     refuse_to_certify(served_book(), book)
     numbers = [animal.registration_number for animal in animals]
     certified = begin_certificates(book, served_book().program, numbers, generations)
-    settings = settings_of(book)
+    picture = picture_of(book)
+    shown = PrintedPicture(url_for("settings.picture"), picture.width, picture.height) if picture else None
     issue = Issue(
-        "", settings[Setting.NAME], settings[Setting.ADDRESS], datetime.date.today(), last_sealed(book),
+        "", Society.of(book, shown), datetime.date.today(), last_sealed(book),
         lambda number: url_for("animal.sealed", number=number), generations, others or {},
     )  # fmt: skip
     return printed(certificates_page(book, animals, certified, page_language().printed(), issue), "text/html")

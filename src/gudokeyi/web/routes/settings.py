@@ -1,7 +1,9 @@
 """The page of settings: what the society says of itself, and how its sheets are read."""
 from __future__ import annotations
 
-from flask import Blueprint, flash, redirect, render_template, request, url_for
+from collections.abc import Mapping
+
+from flask import Blueprint, Response, abort, flash, redirect, render_template, request, url_for
 
 from gudokeyi.domain.kinds import Remembered
 from gudokeyi.domain.messages import Mistake
@@ -9,7 +11,10 @@ from gudokeyi.domain.options import IMPORT
 from gudokeyi.domain.settings import Setting
 from gudokeyi.render.page_wording import MessageView
 from gudokeyi.services.opening import Book
-from gudokeyi.services.settings import change_settings, checked, letters_said, lines_of, settings_of
+from gudokeyi.services.settings import (
+    MOST_PICTURE_BYTES, change_picture as keep_picture, change_settings, checked, letters_said, lines_of, picture_of,
+    picture_read, settings_of,
+)  # fmt: skip
 from gudokeyi.web.changing import in_turn
 from gudokeyi.web.language import gettext, on_page
 from gudokeyi.web.served_book import Answer, served_book, with_book
@@ -22,6 +27,7 @@ SET_MEANWHILE = "{}: somebody else wrote “{}” meanwhile. Look at it, and kee
 LABELS = {
     Setting.NAME: "Name of the society",
     Setting.ADDRESS: "Address",
+    Setting.BREED_NAME: "What the breed is called",
     Setting.BREED: "Breed in new numbers",
     Setting.COUNTRY: "Country in new numbers",
     Setting.UNKNOWN: IMPORT["unknown"].label,
@@ -32,9 +38,20 @@ LABELS = {
 @page.get("/settings", endpoint="page")
 @with_book
 def settings(book: Book) -> Answer:
-    said = ", ".join(one.word for one in book.remembered if one.what is Remembered.UNKNOWN)
     now = as_shown(book)
-    return render_template("settings.html", given=now, now=now, faults=[], wrong={}, said=said)
+    return shown(book, now, now, [], {})
+
+
+def shown(
+    book: Book, given: Mapping[Setting, str], now: Mapping[Setting, str], faults: list[MessageView],
+    wrong: Mapping[str, MessageView],
+) -> Answer:  # fmt: skip
+    """The page with what was written, below why that can't be."""
+    said = ", ".join(one.word for one in book.remembered if one.what is Remembered.UNKNOWN)
+    answer = render_template(
+        "settings.html", given=given, now=now, faults=faults, wrong=wrong, said=said, picture=picture_of(book)
+    )
+    return (answer, 400) if faults else answer
 
 
 def as_shown(book: Book) -> dict[Setting, str]:
@@ -59,9 +76,42 @@ def change() -> Answer:
     except Mistake as mistake:
         now, faults = settings_now(), on_page(mistake.sentences)
     if faults:
-        return render_template("settings.html", given=now | said, now=now, faults=faults, wrong=wrong), 400
+        return again(now | said, now, faults, wrong)
     flash(gettext("The settings are kept."), "done")
     return redirect(url_for("settings.page"))
+
+
+@with_book
+def again(
+    book: Book, given: Mapping[Setting, str], now: Mapping[Setting, str], faults: list[MessageView],
+    wrong: Mapping[str, MessageView],
+) -> Answer:  # fmt: skip
+    return shown(book, given, now, faults, wrong)
+
+
+@page.get("/settings/picture", endpoint="picture")
+@with_book
+def picture(book: Book) -> Answer:
+    """The picture that certificates show."""
+    found = picture_of(book)
+    if found is None:
+        abort(404)
+    return Response(found.file, mimetype=found.media_type)
+
+
+@page.post("/settings/picture")
+def change_picture() -> Answer:
+    """Keeps a picture in place of the one before, or none."""
+    served, file, is_removed = served_book(), request.files.get("picture"), "remove" in request.form
+    try:
+        found = None if is_removed else picture_read(file.read(MOST_PICTURE_BYTES + 1) if file else b"")
+        with in_turn(served):
+            keep_picture(served.folder, found)
+    except Mistake as mistake:
+        now = settings_now()
+        return again(now, now, on_page(mistake.sentences), {})
+    flash(gettext("The picture is removed.") if is_removed else gettext("The picture is kept."), "done")
+    return redirect(url_for("settings.page", _anchor="picture"))
 
 
 def settings_now() -> dict[Setting, str]:

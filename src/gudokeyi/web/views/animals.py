@@ -17,7 +17,7 @@ from gudokeyi.render.pedigree_pictures import Pedigree
 from gudokeyi.services.animals import SEX_SOURCES, AnimalRow, Coefficient, Relatives, former_ids, society_record_of
 from gudokeyi.services.facts import birth_of, exit_of, owner_day_said
 from gudokeyi.services.found_animals import Asked, Order
-from gudokeyi.services.members import breeder_of
+from gudokeyi.services.members import breeders_of
 from gudokeyi.services.opening import Book
 from gudokeyi.services.option_values import years, years_of
 from gudokeyi.services.selection import Choice
@@ -142,7 +142,7 @@ class Shower:
             (words.gettext("Exit"), (line.exit or words.pgettext("no exit", "none")) + reason),
             (words.gettext("Owner"), f"{line.owner}{since}" if line.owner else words.gettext("not known")),
         ]
-        if breeder := breeder_of(self.book, animal):
+        if breeder := breeders_of(self.book, [row.registration_number])[row.registration_number]:
             found.append((words.gettext("Breeder"), breeder))
         if former := former_ids(self.book, animal):
             found.append((words.gettext("Id before"), ", ".join(former)))
