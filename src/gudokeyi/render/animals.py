@@ -10,6 +10,9 @@ from gudokeyi.reconcile.owner_day_known import owner_day_known
 from gudokeyi.render.history import told_of_animal
 from gudokeyi.services.animals import Relatives, relatives_of
 from gudokeyi.services.lists import exit_of
+from gudokeyi.services.members import breeders_of
+from gudokeyi.services.notes import notes_of
+from gudokeyi.services.own_columns import values_of
 from gudokeyi.store.animal_rows import AnimalRow, society_record_of
 from gudokeyi.store.book import Book
 from gudokeyi.store.coefficients import Coefficient, kept_coefficients
@@ -36,6 +39,7 @@ class AnimalView:
         yield from self.kind("full sibs", relatives.full_sibs)
         for role in Role:
             yield from self.kind(f"half sibs by the {role}", relatives.half_sibs[role])
+        yield from self.notes()
         yield "history"
         yield from (f"  {line}" for line in told_of_animal(self.book, self.animal.id))
 
@@ -54,9 +58,17 @@ class AnimalView:
             ("coefficient", f"{coefficient.fraction} = {coefficient.decimal()} ({coefficient.percent}%)"),
         ]
         found += [(role.value, self.parent(role, relatives.parents[role])) for role in Role]
+        if breeder := breeders_of(self.book, [animal.registration_number])[animal.registration_number]:
+            found.append(("breeder", breeder))
+        found += [(one.column.title, one.value) for one in values_of(self.book, animal) if one.value]
         if animal.standing is not Standing.ROW:
             found.append(("in the book", animal.standing.words()))
         return found
+
+    def notes(self) -> Iterator[str]:
+        """Each in a line, where there are some."""
+        for note in notes_of(self.book, self.animal):
+            yield f"note {note.number}, {note.day}, {note.author}: {' '.join(note.text.split())}"
 
     def parent(self, role: Role, row: AnimalRow | None) -> str:
         written = self.animal.written(role)

@@ -17,6 +17,7 @@ FAMILIES = {
     "imports": ("import",),
     "filing": ("birth", "litter", "parents", "transfer", "exit"),
     "correcting": ("correct",),
+    "keeping": ("note", "own", "owner"),
     "batches": ("file",),
     "questions": ("show", "find", "kinship", "export"),
     "lists": ("list", "year"),

@@ -1,0 +1,111 @@
+"""Notes, own columns and owners in a terminal: shown, changed, and refused with what to do; and that going back to an
+earlier state says before what goes."""
+from __future__ import annotations
+
+import csv
+import io
+import os
+import pty
+import subprocess
+
+import pytest
+
+from building.crates import TOP
+from front_desk.desk import Desk
+
+SHEET = """\
+id,name,sex,birth,sire,dam,owner,CAE,Weight=kg
+S,Max,m,2001-01-01,,,Meier,,
+D,Berta,f,2001-02-01,,,Huber,negative,60
+X,Anna,f,2003-03-01,S,D,Meier,,41.5
+"""
+ANNA = "X (HOLGBRF000000000003)"
+
+
+@pytest.fixture
+def goats(desk: Desk) -> Desk:
+    (desk.room / "sheet.csv").write_text(SHEET, encoding="utf-8")
+    desk.good("import", "sheet.csv", "--own", "CAE=choice", "--own", "Weight=kg=number")
+    return desk
+
+
+def test_notes(goats: Desk) -> None:
+    assert goats.good("note", "X").out == "X  Anna: no notes\n"
+    assert goats.good("note", "Anna", "CAE test\nordered", "--day", "2024-03-02").last == f"{ANNA}: the note is kept: change 2"
+    assert goats.good("note", "X").out.splitlines()[1:] == ["  1  2024-03-02  root", "     CAE test", "     ordered"]
+    # the day stays
+    goats.good("note", "X", "negative", "--number", "1")
+    assert "note 1, 2024-03-02, root: negative\n" in goats.good("show", "X").out
+    goats.wrong("it so already", "note", "X", "negative", "--number", "1")
+    goats.wrong("X has no note 7: `note X` shows its notes", "note", "X", "other", "--number", "7")
+    goats.wrong("note needs the text", "note", "X", "--number", "1")
+    goats.wrong("needs the --number of a note", "note", "X", "--remove")
+    goats.wrong("the note is empty", "note", "X", "")
+    goats.wrong("is after today", "note", "X", "later", "--day", "2999-01-01")
+    assert "the note is removed" in goats.good("note", "X", "--number", "1", "--remove").last
+    goats.good("undo")
+    assert "negative" in goats.good("note", "X").out
+
+
+def test_own_columns(goats: Desk) -> None:
+    assert goats.good("own").out.splitlines() == ["CAE: choice (negative)", "Weight=kg: number"]
+    assert goats.good("own", "D").out.splitlines() == ["D  Berta", "  CAE: negative", "  Weight=kg: 60"]
+    # a title may have the sign itself, and may be written in other capitals
+    assert goats.good("own", "X", "weight=kg=42,5", "CAE=negative").last == f"{ANNA}: kept: change 2"
+    assert goats.good("own", "X").out.splitlines() == ["X  Anna", "  CAE: negative", "  Weight=kg: 42.5"]
+    assert "  CAE           negative\n" in goats.good("show", "X").out
+    goats.good("own", "X", "CAE=")
+    assert "  CAE: -\n" in goats.good("own", "X").out
+    told = "'Colour=red' doesn't begin with the title of an own column and =: there are CAE, Weight=kg"
+    goats.wrong(told, "own", "X", "Colour=red")
+    goats.wrong("CAE: 'perhaps' isn't one of 'negative'", "own", "X", "CAE=perhaps")
+
+
+def test_owners(goats: Desk) -> None:
+    said = "--number", "17", "--address", "Am Hang 1\nTal", "--mail", "m@example.org", "--telephone", "0123"
+    assert goats.good("owner", "meier", *said).last == "meier is kept: change 2"
+    shown = goats.good("owner", "Meier").out.splitlines()
+    assert shown[0] == "Meier" and "  address       Am Hang 1, Tal" in shown and "  animals       2, 2 living" in shown
+    [meier] = [one for one in csv.DictReader(io.StringIO(goats.good("owner").out)) if one["owner"] == "Meier"]
+    assert (meier["member_number"], meier["animals"]) == ("17", "2")
+    goats.good("owner", "Meier", "--name", "Meyer")
+    assert "  breeder       Huber\n" in goats.good("show", "X").out and "Meyer" in goats.good("show", "X").out
+    goats.wrong("the book has no owner 'Meier'", "owner", "Meier")
+    goats.wrong("this is the same owner", "owner", "Huber", "--into", "Huber")
+    goats.good("owner", "Meyer", "--into", "Huber")
+    assert "  animals       3, 3 living" in goats.good("owner", "Huber").out
+    goats.wrong("say one of what is kept", "owner", "Huber", "--into", "Meyer", "--mail", "x@example.org")
+    goats.wrong("owner needs the owner's name", "owner", "--mail", "x@example.org")
+    goats.wrong("would be gone for good", "owner", "Huber", "--erase")
+    goats.good("owner", "Huber", "--erase", "--anyway")
+    assert "Huber" not in goats.good("owner").out and b"Huber" not in (goats.room / "book/book.sqlite").read_bytes()
+    goats.good("verify")
+
+
+def test_going_back(goats: Desk) -> None:
+    """What goes is said before, and whoever sits at a terminal is asked."""
+    goats.good("note", "X", "first")
+    goats.good("own", "X", "CAE=negative")
+    before, first, second, after = goats.good("undo", "--to", "1").out.splitlines()
+    assert before == "this takes back 2 changes, which `undo --to 3` would bring back:"
+    assert first.startswith("  3 ") and first.endswith("wrote own columns") and second.endswith("wrote a note")
+    assert after.endswith("brought back the state after change 1")
+    assert goats.good("note", "X").out == "X  Anna: no notes\n"
+    assert "nothing is changed" in asked(goats, "no\n", "undo", "--to", "3")
+    assert "brought back the state after change 3" in asked(goats, "y\n", "undo", "--to", "3")
+    assert "first" in goats.good("note", "X").out
+
+
+def asked(desk: Desk, answer: str, *words: str) -> str:
+    """What a word tells at a terminal where that is answered."""
+    terminal, inside = pty.openpty()
+    os.write(terminal, answer.encode())
+    env = {"PATH": os.environ["PATH"], "HERDBOOK": desk.program, "LANG": "C"}
+    command = [str(TOP / "gudokeyi"), *words]
+    done = subprocess.run(
+        command, cwd=desk.room, env=env, stdin=inside, stdout=subprocess.PIPE, stderr=subprocess.STDOUT, text=True
+    )
+    os.close(terminal)
+    os.close(inside)
+    assert "Bring it back? [y/N]" in done.stdout
+    return done.stdout
