@@ -12,7 +12,7 @@ from gudokeyi.services.tables import Table
 from gudokeyi.store.animal_rows import AnimalRow
 from gudokeyi.store.book import Book
 from gudokeyi.store.conditions import Condition
-from gudokeyi.store.sorted_animals import Order as Order, count_of, some_in_order
+from gudokeyi.store.sorted_animals import Order as Order, first_by_id, some_in_order
 
 ON_A_PAGE = 50
 # what a file of the animals has
@@ -47,26 +47,15 @@ class Found(NamedTuple):
 
 def found_by(book: Book, asked: Asked) -> Found:
     """A page of the animals; the last one where there are fewer pages."""
-    condition = condition_of_asked(book, asked)
-    rows = rows_of(book, asked, condition, asked.page)
-    if asked.page == 1 and len(rows) < ON_A_PAGE:
-        # they needn't be counted
-        return Found(rows, len(rows), 1, 1)
-    total = count_of(book, condition)
-    pages = max(1, -(-total // ON_A_PAGE))
-    page = min(asked.page, pages)
-    return Found(rows if page == asked.page else rows_of(book, asked, condition, page), total, page, pages)
+    order, condition = asked.order, condition_of_asked(book, asked)
+    some = some_in_order(book, condition, order, asked.is_downwards, ON_A_PAGE, (asked.page - 1) * ON_A_PAGE)
+    pages = max(1, -(-some.total // ON_A_PAGE))
+    return Found(some.rows, some.total, some.behind // ON_A_PAGE + 1, pages)
 
 
-def rows_of(book: Book, asked: Asked, condition: Condition, page: int) -> list[AnimalRow]:
-    """The rows of a page."""
-    behind = (page - 1) * ON_A_PAGE
-    return some_in_order(book, condition, asked.order, asked.is_downwards, ON_A_PAGE, behind)
-
-
-def first_rows(book: Book, asked: Asked) -> list[AnimalRow]:
-    """The rows of the first page, without how many there are."""
-    return rows_of(book, asked, condition_of_asked(book, asked), 1)
+def first_found(book: Book, asked: Asked, most: int) -> list[AnimalRow]:
+    """The first by their ids, for somebody who is still typing."""
+    return first_by_id(book, condition_of_asked(book, asked), most)
 
 
 def condition_of_asked(book: Book, asked: Asked) -> Condition:

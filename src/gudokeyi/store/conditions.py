@@ -39,6 +39,8 @@ class Condition:
     values: tuple[object, ...] = ()
 
     def __and__(self, other: Condition) -> Condition:
+        if ANY in (self, other):
+            return other if self == ANY else self
         return Condition(f"{self.text} AND {other.text}", self.values + other.values)
 
 
@@ -114,19 +116,41 @@ def with_text(text: str, owner_codes: Sequence[int]) -> Condition:
     in a note or a value of the society's own; or one of these owners. Ids may be parted by other signs."""
     if len(text) > MOST_LETTERS:
         return NOBODY
-    owners, tag, name = ", ".join(map(str, owner_codes)), pattern_of(tag_of(text)), pattern_of(folded(text))
-    had = f"substr(number, 8) IN (SELECT digits FROM former_id WHERE {NOW} AND {FORMER_TAG} GLOB ?)"
-    kept = (
-        f"substr(number, 8) IN (SELECT digits FROM note WHERE {NOW} AND instr(folded, ?) "
-        f"UNION ALL SELECT digits FROM own_value WHERE {NOW} AND instr(folded, ?))"
-    )
+    owners, plain = ", ".join(map(str, owner_codes)), folded(text)
     # a text of signs alone is looked for as it is
-    in_tag = f"{TAG} GLOB ? OR {had}" if tag else "instr(folded_id, ?) OR instr(folded_id, ?)"
-    tags = (f"*{tag}*",) * 2 if tag else (text,) * 2
-    return Condition(
-        f"({in_tag} OR folded_name GLOB ? OR instr(number, ?) OR herd IN ({owners}) OR {kept})",
-        (*tags, f"*{name}*", text.upper(), *(folded(text),) * 2),
+    parts = [with_tag(tag_of(text)) if tag_of(text) else Condition("instr(folded_id, ?)", (text,)), in_name(plain)]
+    parts += [Condition(f"instr(number, ?) OR herd IN ({owners})", (text.upper(),)), with_kept(plain)]
+    return Condition(f"({' OR '.join(one.text for one in parts)})", tuple(value for one in parts for value in one.values))
+
+
+def with_tag(tag: str) -> Condition:
+    """With a text without signs in the id, or in one that it had. Of most ids it is seen at once that they don't have
+    its letters in their order."""
+    parted = (f"[{one}]" if one in "*?[" else one for one in tag)
+    letters, pattern = f"*{'*'.join(parted)}*", f"*{pattern_of(tag)}*"
+    now = f"(folded_id GLOB ? AND instr({TAG}, ?)) OR ({has_accents('folded_id')} AND {TAG} GLOB ?)"
+    had = f"substr(number, 8) IN (SELECT digits FROM former_id WHERE {NOW} AND {FORMER_TAG} GLOB ?)"
+    return Condition(f"{now} OR {had}", (letters, tag, pattern, pattern))
+
+
+def in_name(plain: str) -> Condition:
+    """With a text in the name."""
+    with_accents = f"({has_accents('folded_name')} AND folded_name GLOB ?)"
+    return Condition(f"instr(folded_name, ?) OR {with_accents}", (plain, f"*{pattern_of(plain)}*"))
+
+
+def with_kept(plain: str) -> Condition:
+    """With a text in a note or in a value of the society's own."""
+    kept = (
+        f"SELECT digits FROM note WHERE {NOW} AND instr(folded, ?) "
+        f"UNION ALL SELECT digits FROM own_value WHERE {NOW} AND instr(folded, ?)"
     )
+    return Condition(f"substr(number, 8) IN ({kept})", (plain, plain))
+
+
+def has_accents(column: str) -> str:
+    """Whether a text has letters that take more than a byte: only these may have accents."""
+    return f"length({column}) <> length(CAST({column} AS BLOB))"
 
 
 def with_own_value(place: int, text: str, is_whole: bool) -> Condition:

@@ -108,9 +108,9 @@ def values_at(connection: sqlite3.Connection, place: int) -> dict[str, str]:
 
 
 def values_used(connection: sqlite3.Connection, place: int, most: int) -> list[str]:
-    """The first different values of a column."""
-    asked = f"SELECT DISTINCT value FROM own_value WHERE place = ? AND {NOW} AND value <> '' ORDER BY value LIMIT ?"
-    return [value for (value,) in connection.execute(asked, (place, most))]
+    """Different values of a column, as many as are found first."""
+    asked = f"SELECT DISTINCT value FROM own_value WHERE place = ? AND {NOW} AND value <> '' LIMIT ?"
+    return sorted(value for (value,) in connection.execute(asked, (place, most)))
 
 
 def texts_kept(connection: sqlite3.Connection, digits: str) -> list[str]:

@@ -10,7 +10,7 @@ from gudokeyi.domain.options import LIST, LIST_ON_PAGE
 from gudokeyi.render.csv_files import in_language
 from gudokeyi.render.page_wording import MessageView
 from gudokeyi.services.animals import AnimalRow, coefficients_among
-from gudokeyi.services.found_animals import Asked, Found, Order, file_of, first_rows, found_by
+from gudokeyi.services.found_animals import Asked, Found, Order, file_of, first_found, found_by
 from gudokeyi.services.opening import Book
 from gudokeyi.services.own_columns import columns_of, values_used
 from gudokeyi.services.search import why_found
@@ -69,8 +69,8 @@ def file(book: Book) -> Answer:
 @with_book
 def search(book: Book) -> Answer:
     """The first animals that have the words, of a sex where that is asked for."""
-    asked = asked_by({**request.args, "order": "id"})
-    rows = first_rows(book, asked)[:OFFERED] if asked.words else []
+    asked = asked_by(request.args)
+    rows = first_found(book, asked, OFFERED) if asked.words else []
     return jsonify([offered(book, row, asked) for row in rows])
 
 
