@@ -3,6 +3,7 @@ filed, a litter, a change that is undone, and the drawn pedigree."""
 from __future__ import annotations
 
 from selenium import webdriver
+from selenium.webdriver.support.ui import Select
 
 from front_desk.desk import Desk
 from front_desk.test_taken_back import SHEET
@@ -52,4 +53,22 @@ def test_secretary(chromium: webdriver.Chrome, desk: Desk, program: str) -> None
     assert screen.reads("document.querySelectorAll('.picture svg a').length") == 2
     screen.opens(str(screen.reads("document.querySelector('.picture svg a').getAttribute('href')")))
     screen.sees("Sultan")
+    server.end()
+
+
+def test_choices_kept(chromium: webdriver.Chrome, desk: Desk, program: str) -> None:
+    """What is chosen for another column counts when it is chosen, also where nobody looks anew."""
+    sheet = desk.room / "herde.csv"
+    sheet.write_text("Ohrmarke;Name;geb;Geschlecht;Vater;Mutter;Farbe\n1;Max;1.3.2001;m;;;braun\n", encoding="utf-8")
+    server = Server(desk.room, program)
+    screen = Screen(chromium, server.base)
+    screen.opens(server.link)
+    screen.opens("/language/de?to=/sheet")
+    screen.does('//input[@type="file"]', lambda field: field.send_keys(str(sheet)))
+    screen.leaves_by("//main//form[@class='drop']//button")
+    screen.does("//select[@name='other-kind-0']", lambda field: Select(field).select_by_visible_text("Text"))
+    address = str(screen.reads("location.href"))
+    screen.opens("/animals")
+    screen.opens(address)
+    assert screen.reads("document.querySelector('[name=other-kind-0]').value") == "text"
     server.end()

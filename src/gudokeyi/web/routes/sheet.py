@@ -159,8 +159,22 @@ def waiting(title: str, job: Job) -> Answer:
 @page.post("/sheet/<token>/columns")
 def choose(token: str) -> Answer:
     """Keeps what was chosen for the reading, and looks anew."""
-    upload, given = upload_of(token), request.form
-    columns = {**upload.columns}
+    upload = upload_of(token)
+    keep_chosen(upload)
+    upload.look_anew()
+    return to_look(upload)
+
+
+@page.post("/sheet/<token>/keep")
+def keep(token: str) -> Answer:
+    """Keeps what was chosen when it is chosen: whoever takes the sheet without a new look isn't asked again."""
+    keep_chosen(upload_of(token))
+    return Response(status=204)
+
+
+def keep_chosen(upload: Upload) -> None:
+    """Keeps what a form has for the reading of a sheet."""
+    given, columns = request.form, {**upload.columns}
     for name in Field:
         title = given.get(f"column-{name}")
         if title is not None and title != given.get(f"understood-{name}", ""):
@@ -169,8 +183,6 @@ def choose(token: str) -> Answer:
     upload.others = {title: kind for title, kind in others_chosen(given).items() if title not in columns.values()}
     read = {name: cleaned(name, given.get(name, "")[:MOST_LETTERS]) for name in SHEET_FIELDS}
     upload.options = {name: text for name, text in read.items() if text}
-    upload.look_anew()
-    return to_look(upload)
 
 
 def others_chosen(given: Mapping[str, str]) -> dict[str, str]:

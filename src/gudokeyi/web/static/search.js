@@ -1,4 +1,5 @@
-// Search while somebody types. Without this file each page works too: a form is sent by its button.
+// Search while somebody types, and choices that are kept when they are made. Without this file each page works too: a
+// form is sent by its button.
 "use strict";
 
 // So long nothing is asked behind a key, in milliseconds.
@@ -57,5 +58,15 @@ function showFound(form) {
   form.addEventListener("input", show);
 }
 
+// What is chosen in a form is kept when it is chosen, one choice behind the other.
+function keepChoices(form) {
+  let kept = Promise.resolve();
+  form.addEventListener("change", () => {
+    const body = new URLSearchParams(new FormData(form));
+    kept = kept.then(() => fetch(form.dataset.keep, {method: "POST", body, keepalive: true})).catch(() => {});
+  });
+}
+
 for (const input of document.querySelectorAll("input[data-search]")) offer(input);
+for (const form of document.querySelectorAll("form[data-keep]")) keepChoices(form);
 for (const form of document.querySelectorAll("form[data-live]")) showFound(form);
