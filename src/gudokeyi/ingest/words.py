@@ -44,9 +44,10 @@ STAYS = (
     "présente"
 )
 EXITS = (
-    "ja, yes, oui, x, verkauft, verk, Verkauf, geschlachtet, Schlachtung, geschl, gestorben, verstorben, verendet, tot, "
-    "Tod, abgegangen, Abgang, ausgeschieden, exportiert, gekeult, euthanasiert, notgetötet, eingeschläfert, getötet, "
-    "verunglückt, abgegeben, verliehen, ausgeliehen, gestohlen, gerissen, weg, inaktiv, sold, sale, slaughtered, "
+    "ja, yes, oui, x, verkauft, verk, Verkauf, geschlachtet, Schlachtung, geschl, gestorben, verstorben, verst, verendet, "
+    "eingegangen, tot, Tod, abgegangen, Abgang, ausgeschieden, exportiert, gekeult, euthanasiert, notgetötet, "
+    "notgeschlachtet, eingeschläfert, getötet, verunglückt, abgegeben, verliehen, ausgeliehen, gestohlen, gerissen, "
+    "weg, inaktiv, sold, sale, slaughtered, "
     "slaughter, dead, died, death, deceased, culled, exported, gone, left, lost, stolen, killed, euthanised, "
     "euthanized, rehomed, vendu, vendue, vente, abattu, abattue, abattage, mort, morte, décédé, décédée, réformé, "
     "réformée, réforme, sorti, sortie, exporté, exportée, volé, volée, euthanasié, euthanasiée, inactif, inactive"
