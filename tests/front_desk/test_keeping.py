@@ -82,6 +82,18 @@ def test_owners(goats: Desk) -> None:
     goats.good("verify")
 
 
+def test_newborn(goats: Desk) -> None:
+    """What is kept of a newborn stands on its birth."""
+    goats.good("birth", "Y", "--sex", "f", "--day", "2024-01-01", "--dam", "X")
+    goats.good("note", "Y", "weak")
+    goats.good("own", "X", "CAE=negative")
+    goats.wrong("3", "undo", "--change", "2")
+    goats.good("undo", "--change", "2", "--with-later")
+    goats.wrong("the book has no animal 'Y'", "note", "Y")
+    assert "  CAE: negative\n" in goats.good("own", "X").out
+    goats.good("verify")
+
+
 def test_going_back(goats: Desk) -> None:
     """What goes is said before, and whoever sits at a terminal is asked."""
     goats.good("note", "X", "first")

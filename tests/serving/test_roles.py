@@ -14,7 +14,8 @@ from serving.visitor import PEOPLE, Served, Visitor
 
 # what nobody but a keeper may do, and what somebody may change who files nothing
 KEEPERS = {
-    "history.ask_undo", "history.bring_back", "settings.change", "accounts.page", "accounts.add", "accounts.change",
+    "history.ask_undo", "history.bring_back", "settings.change", "settings.change_picture", "accounts.page",
+    "accounts.add", "accounts.change",
     "accounts.ask_removal", "accounts.remove",
     "restoring.page", "restoring.drop", "restoring.look", "restoring.bring_back", "restoring.under_way",
     "folder.page", "folder.choose", "folder.close", "seals.publish",
@@ -23,7 +24,8 @@ KEEPERS = {
 }  # fmt: skip
 # what nobody does who only reads
 CLERKS = {
-    "sheet.page", "sheet.drop", "sheet.drop_example", "sheet.look", "sheet.choose", "sheet.take_suggestion", "sheet.take",
+    "sheet.page", "sheet.drop", "sheet.drop_example", "sheet.look", "sheet.choose", "sheet.keep",
+    "sheet.take_suggestion", "sheet.take",
     "sheet.taking", "sheet.leave", "history.backup", "filing.page", "filing.form", "filing.file",
     "correcting.form", "correcting.correct", "litters.form", "litters.file", "notes.form", "notes.write",
     "owners.file", "owners.form", "owners.write", "own_columns.form", "own_columns.write",

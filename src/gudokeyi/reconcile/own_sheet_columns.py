@@ -1,6 +1,7 @@
 """The society's own columns in a sheet: which of its columns are kept so, and what their cells say of the animals."""
 from __future__ import annotations
 
+import collections
 from collections.abc import Sequence
 from dataclasses import dataclass, replace
 
@@ -61,10 +62,12 @@ def find_own_columns(book: Book, columns: Columns, said: Sequence[str]) -> OwnSh
 
 
 def with_choices(column: OwnColumn, sheet: Sheet, places: dict[int, int], is_known: bool) -> OwnColumn:
-    """A new column of choices has those of the sheet."""
+    """A new column of choices has those of the sheet, of several in other capitals the one that most cells have."""
     if column.kind is not OwnKind.CHOICE or column.choices or is_known or column.place not in places:
         return column
-    choices = sorted({clean(cell) for cell in sheet.column(places[column.place])} - {""})
+    counts = collections.Counter(filter(None, map(clean, sheet.column(places[column.place]))))
+    alike = {one.casefold(): one for one, _ in reversed(counts.most_common())}
+    choices = sorted(alike.values())
     if len(choices) > MOST_CHOICES:
         raise InvalidValue(OwnFault.MANY_CHOICES.said(title=column.title, most=MOST_CHOICES))
     return replace(column, choices=tuple(choices))

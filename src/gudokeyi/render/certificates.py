@@ -197,13 +197,23 @@ class Certificate:
             (gettext("Sex"), self.language.marked(sex, mark_of(self.animal.sex))),
             (gettext("Born"), self.day(told["born"], mark_of(self.animal.birth))),
             (gettext("Left"), left),
-            (gettext("Breed"), self.issue.society.breed_of(told["animal"])),
-            (gettext("Breeder"), self.breeder or gettext("not known")),
+            *self.bred(),
             (gettext("Owner"), self.book.owner_of(int(told["herd"])) or gettext("not known")),
             (gettext("Owner since"), since or gettext("not known")),
-            *self.own_facts(),
+            *self.own_facts,
         ]
 
+    def bred(self) -> list[tuple[str, str]]:
+        """The breed and who bred the animal, unless the society has a column of its own for it."""
+        gettext = self.language.gettext
+        breed = gettext("Breed"), self.issue.society.breed_of(self.told["animal"])
+        return [breed, *[(gettext("Breeder"), self.breeder or gettext("not known"))] * self.finds_breeder]
+
+    @functools.cached_property
+    def finds_breeder(self) -> bool:
+        return all(title.casefold() != self.language.gettext("Breeder").casefold() for title, _ in self.own_facts)
+
+    @functools.cached_property
     def own_facts(self) -> list[tuple[str, str]]:
         """The values of the society's own columns that stand on certificates."""
         values = certified_values(self.book, self.animal)
@@ -261,7 +271,8 @@ class Certificate:
         gettext = self.language.gettext
         common = [gettext(COMMON_NOTE, letters_named(self.common))] * bool(self.common)
         told = (gettext(MARK_NOTES[mark]) for mark in Mark if mark in marks)
-        return [gettext(NOTE), gettext(OF_PROGRAM), *[gettext(BREEDER)] * bool(self.breeder), *common, *told]
+        bred = [gettext(BREEDER)] * (self.finds_breeder and bool(self.breeder))
+        return [gettext(NOTE), gettext(OF_PROGRAM), *bred, *common, *told]
 
 
 def certificates_page(

@@ -195,11 +195,11 @@ def transferred(
     )  # fmt: skip
 
 
-def departed(book: Book, animal: SocietyRecord, day: datetime.date) -> FiledCommand:
-    """An exit."""
+def departed(book: Book, animal: SocietyRecord, day: datetime.date, reason: str = "") -> FiledCommand:
+    """An exit, with one of the reasons where it is known."""
     refuse_to_come(day)
     record = book.records[animal.registration_number]
-    after = animal._replace(exit=GIVEN_EXIT, by_hand=animal.by_hand | {Field.EXIT})
+    after = animal._replace(exit=GIVEN_EXIT, by_hand=animal.by_hand | {Field.EXIT}, exit_reason=reason)
     found = ValueChanged("exit", day.isoformat(), str(record.left or ""))
     since = inferred_since(animal, record, day)
     return FiledCommand(ChangeKind.EXIT, leave(animal.registration_number, day), after, (found,), owner_since=since)

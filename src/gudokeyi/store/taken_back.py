@@ -9,7 +9,7 @@ from typing import NamedTuple
 
 from gudokeyi.domain.kinds import ChangeKind
 from gudokeyi.store.history import changes_behind
-from gudokeyi.store.state import NOW, TABLES, Rows, Table, Values, keyed
+from gudokeyi.store.state import NOTES, NOW, OWN_VALUES, TABLES, Rows, Table, Values, keyed
 
 # those that can't be: they bring back a state as a whole, or what they took away is gone for good
 NOT_ALONE = (ChangeKind.UNDO, ChangeKind.RESTORE, ChangeKind.FOLDER, ChangeKind.ERASURE)
@@ -80,16 +80,17 @@ def touched_later(connection: sqlite3.Connection, changes: Collection[int]) -> s
 
 
 def naming(connection: sqlite3.Connection, changes: Collection[int]) -> set[int]:
-    """Those by which an animal got a parent that came by some changes."""
+    """Those by which an animal got a parent that came by some changes, or by which something is kept of one that came
+    so."""
     came = f"""
         SELECT number FROM animal AS own WHERE since IN {SOME}
         AND NOT EXISTS (SELECT 1 FROM animal AS before WHERE before.id = own.id AND before.since < own.since)
     """
-    found = set[int]()
-    for role in "sire", "dam":
-        asked = f"SELECT DISTINCT since FROM animal WHERE {role} IN ({came}) AND {NOW}"
-        found |= {number for (number,) in connection.execute(asked, {"changes": json.dumps([*changes])})}
-    return found
+    asked = [f"SELECT since FROM animal WHERE {role} IN ({came}) AND {NOW}" for role in ("sire", "dam")]
+    digits = f"SELECT substr(number, 8) FROM ({came})"
+    asked += [f"SELECT since FROM {table.name} WHERE digits IN ({digits}) AND {NOW}" for table in (NOTES, OWN_VALUES)]
+    found = connection.execute(" UNION ".join(asked), {"changes": json.dumps([*changes])})
+    return {number for (number,) in found}
 
 
 class Touched(NamedTuple):

@@ -7,7 +7,7 @@ from dataclasses import dataclass, replace
 
 from gudokeyi.domain.animals import SocietyRecord
 from gudokeyi.domain.changes import Change, Option
-from gudokeyi.domain.kinds import ChangeKind
+from gudokeyi.domain.kinds import ChangeKind, ExitReason
 from gudokeyi.domain.messages import Mistake
 from gudokeyi.domain.requests import WebFault
 from gudokeyi.services.filing import (
@@ -23,7 +23,7 @@ FIELDS: dict[ChangeKind, tuple[str, ...]] = {
     ChangeKind.BIRTH: ("id", "name", "sex", "day", "sire", "dam", "owner", "embryo"),
     ChangeKind.PARENTS: ("id", "sire", "dam"),
     ChangeKind.TRANSFER: ("id", "day", "to"),
-    ChangeKind.EXIT: ("id", "day"),
+    ChangeKind.EXIT: ("id", "day", "reason"),
 }
 KINDS = {kind.value: kind for kind in FIELDS}
 # an unknown parent, as a terminal would say it
@@ -78,7 +78,7 @@ class Form:
     def command(self, book: Book) -> FiledCommand:
         makers: dict[ChangeKind, Callable[[Book], FiledCommand]] = {
             ChangeKind.BIRTH: self.birth, ChangeKind.PARENTS: self.parents, ChangeKind.TRANSFER: self.transfer,
-            ChangeKind.EXIT: lambda book: departed(book, self.animal(book), self.day()),
+            ChangeKind.EXIT: lambda book: departed(book, self.animal(book), self.day(), self.reason()),
         }  # fmt: skip
         return replace(makers[self.kind](book), options=self.options(book), form=self.token)
 
@@ -112,6 +112,10 @@ class Form:
         if shown != now:
             raise Mistake(WebFault.PARENTS_CHANGED.said(id=animal.id))
         return tuple(role for role in ROLES if self.text(role) != " ".join(shown[role].split())) or ROLES
+
+    def reason(self) -> str:
+        """One of the reasons of an exit; empty where none is said."""
+        return self.text("reason") if self.text("reason") in [*ExitReason] else ""
 
     def transfer(self, book: Book) -> FiledCommand:
         return transferred(book, self.animal(book), self.day(), self.text("to"), None)

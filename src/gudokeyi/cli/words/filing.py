@@ -10,7 +10,7 @@ from gudokeyi.cli.output import tell
 from gudokeyi.cli.parser import CommandWords, Parser
 from gudokeyi.domain.animals import SocietyRecord
 from gudokeyi.domain.changes import Option
-from gudokeyi.domain.kinds import ChangeKind
+from gudokeyi.domain.kinds import ChangeKind, ExitReason
 from gudokeyi.domain.mistakes import RegisterRefused, WrongWords
 from gudokeyi.services.book_program import BookProgram
 from gudokeyi.services.filing import (
@@ -46,6 +46,7 @@ def add_words(words: CommandWords) -> None:
     transfer.add_argument("--to", required=True, metavar="OWNER", help="the new owner")
     transfer.add_argument("--from", dest="from_owner", metavar="OWNER", help="who gives it [its owner in the book]")
     exit = words.add("exit", does(wished_exit), "file that an animal left, by death or sale", kept)
+    exit.add_argument("--reason", choices=(*ExitReason,), help="why it left [not known]")
     for one in parents, transfer, exit:
         one.add_argument("id", metavar="ID", help="the animal, by id, name or number")
     for one in birth, parents, transfer, exit:
@@ -167,4 +168,4 @@ def wished_transfer(asked: argparse.Namespace, book: Book) -> FiledCommand:
 
 
 def wished_exit(asked: argparse.Namespace, book: Book) -> FiledCommand:
-    return departed(book, find(book, asked.id), asked.day)
+    return departed(book, find(book, asked.id), asked.day, asked.reason or "")

@@ -7,8 +7,9 @@ from flask import Blueprint, abort, redirect, render_template, request, url_for
 
 from gudokeyi.domain.animals import SocietyRecord
 from gudokeyi.domain.findings import What
-from gudokeyi.domain.kinds import ChangeKind
+from gudokeyi.domain.kinds import ChangeKind, ExitReason
 from gudokeyi.domain.messages import Mistake
+from gudokeyi.render.page_language import name_of
 from gudokeyi.render.page_wording import MessageView
 from gudokeyi.services.book_session import BookMoved
 from gudokeyi.services.filing import MayBeWrong
@@ -52,8 +53,9 @@ def shown(
     if kind not in KINDS:
         abort(404)
     page = render_template(
-        "form.html", kind=kind, given=given, faults=faults, owners=sorted(book.owners), answered=answered, warned=warned
-    )
+        "form.html", kind=kind, given=given, faults=faults, owners=sorted(book.owners), answered=answered, warned=warned,
+        reasons=[(one.value, name_of(one, page_language())) for one in ExitReason if one is not ExitReason.STILLBORN],
+    )  # fmt: skip
     return (page, 400) if faults or warned.lines else page
 
 
