@@ -22,9 +22,9 @@ def test_year(site: Site, society_desk: Desk) -> None:
     lines = answer.get_data(as_text=True).splitlines()
     assert "attachment; filename=year-2024.csv" in answer.headers["Content-Disposition"]
     number = lines[1].split(";")[3]
-    assert lines[1] == f"2024-03-01;birth;NEW-1;{number};Berta;F;2024-03-01;{SIRE};{DAM};;Oak Lodge;"
-    assert lines[2].startswith("2024-05-01;transfer;NEW-1;") and lines[2].endswith(";Oak Lodge;Hof am See;")
-    assert lines[3].startswith(f"2024-12-31;exit;{DAM};") and len(lines) == 4
+    assert lines[1] == f"2024-03-01;Geburt;NEW-1;{number};Berta;F;2024-03-01;{SIRE};{DAM};;Oak Lodge;"
+    assert lines[2].startswith("2024-05-01;Besitzerwechsel;NEW-1;") and lines[2].endswith(";Oak Lodge;Hof am See;")
+    assert lines[3].startswith(f"2024-12-31;Abgang;{DAM};") and len(lines) == 4
     assert site.get("/year/9999").status_code == 400
     society_desk.good("year", "2024", "--out", "year.csv")
     assert [row["what"] for row in society_desk.table("year.csv")] == ["birth", "transfer", "exit"]

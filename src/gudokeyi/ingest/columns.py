@@ -3,7 +3,7 @@ from __future__ import annotations
 
 import collections
 import functools
-from collections.abc import Collection, Mapping
+from collections.abc import Callable, Collection, Mapping
 from dataclasses import dataclass, field
 from typing import Container
 
@@ -15,11 +15,15 @@ from gudokeyi.ingest.encodings import Letters, decoded_twice
 from gudokeyi.ingest.findings.columns import (
     ColumnLost, ColumnsLack, LikelierColumn, NamedColumnLacks, SheetFinding, TellsNoExits, TitleTwice,
 )  # fmt: skip
-from gudokeyi.ingest.findings.rows import StatusUnread
+from gudokeyi.ingest.findings.rows import ExitsInRemarks, FieldUnread, StatusUnread
 from gudokeyi.ingest.findings.sheets import MOST_SHOWN
 from gudokeyi.ingest.sheets import Sheet
-from gudokeyi.ingest.titles import KNOWN_DOUBTFUL, KNOWN_PAIRS, KNOWN_TITLES, NEEDED, TITLES
-from gudokeyi.ingest.words import DEAD, KNOWN_EXITS, KNOWN_STAYS, LETTER, TELLING_EXITS, has_word, plain
+from gudokeyi.ingest.titles import (
+    KNOWN_DOUBTFUL, KNOWN_PAIRS, KNOWN_TITLES, NEEDED, TITLES, names_both_sexes, names_exits_alone,
+)  # fmt: skip
+from gudokeyi.ingest.words import (
+    DEAD, KNOWN_EXITS, KNOWN_SEXES, KNOWN_STAYS, LETTER, PLAIN_EXITS, TELLING_EXITS, has_word, plain, sex_word,
+)  # fmt: skip
 
 PARENTS = Field.SIRE, Field.DAM
 # so many columns of one title are looked at
@@ -90,11 +94,15 @@ def find_columns(
     for name in TITLES:
         if name not in named and name not in (Field.ID, *PARENTS):
             usual_column(columns, name)
+    for name, tells in ((Field.SEX, names_both_sexes), (Field.EXIT, names_exits_alone)):
+        if name not in named and name not in columns.found:
+            column_of_words(columns, name, tells)
     parents = [name for name in PARENTS if name not in named and name not in columns.found]
     IdColumn(columns, parents, unknown, ids, before.get(Field.ID, "")).find()
     if Field.STATUS in columns.found and Field.EXIT not in columns.found and named.get(Field.EXIT) != "":
         columns.found[Field.EXIT] = columns.found.pop(Field.STATUS)
     tell_unread_statuses(columns, named)
+    tell_unread_fields(columns, named)
     tell_likelier(columns, given, before)
     likely = LikelyColumns(columns, unknown)
     tell_missing(columns, named, likely)
@@ -129,6 +137,13 @@ def usual_column(columns: Columns, name: str) -> None:
             return
 
 
+def column_of_words(columns: Columns, name: Field, tells: Callable[[str], bool]) -> None:
+    """The only column whose title has several words for what the field has."""
+    titled = [at for at, title in enumerate(columns.sheet.titles) if title and columns.is_free(at) and tells(title)]
+    if len(titled) == 1:
+        columns.found[name] = titled[0]
+
+
 def tells_exits(columns: Columns, at: int, is_told: bool = True) -> bool:
     """Do most cells of the column tell that an animal left, or that it lives?"""
     cells = [cell for cell in columns.cells(at) if cell]
@@ -155,12 +170,49 @@ def tell_unread_statuses(columns: Columns, named: Mapping[str, str]) -> None:
         return
     for at in [at for at, title in enumerate(columns.sheet.titles) if title and columns.is_free(at)][:MOST_COMPARED]:
         cells = collections.Counter(cell for cell in columns.cells(at) if cell)
-        if cells.total() < SOME or len(cells) > MOST_DIFFERENT:
+        if len(cells) > MOST_DIFFERENT:
             continue
         telling = [cell for cell in cells if has_word(cell, TELLING_EXITS | KNOWN_STAYS) or is_cross(cell)]
         count = sum(cells[cell] for cell in telling)
-        if 2 * count > cells.total():
+        if 2 * count > cells.total() and cells.total() >= SOME:
             columns.notes.append(StatusUnread(columns.title(at), count, tuple(telling[:MOST_SHOWN]), of))
+        elif some := {cell for cell in telling if has_word(cell, PLAIN_EXITS)}:
+            tell_remarks(columns, at, some)
+
+
+def tell_remarks(columns: Columns, at: int, texts: set[str]) -> None:
+    """Some cells of a column that isn't read tell that animals left."""
+    count = sum(cell in texts for cell in columns.cells(at))
+    cells = ((row.line, row.cells[at]) for row in columns.sheet.rows if at < len(row.cells))
+    line, text = next((line, cell) for line, cell in cells if cell in texts)
+    columns.notes.append(ExitsInRemarks(columns.title(at), count, line, text))
+
+
+# the different words that a column of sexes may have
+MOST_SEXES = 40
+
+
+def tell_unread_fields(columns: Columns, named: Mapping[str, str]) -> None:
+    """Columns that aren't read, and look like what no column is read for: one of sexes, or one of exits' days."""
+    looks = {Field.SEX: looks_like_sexes, Field.EXIT: looks_like_exit_days}
+    for name, look in looks.items():
+        if name in columns.found or named.get(name) == "":
+            continue
+        for at in [at for at, title in enumerate(columns.sheet.titles) if title and columns.is_free(at)][:MOST_COMPARED]:
+            cells = collections.Counter(cell for cell in columns.cells(at) if cell)
+            if cells.total() >= SOME and len(cells) <= MOST_DIFFERENT and look(columns.title(at), cells):
+                said = tuple([*cells][:MOST_SHOWN])
+                columns.notes.append(FieldUnread(name, columns.title(at), cells.total(), said))
+
+
+def looks_like_sexes(_: str, cells: collections.Counter[str]) -> bool:
+    found = [cell for cell in cells if sex_word(cell) in KNOWN_SEXES]
+    sexes = {KNOWN_SEXES[sex_word(cell)] for cell in found}
+    return len(sexes) == 2 and len(cells) <= MOST_SEXES and 2 * sum(cells[cell] for cell in found) > cells.total()
+
+
+def looks_like_exit_days(title: str, cells: collections.Counter[str]) -> bool:
+    return has_word(title, TELLING_EXITS) and 2 * sum(cells[cell] for cell in cells if is_span(cell)) > cells.total()
 
 
 def find_pair(columns: Columns, wanted: list[Field]) -> None:

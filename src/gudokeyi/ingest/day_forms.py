@@ -41,6 +41,8 @@ SEASON_WORDS = {word: months for words, months in SEASONS.items() for word in wo
 SEASON = re.compile(
     rf"\b({'|'.join(SEASON_WORDS)})\b[ -]*(?:of |de |d'|du )?((?:19|20|21)\d{{2}})(?!\d)", re.IGNORECASE
 )
+# two days, or a week, of which the text has one
+BETWEEN = re.compile(r"\b(?:zw|zwischen|between|entre|nuit|night|Nacht|week|Woche|semaine|w/c)\b", re.IGNORECASE)
 # a year of four digits
 YEAR = re.compile(r"(?<!\d)(?:19|20)\d{2}(?!\d)")
 
@@ -103,6 +105,8 @@ class DayForms:
         span = span_within(text, self.month_first)
         if span is None or span.precision is Precision.YEAR:
             return None
+        if span.is_day and BETWEEN.search(text):
+            span = month_of(span.first.year, span.first.month)
         return (span if span.is_day else span._replace(text=text)), DayReading.WITHIN
 
     def can_read(self, text: str) -> bool:

@@ -36,6 +36,7 @@ def compared(name: str) -> str:
 
 
 MONTHS = {compared(name): month for month, names in enumerate(NAMES, 1) for name in names.split(",")}
+ROMAN = {numeral: month for month, numeral in enumerate("I II III IV V VI VII VIII IX X XI XII".split(), 1)}
 # one of the names, the longest first, with a point behind it or without
 NAME = r"(?:{})\.?".format(
     "|".join(sorted({re.escape(name.strip()) for names in NAMES for name in names.split(",")}, key=len, reverse=True))
@@ -59,6 +60,9 @@ FORMS = (
     r"(?P<year>\d{4})/(?P<month>\d{1,2})/(?P<day>\d{1,2})" + TIME,
     # `3. April 2010`, `08 January 2005`, `03-Mar-2005`, `1er mars 2005`, `2nd of May 2004`
     DAY + r"(?:\.|er|st|nd|rd|th)?[ ./-]*(?:of |de |d')?" + NAMED + "[ ./,-]*" + YEAR + TIME,
+    # `12,04,2019`, and `7. III. 2019`
+    r"(?P<day>\d{1,2}),(?P<month>\d{1,2}),(?P<year>\d{4})",
+    r"(?P<day>\d{1,2})\. ?(?P<roman>[IVX]+)\.? ?(?P<year>\d{4})",
     # `January 8, 2005`, `2005-Mar-03`
     NAMED + "[ ./-]*" + DAY + "(?:st|nd|rd|th)?(?:, ?| )" + YEAR + TIME,
     YEAR + "[ ./-]" + NAMED + "[ ./-]" + DAY,
@@ -74,7 +78,8 @@ TWO_DIGITS = rf"\d{{1,2}}[ ./-]+(?:\d{{1,2}}|{NAME})[ ./-]+'?\d{{2}}"
 SOME_YEAR = re.compile(r"(?<!\d)(?:19|20|21)\d{2}(?!\d)")
 # a year that isn't the one that is meant
 NOT_THAT_YEAR = re.compile(
-    r"\b(before|after|since|until|till|to|from|vor|nach|seit|bis|ab|avant|après|depuis|jusqu\w*|dès)\b|[<>]",
+    r"\b(before|after|since|until|till|to|from|vor|nach|seit|bis|ab|avant|après|depuis|jusqu\w*|dès)\b|[<>≤≥]|"
+    r"\b(adult\w*|erwachsen\w*|import\w*|bought|gekauft|achet\w*)(?!\w)",
     re.IGNORECASE,
 )
 # how a text begins that says since when
@@ -269,12 +274,14 @@ def span_of(parts: dict[str, str | None], text: str, month_first: bool) -> Span:
     is_slashed = bool(parts.get("slash"))
     if named:
         month = MONTHS[compared(named)]
+    elif parts.get("roman"):
+        month = ROMAN.get(str(parts["roman"]).upper(), 0)
     elif is_slashed and month_first:
         month, day = day, month
     if not FIRST_YEAR <= year <= LAST_YEAR:
         raise Unreadable(DayFault.YEAR, str(year))
     # zeros stand for a month or a day that isn't known
-    if not (parts.get("month") or named) or (month == 0 and day == 0):
+    if not (parts.get("month") or month) or (month == 0 and day == 0):
         return year_of(year)
     if is_slashed and month > 12 and 1 <= day <= 12:
         raise Unreadable(DayFault.WRONG_ORDER, text)

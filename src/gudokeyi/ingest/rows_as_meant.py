@@ -74,7 +74,7 @@ def reads_so(text: str, shapes: Mapping[str, int]) -> bool:
 DITTO = {
     '"', "''", "”", "“", "„", "〃", "″", '-"-', '- " -', "-''-", "dito", "dto", "dto.", "ditto", "do.", "idem", "id.",
     "s.o.", "s. o.", "siehe oben", "wie oben", "as above", "same as above", "same", "ci-dessus", "voir ci-dessus",
-    "comme ci-dessus",
+    "comme ci-dessus", "le même", "la même", "the same", "derselbe", "dieselbe", "der gleiche", "die gleiche",
 }  # fmt: skip
 # the columns in which they stand for something
 REPEATED = (
@@ -130,6 +130,8 @@ TAKER = re.compile(
     r".*?\b(?:an|zu|to|à|a|au|aux)\s+(?P<taker>\S.*)",
     re.IGNORECASE,
 )
+# the same of a text that begins with whom
+TO_WHOM = re.compile(r"(?:an|zu|to|à|au)\s+(?P<taker>\S.*)", re.IGNORECASE)
 
 
 def said_of(status: str, title: str) -> str:
@@ -216,7 +218,7 @@ class Takers:
 
     def named(self, text: str) -> tuple[str, ...]:
         """The owners whose names have all words that stand behind `verkauft an`, or whose name those are."""
-        found = TAKER.search(text)
+        found = TAKER.search(text) or TO_WHOM.match(text)
         words = words_of(found["taker"]) if found else frozenset()
         if not words:
             return ()

@@ -6,7 +6,7 @@ import collections
 import datetime
 import operator
 import re
-from collections.abc import Callable, Collection, Iterable, Iterator, Mapping, Sequence
+from collections.abc import Callable, Iterable, Iterator, Mapping, Sequence
 from typing import Container
 
 from gudokeyi.domain.findings import Report
@@ -26,7 +26,7 @@ from gudokeyi.ingest.rows_as_meant import Takers
 from gudokeyi.ingest.sexes import Sexes
 from gudokeyi.ingest.sheets import Sheet, SheetRow
 from gudokeyi.ingest.spellings import CUT
-from gudokeyi.ingest.titles import parts_of
+from gudokeyi.ingest.titles import BETWEEN_WORDS, names_both_sexes, parts_of
 from gudokeyi.ingest.unknown_parents import UnknownParents
 from gudokeyi.ingest.words import KNOWN_SUMS, is_error_value, nearly, plain
 
@@ -179,7 +179,7 @@ class Rows:
         self.width = 1 + max(columns.values(), default=0)
         self.chosen = chooser([*columns.values()])
         self.errors = ErrorValues(sheet, columns)
-        self.sexes = Sexes(self.texts(Field.SEX), sexes)
+        self.sexes = Sexes([*self.texts(Field.SEX), *self.words_of_sexes()], sexes)
         self.unread = Unread({name: sheet.titles[at] for name, at in columns.items()})
         self.forms = DayForms(self.texts(Field.BIRTH), (born or {}).values(), month_first)
         self.cells = AnimalCells(unknown, self.sexes, self.unread, report, month_first, self.forms)
@@ -188,6 +188,11 @@ class Rows:
         # what keeps the sheet from being taken, and what may be wrong
         self.faults: list[SheetFinding] = []
         self.notes: list[SheetFinding] = []
+
+    def words_of_sexes(self) -> list[str]:
+        """Those of a title such as `Dog/Bitch`, of which cells have the first letters."""
+        title = self.sheet.titles[self.columns[Field.SEX]] if Field.SEX in self.columns else ""
+        return BETWEEN_WORDS.split(title) if names_both_sexes(title) else []
 
     def texts(self, name: str) -> list[str]:
         """A column, in which error values are empty."""

@@ -3,12 +3,13 @@ others."""
 from __future__ import annotations
 
 import csv
+import re
 from collections.abc import Iterable
 
 from gudokeyi.domain.kinds import Field
 from gudokeyi.domain.messages import Mistake, some_of
 from gudokeyi.ingest.messages import SheetFault
-from gudokeyi.ingest.words import KNOWN_SEXES, composed, listed, plain, sex_word
+from gudokeyi.ingest.words import KNOWN_EXITS, KNOWN_SEXES, composed, listed, plain, sex_word
 
 # What a column of a sheet may have, and the usual titles in English, German and French.
 
@@ -150,3 +151,19 @@ def read_sexes(words: list[str]) -> dict[str, str]:
             raise Mistake(SheetFault.SEX_OPTION.said(part=part))
         given[sex_word(word)] = KNOWN_SEXES[plain(sex)]
     return given
+
+
+# Titles of several words for one thing, as `Dog/Bitch` and `gestorben/verkauft am`.
+
+BETWEEN_WORDS = re.compile(r"[^\w♂♀]+")
+# what stands beside words of exits and tells nothing else
+BESIDE_EXITS = {plain(word) for word in "am, im, den, und, oder, on, or, and, date, of, le, la, et, ou, Datum, du, de".split(", ")}
+
+
+def names_both_sexes(title: str) -> bool:
+    return {KNOWN_SEXES.get(sex_word(word), "") for word in BETWEEN_WORDS.split(title)} >= {"M", "F"}
+
+
+def names_exits_alone(title: str) -> bool:
+    words = {plain(word) for word in BETWEEN_WORDS.split(title)} - BESIDE_EXITS - {""}
+    return bool(words) and words <= KNOWN_EXITS

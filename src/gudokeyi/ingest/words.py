@@ -33,7 +33,7 @@ SEXES = {
 }
 # males that have no offspring any more
 CASTRATED = (
-    "ox, steer, bullock, wether, gelding, barrow, neutered male, castrated, castrate, male castrated, Ochse, Hammel, "
+    "ox, steer, bullock, wether, gelding, barrow, neutered male, castrated, castrate, male castrated, kastr, Ochse, Hammel, "
     "Schöps, Wallach, Kastrat, kastriert, männlich kastriert, Rüde kastriert, Borg, Kapaun, hongre, boeuf, bœuf, "
     "mouton castré, castré, mâle castré"
 )
@@ -52,6 +52,8 @@ EXITS = (
     "euthanized, rehomed, vendu, vendue, vente, abattu, abattue, abattage, mort, morte, décédé, décédée, réformé, "
     "réformée, réforme, sorti, sortie, exporté, exportée, volé, volée, euthanasié, euthanasiée, inactif, inactive"
 )
+# names of animals that never lived
+BORN_DEAD = "totgeburt, totgeboren, stillborn, still born, stillbirth, mort-né, mort-née, mortné, mortinato"
 # with one of these a word for a living animal tells of one that has left
 NEGATIONS = "nicht, kein, keine, nimmer, not, no, never, pas, plus, non"
 YES = "1, x, yes, y, true, et, embryo, ja, j, wahr, oui, o, vrai"
@@ -113,6 +115,7 @@ KNOWN_NO = {word.casefold() for word in listed(NO)}
 KNOWN_STAYS = {plain(word) for word in listed(STAYS)}
 KNOWN_EXITS = {plain(word) for word in listed(EXITS)}
 KNOWN_NEGATIONS = {plain(word) for word in listed(NEGATIONS)}
+KNOWN_BORN_DEAD = {plain(word) for word in listed(BORN_DEAD)}
 KNOWN_SUMS = {plain(word) for word in listed(SUMS)}
 
 
@@ -166,6 +169,14 @@ def nearly_all(ids: list[str]) -> list[str]:
 
 # `x`, `ja` and the like tell of an exit only where they stand alone
 TELLING_EXITS = KNOWN_EXITS - {plain(word) for word in KNOWN_YES}
+# those that tell of one also within a remark, where `left` may be a side
+PLAIN_EXITS = TELLING_EXITS & {
+    plain(word) for word in listed(
+        "verkauft, geschlachtet, gestorben, verstorben, verendet, tot, eingeschläfert, euthanasiert, exportiert, sold, "
+        "slaughtered, dead, died, deceased, culled, exported, euthanised, euthanized, rehomed, vendu, vendue, abattu, "
+        "abattue, mort, morte, décédé, décédée, exporté, exportée, euthanasié, euthanasiée"
+    )
+}  # fmt: skip
 # the signs of a death
 DEAD = re.compile(r"†|✝|^\+(?=\s*\d)")
 

@@ -6,10 +6,11 @@ import difflib
 import re
 
 from gudokeyi.ingest.animals import SheetAnimal
-from gudokeyi.ingest.words import plain
+from gudokeyi.ingest.words import KNOWN_BORN_DEAD, TELLING_EXITS, has_word, plain
 from gudokeyi.reconcile.findings.animals import (
     OwnerMistyped, OwnerRenamed, OwnerRespelt, OwnersAlike, Spelling,
 )  # fmt: skip
+from gudokeyi.reconcile.findings.plausibility import BornDead, OwnerIsNoName, OwnerOfSeveral
 from gudokeyi.reconcile.next_book import NextBook
 from gudokeyi.store.book import Book
 
@@ -66,6 +67,50 @@ def tell_owners_alike(next_book: NextBook) -> None:
     for spellings in several:
         if not any(set(spellings) < set(other) for other in several):
             next_book.report.add(0, "", OwnersAlike(spellings))
+
+
+# Owners whose cell has more than a name, and names of animals that never lived.
+
+# what stands beside a name in such a cell
+MORE = re.compile(
+    r"[/→%†(;&+]|->|\d{4}|\b(?:und|and|et|c/o|feu|ex|früher|vorher|bis|ab|seit|until|since|from|depuis|jusqu\w*|dès)\b",
+    re.IGNORECASE,
+)
+WORD, A_DAY = re.compile(r"[^\W_]+"), re.compile(r"\d{1,4}[./-]\d{1,2}[./-]\d{2,4}")
+BESIDE = {"am", "on", "le", "im", "in", "en"}
+MOST_WITHIN = 5
+
+
+def tell_doubtful_owners(next_book: NextBook, owners_before: set[str]) -> None:
+    """New owners whose name reads like an exit or a day, or has the names of others in it."""
+    rows = collections.Counter(one.owner for one in next_book.animals.values() if one.line and one.owner)
+    words = {owner: f" {' '.join(WORD.findall(owner.casefold()))} " for owner in {*rows, *owners_before}}
+    for owner, count in rows.items():
+        if owner in owners_before:
+            continue
+        if is_no_name(owner):
+            next_book.report.add(0, "", OwnerIsNoName(owner, count))
+        elif MORE.search(owner):
+            within = [one for one, its in words.items() if one != owner and its.strip() and its in words[owner]]
+            if within:
+                next_book.report.add(0, "", OwnerOfSeveral(owner, tuple(sorted(within)[:MOST_WITHIN]), count))
+
+
+def tell_born_dead(next_book: NextBook) -> None:
+    """New animals whose name says that they never lived."""
+    named = [one for one in next_book.animals.values() if one.line and one.name and not one.left]
+    likely = {name for name in {one.name for one in named} if has_word(name, KNOWN_BORN_DEAD)}
+    for animal in named if likely else ():
+        if animal.name in likely and animal.id not in next_book.book.society_records:
+            next_book.report.add(animal.line, animal.id, BornDead(animal.name))
+
+
+def is_no_name(owner: str) -> bool:
+    """Does it read like an exit or a day?"""
+    if A_DAY.fullmatch(owner):
+        return True
+    said = {plain(word) for word in WORD.findall(owner) if not word.isdigit()} - BESIDE
+    return bool(said) and said <= TELLING_EXITS
 
 
 def tell_mistyped_owners(next_book: NextBook, owners_before: set[str]) -> None:

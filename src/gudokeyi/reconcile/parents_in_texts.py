@@ -7,7 +7,7 @@ from collections.abc import Iterator, Mapping
 from gudokeyi.domain.findings import Report
 from gudokeyi.ingest.animals import SheetAnimal, links_outside
 from gudokeyi.ingest.words import nearly
-from gudokeyi.reconcile.findings.parents import EitherParent, FoundWithin
+from gudokeyi.reconcile.findings.parents import EitherParent, FoundWithin, NamedByRelation
 from gudokeyi.reconcile.parents import can_be, ids_given
 from gudokeyi.store.book import Book
 
@@ -15,6 +15,13 @@ from gudokeyi.store.book import Book
 EITHER = re.compile(r"\s+(?:oder|od\.?|or|ou|bzw\.?|resp\.?)\s+|\s*/\s*oder\s*|\s+\?\s+", re.IGNORECASE)
 # so many words of a text are looked at
 MOST_WORDS = 12
+# what says that another animal is named
+RELATED = re.compile(
+    r"\b(?:(?:litter|half|full)?[ -]*(?:sister|brother)s?|daughter|son|dam|sire|(?:halb|voll)?(?:schwester|bruder)|tochter|"
+    r"sohn|(?:demi-)?(?:s(?:oe|œ)ur|frère)|fille|fils|grand\w*|enkel\w*|porteuse|receveuse|recipient|surrogate|"
+    r"leihmutter|empfänger\w*|amme|foster)\b",
+    re.IGNORECASE,
+)
 BETWEEN = re.compile(r"\s*[/;,()\[\]|]\s*|\s+[-–—]\s+")
 
 
@@ -34,6 +41,10 @@ class ParentsInTexts:
         self.names = {animal.name.casefold() for animal in self.animals.values() if animal.name}
         for offspring, role, text in links:
             if nearly(text) in self.ids or text.casefold() in self.names:
+                continue
+            if RELATED.search(text) and [*self.named(text)]:
+                offspring.set_parent(role, "")
+                report.add(offspring.line, offspring.id, NamedByRelation(role, text))
                 continue
             if len([part for part in EITHER.split(text) if part.strip()]) > 1:
                 offspring.set_parent(role, "")

@@ -28,7 +28,9 @@ from gudokeyi.reconcile.next_book import NextBook
 from gudokeyi.reconcile.own_sheet_columns import find_own_columns, take_own_values
 from gudokeyi.reconcile.outcome import BookAfter, ColumnRead, Outcome, Understood
 from gudokeyi.reconcile.owner_days import OwnerDays
-from gudokeyi.reconcile.owners import tell_mistyped_owners, tell_owners_alike, tell_renamed_owners, tell_respelt_owners
+from gudokeyi.reconcile.owners import (
+    tell_born_dead, tell_doubtful_owners, tell_mistyped_owners, tell_owners_alike, tell_renamed_owners, tell_respelt_owners,
+)  # fmt: skip
 from gudokeyi.reconcile.parents import may_be_unknown
 from gudokeyi.reconcile.pedigree_links import refuse_lost_links
 from gudokeyi.reconcile.plausibility import PlausibilityChecks, tell_swapped_columns
@@ -97,6 +99,8 @@ def file(
     tell_respelt_owners(next_book, owners_before)
     tell_owners_alike(next_book)
     tell_mistyped_owners(next_book, owners_before)
+    tell_doubtful_owners(next_book, owners_before)
+    tell_born_dead(next_book)
     tell_withdrawn_exits(next_book)
     if import_options.strict and any(entry.what is What.LEFT_OUT for entry in report.entries):
         refuse_left_out(next_book, import_options)

@@ -111,6 +111,50 @@ class StatusUnread(SheetFinding):
 
 
 @dataclass(frozen=True, slots=True)
+class FieldUnread(SheetFinding):
+    """A column that isn't read, and looks like what no column is read for."""
+
+    as_field: Field
+    title: str
+    count: int
+    texts: tuple[str, ...]
+
+    severity = Severity.ANIMALS
+    code = "field unread"
+    message = Counted(
+        "nothing is read as {as_field}, though the column '{title}' looks like that, with {count} cell: {said}",
+        "nothing is read as {as_field}, though the column '{title}' looks like that, with {count} cells: {said}",
+        "count",
+    )
+
+    def values(self) -> Mapping[str, object]:
+        return {"said": self.texts}
+
+    def suggestions(self) -> tuple[Suggestion, ...]:
+        return (Suggestion("if it is the one", (column(self.as_field, self.title),)),)
+
+
+@dataclass(frozen=True, slots=True)
+class ExitsInRemarks(SheetFinding):
+    """Some cells of a column that isn't read tell that animals left."""
+
+    title: str
+    count: int
+    line: int
+    text: str
+
+    severity = Severity.FACTS
+    code = "exits in remarks"
+    message = Counted(
+        "the column '{title}' isn't read, and {count} cell of it tells that an animal left: '{text}' in line {line}; the "
+        "animal counts as living unless its exit stands in the column for exits",
+        "the column '{title}' isn't read, and {count} cells of it tell that animals left, the first is '{text}' in line "
+        "{line}; the animals count as living unless their exits stand in the column for exits",
+        "count",
+    )
+
+
+@dataclass(frozen=True, slots=True)
 class TakerUnclear(Finding):
     """An animal was sold to somebody who may be one or another owner."""
 

@@ -133,6 +133,20 @@ class EitherParent(ParentLeftOut):
 
 
 @dataclass(frozen=True, slots=True)
+class NamedByRelation(ParentLeftOut):
+    """A cell that names another animal, and says how the parent is related to it."""
+
+    role: Role
+    written: str
+
+    code = "named by relation"
+    message = Text(
+        "its {role} '{written}' is left out: it says how another animal is related, and counts as unknown; write the "
+        "{role}'s own id"
+    )
+
+
+@dataclass(frozen=True, slots=True)
 class OwnAncestor(ParentLeftOut):
     """An animal that would be its own ancestor: the path leads from it to a parent, and on to itself."""
 

@@ -8,7 +8,7 @@ from dataclasses import dataclass
 from gudokeyi.domain.changes import Option
 from gudokeyi.domain.findings import DROP_GONE, Finding, Severity, Suggestion, What, columns
 from gudokeyi.domain.kinds import Field, Role
-from gudokeyi.domain.wording import Counted, OptionalPart, Text, Told
+from gudokeyi.domain.wording import AllOf, Counted, OptionalPart, Text, Told
 
 
 class PlausibilityWarning(Finding):
@@ -48,6 +48,54 @@ class IdsAlike(PlausibilityWarning):
 
     def values(self) -> Mapping[str, object]:
         return {"is_of_book": not self.line}
+
+
+@dataclass(frozen=True, slots=True)
+class OwnerIsNoName(PlausibilityWarning):
+    """What stands for an owner reads like an exit or a day."""
+
+    owner: str
+    count: int
+
+    code = "owner is no name"
+    message = Counted(
+        "'{owner}' stands where {count} animal has its owner, and doesn't look like a name: an owner of this name is made; "
+        "write who has the animal, or nothing where nobody knows",
+        "'{owner}' stands where {count} animals have their owner, and doesn't look like a name: an owner of this name is "
+        "made; write who has them, or nothing where nobody knows",
+        "count",
+    )
+
+
+@dataclass(frozen=True, slots=True)
+class OwnerOfSeveral(PlausibilityWarning):
+    """What stands for an owner has the names of others in it."""
+
+    owner: str
+    others: tuple[str, ...]
+    count: int
+
+    code = "owner of several"
+    message = Counted(
+        "the owner of {count} animal is written '{owner}', which has the name {which} in it, and becomes an owner of its "
+        "own: write the name alone of the one who has the animal",
+        "the owner of {count} animals is written '{owner}', which has the name {which} in it, and becomes an owner of its "
+        "own: write the name alone of the one who has them",
+        "count",
+    )
+
+    def values(self) -> Mapping[str, object]:
+        return {"which": AllOf(self.others)}
+
+
+@dataclass(frozen=True, slots=True)
+class BornDead(PlausibilityWarning):
+    """An animal whose name says that it never lived."""
+
+    name: str
+
+    code = "born dead"
+    message = Text("its name '{name}' says that it was born dead, and it is taken as a living animal: leave its row out")
 
 
 @dataclass(frozen=True, slots=True)

@@ -1,0 +1,124 @@
+"""Columns and cells of societies' lists that say something plainly where nothing is usual: each is read, or told."""
+from __future__ import annotations
+
+import pytest
+
+from front_desk.desk import Desk
+from front_desk.test_sheets_as_they_are import PAIR, TITLES, owner_of
+from gudokeyi.services.opening import book_in
+
+ROWS = "a1;Ash;D;2010-02-01;;;Grant R\nb2;Briar;B;2010-02-03;;;Grant R\nc3;Clover;B;2013-02-03;a1;b2;Cole\n"
+DOGS = "Reg No;Name;{};DOB;Sire;Dam;Keeper\n" + ROWS
+
+
+def sexes(desk: Desk) -> dict[str, str]:
+    return {id: number[6] for id, number in desk.numbers().items()}
+
+
+def exits(desk: Desk) -> int:
+    return sum(line.startswith("exit,") for line in desk.commands())
+
+
+@pytest.mark.parametrize("title", ["Dog/Bitch", "Dog or Bitch", "Rüde / Hündin (D/B)"])
+def test_title_with_both_sexes(desk: Desk, title: str) -> None:
+    """Its column has the sexes, also by the first letters of its words."""
+    rows = DOGS.format(title)
+    done = desk.take(rows if title.startswith("Dog") else rows.replace(";D;", ";R;").replace(";B;", ";H;"))
+    assert sexes(desk) == {"a1": "M", "b2": "F", "c3": "F"} and "sex from" in done.out
+
+
+def test_sexes_that_nothing_names(desk: Desk) -> None:
+    """A column that looks like sexes is told first, with what reads it."""
+    rows = DOGS.format("Art").replace(";D;", ";male;").replace(";B;", ";female;")
+    done = desk.take(rows)
+    first = "to look at: nothing is read as sex, though the column 'Art' looks like that, with 3 cells: male, female"
+    assert done.out.startswith(first) and done.commands()[0].endswith("--columns sex=Art")
+    desk.typed(done.commands()[0])
+    assert sexes(desk) == {"a1": "M", "b2": "F", "c3": "F"}
+
+
+@pytest.mark.parametrize("title, is_read", [("gestorben/verkauft am", True), ("Date of death or transfer", False)])
+def test_exits_under_titles_of_several_words(desk: Desk, title: str, is_read: bool) -> None:
+    """Where all words are of exits the column is read, and else it is told first, with what reads it."""
+    rows = "".join(f"{at}03;A{at};w;03.02.2013;001;002;Huber;0{at}.05.2020\n" for at in range(1, 5))
+    done = desk.take(TITLES.replace("Abgang", title) + PAIR + rows)
+    told = f"to look at: nothing is read as exit, though the column '{title}' looks like that, with 4 cells: 01.05.2020"
+    assert exits(desk) == 4 * is_read and done.out.startswith(told) == (not is_read)
+    if not is_read:
+        desk.typed(done.commands()[0])
+        assert exits(desk) == 4
+
+
+def test_exits_in_remarks(desk: Desk) -> None:
+    """A remark that tells of an exit isn't lost in silence; a word that may be another thing says nothing."""
+    titles, pair = TITLES.replace("\n", ";Bemerkungen\n"), PAIR.replace(";\n", ";;left ear\n", 1).replace(";Huber;\n", ";Huber;;lahm\n")
+    rows = "004;B;w;3.2.2014;001;002;Huber;;braun\n003;A;w;3.2.2013;001;002;Huber;;gestorben 2021\n"
+    done = desk.take(titles + pair + rows)
+    done.tells(
+        "to look at: the column 'Bemerkungen' isn't read, and 1 cell of it tells that an animal left: 'gestorben 2021' in "
+        "line 5; the animal counts as living unless its exit stands in the column for exits"
+    )
+
+
+@pytest.mark.parametrize(
+    "owner, told",
+    [
+        ("verstorben", "'verstorben' stands where 1 animal has its owner, and doesn't look like a name"),
+        ("05.01.2020", "'05.01.2020' stands where 1 animal has its owner, and doesn't look like a name"),
+        ("Huber -> Meier Ida (2022)", "which has the name Huber and Meier Ida in it, and becomes an owner of its own"),
+        ("c/o Meier Ida", "which has the name Meier Ida in it, and becomes an owner of its own"),
+        ("Meier Ida (50%) / Huber (50%)", "which has the name Huber and Meier Ida in it"),
+        ("Huber jun.", ""),
+        ("Todt Weger", ""),
+    ],
+)
+def test_owner_with_more_than_a_name(desk: Desk, owner: str, told: str) -> None:
+    """What no name is, or has those of others in it, is told, and told once."""
+    rows = PAIR.replace("002;Eva;w;03.02.2010;;;Huber", "002;Eva;w;03.02.2010;;;Meier Ida")
+    text = TITLES + rows + f"003;A;w;3.2.2013;001;002;{owner};\n"
+    done = desk.take(text)
+    assert owner_of(desk, "003") == owner and told in done.out
+    assert ("like a name" in done.out or "owner of its own" in done.out) == bool(told)
+    assert "like a name" not in desk.take(text).out
+
+
+@pytest.mark.parametrize("cell", ["Schwester von 002", "002 (porteuse)", "half sister of 002"])
+def test_parent_named_by_relation(desk: Desk, cell: str) -> None:
+    """Another animal in a parent's cell isn't that parent."""
+    done = desk.take(TITLES + PAIR + f"003;A;w;3.2.2013;001;{cell};Huber;\n")
+    assert desk.parents()["003"] == ("001", "")
+    assert f"its dam '{cell}' is left out: it says how another animal is related" in done.out
+
+
+@pytest.mark.parametrize(
+    "cell, born",
+    [
+        ("12,04,2013", "2013-04-12"), ("7. III. 2013", "2013-03-07"), ("zw. 1.4. und 28.4.2013", "2013-04-16"),
+        ("nuit du 26 au 27 avril 2013", "2013-04-16"), ("importé 2017", "2012-02-03"), ("≤ 2014", "2012-02-03"),
+    ],
+)  # fmt: skip
+def test_days_in_other_words(desk: Desk, cell: str, born: str) -> None:
+    """A day that people read is that day, a time between two is their month, and another time is no birth day."""
+    done = desk.take(TITLES + PAIR + f"003;A;w;{cell};001;002;Huber;\n")
+    assert desk.born()["003"] == born
+    assert (cell in done.out) == (born not in ("2013-04-12", "2013-03-07"))
+
+
+def test_born_dead(desk: Desk) -> None:
+    """A name that says so is told: the row makes a living animal of it."""
+    done = desk.take(TITLES + PAIR + "003;Totgeburt;w;3.2.2013;001;002;Huber;\n")
+    assert "line 4: 003: to look at: its name 'Totgeburt' says that it was born dead" in done.out
+
+
+def test_taker_without_a_verb(desk: Desk) -> None:
+    rows = PAIR.replace("002;Eva;w;03.02.2010;;;Huber", "002;Eva;w;03.02.2010;;;Meier Ida")
+    desk.take(TITLES + rows + "003;A;w;3.2.2013;001;002;Huber;an Meier 4.5.2022\n")
+    assert owner_of(desk, "003") == "Meier Ida"
+    assert any(line.startswith("transfer") and "2022-05-04" in line for line in desk.commands())
+
+
+def test_castrated_in_brackets(desk: Desk) -> None:
+    """Though the word is a short one, what it says stays."""
+    desk.take(TITLES + PAIR + "003;A;M (kastr. 2021);3.2.2013;001;002;Huber;\n")
+    with book_in(desk.room / "book") as book:
+        assert sexes(desk)["003"] == "M" and book.society_records["003"].castrated
