@@ -2,10 +2,12 @@
 from __future__ import annotations
 
 import contextlib
+import csv
 import json
 import pathlib
 import re
 import sqlite3
+from fractions import Fraction
 from typing import Any
 
 import pytest
@@ -13,7 +15,10 @@ import pytest
 import gudokeyi
 from front_desk.desk import Desk
 from gudokeyi.domain.schemas import schema_named
-from gudokeyi.services.answers import SCHEMAS
+from gudokeyi.services.answers import SCHEMAS as SCHEMAS_OF_BOOKS
+from gudokeyi.services.pedigree_answers import PEDIGREE_SCHEMAS
+
+SCHEMAS = SCHEMAS_OF_BOOKS | PEDIGREE_SCHEMAS
 
 HERE = pathlib.Path(gudokeyi.__file__).parent / "schemas"
 TYPES: dict[str, type | tuple[type, ...]] = {
@@ -135,3 +140,60 @@ def test_changes_and_looks(flock_desk: Desk) -> None:
         connection.execute("UPDATE coefficient SET percent = '1.00' WHERE place = 1")
     done = flock_desk.run("verify", "--json")
     assert done.status == 1 and json.loads(done.out)["is_whole"] is False and json.loads(done.out)["faults"]
+
+
+# Mrode's animals, the youngest first
+MRODE = "id sire dam\n6 5 2\n5 4 3\n4 1 0\n3 1 2\n2 0 0\n1 0 0\n"
+
+
+@pytest.mark.parametrize("words", [
+    "inbreeding p.txt", "relationships p.txt 5 6", "relationships p.txt 6 --with old.txt",
+    "measures p.txt --among young.txt", "audit p.txt --against f.csv", "inverse p.txt",
+])  # fmt: skip
+def test_pedigree_files(desk: Desk, words: str) -> None:
+    """Each is held to its schema, also as a file; a field that has to be there is missed."""
+    for name, text in ("p.txt", MRODE), ("young.txt", "5\n6\n"), ("old.txt", "1\n2\n"), ("f.csv", "6,0.125\n5,0.13\n"):
+        desk.write(name, text)
+    word, *others = words.split()
+    text = desk.good(word, *others, "--json").out
+    found = json.loads(text)
+    assert faults(found, schema(word)) == []
+    if word != "audit":
+        desk.good(word, *others, "--json", "--out", "answer.json")
+        assert desk.text("answer.json") == text
+    found.pop(next(iter(schema(word)["required"])))
+    assert faults(found, schema(word))
+
+
+def test_values_of_pedigree_files(desk: Desk) -> None:
+    """They are those of the tables, exact; the status of an audit is that of its words."""
+    desk.write("p.txt", MRODE)
+    inbreeding = json.loads(desk.good("inbreeding", "p.txt", "--json").out)["animals"]
+    table = [*csv.DictReader(desk.good("inbreeding", "p.txt").out.splitlines())]
+    assert [(one["id"], *one["coefficient"].values()) for one in inbreeding] == [
+        (row["id"], row["coefficient"], row["percent"]) for row in table
+    ]
+    pairs = json.loads(desk.good("relationships", "p.txt", "5", "6", "--json").out)["pairs"]
+    assert [(*one.values(),) for one in pairs] == [("5", "5", "9/8"), ("5", "6", "11/16"), ("6", "6", "9/8")]
+    desk.wrong("leave out --matrix", "relationships", "p.txt", "5", "--matrix", "kinship", "--json")
+    desk.write("f.csv", "6,0.125\n5,0.25\n7,0\n")
+    done = desk.run("audit", "p.txt", "--against", "f.csv", "--json")
+    audit = json.loads(done.out)
+    assert done.status == 3 and (audit["what"], audit["compared"], audit["same"]) == ("inbreeding", 2, 1)
+    assert audit["differing"] == [{"line": 2, "ids": ["5"], "written": "0.25", "exact": "1/8"}]
+    assert audit["absent"] == ["7"] and audit["untold"] == ["4", "3", "2", "1"]
+    inverse = json.loads(desk.good("inverse", "p.txt", "--json").out)
+    elements = {(one["row"], one["column"]): Fraction(one["value"]) for one in inverse["elements"]}
+    diagonal = [elements[id, id] for id in inverse["ids"]]
+    assert diagonal == [*map(Fraction, ("32/15", "38/15", "11/6", "5/2", "61/30", "11/6"))]
+
+
+def test_inverse_of_a_book(flock_desk: Desk) -> None:
+    """That of the book's animals is that of their pedigree by itself."""
+    book = json.loads(flock_desk.good("inverse", "--json").out)
+    assert faults(book, schema("inverse")) == []
+    flock_desk.good("export", "--triples", "--out", "p.txt")
+    alone = json.loads(flock_desk.good("inverse", "p.txt", "--unknown", "NA", "--json").out)
+    assert alone["ids"] == book["ids"] and len(book["elements"]) > len(book["ids"])
+    assert {(*one.values(),) for one in alone["elements"]} == {(*one.values(),) for one in book["elements"]}
+    flock_desk.wrong("leave out --matrix-market", "inverse", "--json", "--matrix-market", "i.mtx")

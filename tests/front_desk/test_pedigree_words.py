@@ -105,7 +105,7 @@ def test_inverse(desk: Desk) -> None:
         assert matrix[0, 1] == matrix[1, 0] == pytest.approx(-16 / 15)
     desk.wrong("name a file that ends with .mtx or .npz", "inverse", "p.txt", "--out", "i.txt")
     desk.wrong("name it by --out", "inverse", "p.txt")
-    desk.wrong("name a pedigree and --out, or of a book --matrix-market", "inverse")
+    desk.wrong("name a pedigree and --out, or of a book --matrix-market, or say --json", "inverse")
 
 
 def test_measures(desk: Desk) -> None:

@@ -138,8 +138,13 @@ class CommandWords:
         these are written as JSON in place of what it does."""
         one = self.add(name, with_book(does, group, shows, answers), help, more)
         if answers:
-            one.add_argument("--json", action="store_true", help=f"write JSON as schemas/{name}.json of the package says")
+            add_json(one, name)
         return one
+
+
+def add_json(word: argparse.ArgumentParser, name: str) -> None:
+    """The option for words that answer programs too."""
+    word.add_argument("--json", action="store_true", help=f"write JSON as schemas/{name}.json of the package says")
 
 
 def with_book(

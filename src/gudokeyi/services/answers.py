@@ -1,8 +1,10 @@
 """What a program asks a book by a word with `--json`: each answer is a value of its own, and SCHEMAS names its kind."""
 from __future__ import annotations
 
+import collections
 from collections.abc import Mapping, Sequence
 from dataclasses import dataclass
+from fractions import Fraction
 from typing import TYPE_CHECKING
 
 from gudokeyi.domain.batches import Answer
@@ -10,6 +12,7 @@ from gudokeyi.domain.changes import Change
 from gudokeyi.domain.findings import Entry
 from gudokeyi.domain.refusals import MatingFault
 from gudokeyi.domain.seals import PublishedSeal, PublishedSeals, Seal
+from gudokeyi.engine.answers import inverse_elements
 from gudokeyi.services.facts import Facts
 from gudokeyi.services.library_answers import animals_of
 from gudokeyi.services.library_values import (
@@ -22,6 +25,7 @@ from gudokeyi.store.book import Book
 from gudokeyi.store.conditions import among
 
 if TYPE_CHECKING:
+    from gudokeyi.services.book_program import BookProgram
     from gudokeyi.services.matings import Candidates
     from gudokeyi.services.relationships import Pairs
 
@@ -135,12 +139,30 @@ class Matings:
     without_row: tuple[str, ...]
 
 
+@dataclass(frozen=True, slots=True)
+class Element:
+    """An element of a matrix by the ids of its row and its column."""
+
+    row: str
+    column: str
+    value: Fraction
+
+
+@dataclass(frozen=True, slots=True)
+class Inverse:
+    """The inverse of the numerator relationship matrix: the ids of its rows, and the elements of its lower triangle
+    that aren't 0."""
+
+    ids: tuple[str, ...]
+    elements: tuple[Element, ...]
+
+
 # the answers by the names of their schemas, which are those of the words
 SCHEMAS: dict[str, object] = {
     "list": Listed, "find": Listed, "export": Listed, "show": Shown, "kinship": Related, "mating": MatingAdvice,
     "certificate": Certificates, "breed": BreedState, "plan": MatingPlan, "history": History, "change": ChangeShown,
     "pedigree": Pedigree, "verify": Verified, "import": Imported, "file": Answer,
-    "matings": Matings, "trend": Trend, "seal": Seal | PublishedSeal | PublishedSeals,
+    "matings": Matings, "trend": Trend, "seal": Seal | PublishedSeal | PublishedSeals, "inverse": Inverse,
 }  # fmt: skip
 
 
@@ -205,3 +227,13 @@ def matings(dams: Candidates, sires: Candidates, pairs: Pairs) -> Matings:
     found = tuple(PlannedMating(dam, sire, one) for dam, sire, one in least_first(dams, sires, pairs))
     castrated, without_row = ((*dams.castrated, *sires.castrated), (*dams.without_row, *sires.without_row))
     return Matings(found, refused, castrated, without_row)
+
+
+def inverse(book: Book, program: BookProgram) -> Inverse:
+    """That of all animals, in age order."""
+    order, found = dict[str, int](), collections.defaultdict[tuple[int, int], Fraction](Fraction)
+    for animal, row, column, value in inverse_elements(program.ask(["inverse"], book)):
+        order.setdefault(animal, len(order))
+        found[order[row], order[column]] += Fraction(value)
+    ids = tuple(book.ids[number] for number in order)
+    return Inverse(ids, tuple(Element(ids[row], ids[column], found[row, column]) for row, column in sorted(found)))

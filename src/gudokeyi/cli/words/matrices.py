@@ -5,7 +5,8 @@ import argparse
 import pathlib
 
 from gudokeyi.cli.arguments import add_force, file
-from gudokeyi.cli.parser import CommandWords, with_book
+from gudokeyi.cli.output import give_json
+from gudokeyi.cli.parser import CommandWords, add_json, with_book
 from gudokeyi.cli.words import pedigrees
 from gudokeyi.domain.messages import counted
 from gudokeyi.domain.mistakes import WrongWords
@@ -26,19 +27,27 @@ def add_words(words: CommandWords) -> None:
         help="of a book: its lower triangle; the ids of the rows go to FILE.ids",
     )  # fmt: skip
     pedigrees.add_reading(inverse)
+    add_json(inverse, "inverse")
     add_force(inverse)
 
 
 def do_inverse(asked: argparse.Namespace) -> None:
     if asked.pedigree:
         pedigrees.do_inverse(asked)
-    elif asked.matrix_market:
+    elif asked.json and asked.matrix_market:
+        raise WrongWords("--json writes to the screen: leave out --matrix-market")
+    elif asked.json or asked.matrix_market:
         with_book(do_book_inverse)(asked)
     else:
-        raise WrongWords("inverse writes a file: name a pedigree and --out, or of a book --matrix-market")
+        raise WrongWords("inverse writes a file: name a pedigree and --out, or of a book --matrix-market, or say --json")
 
 
 def do_book_inverse(asked: argparse.Namespace, book: Book, program: BookProgram) -> None:
+    if asked.json:
+        from gudokeyi.services.answers import inverse
+
+        give_json(inverse(book, program))
+        return
     from gudokeyi.services.exports import write_inverse
 
     rows, elements, ids = write_inverse(book, program, asked.matrix_market, asked.force)

@@ -11,7 +11,8 @@ from typing import TYPE_CHECKING
 
 from gudokeyi.cli.arguments import add_force, add_output, file
 from gudokeyi.cli.output import tell
-from gudokeyi.cli.parser import CommandWords
+from gudokeyi.cli.parser import CommandWords, add_json
+from gudokeyi.domain.encoding import json_text
 from gudokeyi.domain.findings import ImportRefused
 from gudokeyi.domain.messages import Mistake, counted
 from gudokeyi.domain.mistakes import WrongWords
@@ -39,9 +40,11 @@ def add_words(words: CommandWords) -> None:
         "audit", do_audit, "compare another program's numbers with the exact ones of a pedigree file",
         "The status is 3 where some differ by more than rounding.",
     )  # fmt: skip
-    for word in inbreeding, relationships, measures, audit:
+    words_by_name = {"inbreeding": inbreeding, "relationships": relationships, "measures": measures, "audit": audit}
+    for name, word in words_by_name.items():
         word.add_argument("pedigree", type=pathlib.Path, metavar="PEDIGREE", help=FILE_HELP)
         add_reading(word)
+        add_json(word, name)
     relationships.add_argument("ids", nargs="*", metavar="ID", help="the animals")
     relationships.add_argument(
         "--with", dest="others", type=pathlib.Path, metavar="FILE", help=f"each with each of these, {IDS}"
@@ -143,16 +146,29 @@ def give_table(asked: argparse.Namespace, table: Table) -> None:
     give(asked, [table.text(asked.semicolons)], len(table))
 
 
+def give_json(asked: argparse.Namespace, value: object) -> None:
+    """Writes a value as JSON, in a line."""
+    give(asked, [f"{json_text(value)}\n"], 1)
+
+
 def do_inbreeding(asked: argparse.Namespace) -> None:
     pedigree = pedigree_of(asked)
+    step(f"the coefficients of {animals(len(pedigree))}")
+    if asked.json:
+        from gudokeyi.services.pedigree_answers import inbred
+
+        give_json(asked, inbred(pedigree))
+        return
     from gudokeyi.services.pedigree_tables import inbreeding_text
 
-    step(f"the coefficients of {animals(len(pedigree))}")
     give(asked, inbreeding_text(pedigree), len(pedigree))
 
 
 def do_relationships(asked: argparse.Namespace) -> None:
+    if asked.json and asked.matrix:
+        raise WrongWords("--json has all pairs as a list: leave out --matrix")
     pedigree = pedigree_of(asked)
+    from gudokeyi.services.pedigree_answers import related
     from gudokeyi.services.pedigree_tables import relationship_matrix, relationship_table
     from gudokeyi.services.pedigrees import named_in
 
@@ -162,7 +178,9 @@ def do_relationships(asked: argparse.Namespace) -> None:
     others = named_in(asked.others, pedigree) if asked.others else None
     step(f"the relationships of {animals(len(ids))}")
     pairs = pedigree.pairs(ids, others)
-    if asked.matrix:
+    if asked.json:
+        give_json(asked, related(pairs, others is None))
+    elif asked.matrix:
         give_table(asked, relationship_matrix(pairs, asked.matrix == "kinship"))
     else:
         give_table(asked, relationship_table(pairs, others is None))
@@ -172,26 +190,34 @@ def do_measures(asked: argparse.Namespace) -> None:
     if not asked.among:
         raise WrongWords("measures are those of a reference population: name its animals in a file by --among")
     pedigree = pedigree_of(asked)
+    from gudokeyi.services.pedigree_answers import measured
     from gudokeyi.services.pedigree_tables import measure_table
     from gudokeyi.services.pedigrees import named_in
 
     found = pedigree.measures(named_in(asked.among, pedigree), step)
-    give_table(asked, measure_table(found))
+    if asked.json:
+        give_json(asked, measured(found))
+    else:
+        give_table(asked, measure_table(found))
 
 
 def do_audit(asked: argparse.Namespace) -> None:
     pedigree = pedigree_of(asked)
     from gudokeyi.render.audits import audit_lines
     from gudokeyi.services.audits import Told, audit
+    from gudokeyi.services.pedigree_answers import audited
 
     step(f"the exact values of {animals(len(pedigree))}")
     found = audit(pedigree, asked.against, Told(asked.what) if asked.what else None)
-    print("\n".join(audit_lines(found)))
+    print(json_text(audited(found)) if asked.json else "\n".join(audit_lines(found)))
     asked.status = 3 if found.differs else 0
 
 
 def do_inverse(asked: argparse.Namespace) -> None:
     """The inverse of a pedigree file."""
+    if asked.json:
+        give_inverse(asked)
+        return
     if not asked.out:
         raise WrongWords("inverse writes a file: name it by --out, as inverse.mtx or inverse.npz")
     need(Group.PEDIGREES)
@@ -205,3 +231,12 @@ def do_inverse(asked: argparse.Namespace) -> None:
     write_beside(asked.pedigree, files, asked.force)
     ids = [*files][-1]
     print(f"{asked.out}: {counted(len(pedigree), 'row')}; {ids} has the ids of the rows")
+
+
+def give_inverse(asked: argparse.Namespace) -> None:
+    """The same as JSON, with exact elements."""
+    pedigree = pedigree_of(asked)
+    from gudokeyi.services.pedigree_answers import inverse_of
+
+    step(f"the inverse of {animals(len(pedigree))}")
+    give_json(asked, inverse_of(pedigree))
