@@ -46,7 +46,8 @@ if TYPE_CHECKING:
     )  # fmt: skip
     from gudokeyi.domain.refusals import MatingFault as MatingFault, Refusal as Refusal
     from gudokeyi.domain.seals import (
-        CertificateRefused as CertificateRefused, CheckFault as CheckFault, PublishedSeal as PublishedSeal, Seal as Seal,
+        CertificateRefused as CertificateRefused, CheckFault as CheckFault, PublishedSeal as PublishedSeal,
+        Seal as Seal,
     )  # fmt: skip
     from gudokeyi.domain.settings import Setting as Setting
     from gudokeyi.reconcile.import_options import ImportOptions as ImportOptions
@@ -62,8 +63,8 @@ if TYPE_CHECKING:
     from gudokeyi.services.pedigrees import Pedigree as Pedigree, read_pedigree as read_pedigree
     from gudokeyi.services.plans import PlanRules as PlanRules, Unmated as Unmated
     from gudokeyi.services.seals import (
-        CheckedCertificate as CheckedCertificate, CheckedRecord as CheckedRecord, SealedCertificate as SealedCertificate,
-        check_certificate as check_certificate,
+        CheckedCertificate as CheckedCertificate, CheckedRecord as CheckedRecord,
+        SealedCertificate as SealedCertificate, check_certificate as check_certificate,
     )  # fmt: skip
     from gudokeyi.services.tables import Table as Table
     from gudokeyi.store.coefficients import Coefficient as Coefficient

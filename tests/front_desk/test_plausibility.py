@@ -13,7 +13,7 @@ from gudokeyi.domain.animals import SocietyRecord
 from gudokeyi.domain.commands import birth
 from gudokeyi.domain.kinds import Remembered, Role
 from gudokeyi.domain.provenance import BirthBasis, BirthSource
-from gudokeyi.reconcile.findings.plausibility import YoungParent
+from gudokeyi.reconcile.findings.by_hand import YoungParent
 from gudokeyi.reconcile.by_hand import young_parents
 from gudokeyi.services.filing import with_parents
 from gudokeyi.store.book import Book

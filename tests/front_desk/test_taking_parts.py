@@ -18,7 +18,8 @@ from gudokeyi.ingest.day_cells import DayCells
 from gudokeyi.ingest.days import year_of
 from gudokeyi.ingest.unknown_parents import UnknownParents
 from gudokeyi.reconcile.commands import Filing, is_corrected
-from gudokeyi.reconcile.findings.animals import CommandRefused, KeptByHand, OwnerRenamed, SexInferred, ValueChanged
+from gudokeyi.reconcile.findings.animals import KeptByHand, OwnerRenamed, SexInferred
+from gudokeyi.reconcile.findings.by_hand import CommandRefused, ValueChanged
 from gudokeyi.reconcile.findings.rows import CommandLeftOut
 from gudokeyi.reconcile.ids import give_numbers
 from gudokeyi.reconcile.next_book import NextBook, known_after, written_parents

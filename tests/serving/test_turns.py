@@ -10,12 +10,14 @@ from collections.abc import Callable
 
 import pytest
 
-from front_desk.desk import Desk
+from front_desk.desk import TOP, Desk
 from gudokeyi.ingest.files import read_file
 from gudokeyi.reconcile.import_options import ImportOptions
 from gudokeyi.services import folder_files, restoring, sheet_imports
 from gudokeyi.services.book_program import BookProgram
 from gudokeyi.services.folder_files import refresh
+from gudokeyi.services.opening import there_to_change
+from gudokeyi.services.own_columns import columns_of, write_values
 from gudokeyi.services.restoring import restore
 from gudokeyi.services.sheet_imports import import_sheet
 from gudokeyi.store import backup as backups, exports
@@ -86,25 +88,72 @@ def taken_now(folder: pathlib.Path, path: pathlib.Path) -> Imported:
     return imported(folder, path, ANYWAY, Asked(look.seen, look.by_animal, new_form()), lambda _: None)
 
 
-def test_sheet_of_a_desk(folder: pathlib.Path, society_desk: Desk, monkeypatch: pytest.MonkeyPatch) -> None:
-    """Others file while a sheet is prepared, and then it is prepared anew behind that, until they wait for it."""
-    path, free = sheet(society_desk), list[bool]()
-    look = looked_at(folder, path, ANYWAY, (), lambda _: None)
-    prepare = getattr(sheet_work, "import_sheet_into")
+def filed_meanwhile(monkeypatch: pytest.MonkeyPatch, folder: pathlib.Path, desk: Desk) -> list[bool]:
+    """Somebody files a birth behind each preparation of a sheet that others don't wait for; whether they don't."""
+    free, prepare = list[bool](), getattr(sheet_work, "import_sheet_into")
 
     def prepared(*values: object, **named: object) -> object:
         found: object = prepare(*values, **named)
         free.append(is_free(folder))
         if free[-1]:
             at = len(free)
-            society_desk.good("birth", f"OTHER-{at}", "--sex", "f", "--day", "2024-01-01", "--owner", "Lower Mill")
+            desk.good("birth", f"OTHER-{at}", "--sex", "f", "--day", "2024-01-01", "--owner", "Lower Mill")
         return found
 
     monkeypatch.setattr(sheet_work, "import_sheet_into", prepared)
+    return free
+
+
+def test_sheet_of_a_desk(folder: pathlib.Path, society_desk: Desk, monkeypatch: pytest.MonkeyPatch) -> None:
+    """Others file while a sheet is prepared, and then it is prepared anew behind that, until they wait for it."""
+    path = sheet(society_desk)
+    look = looked_at(folder, path, ANYWAY, (), lambda _: None)
+    free = filed_meanwhile(monkeypatch, folder, society_desk)
+    # however long this machine takes for a few births
+    monkeypatch.setattr(sheet_work, "SECONDS_OTHERS_WAIT", 600.0)
     made = imported(folder, path, ANYWAY, Asked(look.seen, look.by_animal, new_form()), lambda _: None)
     assert free == [True] * TRIES_BESIDE + [False]
     assert made.change == TRIES_BESIDE + 2 and kinds(folder) == ["take", *["birth"] * TRIES_BESIDE, "take"]
     society_desk.good("verify")
+
+
+def test_others_do_not_wait_long(folder: pathlib.Path, society_desk: Desk, monkeypatch: pytest.MonkeyPatch) -> None:
+    """Where a sheet takes longer than others wait they never wait for it: it isn't taken, and is looked at anew."""
+    path = sheet(society_desk)
+    look = looked_at(folder, path, ANYWAY, (), lambda _: None)
+    free = filed_meanwhile(monkeypatch, folder, society_desk)
+    monkeypatch.setattr(sheet_work, "SECONDS_OTHERS_WAIT", 0.0)
+    monkeypatch.setattr(sheet_work, "MOST_TRIES", TRIES_BESIDE + 2)
+    made = imported(folder, path, ANYWAY, Asked(look.seen, look.by_animal, new_form()), lambda _: None)
+    assert free == [True] * (TRIES_BESIDE + 2)
+    assert made.book_changed and not made.change and "take" not in kinds(folder)[1:]
+
+
+def own_sheet(desk: Desk, value: str) -> pathlib.Path:
+    """The society's sheet with a column of its own, of which two animals have a value."""
+    path = desk.room / "own.csv"
+    titles, *rows = (TOP / "examples/society.csv").read_text(encoding="utf-8").splitlines()
+    values = (value if f",{DAM}," in row or f",{OTHER}," in row else "" for row in rows)
+    lines = [f"{titles},CAE", *(f"{row},{one}" for row, one in zip(rows, values))]
+    path.write_text("".join(f"{line}\n" for line in lines), encoding="utf-8")
+    return path
+
+
+def test_own_values_of_others(folder: pathlib.Path, society_desk: Desk) -> None:
+    """Where another wrote a value of the society's own it isn't written over, though as many values change as before:
+    that animal alone is named."""
+    chosen = Chosen.of({}, {"anyway": "1"}, others={"CAE": "text"})
+    made = []
+    for value in "old", "new":
+        path = own_sheet(society_desk, value)
+        look = looked_at(folder, path, chosen, (), lambda _: None)
+        if value == "new":
+            with there_to_change(folder, BookProgram()) as book:
+                place = columns_of(book)[0].place
+                write_values(book, BookProgram(), book.society_records[DAM], {place: "by hand"})
+        asked = Asked(look.seen, look.by_animal, new_form())
+        made.append(imported(folder, path, chosen, asked, lambda _: None))
+    assert made[0].change and (made[1].change, made[1].otherwise) == (0, (DAM,))
 
 
 def test_touched_by_others(folder: pathlib.Path, society_desk: Desk) -> None:

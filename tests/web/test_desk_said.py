@@ -14,7 +14,7 @@ from gudokeyi.domain.animals import NO_OWNER
 from gudokeyi.domain.changes import Change, Option
 from gudokeyi.domain.kinds import ChangeKind
 from gudokeyi.domain.refusals import Refusal
-from gudokeyi.reconcile.findings.animals import CommandRefused
+from gudokeyi.reconcile.findings.by_hand import CommandRefused
 from gudokeyi.render.page_language import PageLanguage
 from gudokeyi.render.page_wording import PageWording
 from gudokeyi.services.facts import facts_of

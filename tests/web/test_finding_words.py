@@ -13,7 +13,8 @@ from gudokeyi.domain.provenance import BirthBasis, BirthSource, ExitBasis, ExitS
 from gudokeyi.domain.refusals import Refusal
 from gudokeyi.domain.settings import LANGUAGES
 from gudokeyi.ingest.findings.cells import ExitInferred, IdAgain
-from gudokeyi.reconcile.findings.animals import BirthDayInferred, KeptByHand, KeptFromBook, RowIsGone, ValueChanged
+from gudokeyi.reconcile.findings.animals import BirthDayInferred, KeptByHand, KeptFromBook, RowIsGone
+from gudokeyi.reconcile.findings.by_hand import ValueChanged
 from gudokeyi.reconcile.findings.parents import DayFact, ParentRefused
 from gudokeyi.reconcile.findings.rows import OwnerDayInferred
 from gudokeyi.render.page_language import PageLanguage

@@ -32,9 +32,8 @@ from gudokeyi.domain.wording import Counted, Told, names_in
 from gudokeyi.ingest.findings.sheets import Cells, CellsUnread, TextCount
 from gudokeyi.ingest.messages import Where
 from gudokeyi.locale import HERE as CATALOGUES, PO
-from gudokeyi.reconcile.findings.animals import (
-    BirthDayInferred, CommandRefused, OwnerRenamed, SexInferred, ValueChanged,
-)  # fmt: skip
+from gudokeyi.reconcile.findings.animals import BirthDayInferred, OwnerRenamed, SexInferred
+from gudokeyi.reconcile.findings.by_hand import CommandRefused, ValueChanged
 from gudokeyi.reconcile.findings.plausibility import ExitsWithdrawn
 from gudokeyi.reconcile.messages import ImportFault
 from gudokeyi.reconcile.stored_findings import kind_named, kinds_of, modules_of_findings

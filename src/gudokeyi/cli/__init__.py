@@ -2,7 +2,9 @@
 need."""
 import sys
 
-SEVERAL = {"mating", "import", "take", "file", "birth", "parents", "transfer", "exit", "undo", "restore", "open", "serve"}
+SEVERAL = {
+    "mating", "import", "take", "file", "birth", "parents", "transfer", "exit", "undo", "restore", "open", "serve",
+}  # fmt: skip
 
 if SEVERAL.intersection(sys.argv[1:2]):
     from gudokeyi.process import without_statistics

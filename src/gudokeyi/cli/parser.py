@@ -117,7 +117,8 @@ class CommandWords:
 
     def add_without_book(self, name: str, does: Does, help: str, more: str = "") -> Parser:
         """A word; `does` is called with its options."""
-        one: Parser = self.words.add_parser(name, help=help, description=f"{help[0].upper()}{help[1:]}. {more}".strip(), epilog=STATUSES)
+        about = f"{help[0].upper()}{help[1:]}. {more}".strip()
+        one: Parser = self.words.add_parser(name, help=help, description=about, epilog=STATUSES)
         one.set_defaults(does=does, status=Status.DONE)
         return one
 

@@ -203,6 +203,13 @@ class LeftOut(Finding):
     severity = Severity.FACTS
 
 
+class PlausibilityWarning(Finding):
+    """It is taken as it stands, and told for somebody to look at."""
+
+    what = What.WARNING
+    severity = Severity.FACTS
+
+
 @dataclass(frozen=True, slots=True)
 class Entry:
     """A line of the report. `line` is the sheet's, 0 where the animal has no row; `id` is the society's own."""

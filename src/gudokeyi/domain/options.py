@@ -142,7 +142,8 @@ AS_STORED = (
 )  # fmt: skip
 # those that the page of a sheet has, but for its columns
 ON_PAGE = (
-    "unknown", "known", "sexes", "no-animal", "animal", "new-tag", "owner", "breed", "country", "day", "youngest", "apart",
+    "unknown", "known", "sexes", "no-animal", "animal", "new-tag", "owner", "breed", "country", "day", "youngest",
+    "apart",
     "worksheet", "month-first", "day-first", "drop-gone", "anyway",
 )  # fmt: skip
 

@@ -91,8 +91,8 @@ class Herdbook:
         wanted = f"{NAME} {gudokeyi.__version__}"
         try:
             done = subprocess.run(
-                [str(self.path), "--version"], stdin=subprocess.DEVNULL, capture_output=True, text=True, errors="replace",
-                timeout=SECONDS_TO_ANSWER,
+                [str(self.path), "--version"], stdin=subprocess.DEVNULL, capture_output=True, text=True,
+                errors="replace", timeout=SECONDS_TO_ANSWER,
             )  # fmt: skip
             told = done.stdout.strip() or f"status {done.returncode}"
         except (OSError, subprocess.TimeoutExpired) as error:

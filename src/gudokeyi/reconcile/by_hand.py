@@ -11,8 +11,7 @@ from gudokeyi.domain.animals import SocietyRecord
 from gudokeyi.domain.kinds import Remembered, Role
 from gudokeyi.domain.spelling import closest
 from gudokeyi.ingest.words import nearly, plain
-from gudokeyi.reconcile.findings.animals import OwnerMeant
-from gudokeyi.reconcile.findings.plausibility import IdsAlike, YoungParent
+from gudokeyi.reconcile.findings.by_hand import IdsAlike, OwnerMeant, YoungParent
 from gudokeyi.reconcile.limits import YOUNGEST
 from gudokeyi.store.book import Book
 from gudokeyi.store.conditions import ANY, likeness, with_id_like

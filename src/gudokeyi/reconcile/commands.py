@@ -13,7 +13,7 @@ from gudokeyi.domain.refusals import Refusal
 from gudokeyi.engine.program import Herdbook
 from gudokeyi.ingest.animals import SheetAnimal
 from gudokeyi.reconcile.exits import leave_out_exit
-from gudokeyi.reconcile.findings.animals import NewAnimal, ValueChanged
+from gudokeyi.reconcile.findings.by_hand import NewAnimal, ValueChanged
 from gudokeyi.reconcile.findings.rows import CommandLeftOut
 from gudokeyi.reconcile.messages import ImportFault
 from gudokeyi.reconcile.next_book import NextBook

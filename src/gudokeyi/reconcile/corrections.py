@@ -15,7 +15,8 @@ from gudokeyi.ingest.animals import SheetAnimal
 from gudokeyi.ingest.days import Span
 from gudokeyi.reconcile.birth_days import Days
 from gudokeyi.reconcile.commands import YES, exit_words
-from gudokeyi.reconcile.findings.animals import OwnersCorrected, OwnerSince, ValueChanged
+from gudokeyi.reconcile.findings.animals import OwnersCorrected, OwnerSince
+from gudokeyi.reconcile.findings.by_hand import ValueChanged
 from gudokeyi.reconcile.rewriting import Life, life_of
 from gudokeyi.store.book import Book
 from gudokeyi.store.conditions import offspring_of
@@ -205,7 +206,8 @@ class Correcting:
             sex=before.sex if said.sex is None else SexSource.GIVEN, castrated=is_castrated and number[6] == "M",
             written_sire=before.written_sire if said.sire is None else "",
             written_dam=before.written_dam if said.dam is None else "", by_hand=before.by_hand | said.fields(),
-            owner_day=before.owner_day if said.owners is None else OwnerDay.GIVEN, exit_reason=reason if has_left else "",
+            owner_day=before.owner_day if said.owners is None else OwnerDay.GIVEN,
+            exit_reason=reason if has_left else "",
         )  # fmt: skip
 
     def changes(self, known: SocietyRecord, record: RegisterRecord) -> Iterator[ValueChanged]:

@@ -12,7 +12,8 @@ from gudokeyi.domain.kinds import CommandKind, Field
 from gudokeyi.domain.provenance import GIVEN_EXIT, ExitBasis, ExitSource
 from gudokeyi.domain.refusals import Refusal
 from gudokeyi.ingest.animals import SheetAnimal
-from gudokeyi.reconcile.findings.animals import KeptByHand, KeptFromBook, ValueChanged
+from gudokeyi.reconcile.findings.animals import KeptByHand, KeptFromBook
+from gudokeyi.reconcile.findings.by_hand import ValueChanged
 from gudokeyi.reconcile.findings.plausibility import ExitsWithdrawn, MostChanged, RowOf
 from gudokeyi.reconcile.findings.rows import CommandLeftOut
 from gudokeyi.reconcile.next_book import NextBook

@@ -17,7 +17,7 @@ from gudokeyi.ingest.words import nearly, nearly_all
 from gudokeyi.reconcile.findings.animals import FormerId
 from gudokeyi.reconcile.findings.obstacles import LettersUnsaid
 from gudokeyi.reconcile.findings.parents import FoundByNearId
-from gudokeyi.reconcile.findings.plausibility import IdsAlike
+from gudokeyi.reconcile.findings.by_hand import IdsAlike
 from gudokeyi.reconcile.findings.rows import BornAfterOffspring
 from gudokeyi.reconcile.next_book import NextBook
 from gudokeyi.reconcile.parents import can_be, ids_given

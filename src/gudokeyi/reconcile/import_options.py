@@ -4,7 +4,7 @@ from __future__ import annotations
 
 import datetime
 import pathlib
-from collections.abc import Collection, Iterable, Mapping
+from collections.abc import Mapping
 from dataclasses import dataclass, field, replace
 from typing import Any
 
@@ -16,7 +16,6 @@ from gudokeyi.domain.options import AS_STORED, IMPORT, Described, Kind
 from gudokeyi.domain.requests import refuse_long
 from gudokeyi.domain.settings import Setting
 from gudokeyi.ingest.titles import parts_of
-from gudokeyi.ingest.unknown_parents import UnknownParents
 from gudokeyi.ingest.words import clean, listed, plain
 from gudokeyi.reconcile.limits import APART, YOUNGEST, Limits
 from gudokeyi.reconcile.messages import ImportFault
@@ -214,24 +213,3 @@ def rename(book: Book, before: str, now: str) -> None:
 
 def names(book: Book) -> str:
     return ", ".join(f"'{owner}'" for owner in sorted(book.owners)[:9])
-
-
-# Which texts stand for an unknown parent in a book: the same for its sheets, its pedigrees and commands by hand.
-
-
-def unknown_parents(book: Book, more: Collection[str] = (), known: Collection[str] = ()) -> UnknownParents:
-    """The usual ones, and those that the book's sheets and its settings name. What is said now to be one besides, or
-    not to be one, holds over these."""
-    named, excepted = (remembered(book, kind) for kind in (Remembered.UNKNOWN, Remembered.KNOWN))
-    named |= words_of([settings_of(book)[Setting.UNKNOWN]])
-    unknown = (named - words_of(known)) | words_of(more)
-    return UnknownParents(unknown, (excepted | words_of(known)) - unknown)
-
-
-def remembered(book: Book, kind: Remembered) -> set[str]:
-    return words_of(one.word for one in book.remembered if one.what is kind)
-
-
-def words_of(options: Iterable[str]) -> set[str]:
-    """The words of options, each of which may be several, in small letters."""
-    return {word.casefold() for one in options for word in listed(one)}

@@ -104,6 +104,8 @@ class NextBook:
         self.used_again: set[str] = set()
         # rows of tables beside the animals'
         self.others: list[tuple[Table, Rows]] = []
+        # the values of the society's own columns that an animal gets, each with its column's place and the one before
+        self.own_values: dict[str, list[tuple[int, str, str]]] = {}
         # why it isn't taken but by --anyway
         self.obstacles: list[Finding] = []
         # the sire and the dam as the sheet writes them, by an animal's id; empty where it has no such column

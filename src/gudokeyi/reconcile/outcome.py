@@ -5,13 +5,14 @@ from __future__ import annotations
 import collections
 import pathlib
 import shlex
+from collections.abc import Mapping, Sequence
 from dataclasses import dataclass, field
 
 from gudokeyi.domain.changes import Option
 from gudokeyi.domain.findings import Call, Entry, Finding, Report, What
 from gudokeyi.domain.kinds import Field
 from gudokeyi.domain.messages import counted, some_of
-from gudokeyi.reconcile.findings.animals import ValueChanged
+from gudokeyi.reconcile.findings.by_hand import ValueChanged
 from gudokeyi.store.exports import REPORT
 
 # How a sheet was understood: its rows, and which column has what, as data.
@@ -99,7 +100,9 @@ class Outcome:
       import wrote nothing, and a preview tells what would be taken all the same, if the sheet can be read;
     - `report.entries`: what was found, each with the sheet's line, the animal's id and a finding; `by_kind()` sorts
       them by what they are about, and `finding.does()` tells how grave each is;
-    - `after`: the book after it, none where the sheet can't be read."""
+    - `after`: the book after it, none where the sheet can't be read;
+    - `own_values`: by an animal's id the values of the society's own columns that it gets, each with its column's place
+      and the value before."""
 
     folder: pathlib.Path
     call: Call
@@ -108,6 +111,7 @@ class Outcome:
     obstacles: tuple[Finding, ...] = ()
     report: Report = field(default_factory=Report)
     after: BookAfter | None = None
+    own_values: Mapping[str, Sequence[tuple[int, str, str]]] = field(default_factory=dict)
 
     def by_kind(self) -> dict[What, list[Entry]]:
         """What was found, by kind; what may be wrong comes first."""

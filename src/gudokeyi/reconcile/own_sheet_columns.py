@@ -100,7 +100,10 @@ def take_own_values(next_book: NextBook, own: OwnSheetColumns, sheet: Sheet, mon
             except InvalidValue:
                 next_book.report.add(animal.line, animal.id, OwnCellUnread(column.title, cell, column.kind))
                 continue
-            changed += value != (was[2] if was else "")
+            value_before = str(was[2]) if was else ""
+            if value != value_before:
+                changed += 1
+                next_book.own_values.setdefault(animal.id, []).append((column.place, value_before, value))
             before |= {key: was} if was else {}
             after[key] = value_row(str(key[0]), column.place, value, cell)
         if changed:

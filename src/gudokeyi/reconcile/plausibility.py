@@ -12,9 +12,9 @@ from typing import TYPE_CHECKING
 from gudokeyi.domain.findings import Report
 from gudokeyi.domain.kinds import Field
 from gudokeyi.ingest.animals import DAM, SIRE, YEARS_LATER, SheetAnimal
+from gudokeyi.reconcile.findings.by_hand import YoungParent
 from gudokeyi.reconcile.findings.plausibility import (
     BirthsTooNear, CastratedSire, ColumnsSwapped, ManyOldAsLiving, NameAndDayTwice, OldAsLiving, SireLeftLongBefore,
-    YoungParent,
 )  # fmt: skip
 from gudokeyi.reconcile.limits import Limits
 from gudokeyi.store.book import Book

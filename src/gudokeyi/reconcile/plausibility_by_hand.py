@@ -71,7 +71,8 @@ def warnings_of(
     found = [entry for entry in Family(book, filed).entries() if entry not in known]
     for one in filed:
         if one.was is None or one.was.id != one.known.id:
-            found += [Entry(0, one.known.id, told) for told in id_alike(book, one.known.id, one.was.id if one.was else "")]
+            before_it = one.was.id if one.was else ""
+            found += [Entry(0, one.known.id, told) for told in id_alike(book, one.known.id, before_it)]
     named_now = {one.record.parent(role): role for one in filed for role in Role if is_named_anew(book, one, role)}
     found += [entry for number, role in named_now.items() for entry in alike(book, number, role)]
     first = filed[0].known.id

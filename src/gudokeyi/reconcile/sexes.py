@@ -100,7 +100,8 @@ def progeny_by_role(next_book: NextBook, gone: Mapping[str, SheetAnimal]) -> dic
     cell names none so, as the book has it."""
     animals, book = next_book.animals, next_book.book
     names = collections.Counter(one.name.casefold() for one in (*animals.values(), *gone.values()) if one.name)
-    named = {one.name.casefold(): id for id, one in (*animals.items(), *gone.items()) if names[one.name.casefold()] == 1}
+    all_of = (*animals.items(), *gone.items())
+    named = {one.name.casefold(): id for id, one in all_of if names[one.name.casefold()] == 1}
     found: dict[str, dict[Role, set[str]]] = {}
     for offspring in (*animals.values(), *gone.values()):
         in_book = book.society_records.get(offspring.id)

@@ -19,7 +19,8 @@ from gudokeyi.domain.wording import SEXES
 from gudokeyi.ingest.findings.cells import CellLeftOut, ErrorValue, ExitsWithoutDay
 from gudokeyi.ingest.findings.sheets import CellsUnread, ErrorCells
 from gudokeyi.reconcile.findings.parents import WRONG, ParentRefused
-from gudokeyi.reconcile.findings.plausibility import BirthsTooNear, YoungParent
+from gudokeyi.reconcile.findings.by_hand import YoungParent
+from gudokeyi.reconcile.findings.plausibility import BirthsTooNear
 from gudokeyi.reconcile.outcome import Outcome
 from gudokeyi.store.exports import COMMANDS
 

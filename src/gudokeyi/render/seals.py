@@ -4,8 +4,6 @@ from __future__ import annotations
 import io
 from typing import NamedTuple
 
-import segno
-
 from gudokeyi.domain.seals import PublishedSeal
 from gudokeyi.render.languages import Language
 
@@ -29,6 +27,9 @@ def seal_view(published: PublishedSeal, language: Language) -> SealView:
 
 def code_of(digits: str, title: str) -> str:
     """A QR code with the digits of a seal and nothing else."""
+    # a certificate under no seal waits for none
+    import segno
+
     code, made = segno.make(digits, error="m", micro=False), io.BytesIO()
     code.save(
         made,

@@ -8,7 +8,7 @@ from typing import Any
 from gudokeyi.domain.animals import SocietyRecord
 from gudokeyi.domain.messages import Mistake
 from gudokeyi.ingest.words import as_known
-from gudokeyi.reconcile.import_options import unknown_parents
+from gudokeyi.reconcile.unknown_parents import unknown_parents
 from gudokeyi.services.batch_fields import Asked, FieldFault, Newborn
 from gudokeyi.services.filing import (
     FiledCommand, NewAnimals, Offspring, born, departed, transferred, with_parents,

@@ -14,12 +14,12 @@ from gudokeyi.domain.requests import refuse_long
 from gudokeyi.ingest.command_lines import CommandLine
 from gudokeyi.ingest.days import ANY_DAY, Span
 from gudokeyi.ingest.words import clean
-from gudokeyi.reconcile.findings.animals import OwnerSince
 from gudokeyi.services import option_values
 from gudokeyi.services.filing import refuse_to_come
 
 if TYPE_CHECKING:
     from gudokeyi.reconcile.corrections import Exit
+    from gudokeyi.reconcile.findings.animals import OwnerSince
 
 # so many letters a request has at most
 MOST_IN_REQUEST = 100
@@ -138,6 +138,9 @@ def parent(value: object) -> str:
 
 def owners(value: object) -> tuple[OwnerSince, ...]:
     """`[{"owner": NAME, "since": DAY}, ..]`, the first one without a day, or as a text `NAME; NAME=DAY`."""
+    # corrections alone have owners
+    from gudokeyi.reconcile.findings.animals import OwnerSince
+
     if isinstance(value, str):
         parts = (one.rpartition("=") for one in value.split(";") if one.strip())
         value = [{"owner": name or rest, **({"since": rest} if name else {})} for name, _, rest in parts]

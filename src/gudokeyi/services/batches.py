@@ -2,7 +2,6 @@
 answered again and files nothing."""
 from __future__ import annotations
 
-import contextlib
 import datetime
 import functools
 import json
@@ -22,15 +21,14 @@ from gudokeyi.engine.answers import records_of
 from gudokeyi.ingest.command_lines import CommandLine, read_command_lines
 from gudokeyi.process import stop_again
 from gudokeyi.reconcile.by_hand import IdsByLikeness
-from gudokeyi.reconcile.findings.plausibility import IdsAlike
+from gudokeyi.reconcile.findings.by_hand import IdsAlike
 from gudokeyi.reconcile.stored_findings import told_of
 from gudokeyi.services.batch_commands import animal_of, filed_commands
 from gudokeyi.services.batch_fields import Asked, FieldFault, asked_in
 from gudokeyi.services.book_session import BookSession
-from gudokeyi.services.cache import SeenWhole
 from gudokeyi.services.filing import FiledCommand, NewAnimals, told_by
-from gudokeyi.services.opening import alone_to_change, book_in, no_book, take_over
-from gudokeyi.services.verification import check_records, verify
+from gudokeyi.services.filing_session import seen_whole, to_file
+from gudokeyi.services.verification import check_records
 from gudokeyi.services.writing import end, write_state, written_journal
 from gudokeyi.store.animal_rows import row_of
 from gudokeyi.store.book import Book
@@ -40,8 +38,6 @@ from gudokeyi.store.journal import Filed as FiledSteps, Step
 from gudokeyi.store.requests import KeptRequest, keep_requests, kept_request
 from gudokeyi.store.state import Rows, State, Values, rows_with_id
 
-# by which it is known that a book was seen whole by a batch before, and that nobody but batches changed it since
-SEEN = "filed"
 # of so few lines ids that are alike are looked for one by one
 FEW = 10
 
@@ -49,38 +45,14 @@ FEW = 10
 def file_lines(folder: pathlib.Path, program: BookSession, text: bytes, each: bool = False) -> Iterator[Answer]:
     """The answers to the lines of a text, in their order, once what was filed is stored: all as one change, or with
     `each` every line as one of its own."""
-    take_over(folder, program)
     lines = list(read_command_lines(text))
     for some in ([line] for line in lines) if each else [lines]:
         stop_again()
         with to_file(folder, program) as book:
             batch = Batch(book, program, ManyNew(book, len(some)))
             answers = batch.answers(some)
-        seen_whole(folder, program, batch)
+        seen_whole(folder, program, batch.last)
         yield from answers
-
-
-@contextlib.contextmanager
-def to_file(folder: pathlib.Path, program: BookSession) -> Iterator[Book]:
-    """The book, which nobody else changes until this ends. It is seen before whether it is whole, unless a batch saw
-    that and nobody else changed the book or its file since."""
-    with alone_to_change(folder) as book:
-        if not book.is_there:
-            raise no_book(folder)
-        if not SeenWhole(book, program.path, SEEN).is_known():
-            verify(book, program, quickly=True)
-        try:
-            yield book
-        except BaseException:
-            program.keep_to(book.journal)
-            raise
-
-
-def seen_whole(folder: pathlib.Path, program: BookSession, batch: Batch) -> None:
-    """As it is after the batch it was seen to be whole."""
-    with book_in(folder) as book:
-        if book.change and book.change.number == batch.last:
-            SeenWhole(book, program.path, SEEN).keep()
 
 
 class ManyNew(NewAnimals):

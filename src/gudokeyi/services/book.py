@@ -16,7 +16,8 @@ from gudokeyi.domain.messages import Mistake
 from gudokeyi.domain.seals import PublishedSeal, Seal
 from gudokeyi.domain.settings import Setting
 from gudokeyi.services.library_values import (
-    Animal, BreedState, Certificate, Filed, Imported, Kinship, Mating, MatingAdvice, MatingPlan, PlannedMating, Restored,
+    Animal, BreedState, Certificate, Filed, Imported, Kinship, Mating, MatingAdvice, MatingPlan, PlannedMating,
+    Restored,
 )  # fmt: skip
 from gudokeyi.services.book_program import BookProgram
 from gudokeyi.services.library_answers import animals_of, breed_state, imported_value, ways_of

@@ -5,16 +5,19 @@ import datetime
 import functools
 from collections.abc import Iterator, Sequence
 from dataclasses import replace
+from typing import TYPE_CHECKING
 
 from gudokeyi.background import Background
 from gudokeyi.domain.messages import CALLED
 from gudokeyi.domain.mistakes import BookNotWhole
 from gudokeyi.engine.answers import NOT_LEFT, UNKNOWN, certificate_facts, certificate_texts
-from gudokeyi.services.library_values import Animal
 from gudokeyi.services.book_program import BookProgram
 from gudokeyi.store.book import Book
 from gudokeyi.store.coefficients import Coefficient
 from gudokeyi.store.messages import NotWhole
+
+if TYPE_CHECKING:
+    from gudokeyi.services.library_values import Animal
 
 # so many parents away an ancestor on a certificate of the program may be, and on one that is printed
 GENERATIONS, MOST_GENERATIONS = 3, 5

@@ -22,7 +22,7 @@ from gudokeyi.reconcile.corrections import (
     Corrected as Corrected, Correcting, Correction as Correction, Exit as Exit, owners_in as owners_in,
 )  # fmt: skip
 from gudokeyi.reconcile.findings.animals import OwnerSince as OwnerSince
-from gudokeyi.reconcile.import_options import unknown_parents
+from gudokeyi.reconcile.unknown_parents import unknown_parents
 from gudokeyi.reconcile.messages import CorrectionFault
 from gudokeyi.reconcile.plausibility_by_hand import ByHandAnimal, MayBeWrong as MayBeWrong, refuse_unseen, warnings_of
 from gudokeyi.reconcile.rewriting import RefusedCommand, Rewriting, RewritingRefused

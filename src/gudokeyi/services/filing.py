@@ -7,7 +7,7 @@ from dataclasses import dataclass, field, replace
 from gudokeyi.domain.animals import NO_OWNER, SocietyRecord
 from gudokeyi.domain.changes import Change, ChangeDetails, Option, StoredFinding
 from gudokeyi.domain.commands import Command, RegisterRecord, birth, leave, parents, transfer
-from gudokeyi.domain.findings import Entry, Finding, What
+from gudokeyi.domain.findings import Entry, Finding
 from gudokeyi.domain.kinds import ChangeKind, Field, Standing
 from gudokeyi.domain.mistakes import InvalidValue, OwnerNotFound
 from gudokeyi.domain.provenance import GIVEN_EXIT, OwnerDay
@@ -17,13 +17,9 @@ from gudokeyi.engine.answers import records_of
 from gudokeyi.ingest.unknown_parents import names_no_owner
 from gudokeyi.ingest.words import clean as clean
 from gudokeyi.reconcile.by_hand import id_alike, new_owner, young_parents
-from gudokeyi.reconcile.findings.animals import CommandRefused, NewAnimal, ValueChanged
-from gudokeyi.reconcile.findings.plausibility import IdsAlike
-from gudokeyi.reconcile.import_options import unknown_parents
-from gudokeyi.reconcile.plausibility_by_hand import (
-    ByHandAnimal, MayBeWrong as MayBeWrong, digest_of as digest_of, refuse_unseen as refuse_unseen, warnings_of,
-)  # fmt: skip
+from gudokeyi.reconcile.findings.by_hand import CommandRefused, IdsAlike, NewAnimal, ValueChanged
 from gudokeyi.reconcile.stored_findings import told_of
+from gudokeyi.reconcile.unknown_parents import unknown_parents
 from gudokeyi.services.book_program import BookProgram
 from gudokeyi.services.search import find
 from gudokeyi.services.writing import write
@@ -208,25 +204,6 @@ def departed(book: Book, animal: SocietyRecord, day: datetime.date, reason: str 
 def inferred_since(animal: SocietyRecord, record: RegisterRecord, day: datetime.date) -> datetime.date | None:
     """The first day of its owner where that is inferred, and after a day on which it was born."""
     return record.since if animal.owner_day.is_inferred and record.born <= day < record.since else None
-
-
-def looked_at(book: Book, one: FiledCommand) -> FiledCommand:
-    """With what may be wrong of it, by the rules of sheets."""
-    number, command = one.animal.registration_number, one.command
-    was = book.by_number().get(number)
-    if (one.kind is ChangeKind.BIRTH) == (was is not None):
-        # the program refuses it
-        return one
-    if was is None:
-        record = born_record(command)
-    else:
-        record = book.records[number]
-        if one.kind is ChangeKind.PARENTS:
-            record = record._replace(sire=parent_in(command.sire), dam=parent_in(command.dam))
-        elif one.kind is ChangeKind.EXIT:
-            record = record._replace(left=datetime.date.fromisoformat(command.day))
-    findings = tuple(found for found in one.findings if found.what is not What.WARNING)
-    return replace(one, findings=findings, warnings=warnings_of(book, [ByHandAnimal(one.animal, record, was)], one.new_owners))
 
 
 def born_record(birth: Command) -> RegisterRecord:

@@ -18,7 +18,8 @@ from gudokeyi.store import history
 from gudokeyi.store.animal_rows import AnimalRow, digits_of
 from gudokeyi.store.book import Book
 from gudokeyi.store.changed_animals import (
-    id_of_command, ids_changed, names_around, names_of_parents, renamed_by, rows_around, rows_by_change, rows_of_owner_codes,
+    id_of_command, ids_changed, names_around, names_of_parents, renamed_by, rows_around, rows_by_change,
+    rows_of_owner_codes,
     told_by_kind, told_of_animal,
 )  # fmt: skip
 from gudokeyi.store.own_data import (
@@ -30,7 +31,7 @@ from gudokeyi.store.state import names_now
 from gudokeyi.store.taken_back import CHANGE, taken_back
 
 if TYPE_CHECKING:
-    from gudokeyi.reconcile.findings.animals import CommandRefused
+    from gudokeyi.reconcile.findings.by_hand import CommandRefused
 
 # The changes.
 
@@ -210,7 +211,7 @@ class Filed(NamedTuple):
 def filed_by(book: Book, change: Change) -> Filed:
     """Of which animal a command was, and its reply, as the history has them."""
     # whoever asks for an animal would wait for it
-    from gudokeyi.reconcile.findings.animals import CommandRefused
+    from gudokeyi.reconcile.findings.by_hand import CommandRefused
 
     entries = entries_of(book, change.number)
     refused = next((one.finding for one in entries if isinstance(one.finding, CommandRefused)), None)

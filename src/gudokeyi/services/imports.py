@@ -12,9 +12,10 @@ from gudokeyi.ingest.pedigree_files import given_file
 from gudokeyi.ingest.titles import parts_of as parts_of, read_given as read_given, read_sexes as read_sexes
 from gudokeyi.ingest.unknown_parents import unknown_words
 from gudokeyi.reconcile.findings.obstacles import LettersUnsaid as LettersUnsaid
-from gudokeyi.reconcile.findings.plausibility import BirthsTooNear as BirthsTooNear, YoungParent as YoungParent
+from gudokeyi.reconcile.findings.by_hand import YoungParent as YoungParent
+from gudokeyi.reconcile.findings.plausibility import BirthsTooNear as BirthsTooNear
 from gudokeyi.reconcile.import_options import ImportOptions as ImportOptions, rename_owners as rename_owners
-from gudokeyi.reconcile.outcome import BookAfter as BookAfter, Outcome
+from gudokeyi.reconcile.outcome import BookAfter as BookAfter, Outcome as Outcome
 from gudokeyi.services.book_program import BookProgram
 from gudokeyi.services.pedigree_imports import call_for, import_pedigree
 from gudokeyi.services.sheet_imports import Bounds as Bounds, import_sheet

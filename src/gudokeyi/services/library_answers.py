@@ -25,8 +25,8 @@ def breed_state(breed: Breed, ranks: Sequence[int]) -> BreedState:
         for those in (found.founders, found.ancestors.ancestors)
     )
     return BreedState(
-        tuple(ids[rank] for rank in ranks), {name.value: one for name, one in found.measures.items()}, tuple(found.years),
-        tuple(found.completeness), found.intervals, founders, ancestors,
+        tuple(ids[rank] for rank in ranks), {name.value: one for name, one in found.measures.items()},
+        tuple(found.years), tuple(found.completeness), found.intervals, founders, ancestors,
         {ids[rank]: kinship for rank, kinship in found.mean_kinships},
     )  # fmt: skip
 

@@ -15,8 +15,7 @@ from gudokeyi.domain.kinds import ChangeKind, ExitReason, Field
 from gudokeyi.domain.messages import why
 from gudokeyi.domain.mistakes import InvalidValue, RegisterRefused
 from gudokeyi.engine.answers import records_of
-from gudokeyi.reconcile.findings.animals import NewAnimal
-from gudokeyi.reconcile.findings.plausibility import IdsAlike
+from gudokeyi.reconcile.findings.by_hand import IdsAlike, NewAnimal
 from gudokeyi.reconcile.messages import LitterFault as LitterFault
 from gudokeyi.reconcile.plausibility_by_hand import ByHandAnimal, refuse_unseen, warnings_of
 from gudokeyi.reconcile.rewriting import refused_of

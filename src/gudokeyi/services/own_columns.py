@@ -12,7 +12,6 @@ from gudokeyi.domain.mistakes import InvalidValue
 from gudokeyi.domain.own_columns import MOST_CHOICES, MOST_COLUMNS, MOST_IN_TITLE, OwnColumn, OwnKind, OwnValue
 from gudokeyi.domain.requests import OwnFault
 from gudokeyi.ingest.words import clean, plain
-from gudokeyi.reconcile.findings.animals import OwnValueWritten
 from gudokeyi.reconcile.own_values import value_read
 from gudokeyi.reconcile.stored_findings import told_of
 from gudokeyi.services.book_program import BookProgram
@@ -108,6 +107,9 @@ def write_values(
     book: Book, program: BookProgram, animal: SocietyRecord, written: Mapping[int, str], form: str = ""
 ) -> Change:
     """Writes values of an animal by the places of their columns; the others stay."""
+    # a certificate, which shows values, waits for none of the findings
+    from gudokeyi.reconcile.findings.animals import OwnValueWritten
+
     columns = {one.place: one for one in columns_of(book)}
     kept = own_data.value_rows_of(book.connection, animal.digits)
     before: dict[Values, Values] = {}

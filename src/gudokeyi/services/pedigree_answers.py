@@ -105,5 +105,6 @@ def audited(found: Audit) -> Audited:
 
 def inverse_of(pedigree: Pedigree) -> Inverse:
     ids = pedigree.ids
-    elements = sorted(inverse_elements(pedigree).items())
-    return Inverse(tuple(ids), tuple(Element(ids[row], ids[column], value) for (row, column), value in elements if value))
+    found = sorted(inverse_elements(pedigree).items())
+    elements = (Element(ids[row], ids[column], value) for (row, column), value in found if value)
+    return Inverse(tuple(ids), tuple(elements))

@@ -15,7 +15,8 @@ from gudokeyi.reconcile.all_animals import add_others
 from gudokeyi.reconcile.birth_days import find_days, invent_days
 from gudokeyi.reconcile.doubtful_founders import Counts, founders_in_doubt
 from gudokeyi.reconcile.guards import OtherAnimals
-from gudokeyi.reconcile.import_options import ImportOptions, unknown_parents, with_settings
+from gudokeyi.reconcile.import_options import ImportOptions, with_settings
+from gudokeyi.reconcile.unknown_parents import unknown_parents
 from gudokeyi.reconcile.impossible_parents import cut_cycles
 from gudokeyi.reconcile.next_book import NextBook
 from gudokeyi.reconcile.outcome import Outcome

@@ -4,7 +4,7 @@ from __future__ import annotations
 import contextlib
 import pathlib
 from collections.abc import Sequence
-from typing import NamedTuple
+from typing import TYPE_CHECKING, NamedTuple
 
 from gudokeyi.domain.animals import NO_OWNER, SocietyRecord
 from gudokeyi.domain.folding import folded, tag_of
@@ -13,8 +13,6 @@ from gudokeyi.domain.mistakes import AnimalAmbiguous, AnimalNotFound, InvalidVal
 from gudokeyi.domain.requests import Naming, NotSuch
 from gudokeyi.domain.spelling import closest
 from gudokeyi.ingest.words import as_known, clean
-from gudokeyi.services.lists import FOUND, animals_table
-from gudokeyi.services.tables import Table
 from gudokeyi.store.animal_rows import AnimalRow, digits_of, society_record_of
 from gudokeyi.store.book import Book
 from gudokeyi.store.conditions import (
@@ -23,10 +21,14 @@ from gudokeyi.store.conditions import (
 from gudokeyi.store.own_data import texts_kept
 from gudokeyi.store.former_ids import former_ids_of, has_former_ids, ids_now
 
+if TYPE_CHECKING:
+    from gudokeyi.services.tables import Table
+
 # Finds an animal by what somebody writes for it.
 
 # so many are named that may be meant
 MOST_MEANT = 3
+
 
 def find(book: Book, word: str, may_be_file: bool = True) -> SocietyRecord:
     """The animal of an id, a number or a name; a mistake where there is none, or several of a name. Who writes a word
@@ -112,6 +114,9 @@ class Why(NamedTuple):
 
 def animals_found(book: Book, words: Sequence[str]) -> Table:
     """The animals in which each of the words stands, with capitals or without, in age order."""
+    # who names an animal waits for no list
+    from gudokeyi.services.lists import FOUND, animals_table
+
     condition = condition_of_words(book, words)
     found = animals_table(book, condition, FOUND)
     if not len(found):

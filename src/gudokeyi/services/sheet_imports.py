@@ -109,8 +109,9 @@ def file(
     tell_most_changed(next_book)
     after = book_after(next_book, filed, import_options, about)
     return filed, Outcome(
-        book.folder, about.call.after(), about.understood, tuple(about.read), tuple(next_book.obstacles), report, after
-    )
+        book.folder, about.call.after(), about.understood, tuple(about.read), tuple(next_book.obstacles), report, after,
+        next_book.own_values,
+    )  # fmt: skip
 
 
 def refuse_unsaid_letters(next_book: NextBook, import_options: ImportOptions) -> None:

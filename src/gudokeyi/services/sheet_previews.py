@@ -5,7 +5,7 @@ from __future__ import annotations
 import collections
 import hashlib
 import pathlib
-from collections.abc import Collection, Iterable, Mapping, Sequence
+from collections.abc import Collection, Mapping, Sequence
 from dataclasses import dataclass
 
 from gudokeyi.domain.findings import Entry, Severity, What
@@ -17,9 +17,9 @@ from gudokeyi.ingest.findings.cells import OddRow
 from gudokeyi.ingest.messages import SheetFault
 from gudokeyi.ingest.sheets import Sheet as Sheet
 from gudokeyi.ingest.words import plain
-from gudokeyi.reconcile.findings.animals import NewAnimal
-from gudokeyi.reconcile.findings.own_columns import OwnColumnRead
+from gudokeyi.reconcile.findings.by_hand import NewAnimal
 from gudokeyi.reconcile.import_options import ImportOptions, remember, with_settings
+from gudokeyi.reconcile.outcome import Outcome
 from gudokeyi.reconcile.own_sheet_columns import kind_said
 from gudokeyi.services.sheet_reading import LastReading, read_columns
 from gudokeyi.store.book import Book
@@ -98,17 +98,19 @@ def severity_of(entry: Entry) -> tuple[Severity, bool]:
 DIGEST_BYTES = 8
 
 
-def changes_by_animal(entries: Iterable[Entry], drops_gone: bool) -> dict[str, bytes]:
-    """What is told of each animal, as digests. What has no row stays as it is, unless it is dropped; a new animal has
-    whichever number is free."""
+def changes_by_animal(outcome: Outcome, drops_gone: bool) -> dict[str, bytes]:
+    """What is told of each animal, as digests, with the values of the society's own columns, of which the report tells
+    how many change alone. What has no row stays as it is, unless it is dropped; a new animal has whichever number is
+    free."""
     told = collections.defaultdict[str, list[str]](list)
-    for entry in entries:
-        # of the society's own columns it is told alone how many of their values change
-        is_compared = entry.id or isinstance(entry.finding, OwnColumnRead)
-        if is_compared and (drops_gone or entry.what is not What.GONE):
+    for entry in outcome.report.in_order():
+        if entry.id and (drops_gone or entry.what is not What.GONE):
             values = "" if isinstance(entry.finding, NewAnimal) else repr(entry.finding)
             told[entry.id].append(f"{entry.line} {entry.finding.code} {values}")
-    return {id: hashlib.blake2b(repr(sorted(one)).encode(), digest_size=DIGEST_BYTES).digest() for id, one in told.items()}
+    for id, values_of_it in outcome.own_values.items():
+        told[id] += map(repr, values_of_it)
+    texts = {id: repr(sorted(one)).encode() for id, one in told.items()}
+    return {id: hashlib.blake2b(text, digest_size=DIGEST_BYTES).digest() for id, text in texts.items()}
 
 
 def animals_otherwise(before: Mapping[str, bytes], now: Mapping[str, bytes]) -> tuple[str, ...]:

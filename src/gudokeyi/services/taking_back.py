@@ -92,7 +92,8 @@ def lives_before(
     book: Book, rows: dict[Values, Values], before: dict[Values, Values], at: dict[Values, int]
 ) -> dict[str, Life | None]:
     """The lives that animals had before changes, by their numbers of now; none of those that weren't there."""
-    now_there = {digits_of(row): row.registration_number for row in map(AnimalRow._make, rows.values()) if is_there(row)}
+    made = map(AnimalRow._make, rows.values())
+    now_there = {digits_of(row): row.registration_number for row in made if is_there(row)}
     found: dict[str, Life | None] = dict.fromkeys(now_there.values())
     by_change = collections.defaultdict[int, list[str]](list)
     for key, values in before.items():

@@ -115,11 +115,16 @@ def told_once(book: Book, program: BookProgram) -> tuple[MessageText, ...]:
     return told
 
 
-def refuse_to_certify(book: Book, program: BookProgram) -> None:
-    """A mistake where they aren't."""
+def refuse_to_certify(book: Book, program: BookProgram, seen: SeenWhole | None = None) -> None:
+    """A mistake where they aren't. With `seen` they are asked for once, as long as neither the book, its file nor the
+    program is another."""
+    if seen and seen.is_known():
+        return
     faults = wrong_coefficients(book, program)
     if faults:
         raise BookNotWhole(*faults, NotWhole.NOT_PRINTED.said(called=CALLED))
+    if seen:
+        seen.keep()
 
 
 def faults_of_coefficients(book: Book, program: BookProgram) -> list[MessageText]:

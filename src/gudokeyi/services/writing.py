@@ -13,7 +13,8 @@ from gudokeyi.store.coefficients import add_coefficient, change_coefficients, fe
 from gudokeyi.store.history import last_change, next_number, now, write_change
 from gudokeyi.store.journal import Filed, Journal, append, begin_edition
 from gudokeyi.store.state import (
-    ANIMALS, CELLS, FORMER_IDS, REMEMBERED, Meaning, State, add_owner, free_name, owners_came, read_remembered, remembered_rows,
+    ANIMALS, CELLS, FORMER_IDS, REMEMBERED, Meaning, State, add_owner, free_name, owners_came, read_remembered,
+    remembered_rows,
     rows_now, write_rows,
 )  # fmt: skip
 from gudokeyi.store.transactions import commit, creating

@@ -26,7 +26,8 @@ FILED_BY_HAND = (
 ONE_BY_ONE = tuple(
     kind.value
     for kind in (
-        ChangeKind.BIRTH, ChangeKind.LITTER, ChangeKind.TRANSFER, ChangeKind.EXIT, ChangeKind.NOTE, ChangeKind.OWN_VALUES, ChangeKind.OWN_COLUMNS,
+        ChangeKind.BIRTH, ChangeKind.LITTER, ChangeKind.TRANSFER, ChangeKind.EXIT, ChangeKind.NOTE,
+        ChangeKind.OWN_VALUES, ChangeKind.OWN_COLUMNS,
         ChangeKind.MEMBER,
     )
 )  # fmt: skip

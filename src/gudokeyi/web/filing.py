@@ -11,8 +11,9 @@ from gudokeyi.domain.kinds import ChangeKind, ExitReason
 from gudokeyi.domain.messages import Mistake
 from gudokeyi.domain.requests import WebFault
 from gudokeyi.services.filing import (
-    FiledCommand, Offspring, born, clean, departed, file, looked_at, parent_named, refuse_unseen, transferred, with_parents,
+    FiledCommand, Offspring, born, clean, departed, file, parent_named, transferred, with_parents,
 )  # fmt: skip
+from gudokeyi.services.filing_warnings import looked_at, refuse_unseen
 from gudokeyi.services.opening import Book
 from gudokeyi.services.search import find
 from gudokeyi.web.forms import ANYWAY, OF_ANIMAL, ROLES, change_once, made_by, parents_of, shown_in, token_with

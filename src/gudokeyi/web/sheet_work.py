@@ -7,7 +7,8 @@ import functools
 import hashlib
 import io
 import pathlib
-from collections.abc import Callable, Collection, Iterable, Iterator, Mapping
+import time
+from collections.abc import Callable, Collection, Iterator, Mapping
 from dataclasses import dataclass, field, replace
 from typing import TypeVar
 
@@ -20,7 +21,7 @@ from gudokeyi.domain.options import Kind
 from gudokeyi.domain.settings import Setting
 from gudokeyi.services.book_program import BookProgram
 from gudokeyi.services.cache import Stamp, StateKept, mark_of, stamp_of
-from gudokeyi.services.imports import BookAfter, ImportOptions, LettersUnsaid, read_file
+from gudokeyi.services.imports import BookAfter, ImportOptions, LettersUnsaid, Outcome, read_file
 from gudokeyi.services.opening import Book, Overtaken, book_in, still_to_change, to_change, to_look_at, to_prepare
 from gudokeyi.services.option_values import day, days, three_letters
 from gudokeyi.services.saving import save
@@ -41,8 +42,11 @@ from gudokeyi.web.workers import Tell
 # A dropped sheet: how it is read and what it would change, and its import; both in a process beside the server.
 
 Value = TypeVar("Value")
-# the field that drops what has no row, and so often a sheet is prepared while others file
-DROPS, TRIES_BESIDE = "drop_gone", 3
+# the field that drops what has no row
+DROPS = "drop_gone"
+# so often a sheet is prepared while others file, and so often at most where they would wait longer than this for it, in
+# seconds: they give up after ten
+TRIES_BESIDE, MOST_TRIES, SECONDS_OTHERS_WAIT = 3, 15, 6.0
 # the book and the sheet that this process looked at last
 STATE, READING = StateKept(), LastReading()
 # the settings by which sheets are read
@@ -159,13 +163,13 @@ def looked_at(folder: pathlib.Path, path: pathlib.Path, chosen: Chosen, again: C
         seen, columns, (), outcome.obstacles, shown, totals_of(entries),
         days_of(entry.finding for entry in entries), understood.rows if understood else 0,
         sum(entry.part is ROW for entry in entries), understood.remembered if understood else (), outcome.after,
-        changes_of(entries, chosen), asked,
+        changes_of(outcome, chosen), asked,
         cells_of(sheet, lines) if sheet else {},
     )  # fmt: skip
 
 
-def changes_of(entries: Iterable[Entry], chosen: Chosen) -> Mapping[str, bytes]:
-    return changes_by_animal(entries, DROPS in dict(chosen.options))
+def changes_of(outcome: Outcome, chosen: Chosen) -> Mapping[str, bytes]:
+    return changes_by_animal(outcome, DROPS in dict(chosen.options))
 
 
 def look_of(seen: Seen, columns: ColumnsView | None, mistake: Mistake) -> Look:
@@ -201,7 +205,7 @@ def imported(folder: pathlib.Path, path: pathlib.Path, chosen: Chosen, asked: As
     writing alone, but where somebody files again and again meanwhile."""
     program = BookProgram()
     tell(Doing.TAKING)
-    for may_wait in (*[False] * TRIES_BESIDE, True):
+    for may_wait in tries():
         with contextlib.suppress(Overtaken), book_for(folder, program, may_wait) as book:
             stamp = stamp_of(book)
             found = prepared_for(book, path, chosen, asked, program)
@@ -212,6 +216,16 @@ def imported(folder: pathlib.Path, path: pathlib.Path, chosen: Chosen, asked: As
                 change = save(now, program, found)
             return Imported(change.number, mark=change.mark, whole=stamp_behind(folder, change) if is_same else ())
     return Imported(0, True)
+
+
+def tries() -> Iterator[bool]:
+    """For each try whether others are to wait for it. They are once several were overtaken, if the last one was ready
+    before others would give up who wait; else it is tried beside them further."""
+    took = 0.0
+    for at in range(MOST_TRIES):
+        may_wait, begun = at >= TRIES_BESIDE and took <= SECONDS_OTHERS_WAIT, time.monotonic()
+        yield may_wait
+        took = time.monotonic() - begun
 
 
 @contextlib.contextmanager
@@ -236,7 +250,7 @@ def prepared_for(
     if seen.mark != asked.seen.mark:
         if asked.by_animal is None:
             return Imported(0, True)
-        others = animals_otherwise(asked.by_animal, changes_of(outcome.report.in_order(), chosen))
+        others = animals_otherwise(asked.by_animal, changes_of(outcome, chosen))
         if others:
             return Imported(0, otherwise=others)
     assert prepared is not None

@@ -29,7 +29,7 @@ def add_words(words: CommandWords) -> None:
 
 def do_file(asked: argparse.Namespace) -> None:
     from gudokeyi.services.batches import file_lines
-    from gudokeyi.services.book_session import BookSession
+    from gudokeyi.services.filing_session import session_to_file
 
     if str(asked.commands) == "-":
         text = sys.stdin.buffer.read()
@@ -37,13 +37,10 @@ def do_file(asked: argparse.Namespace) -> None:
         text = asked.commands.read_bytes()
     else:
         raise WrongWords(f"there is no file {asked.commands}: name the file with the commands, or - for standard input")
-    program = BookSession.for_one()
-    try:
+    with session_to_file(asked.book) as program:
         for answer in file_lines(asked.book, program, text, asked.each):
             sys.stdout.write(f"{json_text(answer)}\n")
             asked.status = max(asked.status, status_of(answer), key=ORDER.index)
-    finally:
-        program.close()
 
 
 # the least grave first

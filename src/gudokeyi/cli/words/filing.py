@@ -12,12 +12,13 @@ from gudokeyi.domain.animals import SocietyRecord
 from gudokeyi.domain.changes import Option
 from gudokeyi.domain.kinds import ChangeKind, ExitReason
 from gudokeyi.domain.mistakes import RegisterRefused, WrongWords
-from gudokeyi.services.book_program import BookProgram
 from gudokeyi.services.filing import (
-    FiledCommand, Offspring, born, departed, file, looked_at, parent_named, refuse_unseen, transferred, with_parents,
+    FiledCommand, Offspring, born, departed, file, parent_named, transferred, with_parents,
 )  # fmt: skip
-from gudokeyi.services.litters import Litter, Newborn, born_together, file_litter
-from gudokeyi.services.opening import Book, export, there_to_change
+from gudokeyi.services.filing_warnings import looked_at, refuse_unseen
+from gudokeyi.services.filing_session import seen_whole, session_to_file, to_file
+from gudokeyi.services.litters import FiledLitter, Litter, Newborn, born_together, file_litter
+from gudokeyi.services.opening import Book, export
 from gudokeyi.services.search import find
 
 # the command that somebody wishes, given the book
@@ -56,7 +57,9 @@ def add_words(words: CommandWords) -> None:
 
 
 def add_litter(words: CommandWords) -> None:
-    one = words.add("litter", do_litter, "file all births of a dam on one day", "The register takes all of them, or none.")
+    one = words.add(
+        "litter", do_litter, "file all births of a dam on one day", "The register takes all of them, or none."
+    )
     one.add_argument("dam", metavar="DAM", help="the dam, by id, name or number")
     one.add_argument("--sire", metavar="ID", help="the sire, by id, name or number [unknown]")
     one.add_argument("--owner", default="", metavar="NAME", help="their owner [not known]")
@@ -66,8 +69,9 @@ def add_litter(words: CommandWords) -> None:
         help="each newborn, as f=DE-101=Berta; without an id it counts on from the one before",
     )  # fmt: skip
     one.add_argument(
-        "--stillborn", action="append", dest="newborn", type=stillborn, metavar="SEX[=ID]", help="one that was born dead"
-    )
+        "--stillborn", action="append", dest="newborn", type=stillborn, metavar="SEX[=ID]",
+        help="one that was born dead",
+    )  # fmt: skip
     add_anyway(one)
 
 
@@ -82,21 +86,26 @@ def stillborn(text: str) -> Newborn:
 
 
 def do_litter(asked: argparse.Namespace) -> None:
-    program = BookProgram()
-    with there_to_change(asked.book, program) as book:
-        dam = find(book, asked.dam)
-        said = Litter(dam, asked.day, parent(book, asked.sire), asked.owner, tuple(asked.newborn))
-        one = born_together(book, said)
-        texts = {"dam": dam.id, "sire": asked.sire, "day": str(asked.day), "owner": asked.owner}
-        options = tuple(Option(f"--{name}", text) for name, text in texts.items() if text)
-        change = file_litter(book, program, one, options, seen=None if asked.anyway else "")
-        notes = book.notes + export(book.folder)
-    for note in notes:
+    with session_to_file(asked.book) as program:
+        with to_file(asked.book, program) as book:
+            one, options = wished_litter(asked, book)
+            change = file_litter(book, program, one, options, seen=None if asked.anyway else "")
+        seen_whole(asked.book, program, change.number)
+    for note in book.notes + export(asked.book):
         tell(note)
     for each in one.births:
-        print(f"{each.animal.id} ({each.animal.registration_number}): the birth on {asked.day} is accepted: change {change.number}")
+        told = f"the birth on {asked.day} is accepted: change {change.number}"
+        print(f"{each.animal.id} ({each.animal.registration_number}): {told}")
     for entry in one.warnings:
         tell(f"{entry.id}: {entry.finding.words()}")
+
+
+def wished_litter(asked: argparse.Namespace, book: Book) -> tuple[FiledLitter, tuple[Option, ...]]:
+    """The litter, and the options as they were given."""
+    dam = find(book, asked.dam)
+    said = Litter(dam, asked.day, parent(book, asked.sire), asked.owner, tuple(asked.newborn))
+    texts = {"dam": dam.id, "sire": asked.sire, "day": str(asked.day), "owner": asked.owner}
+    return born_together(book, said), tuple(Option(f"--{name}", text) for name, text in texts.items() if text)
 
 
 def add_parents(word: Parser, otherwise: str) -> None:
@@ -106,14 +115,14 @@ def add_parents(word: Parser, otherwise: str) -> None:
 
 def does(wished: Wished) -> Callable[[argparse.Namespace], None]:
     def filed(asked: argparse.Namespace) -> None:
-        program = BookProgram()
-        with there_to_change(asked.book, program) as book:
-            one = looked_at(book, replace(wished(asked, book), options=options_of(asked)))
-            if not asked.anyway:
-                refuse_unseen(one.warnings)
-            change, refusal = file(book, program, one)
-            notes = book.notes + export(book.folder)
-        for note in notes:
+        with session_to_file(asked.book) as program:
+            with to_file(asked.book, program) as book:
+                one = looked_at(book, replace(wished(asked, book), options=options_of(asked)))
+                if not asked.anyway:
+                    refuse_unseen(one.warnings)
+                change, refusal = file(book, program, one)
+            seen_whole(asked.book, program, change.number)
+        for note in book.notes + export(asked.book):
             tell(note)
         if refusal:
             raise RegisterRefused(

@@ -16,6 +16,7 @@ from gudokeyi.render.drawing import file_name
 from gudokeyi.render.languages import Language
 from gudokeyi.services.animals import kept_coefficients
 from gudokeyi.services.book_program import BookProgram
+from gudokeyi.services.cache import SeenWhole
 from gudokeyi.services.certificates import GENERATIONS, MOST_GENERATIONS, begin_certificates
 from gudokeyi.services.opening import Book
 from gudokeyi.services.output_files import write_outs, write_page
@@ -81,7 +82,7 @@ def do_certificate(asked: argparse.Namespace, book: Book, program: BookProgram) 
     animals = animals_asked_for(asked, book)
     numbers = [animal.registration_number for animal in animals]
     certified = begin_certificates(book, program, numbers, asked.generations)
-    refuse_to_certify(book, program)
+    refuse_to_certify(book, program, SeenWhole(book, program.path))
     society = Society.of(book, PrintedPicture.within(picture_of(book)))
     issue = Issue(asked.title, society, asked.day, last_sealed(book), generations=asked.generations)
     page = certificates_page(book, animals, certified, Language(asked.language), issue)

@@ -6,19 +6,13 @@ from collections.abc import Mapping
 from dataclasses import dataclass
 
 from gudokeyi.domain.changes import Option
-from gudokeyi.domain.findings import Finding, LeftOut, Part, Severity, Suggestion, What
-from gudokeyi.domain.kinds import ChangeKind, Field
+from gudokeyi.domain.findings import Finding, LeftOut, Part, PlausibilityWarning, Severity, Suggestion, What
+from gudokeyi.domain.kinds import Field
 from gudokeyi.domain.provenance import BirthBasis, SexSource
-from gudokeyi.domain.refusals import Refusal
 from gudokeyi.domain.wording import SEXES, AllOf, Counted, OptionalPart, Text, Told, Word
-from gudokeyi.reconcile.findings.plausibility import PlausibilityWarning
+from gudokeyi.reconcile.findings.by_hand import WORDS_OF_BOOK
 
 # What an import finds of an animal beside what its row says: each kind as data, and in words.
-
-# what a book writes for what isn't a text of a sheet, and the facts that it writes so, where a name may be any word
-WORDS_OF_BOOK = {Word.NO_DAY.value: Word.NO_DAY, Word.YES.value: Word.YES}
-OF_BOOK = ("exit", "stored embryo", "castrated")
-
 
 def stands_for(field: Field, text: str) -> object:
     """What a text stands for that the book keeps of a field."""
@@ -175,37 +169,6 @@ class RowIsGone(Finding):
 
 
 @dataclass(frozen=True, slots=True)
-class NewAnimal(Finding):
-    number: str
-
-    what = What.NEW
-    code = "new animal"
-    message = Text("a new animal, with the number {number}")
-
-
-@dataclass(frozen=True, slots=True)
-class ValueChanged(Finding):
-    """What a word for a field stood for before, and what it stands for now; empty for none."""
-
-    name: str
-    after: str
-    before: str
-
-    what = What.CHANGED
-    code = "value changed"
-    message = Text("{name}: {now}, before {former}")
-
-    def values(self) -> Mapping[str, object]:
-        said = WORDS_OF_BOOK if self.name in OF_BOOK else {}
-        return {
-            "now": self.after or Word.NONE,
-            "former": self.before or Word.NONE,
-            "after": said.get(self.after, self.after),
-            "before": said.get(self.before, self.before),
-        }
-
-
-@dataclass(frozen=True, slots=True)
 class OwnerSince(Told):
     """An owner of an animal, and the day since which he has it; none where that is its birth."""
 
@@ -276,50 +239,6 @@ class OwnValueWritten(Finding):
 
     def values(self) -> Mapping[str, object]:
         return {"now": self.after or Word.NONE, "former": self.before or Word.NONE}
-
-
-@dataclass(frozen=True, slots=True)
-class WhyRefused(Told):
-    """Why a command is refused, with its owner's first day, where only that forbids it, and is inferred."""
-
-    refusal: Refusal
-    owner_since: datetime.date | None
-
-    message = Text("{refusal} (refusal {number}){maybe_owner_since}")
-    page_message = Text("{refusal}{maybe_owner_since}")
-    parts = {
-        "maybe_owner_since": OptionalPart(
-            "; its owner's first day, {owner_since}, is inferred, and gives way to a sheet's"
-        )
-    }
-
-    def values(self) -> Mapping[str, object]:
-        return {"number": int(self.refusal)}
-
-
-@dataclass(frozen=True, slots=True)
-class CommandRefused(Finding):
-    """A command that was filed by hand is refused. `owner_since` is its owner's first day, where only that forbids it,
-    and is inferred."""
-
-    command: ChangeKind
-    day: str
-    refusal: Refusal
-    owner_since: datetime.date | None = None
-
-    what = What.LEFT_OUT
-    severity = Severity.FACTS
-    code = "command refused"
-    message = Text("the {command}{maybe_day} is refused: {reason}")
-    parts = {
-        "maybe_day": OptionalPart(" on {day}"),
-    }
-
-    def values(self) -> Mapping[str, object]:
-        return {"reason": self.why()}
-
-    def why(self) -> WhyRefused:
-        return WhyRefused(self.refusal, self.owner_since)
 
 
 # What is found of owners' names: each kind as data, and in words.
@@ -402,17 +321,6 @@ class OwnerMistyped(PlausibilityWarning):
 
     code = "owner mistyped"
     message = Text("the owner {owner} may be {meant}: is '{meant_text}' meant?")
-
-
-@dataclass(frozen=True, slots=True)
-class OwnerMeant(PlausibilityWarning):
-    """A command names an owner whom the book didn't have, and whose name is near that of one."""
-
-    owner: str
-    meant: str
-
-    code = "owner meant"
-    message = Text("the book had no owner '{owner}' before: is '{meant}' meant?")
 
 
 @dataclass(frozen=True, slots=True)

@@ -6,14 +6,9 @@ from collections.abc import Mapping
 from dataclasses import dataclass
 
 from gudokeyi.domain.changes import Option
-from gudokeyi.domain.findings import DROP_GONE, Finding, Severity, Suggestion, What, columns
-from gudokeyi.domain.kinds import Field, Role
+from gudokeyi.domain.findings import DROP_GONE, PlausibilityWarning, Severity, Suggestion, columns
+from gudokeyi.domain.kinds import Field
 from gudokeyi.domain.wording import AllOf, Counted, OptionalPart, Text, Told
-
-
-class PlausibilityWarning(Finding):
-    what = What.WARNING
-    severity = Severity.FACTS
 
 
 @dataclass(frozen=True, slots=True)
@@ -27,27 +22,6 @@ class RowOf(Told):
     parts = {
         "maybe_line": OptionalPart(" (line {line})"),
     }
-
-
-@dataclass(frozen=True, slots=True)
-class IdsAlike(PlausibilityWarning):
-    """Two animals have ids that differ in case, blanks or leading zeros alone."""
-
-    other: str
-    line: int
-
-    severity = Severity.ANIMALS
-    code = "ids alike"
-    message = Text(
-        "its id differs from {other} ({maybe_line}{maybe_of_book}) in case, blanks or zeros alone: are they one animal?"
-    )
-    parts = {
-        "maybe_line": OptionalPart("line {line}"),
-        "maybe_of_book": OptionalPart("in the book", when="is_of_book"),
-    }
-
-    def values(self) -> Mapping[str, object]:
-        return {"is_of_book": not self.line}
 
 
 @dataclass(frozen=True, slots=True)
@@ -96,31 +70,6 @@ class BornDead(PlausibilityWarning):
 
     code = "born dead"
     message = Text("its name '{name}' says that it was born dead, and it is taken as a living animal: leave its row out")
-
-
-@dataclass(frozen=True, slots=True)
-class YoungParent(PlausibilityWarning):
-    """A parent that was younger than a limit when its offspring was born."""
-
-    role: Role
-    parent: str
-    line: int
-    days: int
-    limit: int
-
-    severity = Severity.PARENTS
-    code = "young parent"
-    message = Counted(
-        "its {role} {parent}{maybe_line} was {days} day old at its birth, less than {limit}",
-        "its {role} {parent}{maybe_line} was {days} days old at its birth, less than {limit}",
-        "days",
-    )
-    parts = {
-        "maybe_line": OptionalPart(" (line {line})"),
-    }
-
-    def suggestions(self) -> tuple[Suggestion, ...]:
-        return (Suggestion("if that can be", (Option("--youngest", str(max(self.days, 0))),)),)
 
 
 @dataclass(frozen=True, slots=True)

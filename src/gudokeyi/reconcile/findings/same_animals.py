@@ -9,7 +9,7 @@ from gudokeyi.domain.changes import Option
 from gudokeyi.domain.findings import Severity, Suggestion, quoted
 from gudokeyi.domain.kinds import Role
 from gudokeyi.domain.wording import SEXES, Counted, OptionalPart, Text
-from gudokeyi.reconcile.findings.plausibility import PlausibilityWarning
+from gudokeyi.domain.findings import PlausibilityWarning
 
 # the option by which an animal of the book has another id
 NEW_TAG = "--new-tag"

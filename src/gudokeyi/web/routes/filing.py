@@ -12,7 +12,7 @@ from gudokeyi.domain.messages import Mistake
 from gudokeyi.render.page_language import name_of
 from gudokeyi.render.page_wording import MessageView
 from gudokeyi.services.book_session import BookMoved
-from gudokeyi.services.filing import MayBeWrong
+from gudokeyi.services.filing_warnings import MayBeWrong
 from gudokeyi.services.history import change_numbered, taken_back_by
 from gudokeyi.services.opening import Book
 from gudokeyi.services.search import find

@@ -6,7 +6,7 @@ from flask import Blueprint, flash, redirect, render_template, request, url_for
 from gudokeyi.domain.messages import Mistake
 from gudokeyi.render.page_wording import MessageView
 from gudokeyi.services.book_session import BookMoved
-from gudokeyi.services.filing import MayBeWrong
+from gudokeyi.services.filing_warnings import MayBeWrong
 from gudokeyi.services.opening import Book
 from gudokeyi.web.forms import sent_form
 from gudokeyi.web.language import gettext, on_page, page_language

@@ -124,15 +124,20 @@ def look(token: str) -> Answer:
     words = page_language()
     sentences = [*told_of(found), *without_paths(sentence_of(one, words) for one in found.obstacles)]
     is_read = found.after is not None
-    groups = groups_of(found.again, words) if upload.again else groups_of(found.entries, words, found.totals, found.days)
+    if upload.again:
+        groups = groups_of(found.again, words)
+    else:
+        groups = groups_of(found.entries, words, found.totals, found.days)
     return render_template(
-        "look.html", upload=upload, look=found, looked=mark_text(found.seen.mark), fields=list(Field), options=SHEET_FIELDS,
+        "look.html", upload=upload, look=found, looked=mark_text(found.seen.mark), fields=list(Field),
+        options=SHEET_FIELDS,
         given=upload.options, letters=LETTERS, own_kinds=kinds(page_language()),
         wrong={name: sentence_in(sentence, words) for name, sentence in wrong.items()},
         faults=[] if is_read else sentences, guards=sentences if is_read else [],
         groups=groups, has_choices=any(line.choices for group in groups for line in group.lines),
         remembered=[label for one in found.remembered for label in labels_of(one, words)],
-        drop_gone=dropped_by(found) if not upload.again else None, solutions=proposed(suggestions_of(found.obstacles), words),
+        drop_gone=dropped_by(found) if not upload.again else None,
+        solutions=proposed(suggestions_of(found.obstacles), words),
     )  # fmt: skip
 
 

@@ -43,7 +43,9 @@ def start() -> Answer:
             return render_template("begin.html", has_example=EXAMPLE.exists(), taking=taking, is_old=is_old)
         overview = served.kept.of(book, ("overview",), functools.partial(served.overviews.of, book))
         last = lines_of(book, last_changes(book, LAST_CHANGES), page_language())
-        return render_template("start.html", overview=overview, changes=last, kinds=FILED, is_late=is_late(book), **new_in(book))
+        return render_template(
+            "start.html", overview=overview, changes=last, kinds=FILED, is_late=is_late(book), **new_in(book)
+        )
 
 
 def new_in(book: Book) -> dict[str, object]:

@@ -111,7 +111,10 @@ FIELDS = {
     "country": IMPORT["country"].label, "castrated": "castrated", "born": "Birth day", "exit": "Exit",
     "exit-day": "Day of the exit", "reason": "reason of the exit",
 }  # fmt: skip
-DAYS = {ChangeKind.BIRTH: "Birth day", ChangeKind.LITTER: "Birth day", ChangeKind.EXIT: "Day of the exit", ChangeKind.TRANSFER: "Day of the change"}
+DAYS = {
+    ChangeKind.BIRTH: "Birth day", ChangeKind.LITTER: "Birth day", ChangeKind.EXIT: "Day of the exit",
+    ChangeKind.TRANSFER: "Day of the change",
+}  # fmt: skip
 
 
 class Given(NamedTuple):

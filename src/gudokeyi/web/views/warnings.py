@@ -5,7 +5,7 @@ from typing import NamedTuple
 
 from gudokeyi.render.page_language import PageLanguage
 from gudokeyi.render.page_wording import MessageView, sentence_of
-from gudokeyi.services.filing import MayBeWrong, digest_of
+from gudokeyi.services.filing_warnings import MayBeWrong, digest_of
 
 
 class WarningLine(NamedTuple):
