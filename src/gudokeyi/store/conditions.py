@@ -120,7 +120,8 @@ def with_text(text: str, owner_codes: Sequence[int]) -> Condition:
     # a text of signs alone is looked for as it is
     parts = [with_tag(tag_of(text)) if tag_of(text) else Condition("instr(folded_id, ?)", (text,)), in_name(plain)]
     parts += [Condition(f"instr(number, ?) OR herd IN ({owners})", (text.upper(),)), with_kept(plain)]
-    return Condition(f"({' OR '.join(one.text for one in parts)})", tuple(value for one in parts for value in one.values))
+    text = " OR ".join(one.text for one in parts)
+    return Condition(f"({text})", tuple(value for one in parts for value in one.values))
 
 
 def with_tag(tag: str) -> Condition:

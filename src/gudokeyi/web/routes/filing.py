@@ -53,7 +53,8 @@ def shown(
     if kind not in KINDS:
         abort(404)
     page = render_template(
-        "form.html", kind=kind, given=given, faults=faults, owners=sorted(book.owners), answered=answered, warned=warned,
+        "form.html", kind=kind, given=given, faults=faults, owners=sorted(book.owners), answered=answered,
+        warned=warned,
         reasons=[(one.value, name_of(one, page_language())) for one in ExitReason if one is not ExitReason.STILLBORN],
     )  # fmt: skip
     return (page, 400) if faults or warned.lines else page
