@@ -161,10 +161,12 @@ def values_shown(book: Book, animal: SocietyRecord) -> Iterator[str]:
 
 def value_in(columns: list[OwnColumn], text: str) -> tuple[int, str]:
     """The place of a column and what is to stand in it; a title may have the sign itself."""
+    if not columns:
+        raise Mistake(NO_COLUMNS)
     begun = [one for one in columns if text.casefold().startswith(f"{one.title}=".casefold())]
     if not begun:
         titles = ", ".join(one.title for one in columns)
-        raise Mistake(f"'{text}' doesn't begin with the title of an own column and =: there are {titles or 'none'}")
+        raise Mistake(f"'{text}' doesn't begin with the title of an own column and =: there are {titles}")
     column = max(begun, key=lambda one: len(one.title))
     return column.place, text[len(column.title) + 1 :]
 
