@@ -107,16 +107,16 @@ def test_ids_that_count_rows(desk: Desk) -> None:
     """Where no parent shows which column has the ids, and another one may have them."""
     done = desk.take("Nr;Kürzel;birth;sire;dam\n1;DE4;2001-01-01;;\n2;DE3;2002-01-01;;\n3;DE9;2003-01-01;;\n")
     done.shows(
-        "to look at: the ids are read from 'Nr', which counts the rows: sorted otherwise, another animal would have "
-        "each number"
+        "to look at: the ids are read from 'Nr', which only counts the rows: in a list that is sorted otherwise each number "
+        "would be another animal's"
     )
     desk.write("sheet.csv", "Nr;Kürzel;birth;sire;dam\n1;DE4;2001-01-01;;\n2;DE3;2002-01-01;;\n")
-    assert "counts the rows" not in desk.typed(done.commands()[0].replace("import", "take --book other")).out
+    assert "only counts the rows" not in desk.typed(done.commands()[0].replace("import", "take --book other")).out
     rows = "1;x;2001;;\n2;y;2002;;\n3;z;2004;1;2\n"
-    assert "counts the rows" not in desk.take("Nr;Kürzel;birth;sire;dam\n" + rows, "--book", "numbers").out
+    assert "only counts the rows" not in desk.take("Nr;Kürzel;birth;sire;dam\n" + rows, "--book", "numbers").out
     # nor is another column that counts them, or that has empty cells, better
     rows = "1;1;x;2001;;\n2;2;;2002;;\n3;3;z;2004;;\n"
-    assert "counts the rows" not in desk.take("Nr;Zeile;Kürzel;birth;sire;dam\n" + rows, "--book", "counted").out
+    assert "only counts the rows" not in desk.take("Nr;Zeile;Kürzel;birth;sire;dam\n" + rows, "--book", "counted").out
     # ids that are sorted don't count rows
     desk.take("Tag;Ohrmarke;birth;sire;dam\n101;x;2001;;\n105;y;2002;;\n109;z;2003;;\n", "--book", "sorted")
     assert {row["id"] for row in desk.table("sorted/ids.csv")} == {"101", "105", "109"}

@@ -40,8 +40,7 @@ def test_goats(desk: Desk) -> None:
     done = desk.take(GOATS)
     done.tells(
         (
-            "to look at: words for sexes are taken for longer ones of the same column: 'B' for 'Bock', 'B.' for 'Bock', "
-            "'Z' for 'Ziege'"
+            "to look at: words for sexes are read as others of the column: 'B' as 'Bock', 'B.' as 'Bock', 'Z' as 'Ziege'"
         ),
         (
             "line 4: CH 120.1158.7: inferred: birth day 2017-02-15, from the month 2017-02, since there is no day "

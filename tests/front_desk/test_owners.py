@@ -190,7 +190,7 @@ def test_owner_is_written_otherwise(desk: Desk) -> None:
                "--owner", "Maier=Meyer")  # fmt: skip
     renamed = TITLES + PARENTS.replace("Meier", "Meyer")
     done = desk.good("import", desk.write("sheet.csv", renamed), "--preview")
-    told = "to look at: the 2 animals of 'Meier' are now of 'Meyer', whom the book didn't have"
+    told = "to look at: the 2 animals of 'Meier' are now of 'Meyer', whom the book didn't have: is it the same owner?"
     done.shows(told, "  if the name is only written otherwise:")
     assert done.commands() == [f"{CALLED} import sheet.csv --preview --owner Meier=Meyer"]
     some = desk.write("some.csv", TITLES + PARENTS.replace("Meier", "Meyer", 1))
@@ -211,7 +211,7 @@ def test_owner_is_written_otherwise(desk: Desk) -> None:
     desk.take(renamed + third)
     desk.good("transfer", "c", "--to", "Meyer", "--day", "2010-01-01")
     done = desk.take(renamed.replace("Meyer", "Mayer") + third)
-    done.shows("to look at: the 2 animals of 'Meyer' are now of 'Mayer', whom the book didn't have")
+    done.shows("to look at: the 2 animals of 'Meyer' are now of 'Mayer', whom the book didn't have: is it the same owner?")
 
 
 def test_owners_that_are_alike(desk: Desk) -> None:

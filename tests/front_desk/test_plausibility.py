@@ -170,11 +170,11 @@ def test_old_animal_as_living(desk: Desk) -> None:
     rows = "old;F;1981-03-01;;;\n" + "".join(f"a{at};F;20{at:02}-03-01;;;\n" for at in range(15))
     done = desk.take(TITLES + rows)
     done.tells(
-        "line 2: old: to look at: born 1981-03-01, it counts as living, 25 years older than half of those that do "
-        "(2006): has it left?"
+        "line 2: old: to look at: born 1981-03-01, it counts as living; half of the living animals were born in 2006 or "
+        "later, 25 years after it: has it left?"
     )
     assert done.out.count("to look at") == 1
-    assert "25 years older" not in desk.take(TITLES + rows.partition("\n")[2]).out
+    assert "25 years after" not in desk.take(TITLES + rows.partition("\n")[2]).out
 
 
 def test_what_may_be_wrong_comes_first(desk: Desk) -> None:

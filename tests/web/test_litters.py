@@ -53,7 +53,7 @@ def test_filed(goat_site: Site, desk: Desk) -> None:
     ({"id-3": "DE 0100"}, "zwei Jungtiere haben die Ohrmarke DE 0100"),
     ({"sex-3": ""}, "das Geschlecht von X 9 fehlt"),
     ({"dam": "A2"}, "DE 0099: die Mutter ist nicht weiblich"),
-    ({"day": "2018-05-01"}, "die Mutter D1 hatte A1 61 Tage vorher, weniger als 100"),
+    ({"day": "2018-05-01"}, "die Mutter D1 hat A1 nur 61 Tage vorher geboren; unter 100 wird es gemeldet"),
     ({"owner": "Oakk"}, "ist „Oak“ gemeint?"),
     ({"name-3": "lea"}, "DE 0099 hat denselben Namen und Geburtstag"),
 ])  # fmt: skip

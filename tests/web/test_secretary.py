@@ -35,7 +35,7 @@ def test_secretary(chromium: webdriver.Chrome, desk: Desk, program: str) -> None
     screen.becomes_small()
     screen.opens("/litter?dam=A1&day=2021-04-01&id-0=DE 09&sex-0=F&sex-1=M&sex-2=M&dead-2=1")
     screen.leaves_by("//main//form//button[not(@name)]")
-    screen.sees("die Mutter A1 hatte B1 31 Tage vorher, weniger als 100")
+    screen.sees("die Mutter A1 hat B1 nur 31 Tage vorher geboren; unter 100 wird es gemeldet")
     assert screen.reads(FITS) and screen.reads("document.getElementById('dead-2').checked")
     screen.leaves_by("//main//form//button[@name='anyway']")
     screen.sees("Der Wurf ist gemeldet: Änderung 3.")

@@ -116,6 +116,8 @@ KNOWN_STAYS = {plain(word) for word in listed(STAYS)}
 KNOWN_EXITS = {plain(word) for word in listed(EXITS)}
 KNOWN_NEGATIONS = {plain(word) for word in listed(NEGATIONS)}
 KNOWN_BORN_DEAD = {plain(word) for word in listed(BORN_DEAD)}
+# how all of them begin: few lists have one
+BEGINS_BORN_DEAD = {word[:4].casefold() for word in listed(BORN_DEAD)}
 KNOWN_SUMS = {plain(word) for word in listed(SUMS)}
 
 

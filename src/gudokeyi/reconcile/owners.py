@@ -6,7 +6,7 @@ import difflib
 import re
 
 from gudokeyi.ingest.animals import SheetAnimal
-from gudokeyi.ingest.words import KNOWN_BORN_DEAD, TELLING_EXITS, has_word, plain
+from gudokeyi.ingest.words import BEGINS_BORN_DEAD, KNOWN_BORN_DEAD, TELLING_EXITS, has_word, plain
 from gudokeyi.reconcile.findings.animals import (
     OwnerMistyped, OwnerRenamed, OwnerRespelt, OwnersAlike, Spelling,
 )  # fmt: skip
@@ -99,8 +99,11 @@ def tell_doubtful_owners(next_book: NextBook, owners_before: set[str]) -> None:
 def tell_born_dead(next_book: NextBook) -> None:
     """New animals whose name says that they never lived."""
     named = [one for one in next_book.animals.values() if one.line and one.name and not one.left]
+    together = "\n".join({one.name for one in named}).casefold()
+    if not any(begin in together for begin in BEGINS_BORN_DEAD):
+        return
     likely = {name for name in {one.name for one in named} if has_word(name, KNOWN_BORN_DEAD)}
-    for animal in named if likely else ():
+    for animal in named:
         if animal.name in likely and animal.id not in next_book.book.society_records:
             next_book.report.add(animal.line, animal.id, BornDead(animal.name))
 

@@ -19,7 +19,7 @@ from gudokeyi.render.texts.sentences import SENTENCES
 from gudokeyi.services.facts import Fact
 
 # numbers that count nothing
-NO_COUNTS = ("line", "change", "place", "version", "known", "status", "number", "first", "last", "in")
+NO_COUNTS = ("line", "change", "place", "version", "known", "status", "number", "first", "last", "in", "median")
 # so many of several are told
 MOST_TOLD = 12
 # texts that may be a day, and those that say so where they are empty

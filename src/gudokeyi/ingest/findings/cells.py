@@ -147,7 +147,7 @@ class NoAnimal(RowLeftOut):
     severity = Severity.NONE
     code = "no animal"
     message = Text("the row is left out: a row with '{word}' is no animal, as --no-animal says")
-    page_message = Text("the row is left out: one with '{word}' is no animal, as was said")
+    page_message = Text("the row is left out: rows with '{word}' are no animals, as somebody said")
 
     def suggestions(self) -> tuple[Suggestion, ...]:
         return (Suggestion("if it is one", (is_animal(self.word),)),)

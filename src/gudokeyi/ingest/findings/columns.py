@@ -247,8 +247,8 @@ class IdsCountRows(SheetFinding):
     severity = Severity.ANIMALS
     code = "ids count rows"
     message = Text(
-        "the ids are read from '{title}', which counts the rows: sorted otherwise, another animal would have each "
-        "number"
+        "the ids are read from '{title}', which only counts the rows: in a list that is sorted otherwise each number would "
+        "be another animal's"
     )
 
     def suggestions(self) -> tuple[Suggestion, ...]:

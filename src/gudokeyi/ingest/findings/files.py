@@ -160,7 +160,7 @@ class WorksheetLacks(SheetFinding):
 
     code = "worksheet lacks"
     message = Text("{path} has no worksheet '{named}', which --worksheet names: it has {names}")
-    page_message = Text("there is no worksheet '{named}', but {worksheets}")
+    page_message = Text("there is no worksheet '{named}'; there are: {worksheets}")
 
     def values(self) -> Mapping[str, object]:
         return {"names": Quoted(self.worksheets)}

@@ -283,7 +283,7 @@ class SexWord(Told):
     word: TextCount
     whole: str
 
-    message = Text("{word} for '{whole}'")
+    message = Text("{word} as '{whole}'")
 
 
 @dataclass(frozen=True, slots=True)
@@ -291,4 +291,4 @@ class SexWordsShort(SheetFinding):
     taken: tuple[SexWord, ...]
 
     code = "sex words short"
-    message = Text("words for sexes are taken for longer ones of the same column: {taken}")
+    message = Text("words for sexes are read as others of the column: {taken}")

@@ -254,8 +254,8 @@ class OwnerRespelt(PlausibilityWarning):
 
     code = "owner respelt"
     message = Counted(
-        "the {animals} animal of '{before}' is now of '{now}', whom the book didn't have",
-        "the {animals} animals of '{before}' are now of '{now}', whom the book didn't have",
+        "the {animals} animal of '{before}' is now of '{now}', whom the book didn't have: is it the same owner?",
+        "the {animals} animals of '{before}' are now of '{now}', whom the book didn't have: is it the same owner?",
         "animals",
     )
 

@@ -181,7 +181,8 @@ class OldAsLiving(PlausibilityWarning):
 
     code = "old as living"
     message = Text(
-        "born {born}, it counts as living, {years} years older than half of those that do ({median}): has it left?"
+        "born {born}, it counts as living; half of the living animals were born in {median} or later, {years} years after "
+        "it: has it left?"
     )
 
 
@@ -194,8 +195,8 @@ class ManyOldAsLiving(PlausibilityWarning):
 
     code = "many old as living"
     message = Text(
-        "{animals} animals count as living that were born {years} years and more before half of the others that "
-        "do: does the column of exits lack theirs?"
+        "{animals} animals without an exit were born {years} years and more before half of the living ones: does the "
+        "column of exits lack theirs?"
     )
 
 
@@ -294,9 +295,9 @@ class MoreMayBeUnknown(PlausibilityWarning):
     severity = Severity.PARENTS
     code = "more may be unknown"
     message = Counted(
-        "{count} more parent without a row is no number, and of several animals: the report has all that were "
-        "added",
-        "{count} more parents without a row are no numbers, and of several animals: the report has all that were "
-        "added",
+        "{count} more parent without a row looks like a word and not like an id, and stands with several animals: the "
+        "report has all that were added",
+        "{count} more parents without a row look like words and not like ids, and stand with several animals: the report "
+        "has all that were added",
         "count",
     )
