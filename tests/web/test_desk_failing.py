@@ -3,6 +3,7 @@ on that isn't so."""
 from __future__ import annotations
 
 import contextlib
+import os
 import pathlib
 import shlex
 import signal
@@ -124,6 +125,27 @@ def test_disk_full(site: Site, monkeypatch: pytest.MonkeyPatch) -> None:
         assert SENTENCES[BookFault.NO_ROOM][1] in page
     assert site.post("/file/exit", id=DAM, day="2024-05-01").headers["Location"] == "/answer/2"
     Desk(site.desk.folder.parent, site.desk.program.path.as_posix()).good("verify")
+
+
+def test_disk_full_to_read(site: Site, monkeypatch: pytest.MonkeyPatch) -> None:
+    """On a disk without any room a book can't even be read, since SQLite has files beside it: each page says so, in a
+    language, and the next ones are as before once there is room."""
+
+    def fails(*_: object) -> sqlite3.Connection:
+        error = sqlite3.OperationalError("disk I/O error")
+        error.sqlite_errorcode = sqlite3.SQLITE_IOERR_SHMOPEN
+        raise error
+
+    free = os.statvfs(site.desk.folder)
+    with monkeypatch.context() as patched:
+        patched.setattr("gudokeyi.store.transactions.connect", fails)
+        unreadable = "the book's file can't be used: nothing is changed"
+        for room, told in (0, SENTENCES[BookFault.NO_ROOM][0]), (free.f_blocks, unreadable):
+            patched.setattr(os, "statvfs", lambda _, room=room: os.statvfs_result((*free[:4], room, *free[5:])))
+            for page in "/animals", "/history", "/settings":
+                answer = site.get(page)
+                assert answer.status_code == 400 and told in shown(answer.get_data(as_text=True))
+    assert site.get("/animals").status_code == 200
 
 
 def test_closed(site: Site) -> None:

@@ -12,9 +12,9 @@ from collections.abc import Iterator
 
 from gudokeyi.domain.messages import Mistake
 from gudokeyi.domain.people import AccountRole
-from gudokeyi.store.database import connect, primary, statements
+from gudokeyi.store.database import connect, is_full, primary, statements
 from gudokeyi.store.files import name_once
-from gudokeyi.store.messages import AccountFault
+from gudokeyi.store.messages import AccountFault, BookFault
 
 # what tells it from other databases: ACCT
 APPLICATION = 0x41434354
@@ -59,6 +59,8 @@ def opened(path: pathlib.Path) -> Iterator[sqlite3.Connection]:
     except sqlite3.Error as error:
         if primary(error) == sqlite3.SQLITE_BUSY:
             raise Mistake(AccountFault.BUSY.said()) from None
+        if is_full(path):
+            raise Mistake(BookFault.NO_ROOM.said(path=path)) from None
         raise Mistake(AccountFault.CANT_BE_USED.said(error=str(error))) from None
 
 

@@ -2,6 +2,7 @@
 wrong with it. Nothing is touched then."""
 from __future__ import annotations
 
+import contextlib
 import os
 import pathlib
 import sqlite3
@@ -20,6 +21,8 @@ ACCOUNTS = "accounts.sqlite"
 # so often something is tried of a file that others are changing
 TRIES = 200
 FULL = (sqlite3.SQLITE_FULL,)
+# so many bytes are needed beside a file before anything can be read
+LEAST_ROOM = 128 << 10
 DAMAGED = (sqlite3.SQLITE_CORRUPT, sqlite3.SQLITE_NOTADB)
 CLOSED = (sqlite3.SQLITE_CANTOPEN, sqlite3.SQLITE_READONLY, sqlite3.SQLITE_PERM)
 
@@ -126,11 +129,20 @@ def told(error: sqlite3.Error, path: pathlib.Path) -> Mistake:
     kind = primary(error)
     if kind in DAMAGED:
         return BookUnusable(BookFault.DAMAGED.said(path=path, error=error, called=CALLED))
-    if kind in FULL:
+    if kind in FULL or is_full(path):
         return BookUnusable(BookFault.NO_ROOM.said(path=path))
     if kind == sqlite3.SQLITE_BUSY:
         return busy() if is_short() else BookBusy(BookFault.BUSY.said(path=path, minutes=MOST_SECONDS // 60))
     return BookUnusable((BookFault.CLOSED if kind in CLOSED else BookFault.OTHER).said(path=path, error=error))
+
+
+def is_full(path: pathlib.Path) -> bool:
+    """Is there no room on the disk of a file? Of one SQLite tells only that it fails, where it can't even begin to
+    read: what it has beside a file needs room too."""
+    with contextlib.suppress(OSError):
+        disk = os.statvfs(path.parent)
+        return disk.f_bavail * disk.f_frsize < LEAST_ROOM
+    return False
 
 
 def busy() -> BookBusy:

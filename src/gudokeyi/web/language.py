@@ -22,8 +22,10 @@ NAMES_OF_LANGUAGES = {"en": "English", "de": "Deutsch", "fr": "Français"}
 
 
 def usual_language() -> str:
-    """That of the settings, else the one that the browser likes best."""
-    with served_book().opened() as book:
+    """That of the settings, else the one that the browser likes best, as where the book can't be read: the page that
+    says why has a language too."""
+    kept = ""
+    with contextlib.suppress(Mistake), served_book().opened() as book:
         kept = settings_of(book)[Setting.LANGUAGE] if book else ""
     # one of a country stands for the language: fr-CH is French
     asked = (asked.partition("-")[0].lower() for asked, quality in request.accept_languages if quality > 0)
