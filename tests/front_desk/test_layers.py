@@ -173,13 +173,13 @@ def lost(text: str) -> list[str]:
 
 
 def test_files_of_the_page() -> None:
-    """The part on the front desk names no file that isn't there, and each layer that there is."""
+    """The part on the front desk names no file that isn't there, and its picture each layer that there is."""
     page = (TOP / "docs" / "ARCHITECTURE.md").read_text(encoding="utf-8")
     part = page.partition("\n## The front desk\n")[2].partition("\n## ")[0]
     assert len([*files_named(part)]) > 20 and lost(part) == []
-    assert {name for layer in LAYERS for name in layer if (HERE / name / "__init__.py").exists()} <= {
-        *re.findall(r"\w+", part.split("```")[1])
-    }
+    (picture,) = re.findall(r"\((pictures/.*?)\)", part)
+    drawn = {*re.findall(r">(\w+)<", (TOP / "docs" / picture).read_text(encoding="utf-8"))}
+    assert {name for layer in LAYERS for name in layer if (HERE / name / "__init__.py").exists()} <= drawn
     assert lost("`services/book.py`, `nothing.py`; `locale/*/LC_MESSAGES/messages.po`") == ["services/nothing.py"]
 
 
