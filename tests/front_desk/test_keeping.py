@@ -25,7 +25,8 @@ ANNA = "X (HOLGBRF000000000003)"
 @pytest.fixture
 def goats(desk: Desk) -> Desk:
     (desk.room / "sheet.csv").write_text(SHEET, encoding="utf-8")
-    desk.good("import", "sheet.csv", "--own", "CAE=choice", "--own", "Weight=kg=number")
+    done = desk.good("import", "sheet.csv", "--own", "CAE=choice", "--own", "Weight=kg=number")
+    assert "; kept: 'CAE', 'Weight=kg'\n" in done.out
     return desk
 
 

@@ -41,14 +41,18 @@ class Understood:
     remembered: tuple[Option, ...]
     # the columns are those of the last sheet
     as_before: bool = False
+    # the titles of the society's own columns
+    kept: tuple[str, ...] = ()
 
     def lines(self) -> list[str]:
         read = ", ".join(f"{one.field} from '{one.title}'" for one in self.columns)
         columns = "columns as at the last time" if self.as_before else f"columns: {read}"
-        titles = some_of([f"'{title}'" for title in self.not_read], MOST_TITLES)
+        kept, titles = (
+            some_of([f"'{title}'" for title in some], MOST_TITLES) for some in (self.kept, self.not_read)
+        )
         lines = [
             f"{self.file}: {counted(self.rows, 'row')} below the titles in line {self.titles_line}, {self.how}",
-            columns + (f"; not read: {titles}" if titles else ""),
+            columns + (f"; kept: {kept}" if kept else "") + (f"; not read: {titles}" if titles else ""),
         ]
         if self.remembered:
             options = ", ".join(

@@ -25,7 +25,7 @@ from gudokeyi.reconcile.impossible_parents import leave_out_faulty_parents
 from gudokeyi.reconcile.limits import Limits
 from gudokeyi.reconcile.new_tags import call_anew
 from gudokeyi.reconcile.next_book import NextBook
-from gudokeyi.reconcile.own_sheet_columns import find_own_columns, take_own_values
+from gudokeyi.reconcile.own_sheet_columns import OwnSheetColumns, find_own_columns, take_own_values
 from gudokeyi.reconcile.outcome import BookAfter, ColumnRead, Outcome, Understood
 from gudokeyi.reconcile.owner_days import OwnerDays
 from gudokeyi.reconcile.owners import (
@@ -185,9 +185,9 @@ def import_sheet_into(
     call_as_now(read.animals, book, read.report)
     next_book = NextBook(book, read.animals, set(read.columns.found), read.report, read.rows.cells.days)
     complete(next_book, read.columns, import_options)
-    understood = understood_of(path, read, again(words, import_options), titles_before(book))
-    remember_columns(book, read.columns.titles_found())
     own = find_own_columns(book, read.columns, import_options.own)
+    understood = understood_of(path, read, again(words, import_options), titles_before(book), own)
+    remember_columns(book, read.columns.titles_found())
 
     def take_own() -> None:
         take_own_values(next_book, own, read.sheet, bool(words[Remembered.MONTH_FIRST]))
@@ -197,8 +197,11 @@ def import_sheet_into(
     return finish(next_book, program, import_options, source, about)
 
 
-def understood_of(path: pathlib.Path, read: ReadSheet, remembered: list[Option], before: dict[str, str]) -> Understood:
+def understood_of(
+    path: pathlib.Path, read: ReadSheet, remembered: list[Option], before: dict[str, str], own: OwnSheetColumns
+) -> Understood:
     sheet, columns = read.sheet, read.columns
+    kept = tuple(sheet.titles[at] for at in sorted(own.places.values()))
     titles = tuple(ColumnRead(Field(name), title) for name, title in columns.titles_found())
     return Understood(
         str(path),
@@ -206,7 +209,8 @@ def understood_of(path: pathlib.Path, read: ReadSheet, remembered: list[Option],
         sheet.line,
         sheet.how,
         titles,
-        columns.titles_not_read(),
+        tuple(title for title in columns.titles_not_read() if title not in kept),
         tuple(remembered),
         dict(columns.titles_found()) == before,
+        kept,
     )

@@ -130,8 +130,8 @@ def look(token: str) -> Answer:
         groups = groups_of(found.entries, words, found.totals, found.days)
     return render_template(
         "look.html", upload=upload, look=found, looked=mark_text(found.seen.mark), fields=list(Field),
-        options=SHEET_FIELDS,
-        given=upload.options, letters=LETTERS, own_kinds=kinds(page_language()),
+        options=SHEET_FIELDS, given=upload.options, letters=LETTERS, own_kinds=kinds(page_language()),
+        kept=kept_of(found),
         wrong={name: sentence_in(sentence, words) for name, sentence in wrong.items()},
         faults=[] if is_read else sentences, guards=sentences if is_read else [],
         groups=groups, has_choices=any(line.choices for group in groups for line in group.lines),
@@ -139,6 +139,12 @@ def look(token: str) -> Answer:
         drop_gone=dropped_by(found) if not upload.again else None,
         solutions=proposed(suggestions_of(found.obstacles), words),
     )  # fmt: skip
+
+
+def kept_of(look: Look) -> dict[str, str]:
+    """What the other columns are kept as that are kept, by their titles."""
+    called = dict(kinds(page_language()))
+    return {title: called[kind] for title, kind in (look.columns.others if look.columns else ()) if kind in called}
 
 
 def dropped_by(look: Look) -> Proposed | None:

@@ -8,9 +8,10 @@ from typing import NamedTuple
 
 from gudokeyi.domain.changes import Change, Option
 from gudokeyi.domain.findings import What
-from gudokeyi.domain.kinds import ChangeKind, Field
+from gudokeyi.domain.kinds import ChangeKind, ExitReason, Field
 from gudokeyi.domain.messages import Mistake
 from gudokeyi.domain.options import IMPORT
+from gudokeyi.domain.own_columns import OwnKind
 from gudokeyi.render.page_language import PageLanguage, name_of
 from gudokeyi.render.page_wording import MessageView, PageWording, sentence_of, word_of
 from gudokeyi.services.facts import Fact, Facts
@@ -156,6 +157,11 @@ def value_of(name: str, text: str, words: PageLanguage) -> str:
         return word_of(name, text.upper(), words)
     if name in ("sire", "dam") and is_unknown(text):
         return words.gettext("unknown")
+    title, _, kind = text.rpartition("=")
+    if name == "own" and kind in [*OwnKind]:
+        return f"{title} ({name_of(OwnKind(kind), words)})"
+    if name == "reason" and text in [*ExitReason]:
+        return name_of(ExitReason(text), words)
     return word_of(name, text, words)
 
 
