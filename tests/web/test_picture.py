@@ -6,6 +6,7 @@ import io
 import re
 import sqlite3
 import zlib
+from typing import Any
 
 import pytest
 from PIL import Image
@@ -32,7 +33,7 @@ def picture_of(width: int, height: int, kind: str, mode: str = "RGB") -> bytes:
         image.paste((250, 0, 0), (0, 0, width // 2, height // 2))
     exif[0x010F], exif[0x0112] = HIDDEN.decode(), TURNED if width < height else 1
     text.add_text("Author", HIDDEN.decode())
-    more = {"exif": exif, "comment": HIDDEN} if kind == "JPEG" else {"pnginfo": text}
+    more: dict[str, Any] = {"exif": exif, "comment": HIDDEN} if kind == "JPEG" else {"pnginfo": text}
     image.save(file, kind, icc_profile=HIDDEN, **more)
     return file.getvalue() + HIDDEN
 
@@ -57,7 +58,7 @@ def test_upright() -> None:
     assert (found.width, found.height) == (40, 30)
     with Image.open(io.BytesIO(found.file)) as image:
         # what was in the left corner above is in the right one
-        red = [image.getpixel(place)[0] > 200 for place in ((2, 2), (37, 2), (2, 27), (37, 27))]  # type: ignore[index]
+        red = [image.getpixel(place)[0] > 200 for place in ((2, 2), (37, 2), (2, 27), (37, 27))]
     assert red == [False, True, False, False]
 
 
