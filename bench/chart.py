@@ -11,9 +11,10 @@ of ten.
 
 from __future__ import annotations
 
+import argparse
 import math
+import pathlib
 import re
-import sys
 from collections.abc import Iterator
 from html import escape
 
@@ -120,11 +121,9 @@ def chart(least: Times) -> str:
 
 
 def main() -> None:
-    rounds = []
-    for path in sys.argv[1:]:
-        with open(path, encoding="utf-8") as file:
-            rounds.append(file.read())
-    print(chart(times(rounds)))
+    parser = argparse.ArgumentParser(description=__doc__, formatter_class=argparse.RawDescriptionHelpFormatter)
+    parser.add_argument("round", nargs="+", type=pathlib.Path, help="what bench.sh printed")
+    print(chart(times([path.read_text(encoding="utf-8") for path in parser.parse_args().round])))
 
 
 if __name__ == "__main__":

@@ -32,7 +32,7 @@ BENCH = TOP / "bench/README.md"
 # README is read in half a minute by who looks for what it is, why and how; all pages in an hour
 README_WORDS = 600
 ALL_WORDS = 12_900
-BENCH_WORDS = 2_000
+BENCH_WORDS = 1_900
 
 
 def words_of(page: pathlib.Path) -> int:
