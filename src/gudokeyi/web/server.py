@@ -8,6 +8,7 @@ import logging
 import os
 import pathlib
 import secrets
+import shlex
 import shutil
 import signal
 import socket
@@ -175,7 +176,8 @@ def serve(folder: pathlib.Path, program: BookSession, place: ListenAddress, name
     server_address(place, names, proxy)
     accounts = Accounts(folder)
     if not accounts.all():
-        raise Mistake(f"nobody has an account yet: make one for a keeper, as {CALLED} account NAME --role keeper")
+        make = f"{CALLED} account NAME --role keeper --book {shlex.quote(str(folder))}"
+        raise Mistake(f"nobody has an account yet: make one for a keeper, as {make}")
     with bound(place.address, place.port, "name another one by --listen") as listening:
         with served_book_of(folder, program, read_only=False, pause=PAUSE_FOR_SEVERAL) as served:
             address = server_address(replace(place, port=listening.getsockname()[1]), names, proxy)
