@@ -204,3 +204,13 @@ def test_languages(site: Site, language: str, at: int) -> None:
     offered = site.get(f"/search?words={DAM}").get_json() or []
     assert [one["born"] for one in offered] == ["21.11.2017" if at == 1 else "21/11/2017"]
     assert in_each("Refused.")[at] in shown(page) and in_each("it has left already")[at] in shown(page)
+
+
+def test_reason_of_exit(site: Site) -> None:
+    """Why an animal left is asked with its exit."""
+    form = {"id": "GK-17/472c", "day": "2024-05-01", "reason": "slaughtered"}
+    answer = site.post("/file/exit", **form)
+    assert answer.status_code == 302
+    change = site.page(answer.headers["Location"].replace("answer", "history"))
+    assert "reason of the exit: slaughtered" in shown(change)
+    assert "slaughtered" in shown(site.page("/year/2024"))

@@ -108,6 +108,12 @@ def test_pages(site: Site, society_desk: Desk) -> None:
     page = site.page(f"/animal/{NUMBER}/certificate")
     assert 'href="/settings/picture"' in page and page.count('<use href="#picture"/>') == 1
     assert "Rasse Bunte Edelziege" in words_of(page) and "Unterschrift" in words_of(page)
+    # what the society itself says of the breeder stands in place of what the book finds
+    assert words_of(page).count("Züchter") == 2
+    site.post("/own-columns", **{"title-new": "Züchter", "kind-new": "text", "certified-new": "1"})
+    site.post(f"/animal/{NUMBER}/own", **{"own-1": "Hof am Bach"})
+    page = site.page(f"/animal/{NUMBER}/certificate")
+    assert words_of(page).count("Züchter") == 1 and "Züchter Hof am Bach" in words_of(page)
     society_desk.good("certificate", "--living", "--out", "all.html")
     text = society_desk.text("all.html")
     assert text.count("data:image/png;base64,") == 1 and text.count('<use href="#picture"/>') == text.count("<main>") > 9
