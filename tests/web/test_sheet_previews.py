@@ -23,7 +23,7 @@ def test_row_of_a_total(empty_site: Site, total: str) -> None:
     assert "this row looks like a total" not in page
     assert "Rows of the sheet 13 of these left out 1 Animals with a row 12" in shown(page)
     assert "The book would have 12 animals." in shown(page)
-    assert "the row is left out: one with" in shown(part(page, "Left out"))
+    assert "the row is left out: rows with" in shown(part(page, "Left out"))
     site.take(address)
     with site.desk.opened() as book:
         assert book and len(book.society_records) == 12

@@ -99,7 +99,9 @@ def test_nothing_old(empty_site: Site, desk: Desk) -> None:
     assert "name: Else, before Eva" in press(site, address, unknown="zzzz")
 
 
-CHOICES = ({}, {"anyway": "1"}, {"unknown": "Chäspi"}, {"drop_gone": "1", "known": "Chäspi"}, {"month_first": "1"}, {})
+CHOICES: tuple[dict[str, str], ...] = (
+    {}, {"anyway": "1"}, {"unknown": "Chäspi"}, {"drop_gone": "1", "known": "Chäspi"}, {"month_first": "1"}, {},
+)  # fmt: skip
 
 
 @pytest.mark.parametrize("style", [GOATS, HORSES])

@@ -157,8 +157,9 @@ def read_columns(
     unknown = UnknownParents(words[Remembered.UNKNOWN], words[Remembered.KNOWN])
     ids = [animal.id for animal in book.society_records.values() if animal.standing.had_row()]
     before = {name: title for name, title in before.items() if name not in now}
-    found = last.columns_of if last else find_columns
-    return found(sheet, now, before, unknown, ids)
+    if last:
+        return last.columns_of(sheet, now, before, unknown, ids)
+    return find_columns(sheet, now, before, unknown, ids)
 
 
 def names_of_owners(book: Book) -> dict[str, str]:

@@ -6,7 +6,8 @@ from dataclasses import dataclass
 
 from gudokeyi.domain.findings import Finding, Severity, Suggestion, What, is_animal
 from gudokeyi.domain.kinds import Field
-from gudokeyi.domain.wording import AnyOf, Counted, OptionalPart, Text
+from gudokeyi.domain.messages import AnyOf
+from gudokeyi.domain.wording import Counted, OptionalPart, Text
 from gudokeyi.ingest.findings.cells import RowLeftOut
 from gudokeyi.ingest.findings.columns import SheetFinding, column
 
