@@ -1,5 +1,6 @@
 -- A field, and what stands behind its comma.
-use Rattle.std.proofs.Common.{◌≡◌, ◌∙◌, ℕ, List, [], ◌∷◌, ◌++◌, Option, Some, None, IfNone, refl, ap, sym, subst, append_assoc}
+use Rattle.std.proofs.Common.{◌≡◌, ◌∙◌, ℕ, List, [], ◌∷◌, ◌++◌, Option, Some, None, IfNone, refl, ap, sym, subst}
+use Rattle.std.proofs.Common.{append_assoc}
 use Rattle.std.proofs.lemmas.List.Elements.{All-head, All-tail}
 use Rattle.herd_record_line.specs.RecordLine.{HasField, HasNo, field_text}
 
@@ -7,26 +8,32 @@ pub field_joined : (before behind : List ℕ) → field_text before ++ behind �
 unfolding field_text
 field_joined before behind = append_assoc before (44 ∷ []) behind
 
--- a text has one first comma
-same_cut : (a b c d : List ℕ) → HasNo 44 a → HasNo 44 c → a ++ 44 ∷ b ≡ c ++ 44 ∷ d → (a ≡ c) × (b ≡ d)
-same_cut [] b [] d pa pc e = (refl, cc)
-same_cut [] b (y ∷ c) d pa pc e = let y_is : y ≡ 44 = cc in absurd (All-head (λ x. x ≡ 44 → ⊥) y c pc y_is)
-same_cut (x ∷ a) b [] d pa pc e = let x_is : x ≡ 44 = cc in absurd (All-head (λ z. z ≡ 44 → ⊥) x a pa x_is)
-same_cut (x ∷ a) b (y ∷ c) d pa pc e =
-    let rest : a ++ 44 ∷ b ≡ c ++ 44 ∷ d = cc in
+-- a text is cut in one way at the first of a character
+pub same_cut : (character : ℕ) (a b c d : List ℕ) → HasNo character a → HasNo character c
+    → a ++ character ∷ b ≡ c ++ character ∷ d
+    → (a ≡ c) × (b ≡ d)
+same_cut n [] b [] d pa pc e = (refl, cc)
+same_cut n [] b (y ∷ c) d pa pc e = let y_is : y ≡ n = cc in absurd (All-head (λ x. x ≡ n → ⊥) y c pc y_is)
+same_cut n (x ∷ a) b [] d pa pc e = let x_is : x ≡ n = cc in absurd (All-head (λ z. z ≡ n → ⊥) x a pa x_is)
+same_cut n (x ∷ a) b (y ∷ c) d pa pc e =
+    let rest : a ++ n ∷ b ≡ c ++ n ∷ d = cc in
     let first : x ≡ y = cc in
-    let same = same_cut a b c d (All-tail (λ z. z ≡ 44 → ⊥) x a pa) (All-tail (λ z. z ≡ 44 → ⊥) y c pc) rest in
+    let same = same_cut n a b c d (All-tail (λ z. z ≡ n → ⊥) x a pa) (All-tail (λ z. z ≡ n → ⊥) y c pc) rest in
     (ap (λ (l : List ℕ). x ∷ l) same.0 ∙ ap (λ (z : ℕ). z ∷ c) first, same.1)
 
 -- what is cut off is the field that the text has
-pub field_is : {F B : List ℕ → Type 0} (before behind text : List ℕ) → before ++ 44 ∷ behind ≡ text → HasNo 44 before → HasField F B text → F before
+pub field_is : {F B : List ℕ → Type 0} (before behind text : List ℕ) → before ++ 44 ∷ behind ≡ text
+    → HasNo 44 before → HasField F B text → F before
 field_is {F} {B} before behind text joined plain has =
-    let same = same_cut before behind has.field has.behind plain has.plain (joined ∙ sym (sym (field_joined has.field has.behind) ∙ has.joined)) in
+    let same = same_cut 44 before behind has.field has.behind plain has.plain (joined
+    ∙ sym (sym (field_joined has.field has.behind) ∙ has.joined)) in
     subst F (sym same.0) has.is_field
 
-pub behind_is : {F B : List ℕ → Type 0} (before behind text : List ℕ) → before ++ 44 ∷ behind ≡ text → HasNo 44 before → HasField F B text → B behind
+pub behind_is : {F B : List ℕ → Type 0} (before behind text : List ℕ) → before ++ 44 ∷ behind ≡ text
+    → HasNo 44 before → HasField F B text → B behind
 behind_is {F} {B} before behind text joined plain has =
-    let same = same_cut before behind has.field has.behind plain has.plain (joined ∙ sym (sym (field_joined has.field has.behind) ∙ has.joined)) in
+    let same = same_cut 44 before behind has.field has.behind plain has.plain (joined
+    ∙ sym (sym (field_joined has.field has.behind) ∙ has.joined)) in
     subst B (sym same.1) has.is_behind
 
 comma_in : (before behind : List ℕ) → HasNo 44 (before ++ 44 ∷ behind) → ⊥

@@ -1,2 +1,3 @@
 pub mod CutFacts
 pub mod ReadingFacts
+pub mod RecordFacts

@@ -1,9 +1,10 @@
 -- The record of an animal as a line.
 use Rattle.std.specs.Prelude.{◌≡◌, ℕ, ℤ, ◌≢◌, ◌⊎◌, Bool, true, false, List, [], ◌++◌, Option, Some, None, codes, decimal, not, ◌==◌}
 use Rattle.std.specs.List.{All, prefix_len}
+use Rattle.std.specs.Option.{ForSome}
 use Rattle.herd_animal.specs.AnimalNumber.{IsAnimalNumber}
-use Rattle.herd_animal.specs.Day.{IsDay, day_text}
-use Rattle.herd_animal.specs.Herd.{IsHerd}
+use Rattle.herd_animal.specs.Day.{IsDay, day_number, day_text}
+use Rattle.herd_animal.specs.Herd.{IsHerd, IsHerdNumber}
 use Rattle.herd_frozen.specs.declared.rules.animal.Animal.{Animal}
 
 -- an animal, or `0` where it is unknown
@@ -71,3 +72,18 @@ abbrev pub IsRecordText : List ℕ → Type 0
 IsRecordText text =
     HasField IsAnimalNumber (HasField IsDay (HasField IsKnownText (HasField IsKnownText
     (HasField IsHerd (HasField IsDay (HasField IsLeftText IsEmbryoText)))))) text
+
+-- the day has a text, from which it can be told
+pub record IsWrittenDay (day : ℤ) : Type 0 where
+  pub is_day : IsDay (day_text day)
+  pub same : day_number (day_text day) ≡ day
+
+-- each field of the number and the record has a text, from which it can be told
+pub record IsRecord (number : List ℕ) (animal : Animal) : Type 0 where
+  pub is_number : IsAnimalNumber number
+  pub birth : IsWrittenDay animal.birth
+  pub sire : ForSome animal.sire IsAnimalNumber
+  pub dam : ForSome animal.dam IsAnimalNumber
+  pub herd : IsHerdNumber animal.herd
+  pub since : IsWrittenDay animal.since
+  pub left : ForSome animal.left IsWrittenDay

@@ -1,7 +1,10 @@
 //! The record of an animal, as text.
 ghost use Rattle.std.specs.Prelude.{◌≡◌, ◌++◌, codes, decimal, OnOk};
+ghost use Rattle.std.specs.Option.{ForSome};
+ghost use Rattle.herd_animal.specs.AnimalNumber.{IsAnimalNumber};
+ghost use Rattle.herd_animal.specs.Herd.{IsHerdNumber};
 ghost use Rattle.herd_record_line.specs.RecordLine.{embryo_text, field_text, known_text, left_text, record_line};
-ghost use Rattle.herd_record_line.specs.RecordLine.{record_text};
+ghost use Rattle.herd_record_line.specs.RecordLine.{IsRecord, IsWrittenDay, record_text};
 
 use crate::field::{push_field, push_number_field};
 use herd_animal::{AnimalNumber, Day, Herd};
@@ -30,7 +33,8 @@ pub fn push_record<A: Allocator>(
     number: AnimalNumber,
     animal: &Animal,
 ) -> Result<(), AllocError>
-    ensures { OnOk result (text.new ≡ text.old ++ record_text number animal.now) }
+    ensures text { OnOk result (text.new ≡ text.old ++ record_text number animal.now) }
+    ensures told { OnOk result (IsRecord number animal.now) }
 {
     push_field(text, &number.bytes())?;
     push_field(text, &animal.birth.text())?;
@@ -46,7 +50,8 @@ fn push_parent<A: Allocator>(
     text: &mut Text<A>,
     parent: Option<AnimalNumber>,
 ) -> Result<(), AllocError>
-    ensures { OnOk result (text.new ≡ text.old ++ field_text (known_text parent)) }
+    ensures text { OnOk result (text.new ≡ text.old ++ field_text (known_text parent)) }
+    ensures told { OnOk result (ForSome parent IsAnimalNumber) }
 {
     match parent {
         Some(number) => push_field(text, &number.bytes()),
@@ -55,13 +60,15 @@ fn push_parent<A: Allocator>(
 }
 
 fn push_herd<A: Allocator>(text: &mut Text<A>, herd: Herd) -> Result<(), AllocError>
-    ensures { OnOk result (text.new ≡ text.old ++ field_text (decimal herd)) }
+    ensures text { OnOk result (text.new ≡ text.old ++ field_text (decimal herd)) }
+    ensures told { OnOk result (IsHerdNumber herd) }
 {
     push_number_field(text, u64::from(herd.number()))
 }
 
 fn push_left<A: Allocator>(text: &mut Text<A>, left: Option<Day>) -> Result<(), AllocError>
-    ensures { OnOk result (text.new ≡ text.old ++ field_text (left_text left)) }
+    ensures text { OnOk result (text.new ≡ text.old ++ field_text (left_text left)) }
+    ensures told { OnOk result (ForSome left IsWrittenDay) }
 {
     match left {
         Some(day) => push_field(text, &day.text()),
