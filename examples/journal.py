@@ -83,6 +83,12 @@ class Book:
             lines.append(self.line())
         return lines
 
+    def close(self):
+        """Ends the session, and reads its last line, so that it writes to nobody who has gone."""
+        self.process.stdin.close()
+        self.process.stdout.read()
+        self.process.wait()
+
 
 if __name__ == "__main__":
     book = Book(sys.argv[1])
@@ -92,3 +98,4 @@ if __name__ == "__main__":
         for line in book.file([request]) if is_command else book.ask(request):
             sys.stdout.buffer.write(line + b"\n")
         sys.stdout.buffer.flush()
+    book.close()
