@@ -7,11 +7,11 @@ use Rattle.herd_frozen.specs.declared.freezing.frozen.Row.{Row}
 use Rattle.herd_frozen.specs.freezing.Frozen.{IsFrozen, book_of, numbers_of}
 use Rattle.herd_frozen.specs.rules.Paths.{has_path}
 use Rattle.herd_frozen.specs.rules.ParentFault.{first_that_holds}
-use Rattle.herd_advice.specs.BookCoefficients.{AreBookRelationships}
 use Rattle.herd_advice.specs.declared.dam_matings.Dam.{Dam}
 use Rattle.herd_advice.specs.declared.mating_advice.Candidate.{Candidate}
 use Rattle.herd_advice.specs.declared.mating_advice.MatingFault.{MatingFault}
-use Rattle.herd_advice.specs.declared.mating_advice.MatingFault.TheVariants.{SireMissing, DamMissing, SireNotMale, DamNotFemale, TooDeep, Memory}
+use Rattle.herd_advice.specs.declared.mating_advice.MatingFault.TheVariants.{SireMissing, DamMissing, SireNotMale}
+use Rattle.herd_advice.specs.declared.mating_advice.MatingFault.TheVariants.{DamNotFemale, TooDeep, Memory}
 
 -- the animal is as deep as a book allows, so that a calf of it would be too deep
 abbrev pub is_deepest : ℕ → Book → List ℕ → Bool
@@ -60,6 +60,6 @@ candidates_fault sire dam =
     ((not sire.male, SireNotMale) ∷ (dam.male, DamNotFemale) ∷ (sire.deepest || dam.deepest, TooDeep) ∷ [])
 
 -- this is what is kept of a dam of a book
-pub record IsDam {A : Type 0} (l : ℕ) (rows : List Row) (number : List ℕ) (dam : Dam A) : Type 0 where
+pub record IsDam {F A : Type 0} (l : ℕ) (rows : List Row) (number : List ℕ) (dam : Dam F A) : Type 0 where
   pub candidate : IsCandidate l rows number dam.candidate
-  pub relationships : AreBookRelationships l rows dam.candidate.rank dam.relationships
+  pub relationships : dam.relationships ≡ record { rows = rows; rank = dam.candidate.rank }

@@ -7,11 +7,11 @@ ghost use Rattle.herd_advice.specs.FrozenAncestry.{book_ancestry};
 ghost use Rattle.herd_advice.specs.Mating.{mating_fault};
 ghost use Rattle.herd_kinship.specs.Table.{entry};
 
-use crate::book_relationships::relationships;
+use crate::book_relationships::Relationships;
 use crate::mating_advice::{Candidate, MatingFault, check};
 use herd_animal::AnimalNumber;
 use herd_frozen::Frozen;
-use herd_kinship::{Coefficients, Relationships};
+use herd_kinship::Coefficients;
 use std::alloc::{AllocError, Allocator};
 use std::marker::Model;
 
@@ -23,14 +23,14 @@ pub struct DamMatings<'a, F: Allocator, A: Allocator> {
     frozen: &'a Frozen<F>,
     number: AnimalNumber,
     // `None` where the dam isn't in the book.
-    dam: Option<Dam<A>>,
+    dam: Option<Dam<'a, F, A>>,
 }
 
 /// A dam as a book has it, and its relationships with all.
 #[derive(Drop)]
-pub(crate) struct Dam<A: Allocator> {
+pub(crate) struct Dam<'a, F: Allocator, A: Allocator> {
     candidate: Candidate,
-    relationships: Relationships<A>,
+    relationships: Relationships<'a, F, A>,
 }
 
 impl<'a, F: Allocator, A: Allocator> Model for DamMatings<'a, F, A> {
@@ -70,7 +70,7 @@ impl<'a, F: Allocator, A: Allocator + Clone> DamMatings<'a, F, A> {
                 dam: None,
             });
         };
-        let relationships = relationships(alloc, frozen, coefficients, candidate.rank)?;
+        let relationships = Relationships::of(alloc, frozen, coefficients, candidate.rank)?;
         Ok(DamMatings {
             frozen,
             number,

@@ -6,7 +6,7 @@
 //! |---|---|---|---|
 //! | the ancestry that a book tells | `FrozenAncestry` | | `BookFacts`, `BookPaths`, `FrozenFacts` |
 //! | coefficients | `BookCoefficients` | `book_coefficients`, `workers` | `FrozenFacts` |
-//! | relationships | `BookCoefficients` | `book_relationships` | `FrozenFacts` |
+//! | relationships | `BookCoefficients`, `BookRelationships` | `book_relationships` | `FrozenFacts` |
 //! | contributions | `BookContributions` | `book_contributions` | `ContributionFacts` |
 //! | mating advice | `Mating` | `mating_advice`, `dam_matings` | `MatingFacts` |
 //! | the laws | those of `herd_kinship` | `laws` | `FrozenFacts` |
@@ -22,11 +22,10 @@ mod workers;
 
 pub use book_coefficients::{coefficients_of, coefficients_plain, mendelian, trace};
 pub use book_contributions::contributions;
-pub use book_relationships::relationships;
+pub use book_relationships::Relationships;
 pub use dam_matings::DamMatings;
 pub use herd_kinship::{
-    Coefficients, Contribution, Contributions, Fraction, ONE, Relationships, fraction, hundredths,
-    inbred,
+    Coefficients, Contribution, Contributions, Fraction, ONE, fraction, hundredths, inbred,
 };
 pub use mating_advice::{MatingFault, mating};
 pub use workers::{coefficients, coefficients_by_sires};

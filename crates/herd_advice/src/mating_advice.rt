@@ -9,7 +9,7 @@ ghost use Rattle.herd_advice.specs.FrozenAncestry.{ancestry_of};
 ghost use Rattle.herd_advice.specs.Mating.{IsCandidate, candidates_fault, mating_fault, number_of_mating_fault};
 ghost use Rattle.herd_kinship.specs.Table.{entry};
 
-use crate::book_relationships::relationships;
+use crate::book_relationships::Relationships;
 use herd_animal::{AnimalNumber, Sex};
 use herd_frozen::{DEPTH_LIMIT, Frozen};
 use herd_kinship::Coefficients;
@@ -133,7 +133,7 @@ pub fn mating<F: Allocator, C: Allocator, A: Allocator + Clone>(
         return Err(MatingFault::DamMissing);
     };
     check(sire, dam)?;
-    match relationships(alloc, frozen, coefficients, dam.rank) {
+    match Relationships::of(alloc, frozen, coefficients, dam.rank) {
         Ok(dams) => Ok(dams.with(sire.rank) / 2),
         Err(AllocError) => Err(MatingFault::Memory),
     }

@@ -1,5 +1,6 @@
 -- The relationships of named animals as text: their entries in A, the numerator relationship matrix.
-use Rattle.std.specs.Prelude.{◌≡◌, ℕ, ◌*◌, ◌^◌, ◌==◌, Bool, false, if◌then◌else◌, List, [], ◌∷◌, ◌++◌, All, length, map, codes, slice_get, slice_index, Some}
+use Rattle.std.specs.Prelude.{◌≡◌, ℕ, ◌*◌, ◌^◌, ◌==◌, Bool, false, if◌then◌else◌, List, [], ◌∷◌, ◌++◌, All, length, map}
+use Rattle.std.specs.Prelude.{codes, slice_get, Some}
 use Rattle.std.specs.List.{filter, flat_map}
 use Rattle.herd_frozen.specs.declared.TheConstants.{DEPTH_LIMIT}
 use Rattle.herd_frozen.specs.declared.freezing.frozen.Row.{Row}
@@ -51,11 +52,6 @@ IsAsked rows asked = slice_get (numbers_of rows) asked.rank ≡ Some asked.numbe
 -- the numbers of animals
 abbrev pub names_of : List Asked → List (List ℕ)
 names_of asked = map (λ animal. animal.number) asked
-
--- the lines of an animal with others, as a column has them
-abbrev pub column_lines : List ℕ → List ℕ → List Asked → List ℕ
-column_lines column x partners =
-    flat_map (λ partner. relationship_line x partner.number (slice_index column partner.rank)) partners
 
 -- these are the animals of the book among some numbers
 pub record AreAsked (rows : List Row) (numbers : List (List ℕ)) (asked : List Asked) : Type 0 where

@@ -1,20 +1,20 @@
-ghost use Rattle.std.specs.Prelude.{◌≡◌, ◌++◌, ◌∷◌, [], ℕ, ◌<◌, All, IfErr, IfOk, List, OnErr, OnOk, length};
+ghost use Rattle.std.specs.Prelude.{◌≡◌, ◌++◌, ◌∷◌, [], ℕ, All, IfErr, IfOk, List, OnErr, OnOk};
 ghost use Rattle.std.specs.Io.KnownBytes.{Appends};
 ghost use Rattle.std.specs.List.{flat_map};
 ghost use Rattle.herd_frozen.specs.declared.TheConstants.{DEPTH_LIMIT};
 ghost use Rattle.herd_frozen.specs.freezing.Frozen.{book_of};
 ghost use Rattle.herd_advice.specs.BookCoefficients.{AreBookCoefficientsOf, KnowsBookAncestors};
+ghost use Rattle.herd_advice.specs.FrozenAncestry.{number_of_row};
 ghost use Rattle.herd_text.specs.Text.{EndsReport};
 ghost use Rattle.herd_report.specs.writing.RefusedText.{refused_line_end};
-ghost use Rattle.herd_report.specs.writing.RelationshipList.{AreAsked, IsAsked, absent_line, column_lines, lines_with};
-ghost use Rattle.herd_report.specs.writing.RelationshipList.{names_of};
+ghost use Rattle.herd_report.specs.writing.RelationshipList.{AreAsked, IsAsked, absent_line, lines_with, names_of};
 ghost use Rattle.herd_report.specs.writing.RelationshipList.{partners_of as partners_in, relationship_line};
 ghost use Rattle.herd_report.specs.writing.RelationshipList.{relationships_text};
 ghost use Rattle.herd_text.specs.Text.{AppendsFront, PassesOn};
 
 use crate::writing::inverse_list::with_comma;
 use crate::writing::refused_text::push_refused_line_end;
-use herd_advice::{Coefficients, Relationships, fraction, relationships};
+use herd_advice::{Coefficients, Relationships, fraction};
 use herd_animal::AnimalNumber;
 use herd_frozen::Frozen;
 use herd_text::{LastValue, ReportFault, Text};
@@ -138,24 +138,26 @@ fn write_lines<W: Write, T: Allocator, A: Allocator, F: Allocator, C: Allocator>
     if partners.is_empty() {
         return Ok(());
     }
-    let column = relationships(alloc, frozen, coefficients, first.rank)?;
-    write_column(text, first.number, &column, partners, writer)
+    let column = Relationships::of(alloc, frozen, coefficients, first.rank)?;
+    write_column(text, &column, partners, writer)
 }
 
 // Writes the lines of an animal with some others, as its column has them.
-fn write_column<W: Write, A: Allocator, C: Allocator>(
+fn write_column<W: Write, A: Allocator, F: Allocator, C: Allocator>(
     text: &mut Text<A>,
-    number: AnimalNumber,
-    column: &Relationships<C>,
+    column: &Relationships<F, C>,
     partners: &[Asked],
     writer: &mut W,
 ) -> Result<(), ReportFault>
-    requires { All (λ partner. partner.rank < length column.now) partners.now }
+    requires { All (IsAsked column.now.rows) partners.now }
     ensures ok { OnOk result (PassesOn (W.contents writer.old) (W.contents writer.new)
-        (text.old ++ column_lines column.now number partners.now) text.new) }
+        (text.old ++ lines_with (book_of column.now.rows) (number_of_row column.now.rows column.now.rank)
+        (names_of partners.now)) text.new) }
     ensures err { OnErr result (AppendsFront (W.contents writer.old) (W.contents writer.new)
-        (text.old ++ column_lines column.now number partners.now)) }
+        (text.old ++ lines_with (book_of column.now.rows) (number_of_row column.now.rows column.now.rank)
+        (names_of partners.now))) }
 {
+    let number = column.number();
     for partner in partners {
         text.pass_on(writer)?;
         push_relationship(text, number, partner.number, column.with(partner.rank))?;
