@@ -12,7 +12,7 @@ use Rattle.herd_kinship.specs.Coefficients.{coefficient_at}
 use Rattle.herd_record_line.specs.RecordLine.{field_text}
 use Rattle.herd_text.specs.CoefficientText.{coefficient_text}
 use Rattle.herd_seal.specs.CertificateText.{certificate_text, row_line}
-use Rattle.herd_seal.specs.CheckFaults.{Parts}
+use Rattle.herd_seal.specs.Reading.{Parts}
 use Rattle.herd_seal.specs.Seal.{rows_of, seal_of}
 use Rattle.herd_seal.specs.declared.certificate.CertifiedRow.{CertifiedRow}
 use Rattle.herd_seal.specs.declared.certificate.Claim.{Claim}

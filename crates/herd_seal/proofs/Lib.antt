@@ -5,3 +5,4 @@ mod TextFacts
 mod AnswerFacts
 mod FaultFacts
 mod PartsFacts
+pub mod ReadingFacts

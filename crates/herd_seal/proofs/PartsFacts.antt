@@ -10,7 +10,8 @@ use Rattle.herd_kinship.specs.Coefficients.{coefficient_at}
 use Rattle.herd_text.specs.CoefficientText.{coefficient_text}
 use Rattle.herd_seal.specs.Certificate.{AreAncestors, AreLinked, DoAscend, IsAnimalAt, IsClosed, leaves_of}
 use Rattle.herd_seal.specs.CheckCause.{no_memory}
-use Rattle.herd_seal.specs.CheckFaults.{HasNoAnimal, HasParentFault, IsFirstStranger, IsOutOfOrder, IsPartsFault, Parts, at_row, at_whole, found_by}
+use Rattle.herd_seal.specs.CheckFaults.{HasNoAnimal, HasParentFault, IsFirstStranger, IsOutOfOrder, IsPartsFault, at_row, at_whole, found_by}
+use Rattle.herd_seal.specs.Reading.{Parts}
 use Rattle.herd_seal.specs.Seal.{seal_over}
 use Rattle.herd_seal.specs.declared.certificate.CertifiedRow.{CertifiedRow}
 use Rattle.herd_seal.specs.declared.check_fault.CheckCause.{CheckCause}

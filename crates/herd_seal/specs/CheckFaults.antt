@@ -15,10 +15,9 @@ use Rattle.herd_kinship.specs.Ranks.{ranked}
 use Rattle.herd_pruned.specs.Marked.{ComesFrom}
 use Rattle.herd_text.specs.CoefficientText.{coefficient_text}
 use Rattle.herd_seal.specs.Certificate.{AreLinked, DoAscend, IsAnimalAt, IsBehind, IsClosed, IsLink, leaves_of}
-use Rattle.herd_seal.specs.CertificateText.{certificate_text}
 use Rattle.herd_seal.specs.CheckCause.{no_memory}
+use Rattle.herd_seal.specs.Reading.{HasLine, IsHeaderText, IsNoDigestBehind, IsNoRowText, IsTextOf, IsUnreadBehind, Parts}
 use Rattle.herd_seal.specs.Seal.{seal_over}
-use Rattle.herd_seal.specs.declared.certificate.Certificate.{Certificate}
 use Rattle.herd_seal.specs.declared.certificate.CertifiedRow.{CertifiedRow}
 use Rattle.herd_seal.specs.declared.certificate.Claim.{Claim}
 use Rattle.herd_seal.specs.declared.check_fault.CheckCause.{CheckCause}
@@ -121,23 +120,6 @@ pub record IsOfOthers (rows : List CertifiedRow) (claim : Claim) (at : ℕ) : Ty
   pub animal : IsAnimalAt rows rank claim
   pub stranger : IsFirstStranger lineage rank at
 
--- a certificate as it was read
-pub record Parts : Type 0 where
-  pub seal : List ℕ
-  pub claim : Claim
-  pub coefficient : List ℕ
-  pub rows : List CertifiedRow
-  pub digests : List (List ℕ)
-
-abbrev pub parts_of : {A : Type 0} → Certificate A → Parts
-parts_of certificate = record {
-  seal = certificate.seal;
-  claim = certificate.claim;
-  coefficient = certificate.coefficient.now;
-  rows = certificate.rows.items;
-  digests = certificate.digests.items;
-}
-
 -- the root that the rows and digests give, and the digests that are left
 abbrev pub found_by : Parts → Option Found
 found_by c = found c.claim.animals (leaves_of c.rows) c.digests
@@ -186,14 +168,17 @@ IsPartsFault seal c Coefficient line = (line ≡ 1) × HasWrongCoefficient seal 
 IsPartsFault seal c Header line = ⊥
 IsPartsFault seal c Read line = ⊥
 
--- the text is that of a certificate with these parts
-abbrev pub IsTextOf : Parts → List ℕ → Type 0
-IsTextOf c text = certificate_text c.seal c.claim c.coefficient c.rows c.digests ≡ text
-
--- a text isn't read as a certificate: at its first line, or at another
-abbrev pub IsUnread : CheckFault → Type 0
-IsUnread fault = (fault ≡ no_memory) ⊎ (fault ≡ at_whole Header) ⊎ (fault.cause ≡ Row) ⊎ (fault.cause ≡ Digests)
+-- the text isn't read as a certificate: the first line isn't a header; or behind a header and some rows stands a line with
+-- a comma that isn't a row; or behind these and some digests something is left that doesn't begin with a digest's line,
+-- nor, where there are no digests, with a line that has a comma. There is no memory, or the first of these is told.
+abbrev pub IsUnread : List ℕ → CheckFault → Type 0
+IsUnread text fault =
+    (fault ≡ no_memory)
+    ⊎ ((fault ≡ at_whole Header) × ¬ (HasLine IsHeaderText text))
+    ⊎ ((rows : List CertifiedRow) × (fault ≡ at_row Row (length rows)) × IsUnreadBehind text rows [] (HasLine IsNoRowText))
+    ⊎ ((rows : List CertifiedRow) × (digests : List (List ℕ)) × (fault ≡ at_row Digests (length rows + length digests))
+    × IsUnreadBehind text rows digests (IsNoDigestBehind digests))
 
 -- why a text is refused under a seal: it isn't read, or is that of a certificate of which this is wrong
 abbrev pub IsFault : List ℕ → List ℕ → CheckFault → Type 0
-IsFault seal text fault = IsUnread fault ⊎ ((c : Parts) × IsTextOf c text × IsPartsFault seal c fault.cause fault.line)
+IsFault seal text fault = IsUnread text fault ⊎ ((c : Parts) × IsTextOf c text × IsPartsFault seal c fault.cause fault.line)

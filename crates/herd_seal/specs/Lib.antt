@@ -4,3 +4,4 @@ pub mod CertificateText
 pub mod CheckCause
 pub mod Answer
 pub mod CheckFaults
+pub mod Reading

@@ -12,7 +12,8 @@ ghost use Rattle.herd_seal.specs.CertificateText.{certificate_text};
 ghost use Rattle.herd_seal.specs.Certificate.{leaf_of, leaves_of, row_bytes};
 ghost use Rattle.herd_seal.specs.CheckCause.{no_memory};
 ghost use Rattle.herd_seal.specs.CheckFaults.{HasNoAnimal, HasParentFault, IsFirstStranger, IsLacking, IsMisnamed};
-ghost use Rattle.herd_seal.specs.CheckFaults.{IsFault, IsOutOfOrder, IsPartsFault, at_row, at_whole, parts_of};
+ghost use Rattle.herd_seal.specs.CheckFaults.{IsFault, IsOutOfOrder, IsPartsFault, at_row, at_whole};
+ghost use Rattle.herd_seal.specs.Reading.{IsTextOf, parts_of};
 
 use crate::certificate::{Certificate, CertifiedRow, Claim};
 use crate::check_fault::{CheckCause, CheckFault};
@@ -28,8 +29,8 @@ use std::alloc::{AllocError, Allocator};
 
 /// Checks the text of a certificate under a seal. That it is done says of all rows and steps with this seal, lawful or
 /// not, that the claim, each row and the coefficient are theirs, or a collision of SHA-256 is at hand. The coefficient
-/// is computed last. A text that is read as a certificate is refused by the first fault that it has, which `IsFault`
-/// says cause by cause. Of a text that isn't read as one nothing is said but the cause: tests show the line.
+/// is computed last. A text is refused by the first fault that it has, which `IsFault` says cause by cause, with its line:
+/// of a text that isn't read as a certificate (`IsUnread`), and of one that is.
 pub fn check_certificate<'a, A: Allocator + Clone>(
     alloc: A,
     seal: &[u8; 32],
@@ -37,6 +38,7 @@ pub fn check_certificate<'a, A: Allocator + Clone>(
 ) -> Result<Certificate<'a, A>, CheckFault>
     ensures text { IfOk result (λ c. certificate_text seal.now c.claim c.coefficient.now c.rows.items c.digests.items
         ≡ text.now) }
+    ensures read { IfOk result (λ c. IsTextOf (parts_of c) text.now) }
     ensures sound { IfOk result (λ c. IsSealed seal.now c.claim c.rows.items c.coefficient.now c.digests.items) }
     ensures fault { IfErr result (λ fault. IsFault seal.now text.now fault) }
 {

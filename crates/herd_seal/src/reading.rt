@@ -1,9 +1,15 @@
 //! The certificate that a text is.
-ghost use Rattle.std.specs.Prelude.{◌≡◌, ◌<◌, ◌++◌, [], codes, length, All, IfErr, IfOk, IfSome, OnOk, OnSome};
+ghost use Rattle.std.specs.Prelude.{◌≡◌, ◌≢◌, ◌⊎◌, ◌+◌, ◌<◌, ◌≤◌, ◌^◌, ◌++◌, ℕ, List, [], codes, length, All};
+ghost use Rattle.std.specs.Prelude.{IfErr, IfNone, IfOk, IfSome, OnOk, OnSome};
 ghost use Rattle.std.specs.List.{flat_map};
 ghost use Rattle.merkle_tree.specs.Tree.{IsDigest};
-ghost use Rattle.herd_seal.specs.CertificateText.{certificate_text, digest_line, header_line, row_line};
-ghost use Rattle.herd_seal.specs.CheckFaults.{IsUnread};
+ghost use Rattle.herd_record_line.specs.RecordLine.{HasNo};
+ghost use Rattle.herd_seal.specs.CertificateText.{digest_line, header_line, row_line};
+ghost use Rattle.herd_seal.specs.CheckCause.{no_memory};
+ghost use Rattle.herd_seal.specs.CheckFaults.{IsUnread, at_row};
+ghost use Rattle.herd_seal.specs.Reading.{HasComma, HasLine, IsDigestText, IsHeaderText, IsKindText, IsNoRowText};
+ghost use Rattle.herd_seal.specs.Reading.{IsRowText, IsTextOf, IsWrittenHeader, IsWrittenRow, parts_of};
+ghost use Rattle.herd_seal.specs.declared.certificate.CertifiedRow.{CertifiedRow};
 
 use crate::certificate::{Certificate, CertifiedRow, Claim};
 use crate::check_fault::{CheckCause, CheckFault};
@@ -24,10 +30,9 @@ pub fn read_certificate<'a, A: Allocator + Clone>(
     alloc: A,
     text: &'a [u8],
 ) -> Result<Certificate<'a, A>, CheckFault>
-    ensures text { IfOk result (λ c. certificate_text c.seal c.claim c.coefficient.now c.rows.items c.digests.items
-        ≡ text.now) }
+    ensures text { IfOk result (λ c. IsTextOf (parts_of c) text.now) }
     ensures digests { IfOk result (λ c. All IsDigest c.digests.items) }
-    ensures fault { IfErr result IsUnread }
+    ensures fault { IfErr result (IsUnread text.now) }
 {
     let Some((header, body)) = next_line(text) else {
         return Err(CheckCause::Header.at(1));
@@ -52,13 +57,19 @@ pub fn read_certificate<'a, A: Allocator + Clone>(
 fn next_line(text: &[u8]) -> Option<(&[u8], &[u8])>
     ensures joined { IfSome result (λ parts. parts.0.now ++ codes "\n" ++ parts.1.now ≡ text.now) }
     ensures shorter { IfSome result (λ parts. length parts.1.now < length text.now) }
+    ensures plain { IfSome result (λ parts. HasNo 10 parts.0.now) }
+    ensures none { IfNone result (HasNo 10 text.now) }
 {
     cut(text, b'\n')
 }
 
 // The header that a line is.
 fn read_header(line: &[u8]) -> Option<Header<'_>>
-    ensures { IfSome result (λ h. header_line h.seal h.claim h.coefficient.now ≡ line.now ++ codes "\n") }
+    requires { HasNo 10 line.now }
+    ensures line { IfSome result (λ h. header_line h.seal h.claim h.coefficient.now ≡ line.now ++ codes "\n") }
+    ensures written { IfSome result (λ h. IsWrittenHeader h.seal h.claim h.coefficient.now) }
+    ensures text { OnSome result (IsHeaderText line.now) }
+    ensures none { IfNone result (¬ (IsHeaderText line.now)) }
 {
     let (kind, rest) = cut(line, b',')?;
     let (seal, rest) = cut(rest, b',')?;
@@ -82,7 +93,8 @@ fn read_header(line: &[u8]) -> Option<Header<'_>>
 
 // There is none where a text isn't the word that a certificate begins with.
 fn read_kind(text: &[u8]) -> Option<()>
-    ensures { OnSome result (codes "herdbook-certificate-1" ≡ text.now) }
+    ensures some { OnSome result (IsKindText text.now) }
+    ensures none { IfNone result (¬ (IsKindText text.now)) }
 {
     if text == b"herdbook-certificate-1".as_slice() {
         Some(())
@@ -98,7 +110,12 @@ fn read_rows<'a, A: Allocator>(
 ) -> Result<&'a [u8], CheckFault>
     requires { rows.old.items ≡ [] }
     ensures rows { IfOk result (λ rest. flat_map row_line rows.new.items ++ rest.now ≡ text.now) }
-    ensures fault { IfErr result IsUnread }
+    ensures written { OnOk result (All IsWrittenRow rows.new.items) }
+    ensures end { IfOk result (λ rest. ¬ (HasLine HasComma rest.now)) }
+    ensures few { IfOk result (λ rest. length rows.new.items + length rest.now ≤ length text.now) }
+    ensures fault { IfErr result (λ fault. (fault ≡ no_memory) ⊎ ((read : List CertifiedRow) × (rest : List ℕ)
+        × (fault ≡ at_row CheckCause.Row (length read)) × All IsWrittenRow read
+        × (flat_map row_line read ++ rest ≡ text.now) × HasLine IsNoRowText rest)) }
 {
     let mut rest = text;
     while let Some((line, behind)) = next_row(rest) {
@@ -115,6 +132,9 @@ fn read_rows<'a, A: Allocator>(
 fn next_row(text: &[u8]) -> Option<(&[u8], &[u8])>
     ensures joined { IfSome result (λ parts. parts.0.now ++ codes "\n" ++ parts.1.now ≡ text.now) }
     ensures shorter { IfSome result (λ parts. length parts.1.now < length text.now) }
+    ensures plain { IfSome result (λ parts. HasNo 10 parts.0.now) }
+    ensures comma { IfSome result (λ parts. HasComma parts.0.now) }
+    ensures none { IfNone result (¬ (HasLine HasComma text.now)) }
 {
     let (line, behind) = next_line(text)?;
     if line.contains(&b',') {
@@ -126,7 +146,9 @@ fn next_row(text: &[u8]) -> Option<(&[u8], &[u8])>
 
 // The row that a line is.
 fn read_row(line: &[u8]) -> Option<CertifiedRow>
-    ensures { IfSome result (λ row. row_line row ≡ line.now ++ codes "\n") }
+    ensures line { IfSome result (λ row. row_line row ≡ line.now ++ codes "\n") }
+    ensures written { IfSome result IsWrittenRow }
+    ensures none { IfNone result (¬ (IsRowText line.now)) }
 {
     let (place, rest) = cut(line, b',')?;
     let (sire, rest) = cut(rest, b',')?;
@@ -145,19 +167,21 @@ fn read_digests<A: Allocator>(
     text: &[u8],
     rows: usize,
 ) -> Result<(), CheckFault>
-    requires { digests.old.items ≡ [] }
+    requires none { digests.old.items ≡ [] }
+    requires few { rows + length text.now < 2 ^ 63 }
     ensures text { OnOk result (flat_map digest_line digests.new.items ≡ text.now) }
     ensures digests { OnOk result (All IsDigest digests.new.items) }
-    ensures fault { IfErr result IsUnread }
+    ensures fault { IfErr result (λ fault. (fault ≡ no_memory) ⊎ ((read : List (List ℕ)) × (rest : List ℕ)
+        × (fault ≡ at_row CheckCause.Digests (rows + length read)) × All IsDigest read
+        × (flat_map digest_line read ++ rest ≡ text.now) × (rest ≢ []) × ¬ (HasLine IsDigestText rest))) }
 {
     let mut rest = text;
     while !rest.is_empty() {
-        let line_number = rows.saturating_add(digests.len()).saturating_add(2);
         let Some((line, behind)) = next_line(rest) else {
-            return Err(CheckCause::Digests.at(line_number));
+            return Err(CheckCause::Digests.at_row(rows.saturating_add(digests.len())));
         };
         let Some(digest) = read_digest(line) else {
-            return Err(CheckCause::Digests.at(line_number));
+            return Err(CheckCause::Digests.at_row(rows.saturating_add(digests.len())));
         };
         digests.push(digest)?;
         rest = behind;

@@ -7,7 +7,7 @@ use Rattle.merkle_tree.specs.Tree.{IsDigest}
 use Rattle.merkle_tree.specs.declared.shown.Part.{Part}
 use Rattle.herd_text.proofs.lemmas.Exits.{if_err}
 use Rattle.herd_seal.specs.Certificate.{IsSealed}
-use Rattle.herd_seal.specs.CheckFaults.{parts_of}
+use Rattle.herd_seal.specs.Reading.{parts_of}
 use Rattle.herd_seal.specs.Seal.{seal_over}
 use Rattle.herd_seal.specs.declared.certificate.CertifiedRow.{CertifiedRow}
 use Rattle.herd_seal.proofs.PartsFacts.{found_same, of_coefficient, of_few_digests, of_many, of_many_digests, of_number, of_order, of_others, of_parents, of_seal, with_rows, wrong_seal}
