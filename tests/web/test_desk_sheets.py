@@ -34,7 +34,7 @@ def test_first_sheet(empty_site: Site, program: str, tmp_path: pathlib.Path) -> 
     assert "Left out 2" in look and "Added as parents 2" in look
     # births that are near one another are one line, which says whether something need be done
     assert "22 births came less than 100 days after the same dam's one before, from 8 to 95 days." in look
-    assert look.index("May be wrong 1") < look.index("Left out 2") < look.index("Inferred 4")
+    assert look.index("May be wrong 2") < look.index("Left out 2") < look.index("Inferred 4")
     assert "276 GK-12/351b its sire GK-12/341c (line 148) is left out: it isn't male (refusal 5)" in look
     assert not site.desk.folder.exists()
     page = site.take(address)
