@@ -38,6 +38,8 @@ from gudokeyi.services.accounts import Accounts  # noqa: E402
 
 WORD = "a word of the benchmark"
 MOST_SECONDS, MOST_BYTES = 3, 1_500_000_000
+# so long a connection is kept by which nothing is asked
+SECONDS_IDLE = 4
 TOKEN = re.compile(r'name="csrf_token" value="([^"]+)"')
 FORM = re.compile(r'name="form" value="([^"]+)"')
 LOOKED = re.compile(r'name="(looked|reading)" value="([^"]+)"')
@@ -138,6 +140,7 @@ class Person:
     def __init__(self, bench: Bench, name: str) -> None:
         self.bench, self.name, self.cookie, self.token = bench, name, "", ""
         self.connection = http.client.HTTPConnection("127.0.0.1", bench.port, timeout=300)
+        self.used = time.monotonic()
         self.get("/login", "login")
         self.post("/login", "login", name=name, password=WORD)
         self.get("/password", "login")
@@ -145,10 +148,14 @@ class Person:
     def ask(self, method: str, path: str, kind: str, body: bytes | None = None, **more: str) -> tuple[int, str, str]:
         headers = {"Host": f"127.0.0.1:{self.bench.port}", "Cookie": self.cookie} | more
         began = time.monotonic()
+        # as a browser does: the server may have ended a connection by which nothing was asked
+        if began - self.used > SECONDS_IDLE:
+            self.connection.close()
         self.connection.request(method, path, body, headers)
         answer = self.connection.getresponse()
         page = answer.read().decode("utf-8", "replace")
-        took = time.monotonic() - began
+        self.used = time.monotonic()
+        took = self.used - began
         for cookie in answer.headers.get_all("Set-Cookie") or []:
             self.cookie = cookie.partition(";")[0]
         found = TOKEN.search(page)

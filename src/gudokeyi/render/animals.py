@@ -8,9 +8,8 @@ from gudokeyi.domain.kinds import Role, Standing
 from gudokeyi.domain.messages import counted
 from gudokeyi.reconcile.owner_day_known import owner_day_known
 from gudokeyi.render.history import told_of_animal
-from gudokeyi.services.animals import Relatives, relatives_of
+from gudokeyi.services.animals import Relatives, breeders_of, relatives_of
 from gudokeyi.services.lists import exit_of
-from gudokeyi.services.members import breeders_of
 from gudokeyi.services.notes import notes_of
 from gudokeyi.services.own_columns import values_of
 from gudokeyi.store.animal_rows import AnimalRow, society_record_of

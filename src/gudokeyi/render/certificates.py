@@ -17,8 +17,8 @@ from gudokeyi.render.languages import MARKS, Language, Mark, mark_of
 from gudokeyi.render.own_values import own_said
 from gudokeyi.render.pedigree_boxes import COMMON_NOTE, common_ancestors, letters_named
 from gudokeyi.render.seals import seal_view
+from gudokeyi.services.animals import breeders_of
 from gudokeyi.services.certificates import GENERATIONS, MOST_GENERATIONS, Certified, coefficient_in
-from gudokeyi.services.members import breeders_of
 from gudokeyi.services.own_columns import certified_values
 from gudokeyi.services.seals import LastSealed
 from gudokeyi.services.settings import letters_said, settings_of

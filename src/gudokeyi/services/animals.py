@@ -1,11 +1,14 @@
-"""An animal's parents, offspring and sibs."""
+"""An animal's parents, offspring and sibs, and who bred it."""
 from __future__ import annotations
 
-from collections.abc import Sequence
+import datetime
+import functools
+from collections.abc import Iterable, Sequence
 from dataclasses import dataclass
 
 from gudokeyi.domain.animals import LETTERS, SocietyRecord
 from gudokeyi.domain.kinds import Role
+from gudokeyi.reconcile.rewriting import Life, lives_of
 from gudokeyi.store.animal_rows import (
     SEX_SOURCES as SEX_SOURCES, AnimalRow as AnimalRow, society_record_of as society_record_of,
 )  # fmt: skip
@@ -15,7 +18,7 @@ from gudokeyi.store.coefficients import (
 )  # fmt: skip
 from gudokeyi.store.conditions import offspring_of, with_digits
 from gudokeyi.store.former_ids import former_ids_of
-
+from gudokeyi.store.journal import commands_of
 
 
 @dataclass(frozen=True)
@@ -65,3 +68,25 @@ def by_partner(offspring: Sequence[AnimalRow], role: Role) -> dict[str, list[Ani
         partner = row.dam if role is Role.SIRE else row.sire
         found.setdefault(partner or "", []).append(row)
     return found
+
+
+# Who bred an animal: who had its dam when it was born.
+
+
+def breeders_of(book: Book, numbers: Iterable[str]) -> dict[str, str]:
+    """Who had the dam of each of these animals on the day of its birth, by the animals' numbers; empty where the dam
+    or that isn't known."""
+    records = {number: book.records[number] for number in numbers}
+    dams = {record.dam for record in records.values() if record.dam}
+    lives = lives_of(commands_of(book.connection, book.journal, dams)) if dams else {}
+    found = dict.fromkeys(records, "")
+    for number, record in records.items():
+        if record.dam:
+            found[number] = book.owner_of(owner_on(lives[record.dam], record.born))
+    return found
+
+
+def owner_on(life: Life, day: datetime.date) -> int:
+    """The code of who had an animal on a day."""
+    given = (one for one in life.transfers if one.day <= day.isoformat())
+    return int(functools.reduce(lambda _, one: one.to_owner, given, life.birth.to_owner))

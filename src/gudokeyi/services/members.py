@@ -1,10 +1,6 @@
-"""Owners as records: their names, addresses and member numbers, written, merged and erased as changes of their own; and
-the breeders of animals."""
+"""Owners as records: their names, addresses and member numbers, written, merged and erased as changes of their own."""
 from __future__ import annotations
 
-import datetime
-import functools
-from collections.abc import Iterable
 from dataclasses import replace
 from typing import NamedTuple
 
@@ -32,7 +28,7 @@ from gudokeyi.services.writing import end, write, write_unended
 from gudokeyi.store import members as store
 from gudokeyi.store.animal_rows import row_of
 from gudokeyi.store.book import Book
-from gudokeyi.store.journal import Filed, accepted_commands, commands_of
+from gudokeyi.store.journal import Filed, accepted_commands
 from gudokeyi.store.state import MEMBERS, Rows, State, Values, rows_with_id
 
 
@@ -82,25 +78,6 @@ def members_table(book: Book) -> Table:
         for one, animals, living in member_lines(book)
     ]
     return Table.of_rows(columns, lines)
-
-
-def breeders_of(book: Book, numbers: Iterable[str]) -> dict[str, str]:
-    """Who had the dam of each of these animals on the day of its birth, by the animals' numbers; empty where the dam
-    or that isn't known."""
-    records = {number: book.records[number] for number in numbers}
-    dams = {record.dam for record in records.values() if record.dam}
-    lives = lives_of(commands_of(book.connection, book.journal, dams)) if dams else {}
-    found = dict.fromkeys(records, "")
-    for number, record in records.items():
-        if record.dam:
-            found[number] = book.owner_of(owner_on(lives[record.dam], record.born))
-    return found
-
-
-def owner_on(life: Life, day: datetime.date) -> int:
-    """The code of who had an animal on a day."""
-    given = (one for one in life.transfers if one.day <= day.isoformat())
-    return int(functools.reduce(lambda _, one: one.to_owner, given, life.birth.to_owner))
 
 
 # What is kept of an owner.

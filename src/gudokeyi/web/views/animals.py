@@ -14,10 +14,11 @@ from gudokeyi.render.languages import mark_of
 from gudokeyi.render.page_language import PageLanguage, name_of
 from gudokeyi.render.page_wording import PageWording
 from gudokeyi.render.pedigree_pictures import Pedigree
-from gudokeyi.services.animals import SEX_SOURCES, AnimalRow, Coefficient, Relatives, former_ids, society_record_of
+from gudokeyi.services.animals import (
+    SEX_SOURCES, AnimalRow, Coefficient, Relatives, breeders_of, former_ids, society_record_of,
+)  # fmt: skip
 from gudokeyi.services.facts import birth_of, exit_of, owner_day_said
 from gudokeyi.services.found_animals import Asked, Order
-from gudokeyi.services.members import breeders_of
 from gudokeyi.services.opening import Book
 from gudokeyi.services.option_values import years, years_of
 from gudokeyi.services.selection import Choice
