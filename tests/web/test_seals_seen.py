@@ -1,5 +1,5 @@
-"""Seals in Chromium, in each language: a keeper publishes the seal of now, and somebody checks a file under it. Of a file
-that is refused nothing is shown."""
+"""Seals in Chromium, in each language: a keeper publishes the seal of now, and somebody checks a file under it. Of a
+file that is refused nothing is shown."""
 from __future__ import annotations
 
 import pytest
