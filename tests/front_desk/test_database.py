@@ -131,8 +131,6 @@ TAKE = ["import", "sheet.csv"]
 
 @pytest.mark.parametrize(("statement", "told", "words"), [
     ("UPDATE command SET day = '1999-12-31' WHERE place = 3", "the journal has 1 animal otherwise", TAKE),
-    ("UPDATE command SET refusal = 5 WHERE place = 3", "the program's reply to command 3 is that it is accepted",
-     ["exit", "a0", "--day", "2012-01-01"]),
     ("UPDATE coefficient SET fraction = '1/2' WHERE place = 9", "the program has 1 kept coefficient otherwise", TAKE),
     ("DELETE FROM command WHERE place = 16", "the journal has 15 commands, and its last change tells of 16", ["undo"]),
     ("UPDATE coefficient SET place = -place", "the kept coefficients aren't in the program's order", TAKE),
@@ -144,6 +142,13 @@ def test_verify(flock_desk: Desk, statement: str, told: str, words: list[str]) -
     change_file(flock_desk, statement)
     flock_desk.wrong(told, "verify")
     flock_desk.wrong(told, *words)
+
+
+def test_verify_replies(flock_desk: Desk) -> None:
+    """A stored reply that somebody changed is told before a command is filed behind it."""
+    change_file(flock_desk, "UPDATE command SET refusal = 5 WHERE place = 3")
+    flock_desk.wrong("the program's reply to command 3 is that it is accepted", "verify")
+    flock_desk.wrong("the program's reply to command 3 isn't the stored one", "exit", "a0", "--day", "2012-01-01")
 
 
 def test_migration(flock_desk: Desk, monkeypatch: pytest.MonkeyPatch) -> None:

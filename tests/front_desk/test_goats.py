@@ -113,7 +113,7 @@ def test_parents_on_a_certificate(goats: Desk) -> None:
     assert "Mutter unbekannt (in der Tabelle: CH 120.1158.9)" in text
     assert "und wurde weggelassen." in text
     text = certificate(goats, "CH 120.1158.9")
-    assert "Left 2022-11-12 Owner" in text
+    assert "Left 2022-11-12 Breed" in text
     assert "in the sheet" not in text
 
 
