@@ -14,14 +14,17 @@ import pytest
 
 from front_desk.desk import TOP, Desk
 from gudokeyi.domain.messages import Mistake
-from gudokeyi.engine import program as herdbook
+from gudokeyi.engine import program as herdbook, session
 
 LIMITS = (herdbook.MOST_BYTES, herdbook.MOST_SECONDS)
+# a session answers in time, or is ended; however long it stays it has no other limit of time
+OF_SESSION = (session.MOST_BYTES, -1)
 # they are set from outside, and waited for
 SEEN = f"""
 import os, resource, sys, time
 until, limits = time.monotonic() + 60, ()
-while limits != {LIMITS} and time.monotonic() < until:
+wanted = {OF_SESSION} if "session" in sys.argv else {LIMITS}
+while limits != wanted and time.monotonic() < until:
     limits = tuple(resource.getrlimit(one)[0] for one in (resource.RLIMIT_AS, resource.RLIMIT_CPU))
     time.sleep(0.01)
 """
@@ -59,10 +62,11 @@ def stand_in(room: pathlib.Path, text: str) -> str:
 
 @pytest.mark.parametrize("words", CALLS, ids=[words[0] for words in CALLS])
 def test_limits(mrode_desk: Desk, program: str, words: list[str]) -> None:
-    """Each run of the program has both."""
+    """Each run of the program has both, and a session that of memory."""
     done = mrode_desk.run(*words, program=stand_in(mrode_desk.room, TELLING.replace("PROGRAM", program)))
     assert done.status == 0, f"{words}: {done}"
-    assert {tuple(map(int, line.split())) for line in mrode_desk.text("limits").splitlines()} == {LIMITS}
+    wanted = OF_SESSION if words[0] == "parents" else LIMITS
+    assert {tuple(map(int, line.split())) for line in mrode_desk.text("limits").splitlines()} == {wanted}
 
 
 def test_too_much_memory(mrode_desk: Desk) -> None:
