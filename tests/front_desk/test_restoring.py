@@ -50,7 +50,7 @@ def test_backup(flock_desk: Desk) -> None:
     flock_desk.wrong("changed: the program's reply to command 3", "restore", "changed", "--book", "other")
     # one that the version before made, with pages of another size
     changed(flock_desk, "earlier", *(f"DROP VIEW {view}" for view in ("animals", "commands", "coefficients")),
-            *(f"DROP TABLE {table}" for table in ("published_seal", "former_id", "request", *BESIDE)),
+            *(f"DROP TABLE {table}" for table in ("picture", "published_seal", "former_id", "request", *BESIDE)),
             "DROP INDEX animal_digits", "ALTER TABLE animal DROP COLUMN exit_reason",
             "DROP INDEX change_form", "ALTER TABLE change DROP COLUMN form",
             "PRAGMA user_version = 1", "PRAGMA page_size = 8192", "VACUUM")  # fmt: skip
