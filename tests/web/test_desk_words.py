@@ -261,9 +261,8 @@ def test_settings(site: Site, society_desk: Desk) -> None:
         language="fr",
     )
     told = society_desk.good("settings").out
-    shown = dict(line.split(": ", 1) for line in told.splitlines() if ": " in line)
-    wanted = {"name": "Goats & <Kids>", "address": "Church Lane 1, UV1", "breed": "SKU", "country": "DEU"}
-    assert shown.items() >= (wanted | {"unknown": "Leih", "language": "fr"}).items()
+    named = "name: Goats & <Kids>\naddress: Church Lane 1, UV1\nbreed-name: not said\nbreed: SKU\ncountry: DEU\n"
+    assert told == f"{named}unknown: Leih\nlanguage: fr\npicture: none\n"
     society_desk.good("settings", "--name", "Others", "--language", "de")
     page = site.page("/settings")
     assert 'value="Others"' in page and '<html lang="de">' in page and ">Church Lane 1\nUV1</textarea>" in page
