@@ -13,7 +13,7 @@ class AccountRole(enum.StrEnum):
     INSPECTOR = "inspector"
     # files commands and takes sheets
     CLERK = "clerk"
-    # brings back earlier states, and changes settings and accounts
+    # undoes changes, merges and erases owners, and changes settings and accounts; `web/access.py` has each role's pages
     KEEPER = "keeper"
 
     def may(self, least: AccountRole) -> bool:

@@ -1,4 +1,5 @@
-"""Days as spreadsheets write them: whole days, and months or years alone."""
+"""Days as spreadsheets write them: whole days, and months or years alone. `day_forms.py` reads other forms, and
+`day_cells.py` says which of them a cell has."""
 from __future__ import annotations
 
 import calendar
@@ -43,7 +44,7 @@ NAME = r"(?:{})\.?".format(
 )
 
 
-# Days as spreadsheets write them: whole days, and months or years alone.
+# How days, months and years are written, and what each leaves open.
 
 FIRST_YEAR, LAST_YEAR = 1900, 2199
 FIRST_DAY, LAST_DAY = datetime.date(FIRST_YEAR, 1, 1), datetime.date(LAST_YEAR, 12, 31)

@@ -1,4 +1,5 @@
-"""What somebody writes behind an option or into a field, as a value: a `Mistake` says what is wrong with it."""
+"""What somebody writes behind an option or into a field, as a value: a `Mistake` says what is wrong with it.
+`ingest` reads the cells of a sheet."""
 from __future__ import annotations
 
 import datetime

@@ -28,7 +28,9 @@ from gudokeyi.web.addresses import ServerAddress
 
 # so many guesses are free by one name, and from one address, behind which several may sit
 FREE_BY_NAME, FREE_BY_ADDRESS = 5, 20
+# addresses of IPv6 that begin with so many bits count as one
 BITS_OF_NETWORK = 56
+# nobody waits longer, in seconds
 LONGEST = 900
 # so long a guess counts, in seconds, and so many names and addresses are kept in mind
 SECONDS, MOST = 3600, 20_000
@@ -36,11 +38,15 @@ SECONDS, MOST = 3600, 20_000
 
 @dataclass
 class Guesses:
+    """How many wrong passwords came by one name or from one address, and when the last one did."""
+
     count: int = 0
     last: float = 0
 
 
 class Throttle:
+    """How long somebody has to wait before another password may be tried."""
+
     def __init__(self, clock: Callable[[], float] = time.monotonic) -> None:
         self.clock, self.lock = clock, threading.Lock()
         self.guesses: OrderedDict[tuple[str, str], Guesses] = OrderedDict()

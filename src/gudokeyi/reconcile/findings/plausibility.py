@@ -1,4 +1,5 @@
-"""What is taken as it stands, and told for somebody to look at: each kind as data, and in words."""
+"""What is taken as it stands, and told for somebody to look at: each kind as data, and in words. Those that a command
+filed by hand has too, as a parent that was young, stand in `by_hand.py`."""
 from __future__ import annotations
 
 import datetime
