@@ -123,7 +123,7 @@ def complete(next_book: NextBook, columns: Columns, import_options: ImportOption
     if not import_options.anyway:
         next_book.used_again = leave_out_used_tags(next_book.animals, next_book.book, next_book.report)
     add_others(next_book, import_options.drop_gone)
-    found += guards.behind(next_book.animals)
+    found += guards.of_animals(next_book.animals)
     if found and not import_options.anyway:
         next_book.obstacles += found
         if not import_options.preview:

@@ -1,5 +1,5 @@
 """What keeps a sheet or a pedigree from being taken unless it is wished `--anyway`: it looks like another one than the
-book's."""
+book's. Guards are found here; `complete` in `all_animals.py`, and `services/pedigree_imports.py`, refuse by them."""
 from __future__ import annotations
 
 import functools
@@ -149,7 +149,7 @@ class Guards(OtherAnimals):
         here = [(row.name.casefold(), row.birth.first) for row in self.rows.values() if row.has_day()]
         return bool(here) and 2 * sum(one in days for one in here) > len(here)
 
-    def behind(self, animals: dict[str, SheetAnimal]) -> list[Guard]:
+    def of_animals(self, animals: dict[str, SheetAnimal]) -> list[Guard]:
         """What is seen where parents are found by their names, and all animals are there that are to stand in the
         book."""
         found = [self.parents(), self.dropped(animals)]

@@ -46,7 +46,7 @@ MARK_NOTES = {
 # what each generation is called in the style
 CALLED = ("one", "two", "three", "four", "five")
 # the colours and letters of all pages and pictures, as the style names them
-WARNING = {
+STYLE_VALUES = {
     "font": FONT, "ink": INK, "grey": GREY, "line": LINE, "paper": PAPER, "sire": SIRE, "dam": DAM, "inbred": INBRED,
     "inbred-ink": INBRED_INK,
 }  # fmt: skip
@@ -284,7 +284,7 @@ def certificates_page(
     one = animals[0].id if len(animals) == 1 else gettext("{} certificates", len(animals))
     return rendered(
         "certificate.html",
-        language=language.name, look=WARNING, _=gettext, title=title, heading=f"{title}: {one}",
+        language=language.name, look=STYLE_VALUES, _=gettext, title=title, heading=f"{title}: {one}",
         society=issue.society, issued=gettext("Issued on {}", language.day(issue.day)),
         seal=seal_view(issue.sealed.published, language) if issue.sealed else None,
         generations=issue.generations, others=issue.others,

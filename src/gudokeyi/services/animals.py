@@ -36,13 +36,13 @@ def relatives_of(book: Book, animal: SocietyRecord) -> Relatives:
     record = book.records[animal.registration_number]
     parents = {role: record.parent(role) for role in Role}
     rows = {role: book.row_of(number) for role, number in parents.items()}
-    with_parent = {role: progeny_of(book, number, role) if number else [] for role, number in parents.items()}
+    with_parent = {role: offspring_rows(book, number, role) if number else [] for role, number in parents.items()}
     sibs = [row for row in with_parent[Role.SIRE] if row.registration_number != animal.registration_number]
     full = [row for row in sibs if row.dam and row.dam == record.dam]
     are_full = {row.registration_number for row in full} | {animal.registration_number}
     halves = {role: [row for row in with_parent[role] if row.registration_number not in are_full] for role in Role}
     own = Role.SIRE if animal.is_male else Role.DAM
-    return Relatives(rows, by_partner(progeny_of(book, animal.registration_number, own), own), full, halves)
+    return Relatives(rows, by_partner(offspring_rows(book, animal.registration_number, own), own), full, halves)
 
 
 def former_ids(book: Book, known: SocietyRecord) -> list[str]:
@@ -57,7 +57,7 @@ def animal_numbered(book: Book, number: str) -> SocietyRecord | None:
     return book.read_numbered(number) or next((society_record_of(row) for row in book.rows(with_digits(digits))), None)
 
 
-def progeny_of(book: Book, number: str, role: Role) -> list[AnimalRow]:
+def offspring_rows(book: Book, number: str, role: Role) -> list[AnimalRow]:
     """Those of which an animal is the sire, or the dam, in age order."""
     return book.rows(offspring_of(number, role), in_age_order=True)
 

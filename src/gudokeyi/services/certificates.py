@@ -1,4 +1,5 @@
-"""Certificates: what the program writes of animals, and of the ancestors that stand on their certificates."""
+"""Certificates: what the program writes of animals, and of the ancestors that stand on their certificates. What the
+society says beside it is added where the page is made: who bred an animal is found in `animals.py`."""
 from __future__ import annotations
 
 import datetime
@@ -24,7 +25,7 @@ GENERATIONS, MOST_GENERATIONS = 3, 5
 # of so many animals and more all that the book has is read at once
 MANY = 100
 
-Facts = dict[str, str]
+CertificateFacts = dict[str, str]
 
 
 class Certified:
@@ -37,7 +38,7 @@ class Certified:
     def texts(self) -> dict[str, str]:
         return {number: text for one in self.begun for number, text in certificate_texts(one.value()).items()}
 
-    def facts(self, number: str) -> Facts:
+    def facts(self, number: str) -> CertificateFacts:
         """The lines of an animal's certificate, by their words; a mistake where the book has other ancestors than the
         program."""
         if number not in self.texts:
@@ -57,7 +58,7 @@ class Certified:
         return found
 
 
-def coefficient_in(facts: Facts) -> Coefficient:
+def coefficient_in(facts: CertificateFacts) -> Coefficient:
     """That of a certificate."""
     fraction, percent = facts["inbreeding"].split(" ")
     return Coefficient(fraction, percent)
@@ -93,6 +94,6 @@ def certified_animal(book: Book, animal: Animal, certified: Certified) -> Animal
     )  # fmt: skip
 
 
-def ancestors_in(facts: Facts) -> dict[str, str]:
+def ancestors_in(facts: CertificateFacts) -> dict[str, str]:
     """The numbers of the known ancestors on a certificate, by their letters."""
     return {word: fact for word, fact in facts.items() if set(word) <= {"S", "D"} and fact != UNKNOWN}

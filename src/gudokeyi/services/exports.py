@@ -14,7 +14,7 @@ from gudokeyi.domain.provenance import BirthSource, ExitSource, SexSource
 from gudokeyi.engine.answers import inverse_elements
 from gudokeyi.services.book_program import BookProgram
 from gudokeyi.services.lists import (
-    CASTRATED, LIST_COLUMNS, Column, ColumnRecipe, Facts, as_it_is, each, made_table, own_recipes, parent,
+    CASTRATED, LIST_COLUMNS, Column, ColumnRecipe, PedigreeFacts, as_it_is, each, made_table, own_recipes, parent,
 )  # fmt: skip
 from gudokeyi.services.output_files import write_outs
 from gudokeyi.services.tables import Kind, Table
@@ -34,7 +34,7 @@ GIVEN = (BirthSource.GIVEN.value, ExitSource.GIVEN.value, SexSource.GIVEN.value)
 
 
 def sexes_said(
-    _: Facts, numbers: Sequence[str], castrated: Sequence[int], sources: Sequence[str], sires: Sequence[str],
+    _: PedigreeFacts, numbers: Sequence[str], castrated: Sequence[int], sources: Sequence[str], sires: Sequence[str],
     dams: Sequence[str],
 ) -> Iterator[str]:  # fmt: skip
     """What a sheet says of sexes: nothing of an inferred one that an import infers again, of a parent or a female."""

@@ -27,7 +27,7 @@ if TYPE_CHECKING:
 # What columns of animals are made of beside the animals' own rows; each part is computed where a column first needs it.
 
 
-class Facts:
+class PedigreeFacts:
     """Facts of a book's whole pedigree. What is computed is asked for by an animal's place in age order, from 1 on."""
 
     def __init__(self, book: Book) -> None:
@@ -98,7 +98,7 @@ def as_it_is(title: str, of: str, kind: Kind = Kind.PLAIN) -> ColumnRecipe:
     return ColumnRecipe(title, kind, (of,), unchanged)
 
 
-def unchanged(facts: Facts, values: Iterable[Cell]) -> Iterable[Cell]:
+def unchanged(facts: PedigreeFacts, values: Iterable[Cell]) -> Iterable[Cell]:
     return values
 
 
@@ -111,7 +111,7 @@ def made_table(book: Book, columns: Sequence[ColumnRecipe], condition: Condition
     """A row with these columns for each animal for which a condition holds, in age order."""
     wanted = list(dict.fromkeys(name for column in columns for name in column.of))
     found: dict[str, Sequence[Any]] = dict(zip(wanted, zip(*selected(book, wanted, condition))))
-    facts = Facts(book)
+    facts = PedigreeFacts(book)
     cells = [column.cells(facts, *(found.get(name, ()) for name in column.of)) for column in columns]
     return Table([(column.title, column.kind) for column in columns], [list(one) for one in cells])
 
@@ -183,7 +183,7 @@ def parent(title: str) -> ColumnRecipe:
     return ColumnRecipe(title, Kind.TEXT, (title,), lambda facts, numbers: map(facts.id_of, numbers))
 
 
-def computed(title: str, number: Callable[[Facts, int], Fraction]) -> ColumnRecipe:
+def computed(title: str, number: Callable[[PedigreeFacts, int], Fraction]) -> ColumnRecipe:
     """Decimals of what is computed of the whole pedigree."""
     return ColumnRecipe(
         title, Kind.DECIMAL, (PLACE,), lambda facts, places: (decimal(number(facts, at)) for at in places)
@@ -206,12 +206,12 @@ LIST_COLUMNS = {
     Column.DECIMAL: each(Column.DECIMAL, Kind.DECIMAL, (FRACTION,), decimal_of_text),
     Column.PERCENT: as_it_is(Column.PERCENT, PERCENT, Kind.DECIMAL),
     Column.OFFSPRING: as_it_is(Column.OFFSPRING, OFFSPRING),
-    Column.EQUIVALENT_GENERATIONS: computed(Column.EQUIVALENT_GENERATIONS, Facts.equivalent_generations),
+    Column.EQUIVALENT_GENERATIONS: computed(Column.EQUIVALENT_GENERATIONS, PedigreeFacts.equivalent_generations),
     Column.FULLY_TRACED: ColumnRecipe(
         Column.FULLY_TRACED, Kind.PLAIN, (PLACE,), lambda facts, places: map(facts.fully_traced, places)
     ),
-    Column.MEAN_KINSHIP: computed(Column.MEAN_KINSHIP, Facts.mean_kinship),
-    Column.SAMPLING_VARIANCE: computed(Column.SAMPLING_VARIANCE, Facts.sampling_variance),
+    Column.MEAN_KINSHIP: computed(Column.MEAN_KINSHIP, PedigreeFacts.mean_kinship),
+    Column.SAMPLING_VARIANCE: computed(Column.SAMPLING_VARIANCE, PedigreeFacts.sampling_variance),
 }
 
 
@@ -221,7 +221,7 @@ def own_recipes(book: Book) -> list[ColumnRecipe]:
 
 
 def own_recipe(column: OwnColumn) -> ColumnRecipe:
-    def cells(facts: Facts, numbers: Sequence[str]) -> Iterable[Cell]:
+    def cells(facts: PedigreeFacts, numbers: Sequence[str]) -> Iterable[Cell]:
         values = values_at(facts.book.connection, column.place)
         return (values.get(number[LETTERS:], "") for number in numbers)
 
