@@ -1,4 +1,5 @@
-"""Brings back an earlier state of a book, as a new change. Nothing that was is lost by it."""
+"""Brings back an earlier state of a book, as a new change. Nothing that was is lost by it. `taking_back.py` undoes one
+change alone."""
 from __future__ import annotations
 
 from gudokeyi.domain.changes import Change, ChangeDetails
