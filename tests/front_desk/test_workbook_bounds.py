@@ -26,7 +26,7 @@ from gudokeyi.ingest.sheets import Sheet, SheetRow
 from gudokeyi.ingest.unknown_parents import UnknownParents
 from gudokeyi.ingest.workbooks import Worksheet, cells_of, read_workbook
 from gudokeyi.reconcile.import_options import ImportOptions
-from gudokeyi.services import pedigree_imports, sheet_imports
+from gudokeyi.services import pedigree_imports, sheet_imports, sheet_reading
 from gudokeyi.services.book_program import BookProgram
 
 PATH = pathlib.Path("flock.xlsx")
@@ -188,7 +188,7 @@ def test_import_is_bounded(tmp_path: pathlib.Path, monkeypatch: pytest.MonkeyPat
         seen.append(signal.getitimer(signal.ITIMER_VIRTUAL)[0] > 0)
         raise Mistake("read")
 
-    monkeypatch.setattr(sheet_imports, "read_sheet", read_slowly)
+    monkeypatch.setattr(sheet_reading, "read_sheet", read_slowly)
     monkeypatch.setattr(pedigree_imports, "read_triples", read_slowly)
     take = pedigree_imports.import_pedigree if is_pedigree else sheet_imports.import_sheet
     with pytest.raises(Mistake, match="read"):
