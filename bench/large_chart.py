@@ -35,7 +35,8 @@ def times(rounds: list[str]) -> Times:
     least: Times = {}
 
     def note(shape: str, run: str, whose: str, seconds: float) -> None:
-        least[shape, run, whose] = min(least.get((shape, run, whose), math.inf), seconds)
+        if (run, whose) in RUNS:
+            least[shape, run, whose] = min(least.get((shape, run, whose), math.inf), seconds)
 
     for text in rounds:
         shape = ""
