@@ -10,7 +10,7 @@
 //! | the line of a seal | `Sealed` | `seal_line` | |
 //! | what a certificate is made of | `Parts` | `parts` | `PartFacts` |
 //! | a certificate as text | `Sealed` | `certificate`, `field` | `PartFacts` |
-//! | nothing is wrong with it under its book's seal | `Faultless` | `laws` | `ShownFacts`, `FaultlessFacts`, `AcceptedFacts` |
+//! | nothing is wrong with it | `Faultless` | `laws` | `ShownFacts`, `FaultlessFacts`, `AcceptedFacts` |
 #![tactic(auto)]
 
 mod ancestors;

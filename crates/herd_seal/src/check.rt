@@ -29,8 +29,8 @@ use std::alloc::{AllocError, Allocator};
 
 /// Checks the text of a certificate under a seal. That it is done says of all rows and steps with this seal, lawful or
 /// not, that the claim, each row and the coefficient are theirs, or a collision of SHA-256 is at hand. The coefficient
-/// is computed last. A text is refused by the first fault that it has, which `IsFault` says cause by cause, with its line:
-/// of a text that isn't read as a certificate (`IsUnread`), and of one that is.
+/// is computed last. A text is refused by the first fault that it has, which `IsFault` says cause by cause, with its
+/// line: of a text that isn't read as a certificate (`IsUnread`), and of one that is.
 pub fn check_certificate<'a, A: Allocator + Clone>(
     alloc: A,
     seal: &[u8; 32],
