@@ -4,7 +4,7 @@
     served.py PROGRAM [--animals 59000] [--rows 60000] [--clerks 8] [--readers 15] [--seconds 120] [--work FOLDER]
 
 PROGRAM is the built herdbook. A book of so many animals is made in a new folder below FOLDER, and served. Clerks file
-births, exits and transfers, each a few seconds behind the one before; readers ask for pages; one clerk drops a sheet of
+births, exits and transfers, each 3 seconds on average behind the one before; readers look at a page for 2; one clerk drops a sheet of
 so many rows, looks at it and takes it, and again until the time is over; one reader asks for plans. Printed are the
 waits of each, how often the server answered with a fault, the most memory of all its processes at once, and whether
 each accepted command stands once in the book.
@@ -46,17 +46,18 @@ LOOKED = re.compile(r'name="(looked|reading)" value="([^"]+)"')
 
 
 def sheet(animals: int, rows: int) -> str:
-    """A sheet of animals, of parents that live not long before; more rows than a book has animals are new ones."""
+    """A sheet of animals, of parents that live not long before. Of the rows that a book has no animals for half are new
+    ones, and the others stand there twice: what clerks file has room in a book beside them."""
     chosen, females, males = random.Random(7), list[str](), list[str]()
     lines = ["id,sex,birth,sire,dam,owner"]
-    for at in range(rows):
+    for at in range(rows - (rows - animals) // 2):
         year = 1985 + min(at * 39 // animals, 39)
         sex = "M" if chosen.random() < 0.12 else "F"
         older = [of[-most // 2 - 1] if len(of) > most else "" for of, most in ((males, 400), (females, 6000))]
         sire, dam = (one if one[1:5] != str(year) else "" for one in older)
         lines.append(f"B{year}-{at},{sex},{year}-{chosen.randrange(1, 13):02}-15,{sire},{dam},Owner {at % 300}")
         (males if sex == "M" else females).append(f"B{year}-{at}")
-    return "\n".join(lines) + "\n"
+    return "\n".join(lines + lines[1 : rows + 2 - len(lines)]) + "\n"
 
 
 class Bench:
@@ -196,7 +197,7 @@ class Person:
 def file_all(bench: Bench, one: Person, at: int) -> None:
     chosen, count = random.Random(at), 0
     while time.monotonic() < bench.until:
-        time.sleep(chosen.uniform(1, 6))
+        time.sleep(chosen.uniform(1, 5))
         count += 1
         day = f"2025-{chosen.randrange(1, 10):02}-{chosen.randrange(1, 29):02}"
         animal = chosen.randrange(bench.asked.animals)
@@ -225,13 +226,19 @@ def read_all(bench: Bench, one: Person, at: int) -> None:
         ]  # fmt: skip
         for path in paths:
             _, _, page = one.get(path, "reading")
-            time.sleep(chosen.uniform(0.5, 2))
+            look(chosen)
             found = re.findall(r'href="(/animal/\w+)"', page)
             if found:
                 animal = chosen.choice(found)
                 one.get(animal, "reading")
+                look(chosen)
                 one.get(f"{animal}/certificate", "reading")
-            time.sleep(chosen.uniform(0.5, 2))
+                look(chosen)
+
+
+def look(chosen: random.Random) -> None:
+    """So long somebody looks at a page."""
+    time.sleep(chosen.uniform(1, 3))
 
 
 def take_sheets(bench: Bench, one: Person) -> None:

@@ -52,6 +52,7 @@ class Folder:
             (self.bin / name).symlink_to(shutil.which(name) or name)
         self.add_command("rt", RT.format(status=status_of_rt))
         self.add_command("apt-get", NOTES.format(name="apt-get", status=100))
+        self.add_command("fc-list", "#!/bin/sh\necho 'Liberation Sans:style=Regular'\n")
         for name in commands:
             self.add_command(name, NOTES.format(name=name, status=0))
 

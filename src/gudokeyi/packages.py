@@ -1,13 +1,16 @@
 """The packages that parts of the front desk need: whether this Python has each within its range.
 
-What reads that takes tens of milliseconds to import, so it is imported where a part asks for its packages.
+What Python has to read that takes tens of milliseconds to import, so it is asked only for what isn't seen without it.
 """
 from __future__ import annotations
 
+import contextlib
 import enum
+import os
 import pathlib
 import re
-from dataclasses import dataclass
+import sys
+from typing import NamedTuple
 
 from gudokeyi.domain.messages import Mistake
 from gudokeyi.other_python import run_under_next
@@ -26,8 +29,7 @@ class Group(enum.StrEnum):
     PEDIGREES = "pedigrees"
 
 
-@dataclass(frozen=True, slots=True)
-class Requirement:
+class Requirement(NamedTuple):
     """A package and its range: from a version on, and below another. `debian` is Debian's name for it."""
 
     package: str
@@ -36,16 +38,35 @@ class Requirement:
     debian: str
 
     def is_met(self) -> bool:
-        import importlib.metadata
-
-        try:
-            return self.least <= numbers(importlib.metadata.version(self.package)) < self.below
-        except importlib.metadata.PackageNotFoundError:
-            return False
+        found = version_seen(self.package) or version_told(self.package)
+        return found is not None and self.least <= numbers(found) < self.below
 
     def text(self) -> str:
         least, below = (".".join(map(str, version)) for version in (self.least, self.below))
         return f"{self.package}>={least},<{below}"
+
+
+def version_seen(package: str) -> str:
+    """The version of a package that stands in the name of what tells of it, beside the package; empty where nothing
+    does."""
+    name = re.sub("[-_.]+", "[-_.]+", re.escape(package).replace(r"\-", "-"))
+    form = re.compile(rf"{name}-(\d[^-]*)(?:-py[\d.]+)?\.(?:dist|egg)-info", re.IGNORECASE)
+    for place in sys.path:
+        with contextlib.suppress(OSError):
+            found = next(filter(None, map(form.fullmatch, os.listdir(place or "."))), None)
+            if found:
+                return found[1]
+    return ""
+
+
+def version_told(package: str) -> str | None:
+    """The same as Python tells it; none where there is no such package."""
+    import importlib.metadata
+
+    try:
+        return importlib.metadata.version(package)
+    except importlib.metadata.PackageNotFoundError:
+        return None
 
 
 def need(group: Group, otherwise: str = "") -> None:
@@ -66,15 +87,32 @@ def need(group: Group, otherwise: str = "") -> None:
 
 def requirements(group: Group) -> list[Requirement]:
     """Those of the project's file in a clone, or of the package that is installed."""
-    import importlib.metadata
-    import tomllib
-
     if PROJECT.exists():
-        project = tomllib.loads(PROJECT.read_text(encoding="utf-8"))
-        names = project["tool"]["gudokeyi"]["debian"]
-        return [requirement(text, names) for text in project["project"]["optional-dependencies"][group]]
-    texts = importlib.metadata.requires("gudokeyi") or []
+        return requirements_in(PROJECT.read_text(encoding="utf-8"), group)
+    texts = required_here() or required_told()
     return [requirement(text, {}) for text in texts if f'extra == "{group}"' in text.replace("'", '"')]
+
+
+def required_here() -> list[str]:
+    """What stands beside an installed package of what it requires."""
+    beside = pathlib.Path(__file__).resolve().parents[1]
+    found = [path.read_text(encoding="utf-8") for path in beside.glob("gudokeyi-*.dist-info/METADATA")]
+    return re.findall("^Requires-Dist: (.*)$", found[0], re.MULTILINE) if len(found) == 1 else []
+
+
+def required_told() -> list[str]:
+    """The same as Python tells it."""
+    import importlib.metadata
+
+    return importlib.metadata.requires("gudokeyi") or []
+
+
+def requirements_in(project: str, group: str) -> list[Requirement]:
+    """Those of a group in the project's file, each group of which stands in a line."""
+    names = dict(re.findall(r'^([\w.-]+) = "([\w.-]+)"$', project.partition("[tool.gudokeyi.debian]")[2], re.MULTILINE))
+    line = re.search(rf"^{group} = \[(.*)\]$", project.partition("[project.optional-dependencies]")[2], re.MULTILINE)
+    assert line, f"there is no group {group}"
+    return [requirement(text, names) for text in re.findall('"(.*?)"', line[1])]
 
 
 def requirement(text: str, names: dict[str, str]) -> Requirement:

@@ -3,8 +3,6 @@ process as it was."""
 from __future__ import annotations
 
 import contextlib
-import ctypes
-import importlib.util
 import os
 import signal
 import sys
@@ -88,6 +86,28 @@ def with_cells_of_any_length() -> None:
     csv.field_size_limit(sys.maxsize)
 
 
+# A process beside others that somebody waits for takes what these leave. Linux parts its time first among sessions and
+# then among the processes of each, and a process beside has a session of its own.
+
+# how much of the time a session takes, where the system parts it so
+OF_SESSION = "/proc/self/autogroup"
+
+
+def take_what_is_left(niceness: int) -> None:
+    with contextlib.suppress(OSError):
+        os.setpriority(os.PRIO_PROCESS, 0, niceness)
+    with contextlib.suppress(OSError), open(OF_SESSION, "w", encoding="ascii") as file:
+        file.write(str(niceness))
+
+
+def take_as_others() -> None:
+    """From here on somebody waits for this process; where the system doesn't allow it all stays as it is."""
+    with contextlib.suppress(OSError):
+        os.setpriority(os.PRIO_PROCESS, 0, 0)
+    with contextlib.suppress(OSError), open(OF_SESSION, "w", encoding="ascii") as file:
+        file.write("0")
+
+
 # SQLite without statistics of its memory: else all threads wait for one lock at each piece of memory, and two that read
 # take longer than one after the other. It is asked for before the module `sqlite3` is imported, and where that can't be
 # done nothing else changes.
@@ -97,6 +117,10 @@ STATISTICS = 9
 
 
 def without_statistics() -> None:
+    # every call would wait for these, and few need them
+    import ctypes
+    import importlib.util
+
     spec = importlib.util.find_spec("_sqlite3")
     with contextlib.suppress(OSError, AttributeError):
         # the module's own library, or that which it is linked with
@@ -116,6 +140,8 @@ POOLS, LARGE_PIECE = 2, 128 << 10
 
 def give_memory_back() -> None:
     """From here on memory that isn't used goes back to the system. It is asked for before threads are started."""
+    import ctypes
+
     with contextlib.suppress(OSError, AttributeError):
         library = ctypes.CDLL(None)
         # what counts as large would grow with what is given back, unless it is set

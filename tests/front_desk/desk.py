@@ -133,8 +133,10 @@ class Desk:
         return done
 
     def files(self) -> dict[str, bytes]:
+        """All files, but for what stands beside a book as long as somebody asks it, and has nothing of it."""
         paths = [path for path in sorted(self.room.rglob("*")) if path.is_file() and "__pycache__" not in path.parts]
-        return {str(path.relative_to(self.room)): path.read_bytes() for path in paths}
+        found = {str(path.relative_to(self.room)): path.read_bytes() for path in paths if path.suffix != ".sqlite-shm"}
+        return {name: text for name, text in found.items() if text or not name.endswith(".sqlite-wal")}
 
     def text(self, name: str) -> str:
         return (self.room / name).read_text(encoding="utf-8")

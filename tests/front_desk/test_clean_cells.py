@@ -9,7 +9,7 @@ import pytest
 
 from front_desk.desk import Desk
 from gudokeyi.ingest.sheets import cleaned_records, is_clean, read_records
-from gudokeyi.ingest.words import as_known, clean
+from gudokeyi.ingest.texts import as_known, clean
 
 PIECES = ("a", "7", "Ö", "ō", "-", ".", "\t", ",", ";", "\n", "\r\n", "\r")
 # what a cell is cleaned of, each beside a plain text that isn't

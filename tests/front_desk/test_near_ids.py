@@ -4,7 +4,7 @@ from __future__ import annotations
 import pytest
 
 from front_desk.desk import Desk
-from gudokeyi.ingest.words import nearly, nearly_all
+from gudokeyi.ingest.texts import nearly, nearly_all
 
 TITLES = "id;name;sex;birth;sire;dam\n"
 FLOCK = "DE 007;Max;M;2001-03-01;;\nDE 8;Eva;F;2001-03-02;;\n"

@@ -3,13 +3,16 @@ from __future__ import annotations
 
 import contextlib
 import datetime
+import random
 import sqlite3
 import subprocess
+from collections.abc import Callable
 
 import pytest
 
 import reference_seal
 from front_desk.desk import Desk
+from gudokeyi.domain.seals import CheckAdvice, OtherKind
 
 TODAY = datetime.date.today().isoformat()
 NONE = "0" * 64
@@ -75,14 +78,14 @@ def test_check(flock_desk: Desk) -> None:
         (
             text.replace("certificate-1", "certificate-2"),
             "refused,Header,1",
-            "its first line isn't that of a certificate",
+            "the first line of the file isn't that of a certificate",
         ),
         (
             text.replace(",0,0.00\n", ",1/2,50.00\n"),
             "refused,Coefficient,1",
             "the coefficient isn't the one of its rows",
         ),
-        (text.replace(number, "secret"), "refused,Header,1", "its first line isn't"),
+        (text.replace(number, "secret"), "refused,Header,1", "the first line of the file isn't"),
         (text + "<b>secret</b>\n", "refused,Digests,", "isn't a digest that its rows need"),
     ]:
         flock_desk.write("d.txt", changed)
@@ -90,8 +93,63 @@ def test_check(flock_desk: Desk) -> None:
         assert refused.status == 3 and refused.out.startswith(told) and why in refused.err, refused
         assert "secret" not in refused.out + refused.err
     assert flock_desk.run("check", "c.txt", "--seal", NONE).out == "refused,Seal,1\n"
-    flock_desk.wrong("'--help' isn't a seal", "check", "c.txt", "--seal=--help")
     flock_desk.wrong("none.txt can't be read", "check", "none.txt", "--seal", seal)
+
+
+def test_seals_written(flock_desk: Desk) -> None:
+    """A seal is taken as somebody has it from paper, and as it was published; else it is told what is wrong with it."""
+    line = flock_desk.good("seal", "--publish").out.strip()
+    seal = line.split(",")[-1]
+    flock_desk.good("sealed", "a0", "--out", "c.txt")
+    wanted = flock_desk.good("check", "c.txt", "--seal", seal).out
+    parted = f"\t{seal[:30]}\N{SOFT HYPHEN}\n{seal[30:]}\N{NO-BREAK SPACE}"
+    for written in seal.upper(), f"  {seal} ", parted, line, line.replace(",", ";").upper():
+        assert flock_desk.good("check", "c.txt", "--seal", written).out == wanted, written
+    for written, told in [
+        (seal[1:], "this isn't a whole seal: a seal has 64 digits from 0 to 9 and a to f, and here 63 are given"),
+        (f"{seal[:8]} … {seal[-8:]}", "and here 17 are given. Take all of it from where the society published it"),
+        ("O" + seal[1:], "this isn't a seal: 'o' is none of its digits"),
+        ("--help", "and here 6 are given"),
+        (" ", "the seal is missing: write the one that the society published"),
+    ]:
+        flock_desk.wrong(told, "check", "c.txt", f"--seal={written}")
+
+
+# what is told of a file that isn't as it was made: how it was made, and what the program and the front desk say
+OTHERS: list[tuple[Callable[[bytes], bytes], str, CheckAdvice, dict[str, object]]] = [
+    (lambda _: b"", "Header,1", CheckAdvice.EMPTY, {}),
+    (lambda _: b"%PDF-1.7\n...", "Header,1", CheckAdvice.OTHER_KIND, {"kind": OtherKind.PDF.said()}),
+    (lambda _: b"\xff\xd8\xff\xe0...", "Header,1", CheckAdvice.OTHER_KIND, {"kind": OtherKind.PICTURE.said()}),
+    (lambda _: b"\n<!DOCTYPE html>", "Header,1", CheckAdvice.OTHER_KIND, {"kind": OtherKind.PAGE.said()}),
+    (lambda _: b"PK\3\4...", "Header,1", CheckAdvice.OTHER_KIND, {"kind": OtherKind.ARCHIVE.said()}),
+    (lambda _: random.Random(1).randbytes(5_000_000), "Header,1", CheckAdvice.OTHER_FILE, {}),
+    (lambda text: text.replace(b"-1,", b"-2,", 1), "Header,1", CheckAdvice.OTHER_VERSION, {}),
+    (lambda text: text.replace(b"\n", b"\r\n"), "Row,2", CheckAdvice.EDITED, {}),
+    (lambda text: b"\xef\xbb\xbf" + text, "Header,1", CheckAdvice.EDITED, {}),
+    (lambda text: text.decode().encode("utf-16"), "Header,1", CheckAdvice.EDITED, {}),
+    (lambda text: b"Hello,\n\n" + text, "Header,1", CheckAdvice.EDITED, {}),
+    (lambda text: text + b"\n", "Digests,", CheckAdvice.EDITED, {}),
+    (lambda text: text[:-1], "Digests,", CheckAdvice.EDITED, {}),
+    (lambda text: text[:-40], "Digests,", CheckAdvice.CHANGED, {}),
+    (lambda text: text.replace(b",2000-", b",1999-", 1), "Seal,1", CheckAdvice.CHANGED, {}),
+    (lambda text: text.replace(b",0,0.00\n", b",1/2,50.00\n"), "Coefficient,1", CheckAdvice.CHANGED, {}),
+]
+
+
+def test_files_refused(flock_desk: Desk) -> None:
+    """Whatever stands in a file, what is wrong with it is told, and what to do."""
+    seal = flock_desk.good("seal").out.split(",")[0]
+    text = flock_desk.good("sealed", "a0").out.encode()
+    for changed, fault, advice, values in OTHERS:
+        (flock_desk.room / "d.txt").write_bytes(changed(text))
+        refused = flock_desk.run("check", "d.txt", "--seal", seal)
+        assert refused.status == 3 and refused.out.startswith(f"refused,{fault}"), (fault, refused)
+        first, second = refused.err.splitlines()
+        assert first.startswith("gudokeyi: the certificate is refused: ")
+        assert second == f"gudokeyi: {advice.said(**values)}"
+    (flock_desk.room / "d.txt").write_bytes(text)
+    refused = flock_desk.run("check", "d.txt", "--seal", NONE)
+    assert refused.out == "refused,Seal,1\n" and "the file names another seal than the one you gave" in refused.err
 
 
 def test_verify_published(flock_desk: Desk) -> None:

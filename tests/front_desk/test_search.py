@@ -7,7 +7,7 @@ import time
 import pytest
 
 from front_desk.desk import Desk
-from gudokeyi.domain.folding import folded, pattern_of, tag_of
+from gudokeyi.domain.folding import always_same, folded, pattern_of, tag_of
 from gudokeyi.services.opening import book_in
 from gudokeyi.services.search import condition_of_words, why_found
 
@@ -63,6 +63,43 @@ def test_former_id(found_desk: Desk) -> None:
 def test_folded() -> None:
     assert [folded(text) for text in ("ÉÈ", "ß", "Øre", "ŁÓDŹ")] == ["ee", "ss", "ore", "lodz"]
     assert tag_of("De_01.2/3-4 5") == "de012345" and pattern_of("a*?[1]")[-10:] == "[*][?][[]1]"[-10:]
+
+
+def test_always_same() -> None:
+    """No accent makes another of these; each other letter may have one."""
+    assert always_same("berta 12-7") == " 12-7" and always_same("zoe", ".") == "..."
+    assert always_same("a1e2", ".") == ".1.2" and always_same("*?[") == "*?["
+
+
+# ids and names, with accents in each place, and with signs within ids
+IDS = ("DE-1/É2", "de1e2", "D.E1-e/2", "X*3", "É", "12-3 4", "Ñ-1_2", "n12", "[7]")
+NAMES = ("Zoé 12", "zoe-12", "ZÓE1 2", "Ærø 7", "a?b", "93 Löwe", "Lowe 9", "", "É")
+
+
+@pytest.mark.parametrize("text", sorted({
+    text[first : first + count].strip() for text in (*IDS, *NAMES) for first in range(len(text)) for count in (1, 2, 4)
+} - {""}))  # fmt: skip
+def test_each_part(pairs_desk: Desk, text: str) -> None:
+    """What is found is what has the text without case and accents, in the name or, also without signs, in the id."""
+    plain, tag = folded(text), tag_of(text)
+    with book_in(pairs_desk.room / "book") as book:
+        meant = {
+            row.id
+            for row in book.all_rows
+            if (tag in tag_of(row.id) if tag else text.casefold() in row.id.casefold())
+            or plain in folded(row.name)
+            or text.upper() in row.registration_number
+        }
+        assert {row.id for row in book.rows(condition_of_words(book, [text]))} == meant
+
+
+@pytest.fixture(scope="module")
+def pairs_desk(program: str, tmp_path_factory: pytest.TempPathFactory) -> Desk:
+    """A book with each of these ids and names."""
+    found = Desk(tmp_path_factory.mktemp("pairs"), program)
+    rows = (f'"{id}","{name}",F,2015-03-01,,\n' for id, name in zip(IDS, NAMES))
+    found.take("id,name,sex,born,sire,dam\n" + "".join(rows))
+    return found
 
 
 def test_time(desk: Desk) -> None:

@@ -195,9 +195,9 @@ def filing(length: int = 0) -> Filing:
 
 def test_refusals_behind_the_journal() -> None:
     """The first command behind it is seen, and what is refused in it, as of commands by hand, doesn't count."""
-    for refused, wanted in ((2, False), (3, True), (4, True)):
+    for refused, wanted in ((2, []), (3, [0]), (4, [1])):
         program = SimpleNamespace(file_text=lambda text, count, at=refused: {at: Refusal.SAME_OWNER})
-        assert filing(3).refused_behind(cast(BookProgram, program), b"", 2) is wanted
+        assert filing(3).refused_behind(cast(BookProgram, program), b"", 2) == wanted
 
 
 def test_a_birth_day_that_changes_is_told_but_where_both_are_invented() -> None:

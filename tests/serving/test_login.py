@@ -11,6 +11,7 @@ import pytest
 
 from web.said import in_each
 from web.site import HOST, shown
+from gudokeyi.domain.settings import LANGUAGES
 from gudokeyi.render.page_language import PageLanguage
 from gudokeyi.web.routes.login import WAIT
 from gudokeyi.store import accounts as passwords
@@ -133,6 +134,21 @@ def test_society(served: Served) -> None:
     Visitor(served, "Kim").post("/settings", name="Holgrave Society", address="Office\n1 Mill Lane")
     page = shown(Visitor(served).page("/login"))
     assert "Holgrave Society" in page and "Whom to ask: Office, 1 Mill Lane" in page
+
+
+CHECKED_ELSEWHERE = (
+    "Without an account you can check a certificate too: by the program herdbook, on a machine of your own."
+)
+
+
+def test_certificates_of_strangers(served: Served) -> None:
+    """Whoever isn't logged in has no file checked here, and is told where that is done."""
+    visitor = Visitor(served)
+    address = visitor.get("/seals").headers["Location"]
+    assert address == "/login?to=%2Fseals"
+    for language, told in zip(LANGUAGES, in_each(CHECKED_ELSEWHERE)):
+        visitor.get(f"/language/{language}")
+        assert told in shown(visitor.page(address)) and told not in shown(visitor.page("/login?to=%2Fanimals"))
 
 
 def test_removal_is_asked(served: Served) -> None:

@@ -93,6 +93,7 @@ def served_of(folder: pathlib.Path, program: str, room: pathlib.Path, way: Serve
         desk.jobs.end()
         desk.exports.end()
         desk.program.close()
+        desk.held.end()
 
 
 def with_accounts(folder: pathlib.Path) -> None:

@@ -129,3 +129,4 @@ def site_of(
         desk.jobs.end()
         desk.exports.end()
         desk.program.close()
+        desk.held.end()

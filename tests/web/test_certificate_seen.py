@@ -1,5 +1,6 @@
-"""Certificates in Chromium, on paper and on a telephone: nothing of a box is cut but a long name, and a
-long id of the fourth and fifth generation; each animal has a sheet."""
+"""Certificates in Chromium under a published seal, on paper and on a telephone: nothing of a box is cut but a long
+name, and a long id of the fourth and fifth generation; each animal has a sheet. The seal is whole, and the lines to
+write on are as high as one another."""
 from __future__ import annotations
 
 import base64
@@ -34,6 +35,17 @@ CUT = """[...document.querySelectorAll('.box')].flatMap(box => {
     }).map(one => one.innerText);
 })"""
 WIDTH = "document.documentElement.scrollWidth"
+# the parts of a seal that leave their sheet, or lie over one another, and signs below which nothing is written level
+UNEVEN = """[...document.querySelectorAll('main')].flatMap(sheet => {
+    const edge = sheet.getBoundingClientRect();
+    const [day, sign] = [...sheet.querySelectorAll('.sign span')].map(one => one.getBoundingClientRect());
+    const [code, told] = ['svg', 'p'].map(one => sheet.querySelector(`.seal ${one}`).getBoundingClientRect());
+    const isWithin = told.right <= edge.right && code.bottom <= edge.bottom && code.width > 70;
+    return isWithin && code.right <= told.left && Math.abs(day.bottom - sign.bottom) < 1 ? [] : [sheet.innerText];
+})"""
+# what of the society's name isn't shown below the line for its signature
+CUT_SIGNS = """[...document.querySelectorAll('.sign .lines')].filter(one => one.scrollHeight > one.clientHeight + 1)
+    .map(one => one.innerText)"""
 # boxes, those of common ancestors, and coefficients
 COUNTS = "['.box', '.common', '.inbred'].map(one => document.querySelectorAll(one).length)"
 
@@ -51,6 +63,7 @@ def settings(desk: Desk) -> None:
     (desk.room / "goat.jpg").write_bytes(picture_of(1200, 900, "JPEG"))
     said = "--name", SOCIETY, "--address", ADDRESS, "--breed-name", "Bunte Deutsche Edelziege", "--picture", "goat.jpg"
     assert desk.good("settings", *said).last == "picture: 800 by 600 points"
+    desk.good("seal", "--publish")
 
 
 def test_boxes(chromium: webdriver.Chrome, desk: Desk) -> None:
@@ -65,12 +78,13 @@ def test_boxes(chromium: webdriver.Chrome, desk: Desk) -> None:
         assert screen.reads(COUNTS) == [14 * 3, 12 * 3, 14 * 3]
         assert screen.reads(CUT) == []
         chromium.execute_cdp_cmd("Emulation.setEmulatedMedia", {"media": "print"})
-        assert screen.reads(CUT) == []
+        assert screen.reads(CUT) == screen.reads(UNEVEN) == []
         chromium.execute_cdp_cmd("Emulation.setEmulatedMedia", {"media": ""})
         assert sheets_printed(chromium) == 3
         screen.becomes_small()
         screen.opens(address)
-        assert screen.reads(CUT) == [] and screen.reads(WIDTH) == PHONE["width"]
+        assert screen.reads(CUT) == screen.reads(UNEVEN) == [] and screen.reads(WIDTH) == PHONE["width"]
+        assert screen.reads(CUT_SIGNS) == []
         chromium.execute_cdp_cmd("Emulation.clearDeviceMetricsOverride", {})
 
 
@@ -84,7 +98,7 @@ def test_further_generations(chromium: webdriver.Chrome, desk: Desk, generations
     screen.opens((desk.room / "long.html").as_uri())
     assert screen.reads("document.querySelectorAll('.box').length") == 3 * boxes
     chromium.execute_cdp_cmd("Emulation.setEmulatedMedia", {"media": "print"})
-    assert screen.reads(CUT) == []
+    assert screen.reads(CUT) == screen.reads(UNEVEN) == []
     chromium.execute_cdp_cmd("Emulation.setEmulatedMedia", {"media": ""})
     assert sheets_printed(chromium) == 3
 

@@ -74,6 +74,11 @@ def test_as_the_words(
         ("birth", BIRTH | {"id": " "}, "an animal needs an id"),
         ("birth", BIRTH | {"day": "01.03.2024"}, "isn't written as 2001-03-01"),
         ("birth", BIRTH | {"day": "2199-12-31"}, "the day 2199-12-31 is after today"),
+        ("birth", BIRTH | {"day": "0001-01-01"}, "1-01-01 is too long ago: a book takes days from 1900-01-01 to today"),
+        ("exit", {"id": DAM, "day": "1899-12-31"}, "the day 1899-12-31 is too long ago"),
+        ("birth", BIRTH | {"id": "\0"}, "'' has a sign within that no one sees"),
+        ("birth", BIRTH | {"id": "NEW\x1b-1"}, "'NEW-1' has a sign within that no one sees"),
+        ("transfer", {"id": DAM, "day": "2024-05-01", "to": "\u202eMill"}, "'Mill' has a sign within"),
         ("birth", BIRTH | {"id": "NN"}, "'NN' is a word for an unknown parent"),
         ("birth", BIRTH | {"sex": "x"}, "choose male or female"),
         ("birth", BIRTH | {"sire": "GK-10/294"}, "is GK-10/294b"),
@@ -90,9 +95,20 @@ def test_mistakes(site: Site, kind: str, fields: dict[str, str], told: str) -> N
     for name, written in fields.items():
         if name not in ("sex",):
             assert f'name="{name}"' in text
-    assert 'value="2024-05-01"' in text or kind == "birth"
+    assert f'value="{fields["day"]}"' in text
     with site.desk.opened() as book:
         assert book and book.change and book.change.number == 1
+
+
+@pytest.mark.parametrize("language, told", [
+    ("de", "Der Tag 01.01.0001 liegt zu weit zurück: ein Herdbuch nimmt Tage vom 01.01.1900 bis heute."),
+    ("fr", "La date 01/01/0001 est trop ancienne : un livre prend les dates du 01/01/1900 à aujourd'hui."),
+])  # fmt: skip
+def test_days_of_a_book(site: Site, language: str, told: str) -> None:
+    """Which days a book takes is said in each language."""
+    site.get(f"/language/{language}")
+    answer = site.post("/file/birth", **BIRTH | {"day": "0001-01-01"})
+    assert answer.status_code == 400 and told in shown(answer.get_data(as_text=True)).replace("\xa0", " ")
 
 
 def test_sent_twice(site: Site) -> None:

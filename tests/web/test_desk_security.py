@@ -108,6 +108,13 @@ def test_tokens(site: Site) -> None:
     assert "Mine" not in site.page("/settings")
 
 
+def files_of(site: Site) -> dict[str, bytes]:
+    """The folder's files, but what SQLite keeps beside a database while somebody reads it: memory that is shared, and
+    an empty log."""
+    kept = {path.name: path.read_bytes() for path in site.desk.folder.iterdir() if path.suffix != ".sqlite-shm"}
+    return {name: content for name, content in kept.items() if content or not name.endswith(".sqlite-wal")}
+
+
 def test_read_only(reading_site: Site) -> None:
     """Each route that writes answers 403, and no page has a button for one. A book of the version before stays one."""
     site = reading_site
@@ -117,7 +124,7 @@ def test_read_only(reading_site: Site) -> None:
             "DROP TABLE own_column; DROP TABLE own_value; DROP TABLE member; DROP TABLE former_id; DROP INDEX animal_digits; ALTER TABLE animal DROP COLUMN exit_reason; "
             "DROP INDEX change_form; ALTER TABLE change DROP COLUMN form; PRAGMA user_version = 1"
         )
-    files = {path.name: path.read_bytes() for path in site.desk.folder.iterdir() if path.suffix != ".sqlite-shm"}
+    files = files_of(site)
     token = "x"
     assert len(writing(site)) >= 8
     for address in writing(site):
@@ -140,9 +147,7 @@ def test_read_only(reading_site: Site) -> None:
         assert 'method="post"' not in page or "disabled" in page
         assert "This desk is only to be read: nothing can be changed here." in page
         assert "/sheet" not in page and "/file" not in page and "/undo" not in page
-    assert {
-        path.name: path.read_bytes() for path in site.desk.folder.iterdir() if path.suffix != ".sqlite-shm"
-    } == files
+    assert files_of(site) == files
 
 
 def test_headers(site: Site) -> None:

@@ -2,7 +2,11 @@
 from __future__ import annotations
 
 import contextlib
+import datetime
+import os
+import signal
 import sqlite3
+import threading
 import time
 from collections.abc import Callable, Sequence
 
@@ -11,10 +15,13 @@ import pytest
 from web.site import Site, shown
 from web.test_desk_filing import BIRTH, DAM, SIRE
 from front_desk.desk import Desk
-from gudokeyi.engine.session import Answer
+from gudokeyi.domain.commands import leave
+from gudokeyi.engine.session import Answer, Places
 from gudokeyi.services.book_session import BookMoved, BookSession
 from gudokeyi.services.history import last_that_changed
 from gudokeyi.store.book import Book
+
+CALF = "HOLGBRM000000000402"
 
 
 def test_by_the_session(site: Site, monkeypatch: pytest.MonkeyPatch) -> None:
@@ -229,3 +236,67 @@ def test_seen_in_a_process_beside(site: Site, monkeypatch: pytest.MonkeyPatch) -
     )
     with site.desk.opened() as book:
         assert book and book.change and book.change.number == 2
+
+
+def test_change_under_way(site: Site) -> None:
+    """Whoever asks while a change is filed, and not made yet, waits for that, and has the same session answer."""
+    site.post("/file/exit", id=DAM, day="2024-05-01")
+    program = site.desk.program
+    session, asked = program.session, list[str]()
+
+    def ask() -> None:
+        with site.desk.opened() as book:
+            assert book
+            try:
+                program.ask(["certificate", CALF], book)
+            except BookMoved:
+                asked.append("moved")
+
+    with site.desk.opened() as book:
+        assert book
+        asking = threading.Thread(target=ask)
+        program.reply(leave("HOLGBRM000000000402", datetime.date(2024, 6, 1)), book)
+        asking.start()
+        asking.join(0.5)
+        assert asking.is_alive() and not asked
+        # it isn't made: the session ends that has filed it, and another one answers
+        program.keep_to(book.journal)
+    asking.join(60)
+    assert not asked and session and session.has_ended and program.session is not session
+    assert site.get(f"/animal/{CALF}/certificate").status_code == 200
+
+
+@pytest.mark.parametrize("is_asked", [True, False], ids=["asked", "in turn"])
+def test_session_that_waits(site: Site, monkeypatch: pytest.MonkeyPatch, is_asked: bool) -> None:
+    """Where its process doesn't answer, or somebody brings it to a book for long, a page says so in the time of a page
+    and holds nobody; once it answers again all is as before."""
+    site.post("/file/exit", id=DAM, day="2024-05-01")
+    session, turn = site.desk.program.session, site.desk.program.lock
+    assert session
+    monkeypatch.setattr("gudokeyi.web.access.SECONDS_OF_PAGE", 1)
+    held, over = threading.Event(), threading.Event()
+
+    def hold() -> None:
+        with turn:
+            held.set()
+            over.wait(60)
+
+    holding = threading.Thread(target=hold)
+    if is_asked:
+        os.kill(session.process.pid, signal.SIGSTOP)
+    else:
+        holding.start()
+        held.wait()
+    began = time.monotonic()
+    for _ in range(5):
+        answer = site.get(f"/animal/{CALF}/certificate")
+        assert answer.status_code == 400 and "wasn't free" in shown(answer.get_data(as_text=True))
+    assert time.monotonic() - began < 20 and site.get("/animals").status_code == 200
+    over.set()
+    os.kill(session.process.pid, signal.SIGCONT)
+    monkeypatch.undo()
+    assert site.get(f"/animal/{CALF}/certificate").status_code == 200
+    until = time.monotonic() + 60
+    while session.free.qsize() < Places().inspectors and time.monotonic() < until:
+        time.sleep(0.02)
+    assert session.free.qsize() == Places().inspectors and site.desk.program.session is session

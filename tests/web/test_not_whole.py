@@ -15,6 +15,7 @@ from front_desk.desk import Desk
 from gudokeyi.domain.settings import LANGUAGES
 from gudokeyi.services.cache import stamp_of
 from gudokeyi.store.messages import NotWhole
+from gudokeyi.store.transactions import reading
 from gudokeyi.web.changing import go_on
 from gudokeyi.web.verification import keep_seeing, see, see_whole
 
@@ -146,3 +147,30 @@ def test_seen_each_hour(site: Site, monkeypatch: pytest.MonkeyPatch) -> None:
         time.sleep(0.05)
     site.desk.closes.set()
     assert WRONG in shown_all(site, "/animals")
+
+
+def test_seen_once(site: Site, monkeypatch: pytest.MonkeyPatch) -> None:
+    """Beside somebody who reads for long, and once that ends, a book of which nobody changed the file isn't seen anew
+    for each change."""
+    site.post("/file/exit", id=DAM, day="2024-05-01")
+    seen = list[str]()
+    monkeypatch.setattr("gudokeyi.web.changing.verified", lambda *_: seen.append("anew"))
+    with reading(site.desk.folder):
+        for id in SIRE, "GK-16/433c":
+            assert site.post("/file/exit", id=id, day="2024-05-01").status_code == 302
+            # root touches the entry of what stands beside the file by this
+            assert site.get("/animals").status_code == 200
+        assert (site.desk.folder / "book.sqlite-wal").stat().st_size
+    assert site.post("/file/exit", id="GK-17/475", day="2024-05-01").status_code in (302, 400)
+    assert not seen
+    edit(site.desk.folder)
+    site.post("/file/exit", id="GK-15/419c", day="2024-05-01")
+    assert seen
+
+
+def test_nothing_beside(site: Site) -> None:
+    """Once a desk is closed its book is one file."""
+    with reading(site.desk.folder):
+        site.post("/file/exit", id=DAM, day="2024-05-01")
+    site.desk.close()
+    assert [path.name for path in site.desk.folder.glob("book.sqlite*")] == ["book.sqlite"]

@@ -172,3 +172,23 @@ def test_owner_with_a_letter_more(empty_site: Site) -> None:
     empty_site.take(address)
     _, page = look_at(empty_site, TITLES + PAIR + rows)
     assert "meant?" not in page
+
+
+def test_cells_like_names(empty_site: Site) -> None:
+    """A parent's cell that has an animal's name with more is asked about, and so is one that is written like no id; a
+    stallion that was is castrated."""
+    site, text = empty_site, TITLES + PAIR + calves(9)
+    more = (
+        "201;Fern 16;H (ex étalon);2001-01-01;;;\n202;Max X Mia;m;2001-01-01;;;\n203;;w;2005-01-01;KB;;\n"
+        "204;;w;2005-01-01;Ch. Fern 16;;\n205;;w;2005-01-01;Max × Mia;;\n"
+    )
+    address, page = look_at(site, text + more)
+    wrong = shown(part(page, "May be wrong"))
+    assert "'KB' has no row, and is written like no id, as the sire of 1: is an unknown animal meant?" in wrong
+    assert "is 201 meant?" in wrong and "is 202 meant?" in wrong and "'Ch. Fern 16' has no row, and is" not in wrong
+    assert "'H (ex étalon)' as 'ex étalon'" in shown(page)
+    page = press(site, address, page, "'KB' means: unknown parent")
+    assert "'KB' has no row" not in shown(page)
+    site.take(address)
+    with site.desk.opened() as book:
+        assert book and book.society_records["201"].castrated and not book.society_records["202"].castrated

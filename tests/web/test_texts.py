@@ -149,6 +149,7 @@ def in_tables() -> Iterator[str]:
     yield from (
         certificates.NOTE,
         certificates.OF_PROGRAM,
+        certificates.SEALED,
         certificates.BREEDER,
         COMMON_NOTE,
         pedigree_pictures.TREE_KEY,

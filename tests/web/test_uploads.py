@@ -65,3 +65,27 @@ def test_odd_names(tmp_path: pathlib.Path, monkeypatch: pytest.MonkeyPatch, name
     one.path = other / "flock.csv"
     dropped.drop(one.token)
     assert list(tmp_path.iterdir()) == [other]
+
+
+@pytest.mark.parametrize("language, told", [
+    ("en", "flock.csv has 2,001 columns with {} letters in their titles, and a page shows 2,000 columns"),
+    ("de", "flock.csv hat 2.001 Spalten mit {} Buchstaben in ihren Titeln, und eine Seite zeigt höchstens 2.000"),
+])  # fmt: skip
+def test_very_many_columns(empty_site: Site, language: str, told: str) -> None:
+    """A page has no more columns than can be chosen from; of just so many it comes soon."""
+    empty_site.get(f"/language/{language}")
+    titles = ["Tag", "Geschlecht", "geb", *(f"c{at}" for at in range(1_997))]
+    began = time.monotonic()
+    text = empty_site.page(empty_site.drop("flock.csv", ",".join(titles).encode() + b"\na,m,2001-01-01\n"))
+    assert text.count("<option>c1996</option>") > 5 and time.monotonic() - began < 20
+    titles.append("one more")
+    text = empty_site.page(empty_site.drop("flock.csv", ",".join(titles).encode() + b"\na,m,2001-01-01\n"))
+    letters = f"{sum(map(len, titles)):,}".replace(",", "," if language == "en" else ".")
+    assert told.format(letters) in shown(text) and "c1996" not in text
+
+
+def test_long_titles(empty_site: Site) -> None:
+    """Nor of longer titles altogether."""
+    titles = ["Tag", "Geschlecht", "geb", *(f"{at}".ljust(9_000, "x") for at in range(12))]
+    text = empty_site.page(empty_site.drop("flock.csv", ",".join(titles).encode() + b"\na,m,2001-01-01\n"))
+    assert "flock.csv has 15 columns with 108,016 letters in their titles" in shown(text) and len(text) < 100_000

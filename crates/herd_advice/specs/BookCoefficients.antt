@@ -1,8 +1,8 @@
--- Coefficients of inbreeding and relationships of a frozen book's animals, in unit 2^-2l, by ranks.
-use Rattle.std.specs.Prelude.{◌≡◌, ℕ, ◌*◌, ◌<◌, All, Contains, List, length, slice_index, Some}
+-- Coefficients of inbreeding of a frozen book's animals, in unit 2^-2l, by ranks.
+use Rattle.std.specs.Prelude.{◌≡◌, ℕ, ◌<◌, All, Contains, List, length, slice_index}
 use Rattle.herd_frozen.specs.declared.freezing.frozen.Row.{Row}
 use Rattle.herd_kinship.specs.Ancestry.{IsAncestor}
-use Rattle.herd_kinship.specs.Table.{coefficient, entry}
+use Rattle.herd_kinship.specs.Table.{coefficient}
 use Rattle.herd_pruned.specs.Marked.{ComesFrom}
 use Rattle.herd_advice.specs.FrozenAncestry.{ancestry_of, number_of_row}
 
@@ -30,10 +30,3 @@ pub record KnowsBookAncestors (l : ℕ) (rows : List Row) (known : List ℕ) (ra
 pub record AreRanksOf (rows : List Row) (numbers : List (List ℕ)) (ranks : List ℕ) : Type 0 where
   pub within : All (λ rank. rank < length rows) ranks
   pub each : (rank : ℕ) → rank < length rows → Contains numbers (number_of_row rows rank) → Contains ranks rank
-
--- to each animal there is the relationship of the animal at a rank with it
-pub record AreBookRelationships (l : ℕ) (rows : List Row) (rank : ℕ) (relationships : List ℕ) : Type 0 where
-  pub each : length relationships ≡ length rows
-  pub right : (j : ℕ) → j < length rows
-      → slice_index relationships j
-      ≡ entry (ancestry_of rows) (2 * l) (Some (number_of_row rows rank)) (Some (number_of_row rows j))

@@ -15,21 +15,20 @@ use std::marker::Model;
 pub struct Relationships<'a, F: Allocator, A: Allocator> {
     frozen: &'a Frozen<F>,
     rank: u32,
-    column: LineageRelationships<A>,
+    column: LineageRelationships<'a, F, A>,
 }
 
 impl<'a, F: Allocator, A: Allocator> Model for Relationships<'a, F, A> {
     ghost use Rattle.std.specs.Prelude.{◌<◌, length};
     ghost use Rattle.herd_frozen.specs.declared.TheConstants.{DEPTH_LIMIT};
-    ghost use Rattle.herd_advice.specs.BookCoefficients.{AreBookRelationships};
-    ghost use Rattle.herd_advice.specs.BookRelationships.{RankInBook};
+    ghost use Rattle.herd_advice.specs.BookRelationships.{IsInLineage, RankInBook};
 
     ghost Value = { RankInBook };
 
     ghost view = { λ r. record { rows = r.frozen.now; rank = r.rank } };
 
     ghost invariant = { λ r. (r.rank < length r.frozen.now)
-        × AreBookRelationships DEPTH_LIMIT r.frozen.now r.rank r.column };
+        × IsInLineage DEPTH_LIMIT r.frozen.now r.rank r.column };
 }
 
 impl<'a, F: Allocator, A: Allocator + Clone> Relationships<'a, F, A> {

@@ -6,7 +6,7 @@
 //! |---|---|---|---|
 //! | the ancestry that a book tells | `FrozenAncestry` | | `BookFacts`, `BookPaths`, `FrozenFacts` |
 //! | coefficients | `BookCoefficients` | `book_coefficients`, `workers` | `FrozenFacts` |
-//! | relationships | `BookCoefficients`, `BookRelationships` | `book_relationships` | `FrozenFacts` |
+//! | relationships | `BookRelationships` | `book_relationships` | `FrozenFacts` |
 //! | contributions | `BookContributions` | `book_contributions` | `ContributionFacts` |
 //! | mating advice | `Mating` | `mating_advice`, `dam_matings` | `MatingFacts` |
 //! | the laws | those of `herd_kinship` | `laws` | `FrozenFacts` |

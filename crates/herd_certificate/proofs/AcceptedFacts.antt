@@ -1,12 +1,12 @@
 -- No fault is found in the certificate of an animal of a lawful book, cause by cause.
-use Rattle.std.proofs.Common.{◌≡◌, ◌≢◌, ◌⊎◌, ◌∙◌, inl, inr, ℕ, zero, suc, ◌+◌, ◌-◌, ◌<◌, ◌≤◌, ◌^◌, List, [], ◌∷◌}
-use Rattle.std.proofs.Common.{◌++◌, length, map, codes, slice_get, get_or, Option, Some, None, unwrap_or, All}
-use Rattle.std.proofs.Common.{Contains, refl, sym, ap, subst, arith, ⊎_elim}
+use Rattle.std.proofs.Common.{◌≡◌, ◌≢◌, ◌∙◌, inl, inr, ℕ, ◌-◌, ◌<◌, List, [], ◌∷◌}
+use Rattle.std.proofs.Common.{length, map, codes, slice_get, get_or, Option, Some, unwrap_or, All}
+use Rattle.std.proofs.Common.{refl, sym, ap, arith}
 use Rattle.std.specs.Option.{option_map}
 use Rattle.std.proofs.lemmas.List.{length-map}
 use Rattle.std.proofs.lemmas.List.Elements.{All-head, All-tail}
 use Rattle.std.proofs.lemmas.Option.{get_or_from_slice_get, same_Some, slice_get-get_or, slice_get-map}
-use Rattle.std.proofs.lemmas.Option.{slice_get_within, unwrap_or-slice_get}
+use Rattle.std.proofs.lemmas.Option.{slice_get_within}
 use Rattle.merkle_tree.specs.Shown.{Found, LieWithin, beside, found, shown_at, shown_of}
 use Rattle.merkle_tree.specs.Tree.{digests_of, row_digest, tree_root}
 use Rattle.merkle_tree.specs.declared.shown.Shown.{Shown}
@@ -15,7 +15,6 @@ use Rattle.herd_frozen.specs.declared.TheConstants.{DEPTH_LIMIT, MOST_ANIMALS}
 use Rattle.herd_frozen.specs.declared.freezing.frozen.Row.{Row}
 use Rattle.herd_frozen.specs.freezing.Frozen.{IsFrozen, numbers_of, parents_of}
 use Rattle.herd_kinship.specs.Coefficients.{coefficient_at}
-use Rattle.herd_kinship.specs.Ranks.{ranked}
 use Rattle.herd_lineage.specs.Lineage.{IsLineage}
 use Rattle.herd_lineage.specs.declared.lineage.Parents.{Parents}
 use Rattle.herd_lineage.specs.declared.lineage_fault.LineageFault.{LineageFault}
@@ -23,10 +22,9 @@ use Rattle.herd_lineage.specs.declared.lineage_fault.LineageFault.TheVariants.{D
 use Rattle.herd_lineage.specs.declared.lineage_fault.LineageFault.TheVariants.{TooDeep as TooFarAbove}
 use Rattle.herd_lineage.proofs.lemmas.Contained.{contains_here}
 use Rattle.herd_lineage.proofs.lemmas.ListFacts.{there}
-use Rattle.herd_pruned.specs.Marked.{ComesFrom}
 use Rattle.herd_pruned.proofs.lemmas.EntryFacts.{coefficient-kept}
 use Rattle.herd_text.specs.CoefficientText.{coefficient_text}
-use Rattle.herd_seal.specs.Certificate.{AreLinked, IsAnimalAt, IsClosed, leaf_of, leaves_of}
+use Rattle.herd_seal.specs.Certificate.{IsAnimalAt, IsClosed, leaf_of, leaves_of}
 use Rattle.herd_seal.specs.CheckFaults.{HasParentFault, HasWrongCoefficient, HasWrongDigests, HasWrongSeal, IsLacking}
 use Rattle.herd_seal.specs.CheckFaults.{IsMisnamed, IsNotNext, IsNotShown, IsOfOthers, IsOutOfOrder, IsPartsFault}
 use Rattle.herd_seal.specs.CheckFaults.{OfAParent}
@@ -36,10 +34,10 @@ use Rattle.herd_seal.specs.declared.check_fault.CheckCause.{CheckCause}
 use Rattle.herd_seal.specs.declared.check_fault.CheckCause.TheVariants.{Coefficient, Digests, Header, Memory, Number}
 use Rattle.herd_seal.specs.declared.check_fault.CheckCause.TheVariants.{Order, ParentLacks, ParentNumber, Read}
 use Rattle.herd_seal.specs.declared.check_fault.CheckCause.TheVariants.{Row as RowCause, Seal, TooDeep, TooMany}
-use Rattle.herd_certificate.specs.Sealed.{certified, claim_at, coefficient_told, parts_at, places_shown, rows_at}
+use Rattle.herd_certificate.specs.Sealed.{certified, claim_at, parts_at, places_shown, rows_at}
 use Rattle.herd_certificate.proofs.AncestorFacts.{with_ancestors-path}
-use Rattle.herd_certificate.proofs.FaultlessFacts.{animal-shown, ascend, at-within, dam_lacks, dam_misnamed, few}
-use Rattle.herd_certificate.proofs.FaultlessFacts.{long, only-full, path_down, pruned, shown-ascend, sire_lacks}
+use Rattle.herd_certificate.proofs.FaultlessFacts.{animal-shown, ascend, dam_lacks, dam_misnamed, few}
+use Rattle.herd_certificate.proofs.FaultlessFacts.{only-full, path_down, pruned, shown-ascend, sire_lacks}
 use Rattle.herd_certificate.proofs.FaultlessFacts.{sire_misnamed, within}
 use Rattle.herd_certificate.proofs.ShownFacts.{at_of_all, one_at, shown_at_rank, shown_back}
 

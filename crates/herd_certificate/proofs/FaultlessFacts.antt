@@ -1,20 +1,17 @@
 -- The certificate of an animal of a lawful book has no fault under the book's seal.
-use Rattle.std.proofs.Common.{◌≡◌, ◌≢◌, ◌⊎◌, ◌∙◌, inl, inr, ℕ, zero, suc, ◌+◌, ◌-◌, ◌<◌, ◌≤◌, ◌^◌, List, [], ◌∷◌}
-use Rattle.std.proofs.Common.{◌++◌, length, map, codes, slice_get, get_or, Bool, true, false, not, nat_lt, ◌==◌}
-use Rattle.std.proofs.Common.{if◌then◌else◌, max, Option, Some, None, unwrap_or, All, Contains, refl, sym, ap, subst}
-use Rattle.std.proofs.Common.{arith, ⊎_elim, lit<}
-use Rattle.std.specs.Option.{option_and_then, option_map, option_map_or}
-use Rattle.std.proofs.lemmas.Bool.{cases_Bool, le-ltb, lt-ltb}
+use Rattle.std.proofs.Common.{◌≡◌, ◌∙◌, inl, inr, ℕ, zero, suc, ◌+◌, ◌<◌, ◌≤◌, List}
+use Rattle.std.proofs.Common.{length, map, slice_get, get_or, Bool, true, false, not, nat_lt, ◌==◌}
+use Rattle.std.proofs.Common.{if◌then◌else◌, max, Option, Some, None, All, Contains, refl, sym, ap, subst}
+use Rattle.std.proofs.Common.{arith}
+use Rattle.std.specs.Option.{option_and_then, option_map}
+use Rattle.std.proofs.lemmas.Bool.{le-ltb, lt-ltb}
 use Rattle.std.proofs.lemmas.List.{length-map}
-use Rattle.std.proofs.lemmas.Option.{get_or_from_slice_get, same_Some, slice_get-get_or, slice_get-map}
-use Rattle.std.proofs.lemmas.Option.{slice_get_within, unwrap_or-slice_get}
-use Rattle.merkle_tree.specs.Shown.{Found, IsAscending, LieWithin, beside, found, shown_of}
-use Rattle.merkle_tree.specs.Tree.{digests_of, tree_root}
-use Rattle.merkle_tree.specs.declared.shown.Shown.{Shown}
-use Rattle.merkle_tree.proofs.lemmas.Whole.{found_complete}
+use Rattle.std.proofs.lemmas.Option.{get_or_from_slice_get, same_Some, slice_get-get_or}
+use Rattle.std.proofs.lemmas.Option.{slice_get_within}
+use Rattle.merkle_tree.specs.Shown.{IsAscending}
 use Rattle.herd_frozen.specs.declared.TheConstants.{DEPTH_LIMIT, MOST_ANIMALS}
 use Rattle.herd_frozen.specs.declared.freezing.frozen.Row.{Row}
-use Rattle.herd_frozen.specs.freezing.Frozen.{IsFrozen, IsFrozenRow, IsRankOf, numbers_of, parents_of}
+use Rattle.herd_frozen.specs.freezing.Frozen.{IsFrozen, IsFrozenRow, IsRankOf, parents_of}
 use Rattle.herd_lineage.specs.Builder.{first_fault, is_earlier}
 use Rattle.herd_lineage.specs.Lineage.{IsLineage, dam_rank, depth_above, depth_at, depth_from, sire_rank}
 use Rattle.herd_lineage.specs.declared.lineage.Parents.{Parents}
@@ -25,16 +22,16 @@ use Rattle.herd_lineage.proofs.lemmas.ListFacts.{there}
 use Rattle.herd_kinship.specs.Ancestry.{IsParentIn, PathTo}
 use Rattle.herd_kinship.specs.Ranks.{ranked}
 use Rattle.herd_kinship.proofs.lemmas.lineages.LineageFacts.{depth_at-row, path_to-joined}
-use Rattle.herd_pruned.specs.Pruned.{IsPrunedOf, Pruned, renamed_parents}
+use Rattle.herd_pruned.specs.Pruned.{IsPrunedOf}
 use Rattle.herd_seal.specs.Certificate.{AreLinked, IsLink}
-use Rattle.herd_seal.specs.CheckFaults.{AreLinkedTo, IsLacking, IsMisnamed, IsNotNext}
+use Rattle.herd_seal.specs.CheckFaults.{IsLacking, IsMisnamed, IsNotNext}
 use Rattle.herd_seal.specs.declared.certificate.CertifiedRow.{CertifiedRow}
-use Rattle.herd_certificate.specs.Sealed.{certified, places_shown, rows_at}
+use Rattle.herd_certificate.specs.Sealed.{places_shown, rows_at}
 use Rattle.herd_certificate.proofs.AncestorFacts.{with_ancestors-ascend, with_ancestors-few, with_ancestors-path}
 use Rattle.herd_certificate.proofs.AncestorFacts.{with_ancestors-reached, with_ancestors-within}
 use Rattle.herd_certificate.proofs.ShownFacts.{IsShownAt, at_of_all, ascending_at, dam-there, link-place, link_within}
 use Rattle.herd_certificate.proofs.ShownFacts.{not_lacking, not_misnamed, rank_below, same_rank, shown-long}
-use Rattle.herd_certificate.proofs.ShownFacts.{shown_at_rank, shown_back, sire-there}
+use Rattle.herd_certificate.proofs.ShownFacts.{shown_back, sire-there}
 
 -- what an option is that is named
 over_map : (f : ℕ → ℕ) (o : Option ℕ) (q : ℕ) → Some q ≡ option_map f o → (k : ℕ) × (o ≡ Some k) × (f k ≡ q)

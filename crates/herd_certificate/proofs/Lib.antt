@@ -3,3 +3,4 @@ pub mod PartFacts
 mod ShownFacts
 mod FaultlessFacts
 mod AcceptedFacts
+mod WrittenFacts

@@ -11,6 +11,7 @@
 //! | what a certificate is made of | `Parts` | `parts` | `PartFacts` |
 //! | a certificate as text | `Sealed` | `certificate`, `field` | `PartFacts` |
 //! | nothing is wrong with it | `Faultless` | `laws` | `ShownFacts`, `FaultlessFacts`, `AcceptedFacts` |
+//! | the check accepts its text | `Faultless` | `certificate` | `WrittenFacts` |
 #![tactic(auto)]
 
 mod ancestors;

@@ -1,2 +1,3 @@
 pub mod LawfulChanges
+pub mod PartOfFacts
 pub mod store

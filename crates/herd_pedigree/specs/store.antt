@@ -2,6 +2,7 @@
 pub mod Kept
 pub mod Undo
 pub mod Records
+pub mod Ancestors
 pub mod Calves
 pub mod Carrying
 pub mod Exchange

@@ -10,6 +10,7 @@ ghost use Rattle.herd_frozen.specs.places.Links.{IsLinkAt};
 ghost use Rattle.herd_frozen.specs.places.Places.{AreParents, IsIndexIn};
 ghost use Rattle.herd_pedigree.specs.Pedigree.{IfShownWith, IsBirth, IsCorrection, IsExit, IsFaultWith, IsFound};
 ghost use Rattle.herd_pedigree.specs.Pedigree.{IsPresentOn, TellsTooDeep, birth_record, changed_to, registration};
+ghost use Rattle.herd_pedigree.specs.Part.{IsFrozenPart};
 ghost use Rattle.herd_pedigree.specs.Pedigree.{unsound};
 ghost use Rattle.herd_pedigree.specs.store.Kept.{pushed_if};
 ghost use Rattle.herd_pedigree.specs.store.Records.{IsStoredAt, animal_of, set_value_at};
@@ -18,13 +19,16 @@ ghost use Rattle.herd_frozen.specs.declared.TheConstants.{DEPTH_LIMIT, MOST_ANIM
 use crate::found::Found;
 use crate::parents::sound_parents;
 use crate::registration::{Newborn, Registration};
+use crate::store::ancestors::Ancestors;
 use crate::store::correction::Correction;
 use crate::store::depth::depth_with;
 use crate::store::progeny::Progeny;
 use crate::store::records::{Records, StoredRecord};
 use crate::store::undo::{Undo, undo_writes};
 use herd_animal::{AnimalNumber, Day, Herd};
-use herd_frozen::{Animal, DEPTH_LIMIT, Frozen, Link, ParentFault, Registered, frozen_from};
+use herd_frozen::{
+    Animal, DEPTH_LIMIT, Frozen, Link, ParentFault, Registered, freeze_list, frozen_from,
+};
 use std::alloc::{AllocError, Allocator};
 use std::marker::Model;
 
@@ -491,6 +495,22 @@ impl<A: Allocator> Pedigree<A> {
         ensures { IfOk result (IsFrozenFrom DEPTH_LIMIT MOST_ANIMALS self.now.book) }
     {
         frozen_from(alloc, &self.records)
+    }
+
+    /// The book of some animals and of all their known ancestors, in age order: all that is asked for a certificate, a
+    /// coefficient or a relationship of these animals. A number that isn't in the book is passed over. It goes through
+    /// these animals alone, and takes a byte for each animal of the book. The only error is a growth of memory that is
+    /// refused.
+    pub fn freeze_ancestors<B: Allocator + Clone>(
+        &self,
+        alloc: B,
+        numbers: &[AnimalNumber],
+    ) -> Result<Frozen<B>, AllocError>
+        ensures { IfOk result (IsFrozenPart DEPTH_LIMIT MOST_ANIMALS self.now.book numbers.now) }
+    {
+        let found = Ancestors::of(alloc.clone()?, &self.records, numbers)?;
+        let part = found.records(alloc.clone()?, &self.records)?;
+        freeze_list(alloc, &part)
     }
 }
 

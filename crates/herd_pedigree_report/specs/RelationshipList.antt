@@ -1,5 +1,5 @@
 -- The relationships of some animals of a lineage as text: their entries in A, the numerator relationship matrix.
-use Rattle.std.specs.Prelude.{◌==◌, ℕ, ◌*◌, Bool, if◌then◌else◌, List, [], ◌∷◌, ◌++◌, length, codes, slice_index, Some}
+use Rattle.std.specs.Prelude.{◌==◌, ℕ, ◌*◌, Bool, if◌then◌else◌, List, [], ◌∷◌, ◌++◌, length, codes, Some}
 use Rattle.std.specs.List.{flat_map}
 use Rattle.herd_lineage.specs.declared.TheConstants.{DEPTH_LIMIT}
 use Rattle.herd_lineage.specs.declared.lineage.Parents.{Parents}
@@ -34,8 +34,3 @@ pair_lines in_units lineage among others (x ∷ rest) =
 abbrev pub relationships_text : Bool → List Parents → List ℕ → List ℕ → List ℕ
 relationships_text in_units lineage animals others =
     pair_lines in_units lineage (length others == 0) others animals
-
--- the lines of an animal with others, as a column has them
-abbrev pub column_lines : Bool → List ℕ → ℕ → List ℕ → List ℕ
-column_lines in_units column x partners =
-    flat_map (λ y. pair_line in_units x y (slice_index column y)) partners

@@ -2,7 +2,7 @@ ghost use Rattle.std.specs.Prelude.{◌≡◌, ◌<◌, ◌++◌, All, IfErr, On
 ghost use Rattle.std.specs.Io.KnownBytes.{Appends};
 ghost use Rattle.herd_lineage.specs.declared.TheConstants.{DEPTH_LIMIT};
 ghost use Rattle.herd_kinship.specs.Coefficients.{AreCoefficients};
-ghost use Rattle.herd_pedigree_report.specs.RelationshipList.{column_lines, lines_with, pair_line};
+ghost use Rattle.herd_pedigree_report.specs.RelationshipList.{lines_with, pair_line};
 ghost use Rattle.herd_pedigree_report.specs.RelationshipList.{partners_of as partners_in, relationships_text};
 ghost use Rattle.herd_text.specs.Text.{EndsReport};
 ghost use Rattle.herd_text.specs.Text.{AppendsFront, PassesOn};
@@ -82,24 +82,24 @@ fn write_lines<W: Write, T: Allocator, A: Allocator, F: Allocator, C: Allocator>
         return Ok(());
     }
     let column = Relationships::of(alloc, lineage, coefficients, first)?;
-    write_column(text, first, &column, partners, in_units, writer)
+    write_column(text, &column, partners, in_units, writer)
 }
 
 // Writes the lines of an animal with some others, as its column has them.
-fn write_column<W: Write, A: Allocator, C: Allocator>(
+fn write_column<W: Write, A: Allocator, F: Allocator, C: Allocator>(
     text: &mut Text<A>,
-    first: u32,
-    column: &Relationships<C>,
+    column: &Relationships<F, C>,
     partners: &[u32],
     in_units: bool,
     writer: &mut W,
 ) -> Result<(), ReportFault>
-    requires { All (λ rank. rank < length column.now) partners.now }
+    requires { All (λ rank. rank < length column.now.rows) partners.now }
     ensures ok { OnOk result (PassesOn (W.contents writer.old) (W.contents writer.new)
-        (text.old ++ column_lines in_units column.now first partners.now) text.new) }
+        (text.old ++ lines_with in_units column.now.rows column.now.rank partners.now) text.new) }
     ensures err { OnErr result (AppendsFront (W.contents writer.old) (W.contents writer.new)
-        (text.old ++ column_lines in_units column.now first partners.now)) }
+        (text.old ++ lines_with in_units column.now.rows column.now.rank partners.now)) }
 {
+    let first = column.rank();
     for partner in partners {
         text.pass_on(writer)?;
         push_pair(text, first, *partner, in_units, column.with(*partner))?;

@@ -1,5 +1,6 @@
 //! A pedigree by itself: what its calls answer, and what they leave.
 
+mod ancestors;
 mod changes;
 mod corrections;
 mod deep_books;

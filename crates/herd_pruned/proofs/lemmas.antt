@@ -1,3 +1,4 @@
 pub mod MarkedFacts
 pub mod PruningFacts
 pub mod EntryFacts
+pub mod BandFacts

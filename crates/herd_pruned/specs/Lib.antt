@@ -1,3 +1,4 @@
 pub mod Pruned
 pub mod Marked
 pub mod Known
+pub mod Band

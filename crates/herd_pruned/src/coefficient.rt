@@ -1,13 +1,17 @@
 //! The coefficients of inbreeding of some animals, by their ancestors alone.
 ghost use Rattle.std.specs.Prelude.{◌≡◌, ℕ, ◌*◌, ◌^◌, ◌<◌, All, Contains, length, slice_index, IfOk};
 ghost use Rattle.herd_lineage.specs.declared.TheConstants.{DEPTH_LIMIT};
-ghost use Rattle.herd_kinship.specs.Coefficients.{coefficient_at};
+ghost use Rattle.herd_kinship.specs.Coefficients.{AreCoefficients, coefficient_at};
 ghost use Rattle.herd_pruned.specs.Known.{AreCoefficientsOf};
 
+use crate::band::{coefficients_in_band, width_of};
 use crate::pruned_lineage::PrunedLineage;
 use herd_kinship::{Coefficients, coefficients_plain};
 use herd_lineage::Lineage;
 use std::alloc::{AllocError, Allocator};
+
+// How many entries of a matrix are kept at most.
+const MOST_ENTRIES: u64 = 1 << 21;
 
 /// The coefficient of inbreeding of the animal at a rank, in units of 2^-120. The only error is a growth of memory that
 /// is refused.
@@ -34,10 +38,31 @@ pub fn coefficients_of<F: Allocator, A: Allocator + Clone>(
     ensures { IfOk result (AreCoefficientsOf DEPTH_LIMIT lineage.now (Contains animals.now)) }
 {
     let pruned = PrunedLineage::of(alloc.clone()?, lineage, animals)?;
-    let coefficients = coefficients_plain(alloc.clone()?, pruned.lineage())?;
+    let coefficients = coefficients(alloc.clone()?, pruned.lineage())?;
     let mut known = vec![in alloc; 0u128; lineage.len() as usize]?;
     spread(coefficients.list(), pruned.ranks(), &mut known);
     Ok(Coefficients::from_list(known))
+}
+
+/// The coefficients of inbreeding of all animals of a lineage that is small, as that of one animal's ancestors mostly
+/// is.
+///
+/// They are read row by row from the matrix by the tabular method, of which a band is kept as wide as the distance of
+/// the furthest parent, where that is a sixteenth of the animals at most and takes no more than 32 MB; else they are
+/// computed sire by sire. The only error is a growth of memory that is refused.
+pub fn coefficients<F: Allocator, A: Allocator + Clone>(
+    alloc: A,
+    lineage: &Lineage<F>,
+) -> Result<Coefficients<A>, AllocError>
+    ensures { IfOk result (AreCoefficients DEPTH_LIMIT lineage.now) }
+{
+    let animals = u64::from(lineage.len());
+    let width = width_of(lineage);
+    if 16 * u64::from(width) <= animals && animals * u64::from(width) <= MOST_ENTRIES {
+        coefficients_in_band(alloc, lineage, width)
+    } else {
+        coefficients_plain(alloc, lineage)
+    }
 }
 
 // Writes each coefficient at its rank in the whole.

@@ -1,14 +1,13 @@
 -- The fields of a record, from which it can be told: each has one spelling, without a comma.
-use Rattle.std.proofs.Common.{◌≡◌, ◌≢◌, ◌⊎◌, ◌∙◌, inl, inr, ℕ, ℤ, zero, suc, ◌+◌, ◌<◌, ◌≤◌, ◌^◌, Bool, true, false}
-use Rattle.std.proofs.Common.{List, [], ◌∷◌, ◌++◌, length, decimal, get_or, codes, Option, Some, None, refl, sym, ap}
+use Rattle.std.proofs.Common.{◌≡◌, ◌≢◌, ◌∙◌, inl, inr, ℕ, ℤ, ◌<◌, ◌^◌, Bool, true, false}
+use Rattle.std.proofs.Common.{List, [], ◌∷◌, ◌++◌, length, decimal, get_or, Option, Some, None, refl, sym, ap}
 use Rattle.std.proofs.Common.{subst, arith, append_assoc, ⊎_elim, lit<}
-use Rattle.std.specs.List.{All}
 use Rattle.std.specs.Option.{ForSome}
 use Rattle.std.proofs.lemmas.Bool.{cases_eq, cases_order}
 use Rattle.std.proofs.lemmas.Fmt.{decimal_injective, decimal_is_IsNumeral, decimal_nonempty, first_decimal}
 use Rattle.std.proofs.lemmas.Fmt.{length-decimal-le}
 use Rattle.std.proofs.lemmas.Grind.{get_or_default_zero}
-use Rattle.std.proofs.lemmas.List.Elements.{All-cons, All-nil}
+use Rattle.std.proofs.lemmas.List.Elements.{All-append, All-cons, All-nil}
 use Rattle.std.proofs.lemmas.Str.Parse.{digit_at}
 use Rattle.herd_animal.specs.AnimalNumber.{IsAnimalNumber}
 use Rattle.herd_animal.specs.Day.{IsDay, day_number, day_text}
@@ -21,35 +20,35 @@ use Rattle.std.specs.Prelude.{IfNone, IfSome}
 use Rattle.herd_record_line.specs.declared.reading.Record.{Record}
 use Rattle.herd_record_line.proofs.CutFacts.{field_joined, same_cut}
 
--- ---- fields have no comma
+-- ---- fields have no comma, nor any other character below their letters, digits and dashes
 
-number_plain : (text : List ℕ) → IsAnimalNumber text → HasNo 44 text
-number_plain text number = λ k d within is.
+pub number_plain : (character : ℕ) (text : List ℕ) → character < 45 → IsAnimalNumber text → HasNo character text
+number_plain character text low number = λ k d within is.
     let right = number.right k within in
-    let at : get_or text k 0 ≡ 44 = sym (get_or_default_zero text k d within) ∙ is in
+    let at : get_or text k 0 ≡ character = sym (get_or_default_zero text k d within) ∙ is in
     ⊎_elim
     (λ (e : k ≡ 6). elim (right.sex e) [
-      | inl male ↦ absurd (omega (arith, male, at))
-      | inr female ↦ absurd (omega (arith, female, at))
+      | inl male ↦ absurd (omega (arith, male, at, low))
+      | inr female ↦ absurd (omega (arith, female, at, low))
     ])
     (λ apart. ⊎_elim
-    (λ (low : k < 6). let letter = right.letter low in absurd (omega (arith, letter, at)))
+    (λ (early : k < 6). let letter = right.letter early in absurd (omega (arith, letter, at, low)))
     (λ (high : 6 < k). elim (right.own high) [
-      | inl letter ↦ absurd (omega (arith, letter, at))
-      | inr digit ↦ absurd (omega (arith, digit, at))
+      | inl letter ↦ absurd (omega (arith, letter, at, low))
+      | inr digit ↦ absurd (omega (arith, digit, at, low))
     ])
     apart)
     (cases_order k 6)
 
-day_plain : (text : List ℕ) → IsDay text → HasNo 44 text
-day_plain text day = λ k d within is.
+day_plain : (character : ℕ) (text : List ℕ) → character < 45 → IsDay text → HasNo character text
+day_plain character text low day = λ k d within is.
     let shaped = day.shape.shaped k within in
-    let at : get_or text k 0 ≡ 44 = sym (get_or_default_zero text k d within) ∙ is in
+    let at : get_or text k 0 ≡ character = sym (get_or_default_zero text k d within) ∙ is in
     ⊎_elim
-    (λ (e : k ≡ 4). let dash = shaped.dash (inl e) in absurd (omega (arith, dash, at)))
+    (λ (e : k ≡ 4). let dash = shaped.dash (inl e) in absurd (omega (arith, dash, at, low)))
     (λ (other : k ≢ 4). ⊎_elim
-    (λ (e : k ≡ 7). let dash = shaped.dash (inr e) in absurd (omega (arith, dash, at)))
-    (λ (last : k ≢ 7). let digit = shaped.digit other last in absurd (omega (arith, digit, at)))
+    (λ (e : k ≡ 7). let dash = shaped.dash (inr e) in absurd (omega (arith, dash, at, low)))
+    (λ (last : k ≢ 7). let digit = shaped.digit other last in absurd (omega (arith, digit, at, low)))
     (cases_eq k 7))
     (cases_eq k 4)
 
@@ -59,16 +58,37 @@ decimal_plain character n small low = λ k d within is.
     let at : get_or (decimal n) k 0 ≡ character = sym (get_or_default_zero (decimal n) k d within) ∙ is in
     absurd (omega (arith, digit, at, low))
 
-known_plain : (parent : Option (List ℕ)) → ForSome parent IsAnimalNumber → HasNo 44 (known_text parent)
-known_plain None known = All-cons (λ c. c ≢ 44) 48 [] (λ e. absurd (omega (arith, e))) (All-nil (λ c. c ≢ 44))
-known_plain (Some number) known = number_plain number (known number refl)
+known_plain : (character : ℕ) (parent : Option (List ℕ)) → character < 45 → ForSome parent IsAnimalNumber
+    → HasNo character (known_text parent)
+known_plain character None low known =
+    All-cons (λ c. c ≢ character) 48 [] (λ e. absurd (omega (arith, e, low))) (All-nil (λ c. c ≢ character))
+known_plain character (Some number) low known = number_plain character number low (known number refl)
 
-left_plain : (left : Option ℤ) → ForSome left IsWrittenDay → HasNo 44 (left_text left)
-left_plain None known = All-cons (λ c. c ≢ 44) 45 [] (λ e. absurd (omega (arith, e))) (All-nil (λ c. c ≢ 44))
-left_plain (Some day) known = day_plain (day_text day) (known day refl).is_day
+left_plain : (character : ℕ) (left : Option ℤ) → character < 45 → ForSome left IsWrittenDay
+    → HasNo character (left_text left)
+left_plain character None low known =
+    All-cons (λ c. c ≢ character) 45 [] (λ e. absurd (omega (arith, e, low))) (All-nil (λ c. c ≢ character))
+left_plain character (Some day) low known = day_plain character (day_text day) low (known day refl).is_day
+
+embryo_plain : (character : ℕ) (embryo : Bool) → character < 45 → HasNo character (embryo_text embryo)
+embryo_plain character true low =
+    All-cons (λ c. c ≢ character) 49 [] (λ e. absurd (omega (arith, e, low))) (All-nil (λ c. c ≢ character))
+embryo_plain character false low = All-nil (λ c. c ≢ character)
 
 herd_small : (herd : ℕ) → IsHerdNumber herd → herd < 2 ^ 64
 herd_small herd is = let most = is.1 in omega (arith, most)
+
+no_number_comma : (text : List ℕ) → IsAnimalNumber text → HasNo 44 text
+no_number_comma text = number_plain 44 text (omega arith)
+
+no_day_comma : (text : List ℕ) → IsDay text → HasNo 44 text
+no_day_comma text = day_plain 44 text (omega arith)
+
+no_known_comma : (parent : Option (List ℕ)) → ForSome parent IsAnimalNumber → HasNo 44 (known_text parent)
+no_known_comma parent = known_plain 44 parent (omega arith)
+
+no_left_comma : (left : Option ℤ) → ForSome left IsWrittenDay → HasNo 44 (left_text left)
+no_left_comma left = left_plain 44 left (omega arith)
 
 -- ---- and tell what they are of
 
@@ -120,25 +140,48 @@ abbrev made : ℤ → Option (List ℕ) → Option (List ℕ) → Bool → ℕ �
 made birth sire dam embryo herd since left =
     record { birth = birth; sire = sire; dam = dam; embryo = embryo; herd = herd; since = since; left = left }
 
+-- two fields lack what each lacks, and the comma isn't
+pub joined_plain : (character : ℕ) (front behind : List ℕ) → character < 44 → HasNo character front
+    → HasNo character behind → HasNo character (front ++ 44 ∷ behind)
+joined_plain character front behind low plain more =
+    All-append (λ c. c ≢ character) front (44 ∷ behind) plain
+    (All-cons (λ c. c ≢ character) 44 behind (λ e. absurd (omega (arith, e, low))) more)
+
+-- a record is on one line
+pub record_plain : (character : ℕ) (number : List ℕ) (animal : Animal) → character < 44 → IsRecord number animal
+    → HasNo character (record_text number animal)
+record_plain character number a small is =
+    let low : character < 45 = omega (arith, small) in
+    let digits : character < 48 = omega (arith, small) in
+    subst (HasNo character) (sym (record_parts number a))
+    (joined_plain character number _ small (number_plain character number low is.is_number)
+    (joined_plain character (day_text a.birth) _ small (day_plain character _ low is.birth.is_day)
+    (joined_plain character (known_text a.sire) _ small (known_plain character a.sire low is.sire)
+    (joined_plain character (known_text a.dam) _ small (known_plain character a.dam low is.dam)
+    (joined_plain character (decimal a.herd) _ small (decimal_plain character a.herd (herd_small a.herd is.herd) digits)
+    (joined_plain character (day_text a.since) _ small (day_plain character _ low is.since.is_day)
+    (joined_plain character (left_text a.left) (embryo_text a.embryo) small (left_plain character a.left low is.left)
+    (embryo_plain character a.embryo low))))))))
+
 -- two records with one text are one
 pub record-same : (m n : List ℕ) (a b : Animal) → IsRecord m a → IsRecord n b → record_text m a ≡ record_text n b
     → (m ≡ n) × (a ≡ b)
 record-same m n a b is_a is_b e =
-    let c1 = same_cut 44 m _ n _ (number_plain m is_a.is_number) (number_plain n is_b.is_number) (sym (record_parts
-    m a) ∙ e ∙ record_parts n b) in
-    let c2 = same_cut 44 (day_text a.birth) _ (day_text b.birth) _ (day_plain _ is_a.birth.is_day) (day_plain _
-    is_b.birth.is_day) c1.1 in
-    let c3 = same_cut 44 (known_text a.sire) _ (known_text b.sire) _ (known_plain a.sire is_a.sire) (known_plain
-    b.sire is_b.sire) c2.1 in
-    let c4 = same_cut 44 (known_text a.dam) _ (known_text b.dam) _ (known_plain a.dam is_a.dam) (known_plain b.dam
-    is_b.dam) c3.1 in
+    let c1 = same_cut 44 m _ n _ (no_number_comma m is_a.is_number) (no_number_comma n is_b.is_number)
+    (sym (record_parts m a) ∙ e ∙ record_parts n b) in
+    let c2 = same_cut 44 (day_text a.birth) _ (day_text b.birth) _ (no_day_comma _ is_a.birth.is_day)
+    (no_day_comma _ is_b.birth.is_day) c1.1 in
+    let c3 = same_cut 44 (known_text a.sire) _ (known_text b.sire) _ (no_known_comma a.sire is_a.sire)
+    (no_known_comma b.sire is_b.sire) c2.1 in
+    let c4 = same_cut 44 (known_text a.dam) _ (known_text b.dam) _ (no_known_comma a.dam is_a.dam)
+    (no_known_comma b.dam is_b.dam) c3.1 in
     let c5 = same_cut 44 (decimal a.herd) _ (decimal b.herd) _ (decimal_plain 44 a.herd (herd_small a.herd
     is_a.herd) (omega arith))
     (decimal_plain 44 b.herd (herd_small b.herd is_b.herd) (omega arith)) c4.1 in
-    let c6 = same_cut 44 (day_text a.since) _ (day_text b.since) _ (day_plain _ is_a.since.is_day) (day_plain _
-    is_b.since.is_day) c5.1 in
-    let c7 = same_cut 44 (left_text a.left) _ (left_text b.left) _ (left_plain a.left is_a.left) (left_plain b.left
-    is_b.left) c6.1 in
+    let c6 = same_cut 44 (day_text a.since) _ (day_text b.since) _ (no_day_comma _ is_a.since.is_day)
+    (no_day_comma _ is_b.since.is_day) c5.1 in
+    let c7 = same_cut 44 (left_text a.left) _ (left_text b.left) _ (no_left_comma a.left is_a.left)
+    (no_left_comma b.left is_b.left) c6.1 in
     let birth = day_same a.birth b.birth is_a.birth is_b.birth c2.0 in
     let sire = known_same a.sire b.sire is_a.sire is_b.sire c3.0 in
     let dam = known_same a.dam b.dam is_a.dam is_b.dam c4.0 in
@@ -198,14 +241,14 @@ pub record-is_text : (number : List ℕ) (animal : Animal) → IsRecord number a
     → IsRecordText (record_text number animal)
 record-is_text number a is =
     subst IsRecordText (sym (record_parts number a))
-    (field_of number _ (number_plain number is.is_number) is.is_number
-    (field_of (day_text a.birth) _ (day_plain _ is.birth.is_day) is.birth.is_day
-    (field_of (known_text a.sire) _ (known_plain a.sire is.sire) (known-text a.sire is.sire)
-    (field_of (known_text a.dam) _ (known_plain a.dam is.dam) (known-text a.dam is.dam)
+    (field_of number _ (no_number_comma number is.is_number) is.is_number
+    (field_of (day_text a.birth) _ (no_day_comma _ is.birth.is_day) is.birth.is_day
+    (field_of (known_text a.sire) _ (no_known_comma a.sire is.sire) (known-text a.sire is.sire)
+    (field_of (known_text a.dam) _ (no_known_comma a.dam is.dam) (known-text a.dam is.dam)
     (field_of (decimal a.herd) _ (decimal_plain 44 a.herd (herd_small a.herd is.herd) (omega arith)) (herd-text
     a.herd is.herd)
-    (field_of (day_text a.since) _ (day_plain _ is.since.is_day) is.since.is_day
-    (field_of (left_text a.left) (embryo_text a.embryo) (left_plain a.left is.left) (left-text a.left is.left)
+    (field_of (day_text a.since) _ (no_day_comma _ is.since.is_day) is.since.is_day
+    (field_of (left_text a.left) (embryo_text a.embryo) (no_left_comma a.left is.left) (left-text a.left is.left)
     (embryo-text a.embryo))))))))
 
 abbrev whole : List ℕ → Animal → Option Record

@@ -20,7 +20,7 @@ use Rattle.herd_report.specs.reading.LineCause.{is_interruption}
 use Rattle.herd_text.specs.Text.{AppendsFront}
 use Rattle.herd_report.specs.writing.Registered.{are_there}
 use Rattle.herd_report.specs.writing.Replies.{reply_line, reply_lines_from, replies_text}
-use Rattle.herd_report.specs.Run.{CanEndBy, EndsBy, EndsReplying, EndsReporting, HasFiled, IsOneAbsent, IsAnswered, IsFrozenFile, IsReport, IsReported, AreThere, filed_from, replies_to, wanted}
+use Rattle.herd_report.specs.Run.{CanEndBy, EndsBy, EndsReplying, EndsReporting, HasFiled, IsOneAbsent, IsAnswered, IsFrozenFile, IsReport, IsReported, AreThere, SufficeFor, filed_from, replies_to, wanted}
 use Rattle.herd_report.specs.RunFault.{run_fault_of}
 use Rattle.herd_report.specs.declared.reading.line_fault.LineFault.{LineFault}
 use Rattle.herd_text.specs.declared.report_fault.ReportFault.{ReportFault}
@@ -29,6 +29,8 @@ use Rattle.herd_report.specs.declared.orders.Order.{Order}
 use Rattle.herd_report.specs.declared.orders.Order.TheVariants.{Inbreeding, Certificates, Mating, Inverse, Relationships, Records, Seal, Sealed}
 use Rattle.herd_report.specs.declared.run_fault.RunFault.{RunFault}
 use Rattle.herd_report.specs.declared.run_fault.RunFault.TheVariants.{Line, NotRegistered, NoThread, Memory, Write}
+use Rattle.herd_frozen.proofs.lemmas.freezing.ExistsFacts.{frozen-exists}
+use Rattle.herd_report.proofs.lemmas.PartFacts.{are_there-part, certificates-part}
 use Rattle.herd_text.proofs.lemmas.TextFacts.{passes_before, some_before}
 
 -- ---- commands that are filed one after the other
@@ -113,15 +115,15 @@ first_commands most file list (Some fault) read =
     ] read
 
 -- the frozen rows of a register in which all was filed that a file without a fault has
-pub frozen_file : (limits : Limits) (file : CommandFile) (list : List Command) (register : Register) (steps : ℕ) (rows : List Row) →
+pub frozen_file : (limits : Limits) (order : Order) (file : CommandFile) (list : List Command) (register : Register) (steps : ℕ) (rows : List Row) →
     IsRead limits.steps file list None → HasFiled limits list register → steps ≡ length register.journal →
-    IsFrozenFrom DEPTH_LIMIT MOST_ANIMALS (register_book register) rows → IsFrozenFile limits file steps rows
-frozen_file limits file list register steps rows read filed counted frozen = record {
+    SufficeFor order (register_book register) rows → IsFrozenFile limits order file steps rows
+frozen_file limits order file list register steps rows read filed counted frozen = record {
   faultless = read.1;
   steps_are =
       counted ∙ ap (λ (journal : List Step). length journal) filed.journal_is ∙ length-filed limits [] list
       ∙ ap (λ (commands : List Command). length commands) read.0;
-  frozen = subst (λ book. IsFrozenFrom DEPTH_LIMIT MOST_ANIMALS book rows) (book_of-filed limits list register filed ∙ ap (run_book limits) read.0) frozen;
+  frozen = subst (λ book. SufficeFor order book rows) (book_of-filed limits list register filed ∙ ap (run_book limits) read.0) frozen;
 }
 
 -- ---- how replying ends
@@ -191,8 +193,8 @@ are_there-frozen book rows [] frozen = refl
 are_there-frozen book rows (number ∷ numbers) frozen =
     ap₂ (λ a b. a && b) (there-frozen book rows number frozen) (are_there-frozen book rows numbers frozen)
 
-there_too : (order : Order) (book : Book) (rows : List Row) → IsFrozenFrom DEPTH_LIMIT MOST_ANIMALS book rows → AreThere order (book_of rows) → AreThere order book
-there_too (Certificates numbers) book rows frozen there = sym (are_there-frozen book rows numbers.now frozen) ∙ there
+there_too : (order : Order) (book : Book) (rows : List Row) → SufficeFor order book rows → AreThere order (book_of rows) → AreThere order book
+there_too (Certificates numbers) book rows part there = sym (are_there-part book numbers.now rows part) ∙ there
 there_too (Records numbers) book rows frozen there = sym (are_there-frozen book rows numbers.now frozen) ∙ there
 there_too (Sealed number) book rows frozen there = sym (there-frozen book rows number frozen) ∙ there
 there_too (Inbreeding plan) book rows frozen there = tt
@@ -201,8 +203,8 @@ there_too Inverse book rows frozen there = tt
 there_too (Relationships numbers others) book rows frozen there = tt
 there_too Seal book rows frozen there = tt
 
-absent_too : (order : Order) (book : Book) (rows : List Row) → IsFrozenFrom DEPTH_LIMIT MOST_ANIMALS book rows → IsOneAbsent order (book_of rows) → IsOneAbsent order book
-absent_too (Certificates numbers) book rows frozen absent = sym (are_there-frozen book rows numbers.now frozen) ∙ absent
+absent_too : (order : Order) (book : Book) (rows : List Row) → SufficeFor order book rows → IsOneAbsent order (book_of rows) → IsOneAbsent order book
+absent_too (Certificates numbers) book rows part absent = sym (are_there-part book numbers.now rows part) ∙ absent
 absent_too (Records numbers) book rows frozen absent = sym (are_there-frozen book rows numbers.now frozen) ∙ absent
 absent_too (Sealed number) book rows frozen absent = sym (there-frozen book rows number frozen) ∙ absent
 absent_too (Inbreeding plan) book rows frozen absent = absurd absent
@@ -211,17 +213,37 @@ absent_too Inverse book rows frozen absent = absurd absent
 absent_too (Relationships numbers others) book rows frozen absent = absurd absent
 absent_too Seal book rows frozen absent = absurd absent
 
+-- the rows of the whole book, of which an order wants the same text as of those that suffice
+record IsWholeOf (order : Order) (book : Book) (rows : List Row) : Type 0 where
+  pub whole : List Row
+  pub frozen : IsFrozenFrom DEPTH_LIMIT MOST_ANIMALS book whole
+  pub same : (steps : ℕ) → wanted order steps rows ≡ wanted order steps whole
+
+whole_of : (order : Order) (book : Book) (rows : List Row) → SufficeFor order book rows → IsWholeOf order book rows
+whole_of (Certificates numbers) book rows part =
+    let all = frozen-exists DEPTH_LIMIT MOST_ANIMALS book part.lawful in
+    record { whole = all.0; frozen = all.1; same = λ steps. sym (certificates-part book numbers.now rows all.0 part all.1) }
+whole_of (Records numbers) book rows frozen = record { whole = rows; frozen = frozen; same = λ steps. refl }
+whole_of (Sealed number) book rows frozen = record { whole = rows; frozen = frozen; same = λ steps. refl }
+whole_of (Inbreeding plan) book rows frozen = record { whole = rows; frozen = frozen; same = λ steps. refl }
+whole_of (Mating dam sires) book rows frozen = record { whole = rows; frozen = frozen; same = λ steps. refl }
+whole_of Inverse book rows frozen = record { whole = rows; frozen = frozen; same = λ steps. refl }
+whole_of (Relationships numbers others) book rows frozen = record { whole = rows; frozen = frozen; same = λ steps. refl }
+whole_of Seal book rows frozen = record { whole = rows; frozen = frozen; same = λ steps. refl }
+
 -- a text of the frozen rows is one of the file's commands
 report_of_file : (limits : Limits) (order : Order) (file : CommandFile) (steps : ℕ) (rows : List Row) (Passes : List ℕ → Type 0) →
-    IsFrozenFile limits file steps rows → Passes (wanted order steps rows) → IsReport limits order file.commands Passes
-report_of_file limits order file steps rows Passes made passes = record {
-  rows = rows;
-  frozen = made.frozen;
-  passes = subst (λ (n : ℕ). Passes (wanted order n rows)) made.steps_are passes;
-}
+    IsFrozenFile limits order file steps rows → Passes (wanted order steps rows) → IsReport limits order file.commands Passes
+report_of_file limits order file steps rows Passes made passes =
+    let all = whole_of order (run_book limits file.commands) rows made.frozen in
+    record {
+      rows = all.whole;
+      frozen = all.frozen;
+      passes = subst (λ (text : List ℕ). Passes text) (all.same (length file.commands)) (subst (λ (n : ℕ). Passes (wanted order n rows)) made.steps_are passes);
+    }
 
 pub run_answers : (limits : Limits) (order : Order) (file : CommandFile) (steps : ℕ) (rows : List Row) (old new : Option (List ℕ)) →
-    IsFrozenFile limits file steps rows → IsReported order steps rows old new → IsAnswered limits order file old new
+    IsFrozenFile limits order file steps rows → IsReported order steps rows old new → IsAnswered limits order file old new
 run_answers limits order file steps rows old new made reported = record {
   faultless = made.faultless;
   there = there_too order (run_book limits file.commands) rows made.frozen reported.there;
@@ -229,7 +251,7 @@ run_answers limits order file steps rows old new made reported = record {
 }
 
 pub run_ends : (limits : Limits) (order : Order) (file : CommandFile) (steps : ℕ) (rows : List Row) (old new : Option (List ℕ)) (fault : RunFault) →
-    IsFrozenFile limits file steps rows → EndsReporting order steps rows old new fault → EndsBy limits order file old new fault
+    IsFrozenFile limits order file steps rows → EndsReporting order steps rows old new fault → EndsBy limits order file old new fault
 run_ends limits order file steps rows old new fault made ends =
     let there = there_too order (run_book limits file.commands) rows made.frozen in
     let front : AppendsFront old new (wanted order steps rows) → IsReport limits order file.commands (AppendsFront old new) =

@@ -1,2 +1,3 @@
 pub mod reading
 pub mod writing
+pub mod PartFacts

@@ -6,6 +6,7 @@ use Rattle.herd_frozen.specs.rules.Book.{Book, is_there}
 use Rattle.herd_frozen.specs.freezing.Frozen.{IsFrozenFrom, book_of}
 use Rattle.herd_frozen.specs.declared.TheConstants.{DEPTH_LIMIT, MOST_ANIMALS}
 use Rattle.herd_frozen.specs.declared.freezing.frozen.Row.{Row}
+use Rattle.herd_pedigree.specs.Part.{IsFrozenPart}
 use Rattle.herd_register.specs.Register.{Register}
 use Rattle.herd_register.specs.Run.{answer, next, run_book, step_of}
 use Rattle.herd_register.specs.declared.command.Command.{Command}
@@ -143,11 +144,19 @@ EndsReporting order steps rows old new Write = AreThere order (book_of rows) × 
 
 -- ---- what is ordered of the book of a command file
 
--- the file has no fault, its book has these frozen rows, and its journal so many steps, one for each command
-pub record IsFrozenFile (limits : Limits) (file : CommandFile) (steps : ℕ) (rows : List Row) : Type 0 where
+-- frozen rows of a book that suffice for an order: for certificates those of the animals of which they are asked and of
+-- their ancestors, else all
+abbrev pub SufficeFor : Order → Book → List Row → Type 0
+SufficeFor (Certificates numbers) book rows = IsFrozenPart DEPTH_LIMIT MOST_ANIMALS book numbers.now rows
+SufficeFor order book rows = IsFrozenFrom DEPTH_LIMIT MOST_ANIMALS book rows
+
+-- the file has no fault, these frozen rows of its book suffice for an order, and its journal has so many steps, one for
+-- each command
+pub record IsFrozenFile (limits : Limits) (order : Order) (file : CommandFile) (steps : ℕ)
+    (rows : List Row) : Type 0 where
   pub faultless : file.fault ≡ None
   pub steps_are : steps ≡ length file.commands
-  pub frozen : IsFrozenFrom DEPTH_LIMIT MOST_ANIMALS (run_book limits file.commands) rows
+  pub frozen : SufficeFor order (run_book limits file.commands) rows
 
 -- a text that an order wants of the book of commands passes a test
 pub record IsReport (limits : Limits) (order : Order) (commands : List Command)

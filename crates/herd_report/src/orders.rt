@@ -4,6 +4,7 @@ ghost use Rattle.herd_advice.specs.BookCoefficients.{AreBookCoefficients};
 ghost use Rattle.herd_report.specs.reading.CommandFile.{commands};
 ghost use Rattle.herd_report.specs.Run.{AnswersIfKnown, CanEndBy, CanEndReplying, EndsIfKnown};
 ghost use Rattle.herd_report.specs.Run.{EndsReplying, EndsReporting, IsFrozenFile, IsReplied, IsReported};
+ghost use Rattle.herd_report.specs.Run.{SufficeFor};
 ghost use Rattle.herd_report.specs.declared.orders.Order.{Order};
 
 use crate::command_filing::{fault_of_rest, file_commands};
@@ -22,6 +23,7 @@ use herd_advice::{Coefficients, coefficients_of, coefficients_plain};
 use herd_animal::AnimalNumber;
 use herd_certificate::write_seal;
 use herd_frozen::Frozen;
+use herd_pedigree::Pedigree;
 use herd_pool::{PoolFault, WorkPlan};
 use herd_register::{Limits, Register};
 use std::alloc::{AllocError, Global};
@@ -99,19 +101,20 @@ pub fn run<H: Threads + Wait + Sync, R: Read + Drop, W: Write>(
         (R.remaining reader) (W.contents writer.old) (W.contents writer.new)) }
     ensures fault { IfErr result (CanEndBy order.now) }
 {
-    let (frozen, steps) = frozen_of_file(alloc, limits, reader)?;
+    let (frozen, steps) = frozen_of_file(alloc, limits, order, reader)?;
     write_report(rt, alloc, &frozen, steps, order, writer)
 }
 
-// Files a command file, freezes its book, and counts the steps of its journal. Where there is none, nothing is written,
-// whatever is ordered.
+// Files a command file, freezes as much of its book as an order asks for, and counts the steps of its journal. Where
+// there is none, nothing is written, whatever is ordered.
 fn frozen_of_file<R: Read + Drop>(
     alloc: Global,
     limits: Limits,
+    order: &Order<'_>,
     reader: R,
 ) -> Result<(Frozen<Global>, u64), RunFault>
     ensures ok { IfOk result (λ made. IfSome (R.remaining reader)
-        (λ bytes. IsFrozenFile limits (commands bytes limits.steps) made.1 made.0)) }
+        (λ bytes. IsFrozenFile limits order.now (commands bytes limits.steps) made.1 made.0)) }
     ensures err { IfErr result (λ fault. (order : Order) → (text : Option (List ℕ))
         → EndsIfKnown limits order (R.remaining reader) text text fault) }
     ensures fault { IfErr result (λ fault. (order : Order) → CanEndBy order fault) }
@@ -126,8 +129,23 @@ fn frozen_of_file<R: Read + Drop>(
             None => return Err(RunFault::Memory),
         },
     }
-    let frozen = register.pedigree().freeze(alloc)?;
+    let frozen = freeze_for(alloc, register.pedigree(), order)?;
     Ok((frozen, register.journal().len() as u64))
+}
+
+// As much of a book as an order asks for, in age order: certificates ask for no animal but those that are named and
+// their ancestors.
+fn freeze_for(
+    alloc: Global,
+    pedigree: &Pedigree<Global>,
+    order: &Order<'_>,
+) -> Result<Frozen<Global>, AllocError>
+    ensures { IfOk result (SufficeFor order.now pedigree.now.book) }
+{
+    match *order {
+        Order::Certificates(numbers) => pedigree.freeze_ancestors(alloc, numbers),
+        _ => pedigree.freeze(alloc),
+    }
 }
 
 /// Writes what is ordered of a frozen book, whose journal has so many steps.

@@ -1,11 +1,15 @@
 -- What is read to its end, and what is printed row by row.
-use Rattle.std.proofs.Common.{◌≡◌, ◌∙◌, ℕ, ◌+◌, ◌≤◌, List, [], ◌++◌, length, drop, take, slice_get, min, Option, Some, None, IfSome, ap, sym, subst, arith, append_assoc}
+use Rattle.std.proofs.Common.{◌≡◌, ◌∙◌, ℕ, ◌+◌, ◌≤◌, List, [], ◌++◌, length, drop, take, slice_get, min}
+use Rattle.std.proofs.Common.{Bool, true, false, Option, Some, None, IfSome, Result, Ok, Err, ap, sym, subst, arith, append_assoc}
 use Rattle.std.proofs.lemmas.List.{length-take, take_all}
 use Rattle.std.specs.List.{flat_map}
 use Rattle.std.specs.Io.Take.{take_inner, take_limit, take_remaining}
 use Rattle.std.specs.declared.io.traits.Take.{Take}
 use Rattle.herd_text.proofs.lemmas.Pieces.{flat_map-drop}
 use Rattle.std.specs.Option.{option_map}
+use Rattle.std.specs.Prelude.{IfOk, OnOk}
+use Rattle.herd_seal.specs.Answer.{IsReasoned, IsRefusedFor, refused_text}
+use Rattle.herd_seal.specs.declared.check_fault.CheckFault.{CheckFault}
 
 -- a text that is shorter than what is taken is the whole
 whole_taken : (bytes items : List ℕ) (n : ℕ) → items ≡ take (n + 1) bytes → length items ≤ n → items ≡ bytes
@@ -26,6 +30,20 @@ whole_read {R} remaining t reader start items n limit inner none short is =
     let limited : IfSome (option_map (take (n + 1)) (remaining t.inner)) (λ (xs : List ℕ). items ≡ xs) =
     subst (λ (k : ℕ). IfSome (option_map (take k) (remaining t.inner)) (λ (xs : List ℕ). items ≡ xs)) limit bare in
     subst (λ (r : R). IfSome (remaining r) (λ bytes. items ≡ bytes)) inner (known_whole (remaining t.inner) items n short limited)
+
+-- what follows for any bytes follows for those that are known
+pub if_known_too : (P Q : List ℕ → Type 0) (known : Option (List ℕ)) → ((bytes : List ℕ) → P bytes → Q bytes)
+    → IfSome known P → IfSome known Q
+if_known_too P Q None more is = tt
+if_known_too P Q (Some bytes) more is = more bytes is
+
+-- where a fault is printed it is told why
+pub refused_why : {E : Type 0} (seal bytes printed : List ℕ) (fault : CheckFault) (result : Result Bool E)
+    → OnOk result (printed ≡ refused_text fault) → IsRefusedFor seal bytes fault
+    → IfOk result (λ accepted. IsReasoned seal bytes accepted printed)
+refused_why seal bytes printed fault (Ok true) text why = tt
+refused_why seal bytes printed fault (Ok false) text why = (fault, why, text)
+refused_why seal bytes printed fault (Err e) text why = tt
 
 -- one piece more
 pub piece_more : {X : Type 0} (f : X → List ℕ) (xs : List X) (rank : ℕ) (x : X) (text new whole : List ℕ) → slice_get xs rank ≡ Some x

@@ -1,5 +1,5 @@
 -- Which fault is told of rows, and that none before it was there.
-use Rattle.std.proofs.Common.{◌≡◌, ◌≢◌, ◌⊎◌, ◌∙◌, ℕ, zero, suc, ◌+◌, ◌<◌, ◌≤◌, List, [], ◌∷◌, length, slice_get, slice_index, Option, Some, None, Bool, true, false, not, nat_lt, ◌==◌, if◌then◌else◌, unwrap_or, refl, sym, ap, subst, arith, Contains, ⊎_elim}
+use Rattle.std.proofs.Common.{◌≡◌, ◌≢◌, ◌∙◌, ℕ, zero, suc, ◌+◌, ◌<◌, ◌≤◌, List, [], ◌∷◌, length, slice_get, slice_index, Option, Some, None, Bool, true, false, not, nat_lt, ◌==◌, if◌then◌else◌, unwrap_or, refl, sym, ap, subst, arith, Contains, ⊎_elim}
 use Rattle.std.specs.List.{All}
 use Rattle.std.proofs.lemmas.Bool.{cases_lt, cases_order}
 use Rattle.std.proofs.lemmas.List.Elements.{All-nil, All-cons}

@@ -6,3 +6,4 @@ mod AnswerFacts
 mod FaultFacts
 mod PartsFacts
 pub mod ReadingFacts
+pub mod FormFacts

@@ -1,35 +1,32 @@
 -- What isn't read has no such text.
-use Rattle.std.proofs.Common.{◌≡◌, ◌≢◌, ◌⊎◌, ◌∙◌, inl, inr, ℕ, zero, suc, ◌+◌, ◌<◌, ◌≤◌, ◌^◌, ◌==◌, Bool, true, false}
-use Rattle.std.proofs.Common.{cond, List, [], ◌∷◌, ◌++◌, length, drop, decimal, get_or, codes, Option, Some, None}
-use Rattle.std.proofs.Common.{Result, Ok, Err, IsTrue, Contains, refl, sym, ap, subst, arith, append_assoc, ⊎_elim}
+use Rattle.std.proofs.Common.{◌≡◌, ◌≢◌, ◌⊎◌, ◌∙◌, inl, inr, ℕ, zero, suc, ◌+◌, ◌<◌, ◌≤◌, ◌^◌, Bool, true, false}
+use Rattle.std.proofs.Common.{cond, List, [], ◌∷◌, ◌++◌, length, drop, decimal, get_or, Option, Some, None}
+use Rattle.std.proofs.Common.{Result, Ok, Err, IsTrue, Contains, refl, sym, ap, subst, arith, append_assoc}
 use Rattle.std.specs.List.{All, IsAnyAnswer, flat_map}
-use Rattle.std.specs.Option.{ForSome}
 use Rattle.std.specs.Prelude.{IfNone, IfSome}
 use Rattle.std.specs.Cmp.Lexicographic.{pointwise}
 use Rattle.std.specs.Result.{result_ok}
-use Rattle.std.proofs.Common.{rules, eqb, if◌then◌else◌}
-use Rattle.std.proofs.lemmas.Bool.{eqb-true, eq-eqb}
+use Rattle.std.proofs.Common.{eqb}
+use Rattle.std.proofs.lemmas.Bool.{eq-eqb}
 use Rattle.std.specs.Str.{IsUtf8}
 use Rattle.std.specs.Str.Parse.{IsNumeral, ParsesUnsigned, digits_value, without_leading_plus}
-use Rattle.std.proofs.lemmas.Bool.{cond-false, ne_eqb}
+use Rattle.std.proofs.lemmas.Bool.{ne_eqb}
 use Rattle.std.proofs.lemmas.Fmt.{IsAscii-decimal, decimal_injective, decimal_is_IsNumeral, decimal_nonempty}
-use Rattle.std.proofs.lemmas.Grind.{get_or_default_zero}
-use Rattle.std.proofs.lemmas.List.Elements.{All-append, All-cons, All-head, All-nil, All-tail}
+use Rattle.std.proofs.lemmas.List.Elements.{All-head, All-nil, All-tail}
 use Rattle.std.proofs.lemmas.Str.{IsUtf8-from_ascii}
 use Rattle.std.proofs.lemmas.Str.Parse.{digit_at}
 use Rattle.hex.specs.Hex.{decode_sized, encode_lower}
 use Rattle.hex.specs.declared.error.FromHexError.{FromHexError}
 use Rattle.hex.proofs.HexLemmas.{decode_sized-encode_lower}
 use Rattle.merkle_tree.specs.Tree.{IsDigest}
-use Rattle.herd_record_line.specs.RecordLine.{HasField, HasNo, field_text}
+use Rattle.herd_record_line.specs.RecordLine.{HasField, HasNo}
 use Rattle.herd_record_line.proofs.CutFacts.{field_joined, same_cut}
 use Rattle.herd_seal.specs.CheckCause.{no_memory}
 use Rattle.herd_seal.specs.CheckFaults.{IsUnread, at_row, at_whole}
 use Rattle.herd_seal.specs.CertificateText.{digest_line, row_line}
-use Rattle.herd_seal.specs.Reading.{HasComma, HasLine, IsDigestText, IsHeaderText, IsNoDigestBehind, IsNoRowText}
-use Rattle.herd_seal.specs.Reading.{IsNumberText, IsParentText, IsUnreadBehind, IsWrittenRow}
+use Rattle.herd_seal.specs.Reading.{HasComma, HasLine, IsDigestText, IsHeaderText, IsNoRowText}
+use Rattle.herd_seal.specs.Reading.{IsNumberText, IsParentText, IsWrittenRow}
 use Rattle.herd_seal.specs.declared.certificate.CertifiedRow.{CertifiedRow}
-use Rattle.herd_seal.specs.declared.check_fault.CheckCause.{CheckCause}
 use Rattle.herd_seal.specs.declared.check_fault.CheckCause.TheVariants.{Digests, Header, Row}
 use Rattle.herd_seal.specs.declared.check_fault.CheckFault.{CheckFault}
 
@@ -131,7 +128,7 @@ hex_bytes [] all i = omega arith
 hex_bytes (x ∷ xs) all zero = All-head (λ b. b < 256) x xs all
 hex_bytes (x ∷ xs) all (suc i) = hex_bytes xs (All-tail (λ b. b < 256) x xs all) i
 
-decoded : (text : List ℕ) (is : IsDigestText text) → decode_sized text 32 ≡ Ok is.0
+pub decoded : (text : List ℕ) (is : IsDigestText text) → decode_sized text 32 ≡ Ok is.0
 decoded text is =
     ap (λ (l : List ℕ). decode_sized l 32) (sym is.2)
     ∙ decode_sized-encode_lower is.0 32 is.1.1 (hex_bytes is.0 is.1.0)

@@ -1,5 +1,5 @@
 -- What is printed of a check.
-use Rattle.std.specs.Prelude.{◌≡◌, ℕ, Bool, true, false, List, ◌++◌, codes, decimal, Option}
+use Rattle.std.specs.Prelude.{◌≡◌, ◌⊎◌, ⊤, ℕ, ◌<◌, Bool, true, false, List, ◌++◌, codes, decimal, length, Option}
 use Rattle.std.specs.List.{flat_map}
 use Rattle.std.specs.Io.KnownBytes.{Appends}
 use Rattle.herd_record_line.specs.RecordLine.{field_text, record_line}
@@ -8,9 +8,12 @@ use Rattle.herd_text.specs.declared.report_fault.ReportFault.{ReportFault}
 use Rattle.herd_text.specs.declared.report_fault.ReportFault.TheVariants.{Memory, Write}
 use Rattle.herd_seal.specs.Certificate.{IsSealed}
 use Rattle.herd_seal.specs.CertificateText.{certificate_text}
-use Rattle.herd_seal.specs.CheckCause.{cause_name}
+use Rattle.herd_seal.specs.CheckCause.{cause_name, no_memory}
+use Rattle.herd_seal.specs.CheckFaults.{IsFault}
+use Rattle.herd_seal.specs.declared.answer.TheConstants.{MOST_BYTES}
 use Rattle.herd_seal.specs.declared.certificate.CertifiedRow.{CertifiedRow}
 use Rattle.herd_seal.specs.declared.certificate.Claim.{Claim}
+use Rattle.herd_seal.specs.declared.check_fault.CheckCause.TheVariants.{Read, TooMany}
 use Rattle.herd_seal.specs.declared.check_fault.CheckFault.{CheckFault}
 
 -- that a certificate is accepted: the number, the coefficient and its percentage, the steps and the animals
@@ -55,3 +58,24 @@ abbrev pub EndsTelling : List ℕ → List ℕ → Option (List ℕ) → Option 
 EndsTelling seal bytes old new Memory = new ≡ old
 EndsTelling seal bytes old new Write =
     (accepted : Bool) × (printed : List ℕ) × IsAnswer seal bytes accepted printed × AppendsFront old new printed
+
+-- why bytes aren't read to their end: there is no memory, the reader fails, or they are too many
+abbrev pub IsUnreadable : List ℕ → CheckFault → Type 0
+IsUnreadable bytes fault =
+    (fault ≡ no_memory)
+    ⊎ ((fault ≡ record { cause = Read; line = 0 })
+    ⊎ ((fault ≡ record { cause = TooMany; line = 0 }) × (MOST_BYTES < length bytes)))
+
+-- why they aren't accepted under a seal: they aren't read, or the text that they are is refused
+abbrev pub IsRefusedFor : List ℕ → List ℕ → CheckFault → Type 0
+IsRefusedFor seal bytes fault = IsUnreadable bytes fault ⊎ IsFault seal bytes fault
+
+-- where they aren't accepted, such a fault is printed
+abbrev pub IsReasoned : List ℕ → List ℕ → Bool → List ℕ → Type 0
+IsReasoned seal bytes true printed = ⊤
+IsReasoned seal bytes false printed =
+    (fault : CheckFault) × IsRefusedFor seal bytes fault × (printed ≡ refused_text fault)
+
+abbrev pub IsToldWhy : List ℕ → List ℕ → Option (List ℕ) → Option (List ℕ) → Bool → Type 0
+IsToldWhy seal bytes old new accepted =
+    (printed : List ℕ) × IsReasoned seal bytes accepted printed × Appends old new printed

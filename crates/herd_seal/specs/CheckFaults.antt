@@ -1,6 +1,7 @@
--- Why a certificate is refused, and at which line. Causes are looked for in this order, and the first that holds is told:
--- what a cause says of the certificate stands beside what was found right before.
-use Rattle.std.specs.Prelude.{◌≡◌, ◌≢◌, ◌⊎◌, ⊤, ℕ, ◌+◌, ◌<◌, List, [], ◌∷◌, length, slice_get, codes, Option, None, Some}
+-- Why a certificate is refused, and at which line. Causes are looked for in this order, and the first that holds is
+-- told: what a cause says of the certificate stands beside what was found right before.
+use Rattle.std.specs.Prelude.{◌≡◌, ◌≢◌, ◌⊎◌, ⊤, ℕ, ◌+◌, ◌<◌, List, [], ◌∷◌, length, slice_get, codes}
+use Rattle.std.specs.Prelude.{Option, None, Some}
 use Rattle.std.specs.List.{All, Contains}
 use Rattle.std.specs.Option.{option_map}
 use Rattle.merkle_tree.specs.Shown.{Found, found}
@@ -16,12 +17,15 @@ use Rattle.herd_pruned.specs.Marked.{ComesFrom}
 use Rattle.herd_text.specs.CoefficientText.{coefficient_text}
 use Rattle.herd_seal.specs.Certificate.{AreLinked, DoAscend, IsAnimalAt, IsBehind, IsClosed, IsLink, leaves_of}
 use Rattle.herd_seal.specs.CheckCause.{no_memory}
-use Rattle.herd_seal.specs.Reading.{HasLine, IsHeaderText, IsNoDigestBehind, IsNoRowText, IsTextOf, IsUnreadBehind, Parts}
+use Rattle.herd_seal.specs.Reading.{HasLine, IsHeaderText, IsNoDigestBehind, IsNoRowText, IsTextOf, IsUnreadBehind}
+use Rattle.herd_seal.specs.Reading.{Parts}
 use Rattle.herd_seal.specs.Seal.{seal_over}
 use Rattle.herd_seal.specs.declared.certificate.CertifiedRow.{CertifiedRow}
 use Rattle.herd_seal.specs.declared.certificate.Claim.{Claim}
 use Rattle.herd_seal.specs.declared.check_fault.CheckCause.{CheckCause}
-use Rattle.herd_seal.specs.declared.check_fault.CheckCause.TheVariants.{Read, TooMany, Memory, Header, Row, Digests, Order, ParentLacks, ParentNumber, TooDeep, Number, Seal, Coefficient}
+use Rattle.herd_seal.specs.declared.check_fault.CheckCause.TheVariants.{Read, TooMany, Memory, Header, Row, Digests}
+use Rattle.herd_seal.specs.declared.check_fault.CheckCause.TheVariants.{Order, ParentLacks, ParentNumber, TooDeep}
+use Rattle.herd_seal.specs.declared.check_fault.CheckCause.TheVariants.{Number, Seal, Coefficient}
 use Rattle.herd_seal.specs.declared.check_fault.CheckFault.{CheckFault}
 
 -- a cause at a row, which count from 0 and stand behind the header
@@ -34,7 +38,9 @@ at_whole cause = record { cause = cause; line = 1 }
 
 -- the places of the first rows ascend
 abbrev pub AscendTo : List CertifiedRow → ℕ → Type 0
-AscendTo rows n = (i j : ℕ) (one two : CertifiedRow) → i < j → j < n → slice_get rows i ≡ Some one → slice_get rows j ≡ Some two → one.place < two.place
+AscendTo rows n =
+    (i j : ℕ) (one two : CertifiedRow) → i < j → j < n → slice_get rows i ≡ Some one → slice_get rows j ≡ Some two
+    → one.place < two.place
 
 -- the row is the first whose place isn't above that of the row before
 pub record IsOutOfOrder (rows : List CertifiedRow) (at : ℕ) : Type 0 where
@@ -61,16 +67,21 @@ abbrev pub IsMisnamed : List CertifiedRow → Option ℕ → Option (List ℕ) �
 IsMisnamed rows None number = ⊥
 IsMisnamed rows (Some place) None = ⊥
 IsMisnamed rows (Some place) (Some number) =
-    (k : ℕ) × (parent : CertifiedRow) × (slice_get rows k ≡ Some parent) × (parent.place ≡ place) × (parent.record.number ≢ number)
+    (k : ℕ) × (parent : CertifiedRow) × (slice_get rows k ≡ Some parent) × (parent.place ≡ place)
+    × (parent.record.number ≢ number)
 
 -- this holds of the sire that a row names; or he is shown, or unknown, and it holds of the dam
-abbrev pub OfAParent : (List CertifiedRow → Option ℕ → Option (List ℕ) → Type 0) → List CertifiedRow → CertifiedRow → Type 0
+abbrev pub OfAParent : (List CertifiedRow → Option ℕ → Option (List ℕ) → Type 0) → List CertifiedRow → CertifiedRow
+    → Type 0
 OfAParent IsFault rows row =
     IsFault rows row.sire row.record.animal.sire
-    ⊎ ((sire : Option ℕ) × IsLink rows row.sire row.record.animal.sire sire × IsFault rows row.dam row.record.animal.dam)
+    ⊎ ((sire : Option ℕ) × IsLink rows row.sire row.record.animal.sire sire
+    × IsFault rows row.dam row.record.animal.dam)
 
--- the parents that a row names are shown, or unknown, and the lineage of the rows before can't have the row next for this
-pub record IsNotNext (rows : List CertifiedRow) (lineage : List Parents) (row : CertifiedRow) (fault : LineageFault) : Type 0 where
+-- the parents that a row names are shown, or unknown, and the lineage of the rows before can't have the row next for
+-- this
+pub record IsNotNext (rows : List CertifiedRow) (lineage : List Parents) (row : CertifiedRow) (fault : LineageFault)
+    : Type 0 where
   pub sire : Option ℕ
   pub dam : Option ℕ
   pub sire_shown : IsLink rows row.sire row.record.animal.sire sire
@@ -124,7 +135,8 @@ pub record IsOfOthers (rows : List CertifiedRow) (claim : Claim) (at : ℕ) : Ty
 abbrev pub found_by : Parts → Option Found
 found_by c = found c.claim.animals (leaves_of c.rows) c.digests
 
--- the rows are the animal's and its ancestors', and the digests are too few or too many, or a place isn't one of the book's
+-- the rows are the animal's and its ancestors', and the digests are too few or too many, or a place isn't one of the
+-- book's
 pub record HasWrongDigests (c : Parts) : Type 0 where
   pub closed : IsClosed c.rows c.claim
   pub wrong : option_map (λ (f : Found). f.left) (found_by c) ≢ Some []
@@ -137,7 +149,8 @@ pub record HasWrongSeal (seal : List ℕ) (c : Parts) : Type 0 where
   pub all_digests : f.left ≡ []
   pub wrong : (c.claim.animals ≡ 0) ⊎ (seal_over c.claim.animals c.claim.steps f.root ≢ seal) ⊎ (c.seal ≢ seal)
 
--- the seal is right, and the coefficient or its percentage is another than that of the animal in the lineage of the rows
+-- the seal is right, and the coefficient or its percentage is another than that of the animal in the lineage of the
+-- rows
 pub record HasWrongCoefficient (seal : List ℕ) (c : Parts) : Type 0 where
   pub closed : IsClosed c.rows c.claim
   pub f : Found
@@ -168,17 +181,20 @@ IsPartsFault seal c Coefficient line = (line ≡ 1) × HasWrongCoefficient seal 
 IsPartsFault seal c Header line = ⊥
 IsPartsFault seal c Read line = ⊥
 
--- the text isn't read as a certificate: the first line isn't a header; or behind a header and some rows stands a line with
--- a comma that isn't a row; or behind these and some digests something is left that doesn't begin with a digest's line,
--- nor, where there are no digests, with a line that has a comma. There is no memory, or the first of these is told.
+-- the text isn't read as a certificate: the first line isn't a header; or behind a header and some rows stands a line
+-- with a comma that isn't a row; or behind these and some digests something is left that doesn't begin with a digest's
+-- line, nor, where there are no digests, with a line that has a comma. There is no memory, or the first of these is
+-- told.
 abbrev pub IsUnread : List ℕ → CheckFault → Type 0
 IsUnread text fault =
     (fault ≡ no_memory)
     ⊎ ((fault ≡ at_whole Header) × ¬ (HasLine IsHeaderText text))
-    ⊎ ((rows : List CertifiedRow) × (fault ≡ at_row Row (length rows)) × IsUnreadBehind text rows [] (HasLine IsNoRowText))
+    ⊎ ((rows : List CertifiedRow) × (fault ≡ at_row Row (length rows))
+    × IsUnreadBehind text rows [] (HasLine IsNoRowText))
     ⊎ ((rows : List CertifiedRow) × (digests : List (List ℕ)) × (fault ≡ at_row Digests (length rows + length digests))
     × IsUnreadBehind text rows digests (IsNoDigestBehind digests))
 
 -- why a text is refused under a seal: it isn't read, or is that of a certificate of which this is wrong
 abbrev pub IsFault : List ℕ → List ℕ → CheckFault → Type 0
-IsFault seal text fault = IsUnread text fault ⊎ ((c : Parts) × IsTextOf c text × IsPartsFault seal c fault.cause fault.line)
+IsFault seal text fault =
+    IsUnread text fault ⊎ ((c : Parts) × IsTextOf c text × IsPartsFault seal c fault.cause fault.line)

@@ -1,12 +1,12 @@
 -- A certificate as it is read, and the grammar of its lines.
-use Rattle.std.specs.Prelude.{◌≡◌, ◌≢◌, ◌⊎◌, ⊤, ℕ, ◌+◌, ◌<◌, ◌^◌, List, [], ◌∷◌, ◌++◌, codes, decimal}
+use Rattle.std.specs.Prelude.{◌≡◌, ◌≢◌, ◌⊎◌, ⊤, ℕ, ◌<◌, ◌^◌, List, [], ◌++◌, codes, decimal}
 use Rattle.std.specs.List.{All, flat_map}
 use Rattle.std.specs.Option.{ForSome}
 use Rattle.hex.specs.Hex.{encode_lower}
 use Rattle.merkle_tree.specs.Tree.{IsDigest}
 use Rattle.herd_animal.specs.AnimalNumber.{IsAnimalNumber}
 use Rattle.herd_record_line.specs.RecordLine.{HasField, HasNo, IsRecord, IsRecordText}
-use Rattle.herd_seal.specs.CertificateText.{certificate_text, digest_line, header_line, row_line}
+use Rattle.herd_seal.specs.CertificateText.{certificate_text, digest_line, row_line}
 use Rattle.herd_seal.specs.declared.certificate.Certificate.{Certificate}
 use Rattle.herd_seal.specs.declared.certificate.CertifiedRow.{CertifiedRow}
 use Rattle.herd_seal.specs.declared.certificate.Claim.{Claim}
@@ -102,7 +102,8 @@ pub record IsTextOf (c : Parts) (text : List ℕ) : Type 0 where
   pub joined : certificate_text c.seal c.claim c.coefficient c.rows c.digests ≡ text
 
 -- behind a header, the lines of these rows and of these digests stands such a rest
-pub record IsUnreadBehind (text : List ℕ) (rows : List CertifiedRow) (digests : List (List ℕ)) (IsRest : List ℕ → Type 0) : Type 0 where
+pub record IsUnreadBehind (text : List ℕ) (rows : List CertifiedRow) (digests : List (List ℕ))
+    (IsRest : List ℕ → Type 0) : Type 0 where
   pub header : List ℕ
   pub rest : List ℕ
   pub plain : HasNo 10 header

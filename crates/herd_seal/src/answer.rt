@@ -1,8 +1,8 @@
 //! A certificate that is read to its end, and what is printed of its check.
 ghost use Rattle.std.specs.Prelude.{◌≡◌, ◌≤◌, ◌++◌, [], false, length, true, IfErr, IfOk, IfSome, OnOk};
 ghost use Rattle.std.specs.List.{flat_map};
-ghost use Rattle.herd_seal.specs.Answer.{EndsTelling, IsAnswer, IsTold, accepted_line, accepted_text, checked_line};
-ghost use Rattle.herd_seal.specs.Answer.{refused_text};
+ghost use Rattle.herd_seal.specs.Answer.{EndsTelling, IsAnswer, IsReasoned, IsTold, IsToldWhy, IsUnreadable};
+ghost use Rattle.herd_seal.specs.Answer.{accepted_line, accepted_text, checked_line, refused_text};
 ghost use Rattle.herd_seal.specs.declared.answer.TheConstants.{MOST_BYTES};
 
 use crate::certificate::{Certificate, CertifiedRow, Claim};
@@ -17,7 +17,7 @@ use std::io::{ErrorKind, Read, Write};
 pub const MOST_BYTES: u64 = 67_108_864;
 
 /// Reads a certificate to its end, checks it under a seal, and writes a line that says whether it is accepted, which is
-/// the result; behind it the records of its rows where it is.
+/// the result; behind it the records of its rows where it is. One that isn't has a fault, which the line names.
 pub fn answer_certificate<R: Read + Drop, W: Write, A: Allocator + Clone>(
     alloc: A,
     seal: &[u8; 32],
@@ -28,6 +28,8 @@ pub fn answer_certificate<R: Read + Drop, W: Write, A: Allocator + Clone>(
         (λ bytes. IfOk result (IsTold seal.now bytes (W.contents writer.old) (W.contents writer.new))) }
     ensures early { IfSome (R.remaining reader)
         (λ bytes. IfErr result (EndsTelling seal.now bytes (W.contents writer.old) (W.contents writer.new))) }
+    ensures why { IfSome (R.remaining reader)
+        (λ bytes. IfOk result (IsToldWhy seal.now bytes (W.contents writer.old) (W.contents writer.new))) }
 {
     let mut text = Text::new(alloc.clone()?);
     let accepted = push_answer(alloc, seal, reader, &mut text)?;
@@ -43,8 +45,10 @@ fn push_answer<R: Read + Drop, A: Allocator + Clone>(
     text: &mut Text<A>,
 ) -> Result<bool, AllocError>
     requires { text.old ≡ [] }
-    ensures { IfSome (R.remaining reader)
+    ensures answer { IfSome (R.remaining reader)
         (λ bytes. IfOk result (λ accepted. IsAnswer seal.now bytes accepted text.new)) }
+    ensures why { IfSome (R.remaining reader)
+        (λ bytes. IfOk result (λ accepted. IsReasoned seal.now bytes accepted text.new)) }
 {
     match read_text(alloc.clone()?, reader) {
         Ok(bytes) => push_checked(alloc, seal, bytes.as_slice(), text),
@@ -56,6 +60,7 @@ fn push_answer<R: Read + Drop, A: Allocator + Clone>(
 fn read_text<R: Read + Drop, A: Allocator>(alloc: A, reader: R) -> Result<Vec<u8, A>, CheckFault>
     ensures whole { IfSome (R.remaining reader) (λ bytes. IfOk result (λ text. text.items ≡ bytes)) }
     ensures most { IfOk result (λ text. length text.items ≤ MOST_BYTES) }
+    ensures fault { IfSome (R.remaining reader) (λ bytes. IfErr result (IsUnreadable bytes)) }
 {
     let mut text = Vec::new(alloc);
     match reader.take(MOST_BYTES + 1).read_to_end(&mut text) {
@@ -74,7 +79,8 @@ fn push_checked<A: Allocator + Clone>(
     text: &mut Text<A>,
 ) -> Result<bool, AllocError>
     requires { text.old ≡ [] }
-    ensures { IfOk result (λ accepted. IsAnswer seal.now bytes.now accepted text.new) }
+    ensures answer { IfOk result (λ accepted. IsAnswer seal.now bytes.now accepted text.new) }
+    ensures why { IfOk result (λ accepted. IsReasoned seal.now bytes.now accepted text.new) }
 {
     match check_certificate(alloc, seal, bytes) {
         Ok(certificate) => push_accepted(text, &certificate),

@@ -20,9 +20,8 @@ use crate::check_fault::{CheckCause, CheckFault};
 use crate::reading::read_certificate;
 use crate::row::{digest_of_row, seal_over};
 use herd_animal::AnimalNumber;
-use herd_kinship::coefficients_plain;
 use herd_lineage::{Lineage, LineageBuilder, LineageFault, MOST_ANIMALS};
-use herd_pruned::PrunedLineage;
+use herd_pruned::{PrunedLineage, coefficients};
 use herd_text::{Coefficient, Text, push_coefficient};
 use merkle_tree::{Part, Shown, root_from};
 use std::alloc::{AllocError, Allocator};
@@ -366,7 +365,7 @@ fn check_coefficient<A: Allocator + Clone>(
     ensures fault { IfErr result (λ fault. (fault ≡ no_memory) ⊎ ((fault ≡ at_whole CheckCause.Coefficient)
         × (told.now ≢ coefficient_text (codes ",") (coefficient_at DEPTH_LIMIT lineage.now rank)))) }
 {
-    let coefficients = coefficients_plain(alloc.clone()?, lineage)?;
+    let coefficients = coefficients(alloc.clone()?, lineage)?;
     let numerator = coefficients.numerator(rank);
     let mut text = Text::new(alloc);
     push_coefficient(&mut text, Coefficient { numerator }, b",")?;

@@ -11,6 +11,7 @@
 //! | rows as bytes, and the seal of a book | `Seal` | `row`, `book` | `RowFacts` |
 //! | what a certificate shows and claims | `Certificate` | `certificate` | `FieldFacts` |
 //! | a certificate's text | `CertificateText` | `fields`, `reading` | `TextFacts` |
+//! | which texts are read, each in one form | `Reading` | `reading` | `ReadingFacts`, `FormFacts` |
 //! | what is printed of a check | `Answer` | `answer` | `AnswerFacts` |
 //! | why one is refused, and at which line | `CheckCause`, `CheckFaults` | `check_fault` | `FaultFacts`, `PartsFacts` |
 //! | what it is good for that rows were checked | `Certificate` | `check` | `SoundFacts` |

@@ -1,6 +1,7 @@
-ghost use Rattle.std.specs.Prelude.{◌≡◌, ◌++◌, OnOk, IfOk};
+ghost use Rattle.std.specs.Prelude.{◌≡◌, ◌<◌, ◌^◌, ◌++◌, OnOk, IfOk};
+ghost use Rattle.std.specs.Option.{ForSome};
 ghost use Rattle.merkle_tree.specs.Tree.{IsBytes, IsDigest, row_digest};
-ghost use Rattle.herd_record_line.specs.RecordLine.{field_text};
+ghost use Rattle.herd_record_line.specs.RecordLine.{IsRecord, field_text};
 ghost use Rattle.herd_seal.specs.Seal.{place_text, row_text, seal_over};
 
 use herd_animal::AnimalNumber;
@@ -57,7 +58,10 @@ pub fn push_row<A: Allocator>(
     number: AnimalNumber,
     animal: &Animal,
 ) -> Result<(), AllocError>
-    ensures { OnOk result (text.new ≡ text.old ++ row_text sire dam number animal.now) }
+    ensures text { OnOk result (text.new ≡ text.old ++ row_text sire dam number animal.now) }
+    ensures sire { OnOk result (ForSome sire (λ place. place < 2 ^ 32)) }
+    ensures dam { OnOk result (ForSome dam (λ place. place < 2 ^ 32)) }
+    ensures told { OnOk result (IsRecord number animal.now) }
 {
     push_place(text, sire)?;
     push_place(text, dam)?;
@@ -67,10 +71,20 @@ pub fn push_row<A: Allocator>(
 // Adds the place of a parent, where it is known, and the comma behind it.
 #[tactic(auto, using(std::proofs::Common::append_assoc), unfolding(herd_record_line::specs::RecordLine::field_text))]
 fn push_place<A: Allocator>(text: &mut Text<A>, place: Option<u32>) -> Result<(), AllocError>
-    ensures { OnOk result (text.new ≡ text.old ++ field_text (place_text place)) }
+    ensures text { OnOk result (text.new ≡ text.old ++ field_text (place_text place)) }
+    ensures small { OnOk result (ForSome place (λ place. place < 2 ^ 32)) }
 {
-    if let Some(place) = place {
-        text.push_number(place)?;
-    }
+    push_known(text, place)?;
     text.push(b",")
+}
+
+// Adds a place, where it is known.
+fn push_known<A: Allocator>(text: &mut Text<A>, place: Option<u32>) -> Result<(), AllocError>
+    ensures text { OnOk result (text.new ≡ text.old ++ place_text place) }
+    ensures small { OnOk result (ForSome place (λ place. place < 2 ^ 32)) }
+{
+    match place {
+        Some(place) => text.push_number(place),
+        None => Ok(()),
+    }
 }

@@ -1,5 +1,5 @@
 //! The threads of a session, each with its queue.
-ghost use Rattle.std.specs.Prelude.{◌≡◌, [], All, OnOk};
+ghost use Rattle.std.specs.Prelude.{◌≡◌, ◌++◌, [], All, List, OnOk};
 ghost use Rattle.herd_session.specs.Filed.{HasFiledInTurn};
 
 use crate::desk_work::{Clerk, work_at_desk};
@@ -56,39 +56,15 @@ pub(crate) fn start_desks<
 ) -> Result<Vec<DeskThread<N>>, Stop<N>>
     requires { All (λ desk. (desk.answered ≡ 0) × (desk.history ≡ [])) desks.items }
 {
-    let mut started = Vec::new(alloc);
-    for desk in desks {
-        let (inlet, outlet) = queue(alloc)?;
-        started.push(start_desk(scope, rt, alloc, shared, desk, outlet)?)?;
-        queues.desks.push(inlet)?;
-    }
-    Ok(started)
-}
-
-// Starts the thread of a desk.
-fn start_desk<
-    's,
-    N: SessionName + Send + Sync,
-    E,
-    H: Wait + Sync,
-    R: Wait + Drop + Send + Sync,
-    W: Write + Send,
->(
-    scope: &'s Scope<'s, E>,
-    rt: &'s H,
-    alloc: Global,
-    shared: &'s Shared<N, R, W>,
-    desk: Desk<N>,
-    tasks: Outlet<Task<N, Command>>,
-) -> Result<DeskThread<N>, Stop<N>>
-    requires { (desk.answered ≡ 0) × (desk.history ≡ []) }
-{
-    let started = scope.spawn(
-        move || -> Result<Clerk<N>, ReportFault>
+    start_each(
+        scope,
+        alloc,
+        desks,
+        &mut queues.desks,
+        move |desk, tasks| -> Result<Clerk<N>, ReportFault>
             requires { (desk.answered ≡ 0) × (desk.history ≡ []) }
         { work_at_desk(rt, alloc, shared, desk, tasks) },
-    );
-    started.or(Err(Stop::no_thread()))
+    )
 }
 
 /// Starts a thread for each inspector.
@@ -107,33 +83,46 @@ pub(crate) fn start_inspectors<
     inspectors: Vec<Inspector<N>>,
     queues: &mut Queues<N>,
 ) -> Result<Vec<InspectorThread<N>>, Stop<N>> {
-    let mut started = Vec::new(alloc);
-    for inspector in inspectors {
-        let (inlet, outlet) = queue(alloc)?;
-        started.push(start_inspector(scope, rt, alloc, shared, inspector, outlet)?)?;
-        queues.inspectors.push(inlet)?;
-    }
-    Ok(started)
+    start_each(
+        scope,
+        alloc,
+        inspectors,
+        &mut queues.inspectors,
+        move |inspector, tasks| work_as_inspector(rt, alloc, shared, inspector, tasks),
+    )
 }
 
-// Starts the thread of an inspector.
-fn start_inspector<
+// Starts a thread for each member of the staff, at work on a queue of its own, and keeps the end of that queue to which
+// tasks are added.
+fn start_each<
     's,
-    N: SessionName + Send + Sync,
+    N: SessionName,
     E,
-    H: Wait + Sync,
-    R: Wait + Drop + Send + Sync,
-    W: Write + Send,
+    M: Send + Drop + 's,
+    T: Send + Drop + 's,
+    B: Send + Drop + 's,
+    F: Fn(M, Outlet<T>) -> Result<B, ReportFault> + Copy + Send + 's,
 >(
     scope: &'s Scope<'s, E>,
-    rt: &'s H,
     alloc: Global,
-    shared: &'s Shared<N, R, W>,
-    inspector: Inspector<N>,
-    tasks: Outlet<Task<N, Question>>,
-) -> Result<InspectorThread<N>, Stop<N>> {
-    let started = scope.spawn(move || work_as_inspector(rt, alloc, shared, inspector, tasks));
-    started.or(Err(Stop::no_thread()))
+    members: Vec<M>,
+    inlets: &mut Vec<Inlet<T>>,
+    work: F,
+) -> Result<Vec<JoinHandle<Result<B, ReportFault>>>, Stop<N>>
+    requires { All (λ member. (tasks : _) → F.pre work member tasks) members.items }
+{
+    let mut started = Vec::new(alloc);
+    for member in members {
+        let (inlet, outlet) = queue(alloc)?;
+        let thread = scope.spawn(
+            move || -> Result<B, ReportFault>
+                requires { F.pre work member outlet }
+            { work(member, outlet) },
+        );
+        started.push(thread.or(Err(Stop::no_thread()))?)?;
+        inlets.push(inlet)?;
+    }
+    Ok(started)
 }
 
 /// Starts the thread that tells faults.
@@ -164,11 +153,7 @@ pub(crate) fn join_desks<N: SessionName, H: Threads>(
     requires { All (λ desk. ∥ HasFiledInTurn N.records desk ∥₁) desks.old.items }
     ensures { OnOk result (All (λ desk. ∥ HasFiledInTurn N.records desk ∥₁) desks.new.items) }
 {
-    for thread in started {
-        let Clerk { desk, .. } = thread.join(rt)?;
-        desks.push(desk)?;
-    }
-    Ok(())
+    join_each(rt, started, desks, |clerk: Clerk<N>| clerk.desk)
 }
 
 /// Waits for the inspectors.
@@ -177,8 +162,22 @@ pub(crate) fn join_inspectors<N: SessionName, H: Threads>(
     started: Vec<InspectorThread<N>>,
     inspectors: &mut Vec<Inspector<N>>,
 ) -> Result<(), Stop<N>> {
+    join_each(rt, started, inspectors, |inspector: Inspector<N>| inspector)
+}
+
+// Waits for threads, and keeps the member of the staff that each gives back.
+fn join_each<N: SessionName, H: Threads, B: Drop, M: Drop, F: Fn(B) -> M>(
+    rt: &H,
+    started: Vec<JoinHandle<Result<B, ReportFault>>>,
+    members: &mut Vec<M>,
+    member_of: F,
+) -> Result<(), Stop<N>>
+    requires { F.IsAlwaysCallable member_of }
+    ensures { OnOk result ((joined : List M) × (members.new.items ≡ members.old.items ++ joined)
+        × All (λ member. (given_back : B) × F.post member_of given_back member) joined) }
+{
     for thread in started {
-        inspectors.push(thread.join(rt)?)?;
+        members.push(member_of(thread.join(rt)?))?;
     }
     Ok(())
 }

@@ -2,6 +2,7 @@
 from __future__ import annotations
 
 import argparse
+import os
 import pathlib
 import re
 import sys
@@ -72,10 +73,35 @@ EXAMPLES = """examples:
 
 {statuses}"""
 
+# of a terminal that doesn't tell how many it has
+USUAL_COLUMNS = 80
 # what a word does, given its options
 Does = Callable[[argparse.Namespace], None]
 # what it answers, which is written as JSON
 Answers = Callable[[argparse.Namespace, "Book", "BookProgram"], object]
+
+
+class HelpFormat(argparse.HelpFormatter):
+    """As wide as the terminal. argparse asks for one at each option, and would import for it what hardly a call
+    needs."""
+
+    def __init__(self, prog: str) -> None:
+        super().__init__(prog, width=columns() - 2)
+
+
+class AsWritten(HelpFormat, argparse.RawDescriptionHelpFormatter):
+    """The same with texts as they are written."""
+
+
+def columns() -> int:
+    """The columns of the terminal, or what the variable says."""
+    said = os.environ.get("COLUMNS", "")
+    if said.isdecimal() and int(said):
+        return int(said)
+    try:
+        return os.get_terminal_size(1).columns or USUAL_COLUMNS
+    except OSError:
+        return USUAL_COLUMNS
 
 
 class Parser(argparse.ArgumentParser):
@@ -110,15 +136,17 @@ class CommandWords:
     """The words of the command line. Each family adds its own."""
 
     def __init__(self, called: str) -> None:
-        as_written, shown = argparse.RawDescriptionHelpFormatter, EXAMPLES.format(called=called, statuses=STATUSES)
-        self.parser = Parser(prog=called, description=ABOUT, epilog=shown, formatter_class=as_written)
+        shown = EXAMPLES.format(called=called, statuses=STATUSES)
+        self.parser = Parser(prog=called, description=ABOUT, epilog=shown, formatter_class=AsWritten)
         self.parser.add_argument("--version", action=Version, nargs=0, help="write the version, and nothing else")
-        self.words = self.parser.add_subparsers(dest="word", metavar="WORD", required=True)
+        self.words = self.parser.add_subparsers(prog=called, dest="word", metavar="WORD", required=True)
 
     def add_without_book(self, name: str, does: Does, help: str, more: str = "") -> Parser:
         """A word; `does` is called with its options."""
         about = f"{help[0].upper()}{help[1:]}. {more}".strip()
-        one: Parser = self.words.add_parser(name, help=help, description=about, epilog=STATUSES)
+        one: Parser = self.words.add_parser(
+            name, help=help, description=about, epilog=STATUSES, formatter_class=HelpFormat
+        )
         one.set_defaults(does=does, status=Status.DONE)
         return one
 

@@ -3,6 +3,7 @@ from __future__ import annotations
 
 import datetime
 from dataclasses import dataclass, field
+from typing import NamedTuple
 
 from gudokeyi.domain.kinds import ChangeKind
 
@@ -12,8 +13,7 @@ Mark = tuple[int, int]
 NO_MARK: Mark = (0, 0)
 
 
-@dataclass(frozen=True, slots=True)
-class Source:
+class Source(NamedTuple):
     """The file that a change came from: its name, where it was, and its digest (SHA-256)."""
 
     name: str
@@ -21,8 +21,7 @@ class Source:
     digest: str
 
 
-@dataclass(frozen=True, slots=True)
-class StoredFinding:
+class StoredFinding(NamedTuple):
     """What a change told: its kind and part, the line of the sheet (0 for none), the animal's id, and what else it
     says, each with its name."""
 
@@ -33,16 +32,14 @@ class StoredFinding:
     fields: tuple[tuple[str, str], ...]
 
 
-@dataclass(frozen=True, slots=True)
-class Option:
+class Option(NamedTuple):
     """An option with which a change was made, and its word, empty for one that has none."""
 
     option: str
     word: str = ""
 
 
-@dataclass(frozen=True, slots=True)
-class ChangeDetails:
+class ChangeDetails(NamedTuple):
     """How a change is made: what is kept of it beside the state."""
 
     kind: ChangeKind

@@ -28,8 +28,10 @@ def letters_like() -> dict[str, str]:
     """Each letter with those that are it with an accent, in small letters."""
     found: dict[str, str] = {}
     for one in (chr(code) for codes in WITH_ACCENTS for code in codes):
+        if one != one.casefold() or not (unicodedata.decomposition(one) or one in OTHERS):
+            continue
         plain = folded(one)
-        if one == one.casefold() and len(plain) == 1 and plain != one and plain.isalpha():
+        if len(plain) == 1 and plain != one and plain.isalpha():
             found[plain] = found.get(plain, plain) + one
     return found
 
@@ -38,3 +40,9 @@ def pattern_of(text: str) -> str:
     """What a text in small letters has to be that is this one but for accents, as SQLite's GLOB reads it."""
     like = letters_like()
     return "".join(f"[{like.get(one, one)}]" if one in like or one in "*?[" else one for one in text)
+
+
+def always_same(text: str, otherwise: str = "") -> str:
+    """The characters of such a text that no accent makes others of, with another text in place of each of the rest."""
+    like = letters_like()
+    return "".join(otherwise if one in like else one for one in text)

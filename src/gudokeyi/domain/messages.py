@@ -7,6 +7,7 @@ import shlex
 import sys
 from collections.abc import Sequence
 from dataclasses import dataclass
+from typing import NamedTuple
 
 from gudokeyi.domain.refusals import MatingFault, Refusal
 
@@ -78,8 +79,7 @@ class Worded(enum.Enum):
         raise NotImplementedError
 
 
-@dataclass(frozen=True, slots=True)
-class Some:
+class Some(NamedTuple):
     """Names, of which the first are told, and how many more there are."""
 
     texts: Sequence[object]
@@ -89,8 +89,7 @@ class Some:
         return some_of([*map(str, self.texts)], self.most)
 
 
-@dataclass(frozen=True, slots=True)
-class AnyOf:
+class AnyOf(NamedTuple):
     """Names of which one is meant."""
 
     texts: Sequence[object]

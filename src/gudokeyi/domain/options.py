@@ -4,7 +4,7 @@ from __future__ import annotations
 
 import enum
 from collections.abc import Iterable
-from dataclasses import dataclass
+from typing import NamedTuple
 
 
 class Kind(enum.Enum):
@@ -32,8 +32,7 @@ class Kind(enum.Enum):
     SEX = "sex"
 
 
-@dataclass(frozen=True, slots=True)
-class Described:
+class Described(NamedTuple):
     """`name` is that of the option without its dashes, `shape` what stands behind it, `help` what a terminal says of
     it; `label` is what pages call it, and `hint` what a form says below its field. `field` is its name in the code
     where it isn't that of the option."""

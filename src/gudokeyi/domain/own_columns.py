@@ -3,7 +3,7 @@ kept."""
 from __future__ import annotations
 
 import enum
-from dataclasses import dataclass
+from typing import NamedTuple
 
 # so many columns a society has, so many letters a title and a value have, and so many choices a column has
 MOST_COLUMNS, MOST_IN_TITLE, MOST_IN_VALUE, MOST_CHOICES = 60, 100, 2_000, 100
@@ -27,8 +27,7 @@ class OwnKind(enum.StrEnum):
 KEPT = tuple(kind for kind in OwnKind if kind is not OwnKind.NONE)
 
 
-@dataclass(frozen=True, slots=True)
-class OwnColumn:
+class OwnColumn(NamedTuple):
     """A column by its place, which stays whatever it is called. `choices` are what stands in one of choices; one that
     is `certified` stands on certificates."""
 
@@ -43,16 +42,14 @@ class OwnColumn:
         return self.kind is not OwnKind.NONE
 
 
-@dataclass(frozen=True, slots=True)
-class OwnValue:
+class OwnValue(NamedTuple):
     """A value of an animal, with the column's."""
 
     column: OwnColumn
     value: str
 
 
-@dataclass(frozen=True, slots=True)
-class Note:
+class Note(NamedTuple):
     """What somebody wrote of an animal on a day."""
 
     number: int
@@ -61,8 +58,7 @@ class Note:
     text: str
 
 
-@dataclass(frozen=True, slots=True)
-class OtherDifference:
+class OtherDifference(NamedTuple):
     """What a change made of something beside the register: a value of a column, or a note where there is no title. Each
     is empty where there is none."""
 

@@ -3,6 +3,7 @@ how long texts may be."""
 from __future__ import annotations
 
 import enum
+import unicodedata
 
 from gudokeyi.domain.kinds import Field
 from gudokeyi.domain.messages import Message
@@ -50,12 +51,14 @@ class NotSuch(Message):
     LONG_ID = "an id has {most} letters at most, and this one has {letters:,}: write a shorter one"
     LONG_NAME = "a name has {most} letters at most, and this one has {letters:,}: write a shorter one"
     LONG_OWNER = "an owner's name has {most} letters at most, and this one has {letters:,}: write a shorter one"
+    UNSEEN = "'{text}' has a sign within that no one sees: write it by hand, and don't copy it"
     # a birth
     NO_ID = "an animal needs an id: write one"
     NO_ANIMALS_ID = "'{word}' is a word for an unknown parent: give the animal another id"
     # a command
     NO_TAKER = "the new owner is missing: write a name"
     AFTER_TODAY = "the day {day} is after today: write one that has come"
+    BEFORE_FIRST = "the day {day} is too long ago: a book takes days from {first} to today"
 
 
 @enum.unique
@@ -98,10 +101,16 @@ BOUNDS = {
     Field.ID: (MOST_IN_ID, NotSuch.LONG_ID), Field.NAME: (MOST_IN_NAME, NotSuch.LONG_NAME),
     Field.OWNER: (MOST_IN_OWNER, NotSuch.LONG_OWNER),
 }  # fmt: skip
+# control characters, marks that turn the order of letters round, and halves of characters
+UNSEEN = ("Cc", "Cf", "Cs")
 
 
-def refuse_long(field: Field, text: str) -> None:
-    """A mistake where an id, a name or an owner is longer than it may be."""
+def refuse_text(field: Field, text: str) -> None:
+    """A mistake where an id, a name or an owner is longer than it may be, or has a sign that no one sees, as of a key
+    or one that turns the order of letters round."""
+    seen = "".join(one for one in text if unicodedata.category(one) not in UNSEEN)
+    if seen != text:
+        raise InvalidValue(NotSuch.UNSEEN.said(text=seen))
     most, sentence = BOUNDS[field]
     if len(text) > most:
         raise InvalidValue(sentence.said(letters=len(text), most=most))

@@ -3,7 +3,7 @@ of pages."""
 from __future__ import annotations
 
 import enum
-from dataclasses import dataclass
+from typing import NamedTuple
 
 LANGUAGES = ("en", "de", "fr")
 
@@ -29,8 +29,7 @@ class Setting(enum.StrEnum):
 PNG, JPEG = "image/png", "image/jpeg"
 
 
-@dataclass(frozen=True, slots=True)
-class Picture:
+class Picture(NamedTuple):
     """The society's picture: its kind, its width and height in points, and its file."""
 
     media_type: str

@@ -7,7 +7,6 @@ import enum
 import functools
 import re
 from collections.abc import Mapping, Sequence
-from dataclasses import dataclass
 from typing import ClassVar, NamedTuple
 
 from gudokeyi.domain.messages import AnyOf, Some, Worded, some_of
@@ -83,30 +82,26 @@ class Word(enum.Enum):
 SEXES = {"M": Word.MALE, "F": Word.FEMALE}
 
 
-@dataclass(frozen=True, slots=True)
-class AllOf:
+class AllOf(NamedTuple):
     """All that are meant."""
 
     texts: Sequence[object]
 
 
-@dataclass(frozen=True, slots=True)
-class Joined:
+class Joined(NamedTuple):
     """Several, with a sign between them."""
 
     texts: Sequence[object]
     sign: str = ", "
 
 
-@dataclass(frozen=True, slots=True)
-class Quoted:
+class Quoted(NamedTuple):
     """Texts of a sheet."""
 
     texts: Sequence[str]
 
 
-@dataclass(frozen=True, slots=True)
-class WithText:
+class WithText(NamedTuple):
     """A member of an enum whose words have a place for a text."""
 
     member: enum.Enum

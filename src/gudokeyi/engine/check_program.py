@@ -2,12 +2,13 @@
 from __future__ import annotations
 
 import io
-import subprocess
-from dataclasses import dataclass
-from typing import IO
+from typing import IO, NamedTuple, TYPE_CHECKING
 
 from gudokeyi.domain.seals import CHECK_FAULTS, CertificateRefused
 from gudokeyi.engine.program import Herdbook, bytes_in, in_memory, write_all
+
+if TYPE_CHECKING:
+    import subprocess
 
 # the status with which it says that a certificate is refused
 REFUSED = 3
@@ -15,8 +16,7 @@ REFUSED = 3
 MOST_BYTES = 1 << 30
 
 
-@dataclass(frozen=True, slots=True)
-class Accepted:
+class Accepted(NamedTuple):
     """What it says of a certificate that it accepts: its own lines are `text`. The records are those of the animal and
     of all its known ancestors, from the oldest on."""
 
@@ -34,6 +34,8 @@ class CheckProgram(Herdbook):
 
     def check(self, certificate: IO[bytes], seal: str) -> Accepted:
         """What it accepts of a certificate's file; raises `CertificateRefused`."""
+        import subprocess
+
         words = ["check", seal]
         with in_memory() as answers:
             running = self.start(words, certificate.fileno(), subprocess.PIPE, MOST_BYTES, answers=answers.fileno())

@@ -6,8 +6,6 @@ from __future__ import annotations
 
 import os
 import pathlib
-import shutil
-import subprocess
 import sys
 from typing import NoReturn
 
@@ -62,6 +60,9 @@ def is_clone() -> bool:
 
 def on_path() -> pathlib.Path | None:
     """The program that is installed, of the front desk's own version: that of another one may lack words."""
+    # a call that asks the program nothing would wait for what begins others
+    import shutil
+
     path = shutil.which(NAME)
     if not path or pathlib.Path(path).resolve() == CLONE / NAME:
         return None
@@ -70,6 +71,8 @@ def on_path() -> pathlib.Path | None:
 
 
 def told_of(command: list[str]) -> str:
+    import subprocess
+
     try:
         return subprocess.run(
             command, stdin=subprocess.DEVNULL, capture_output=True, text=True, errors="replace"
@@ -81,6 +84,8 @@ def told_of(command: list[str]) -> str:
 def built_in_clone(asks: bool) -> pathlib.Path:
     """The program that the clone's script has built of what is there now. The script asks a person at a terminal
     first."""
+    import subprocess
+
     script = CLONE / NAME
     if not is_clone() or not script.is_file():
         raise ProgramFailed(ProgramFault.NOT_FOUND.said(version=gudokeyi.__version__, hint=SAY))

@@ -10,8 +10,8 @@ import pathlib
 import resource
 import shlex
 import signal
-import subprocess
 from collections.abc import Iterable
+from typing import TYPE_CHECKING
 
 import gudokeyi
 from gudokeyi.background import Background
@@ -21,6 +21,10 @@ from gudokeyi.domain.mistakes import ProgramFailed
 from gudokeyi.domain.refusals import Refusal
 from gudokeyi.engine.location import NAME, SAY, located
 from gudokeyi.engine.messages import ProgramFault
+
+# what begins another program is imported where one is begun: a call that asks it nothing would wait for that
+if TYPE_CHECKING:
+    import subprocess
 
 # so much memory and time a run may use
 MOST_BYTES, MOST_SECONDS = 4 << 30, 1200
@@ -88,6 +92,8 @@ class Herdbook:
 
     def refuse_other(self) -> None:
         """A mistake where the program doesn't answer, or is of another version than the front desk."""
+        import subprocess
+
         wanted = f"{NAME} {gudokeyi.__version__}"
         try:
             done = subprocess.run(
@@ -102,8 +108,12 @@ class Herdbook:
 
     def start(
         self, words: list[str], given: int, errors: int | None, most_bytes: int = MOST_BYTES,
-        most_seconds: int | None = MOST_SECONDS, answers: int = subprocess.PIPE,
+        most_seconds: int | None = MOST_SECONDS, answers: int | None = None,
     ) -> subprocess.Popen[bytes]:  # fmt: skip
+        """Begins it. Its answers go into a pipe, where nothing else is named."""
+        import subprocess
+
+        answers = subprocess.PIPE if answers is None else answers
         try:
             process = subprocess.Popen([str(self.path), *words], stdin=given, stdout=answers, stderr=errors)
             limit(process, most_bytes, most_seconds)
@@ -119,6 +129,8 @@ class Herdbook:
 
     def run_bytes(self, words: list[str], pieces: Iterable[bytes]) -> bytes:
         """What it writes of a file that is given in pieces."""
+        import subprocess
+
         # through pipes much of it would go in small pieces, each of which waits until Python has time
         with in_memory() as given, in_memory() as answers:
             try:
@@ -137,6 +149,8 @@ class Herdbook:
     def run_meanwhile(self, words: list[str], pieces: Iterable[bytes]) -> str:
         """The same, while the pieces of the command file are still found. What goes wrong with these is raised, and not
         what the program says of those that it got."""
+        import subprocess
+
         with in_memory() as answers:
             reads, writes = os.pipe()
             with io.FileIO(reads):
@@ -152,6 +166,8 @@ class Herdbook:
 
     def waited_for(self, running: subprocess.Popen[bytes], words: list[str]) -> bytes:
         """What it told beside its answers, once it has ended."""
+        import subprocess
+
         try:
             _, err = running.communicate(timeout=MOST_SECONDS)
         except subprocess.TimeoutExpired:

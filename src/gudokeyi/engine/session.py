@@ -8,11 +8,12 @@ import itertools
 import queue
 import subprocess
 import threading
-from collections.abc import Iterable, Iterator
+from collections.abc import Iterable
 from dataclasses import dataclass, field
 
 from gudokeyi.background import Background
 from gudokeyi.domain.refusals import Refusal
+from gudokeyi.domain.waiting import SECONDS_OF_PAGE, seconds_left
 from gudokeyi.engine.program import Herdbook
 
 # so much memory it may use, and so long an answer may take
@@ -33,6 +34,10 @@ class Places:
 
 class SessionFault(Exception):
     """A command that the session doesn't answer, by the fault's name."""
+
+
+class SessionBusy(Exception):
+    """Others ask so much that there is no answer in the time of a page; it goes on."""
 
 
 class SessionEnded(Exception):
@@ -138,8 +143,8 @@ class Session:
             for answer, _ in self.waiting.values():
                 answer.is_whole.set()
 
-    def send(self, requests: Iterable[str], answer: Answer, of_desk: bool) -> Answer:
-        """Asks, and waits until all is answered."""
+    def begin(self, requests: Iterable[str], answer: Answer, of_desk: bool) -> str:
+        """Asks; answers the tag that the answer comes with."""
         self.begin_to_collect()
         tag = f"t{next(self.tags)}"
         with self.lock:
@@ -148,15 +153,14 @@ class Session:
             self.waiting[tag] = answer, of_desk
         try:
             self.write("".join(f"{tag},{request}\n" for request in requests).encode())
-            in_time = answer.is_whole.wait(MOST_SECONDS)
-        finally:
-            with self.lock:
-                del self.waiting[tag]
-        if not in_time:
-            self.process.kill()
-        if not in_time or (self.has_ended and not is_told(answer, of_desk)):
-            raise SessionEnded
-        return answer
+        except SessionEnded:
+            self.forget(tag)
+            raise
+        return tag
+
+    def forget(self, tag: str) -> None:
+        with self.lock:
+            del self.waiting[tag]
 
     def write(self, text: bytes) -> None:
         assert self.process.stdin
@@ -168,24 +172,50 @@ class Session:
             raise SessionEnded from None
 
     def file(self, lines: list[str], desk: int = 1) -> list[Refusal | None]:
-        """A desk's replies to commands, each written as in the command file, in their order."""
-        answer = self.send((f"desk,{desk},{line}" for line in lines), Answer(len(lines)), True)
+        """A desk's replies to commands, each written as in the command file, in their order. Without them in the time
+        of a page nobody knows what is filed."""
+        answer = Answer(len(lines))
+        tag = self.begin((f"desk,{desk},{line}" for line in lines), answer, True)
+        if not answer.is_whole.wait(min(MOST_SECONDS, max(seconds_left(), SECONDS_OF_PAGE))):
+            self.process.kill()
+        self.forget(tag)
         if answer.fault:
             raise SessionFault(answer.fault)
+        if len(answer.lines) < answer.count:
+            raise SessionEnded
         return [refusal_of(reply) for reply in answer.lines]
 
     def ask(self, question: list[str]) -> Answer:
-        """The report of an inspector that is free."""
-        with self.inspector() as inspector:
-            return self.send([",".join(["inspector", str(inspector), *question])], Answer(), False)
-
-    @contextlib.contextmanager
-    def inspector(self) -> Iterator[int]:
-        inspector = self.free.get()
+        """The report of an inspector that is free; whoever asks waits for others, and for the report, no longer than a
+        page does."""
         try:
-            yield inspector
-        finally:
+            inspector = self.free.get(timeout=seconds_left())
+        except queue.Empty:
+            raise SessionBusy from None
+        answer = Answer()
+        try:
+            tag = self.begin([",".join(["inspector", str(inspector), *question])], answer, False)
+        except SessionEnded:
             self.free.put(inspector)
+            raise
+        if not answer.is_whole.wait(min(MOST_SECONDS, seconds_left())):
+            threading.Thread(target=self.end_late, args=(tag, answer, inspector), daemon=True).start()
+            raise SessionBusy
+        self.end_answer(tag, inspector)
+        if not answer.fault and not answer.steps:
+            raise SessionEnded
+        return answer
+
+    def end_answer(self, tag: str, inspector: int) -> None:
+        self.forget(tag)
+        self.free.put(inspector)
+
+    def end_late(self, tag: str, answer: Answer, inspector: int) -> None:
+        """The inspector is asked again once that is answered for which nobody waits any more; one that never answers
+        ends the process."""
+        if not answer.is_whole.wait(MOST_SECONDS):
+            self.process.kill()
+        self.end_answer(tag, inspector)
 
     def status(self) -> int | None:
         """The status with which the process ended; none where it goes on."""
@@ -201,11 +231,6 @@ class Session:
             with contextlib.suppress(OSError):
                 if pipe:
                     pipe.close()
-
-
-def is_told(answer: Answer, of_desk: bool) -> bool:
-    """Was all of it told before the process ended?"""
-    return bool(answer.fault) or (len(answer.lines) == answer.count if of_desk else answer.steps > 0)
 
 
 def refusal_in(line: str) -> Refusal | None:

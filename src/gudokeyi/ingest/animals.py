@@ -102,7 +102,9 @@ def links_outside(progeny: Collection[SheetAnimal], ids: Collection[str]) -> lis
 
 def parents_of_all(animals: dict[str, SheetAnimal]) -> dict[str, list[str]]:
     """The known parents of each animal."""
-    return {id: animal.parent_ids() for id, animal in animals.items()}
+    # most have both, and to ask each for its parents takes as long as all else
+    both = zip(animals, map(SIRE_OF, animals.values()), map(DAM_OF, animals.values()))
+    return {id: [sire, dam] if sire and dam else [parent for parent in (sire, dam) if parent] for id, sire, dam in both}
 
 
 def birth_in_book(known: SocietyRecord, record: RegisterRecord) -> Span:

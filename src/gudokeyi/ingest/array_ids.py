@@ -7,7 +7,7 @@ from typing import Any
 import numpy as np
 
 from gudokeyi.domain.mistakes import InvalidValue
-from gudokeyi.ingest.words import composed
+from gudokeyi.ingest.texts import composed
 
 # the types of a value that isn't there
 NOTHING = ("NAType", "NaTType", "NoneType")

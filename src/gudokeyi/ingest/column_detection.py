@@ -11,7 +11,8 @@ from gudokeyi.domain.spelling import closest
 from gudokeyi.ingest.days import DayFault, Unreadable, read_span
 from gudokeyi.ingest.findings.columns import IdsCountRows, IdsFromOther, IdsMoved, LikelyColumn
 from gudokeyi.ingest.titles import KNOWN_TITLES
-from gudokeyi.ingest.words import KNOWN_EXITS, KNOWN_SEXES, KNOWN_STAYS, has_word, nearly, plain, sex_word
+from gudokeyi.ingest.texts import nearly, plain
+from gudokeyi.ingest.words import KNOWN_EXITS, KNOWN_SEXES, KNOWN_STAYS, has_word, sex_word
 
 if TYPE_CHECKING:
     from gudokeyi.ingest.columns import Columns

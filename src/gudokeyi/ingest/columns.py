@@ -21,8 +21,9 @@ from gudokeyi.ingest.sheets import Sheet
 from gudokeyi.ingest.titles import (
     KNOWN_DOUBTFUL, KNOWN_PAIRS, KNOWN_TITLES, NEEDED, TITLES, names_both_sexes, names_exits_alone,
 )  # fmt: skip
+from gudokeyi.ingest.texts import plain
 from gudokeyi.ingest.words import (
-    DEAD, KNOWN_EXITS, KNOWN_SEXES, KNOWN_STAYS, LETTER, PLAIN_EXITS, TELLING_EXITS, has_word, plain, sex_word,
+    DEAD, KNOWN_EXITS, KNOWN_SEXES, KNOWN_STAYS, LETTER, PLAIN_EXITS, TELLING_EXITS, has_word, sex_word,
 )  # fmt: skip
 
 PARENTS = Field.SIRE, Field.DAM

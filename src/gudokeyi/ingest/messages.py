@@ -20,6 +20,10 @@ class SheetFault(Message):
         "{path} has more than {most:,} cells, or some far from the others: delete the rows and columns without animals, "
         "and save it again"
     )
+    MANY_COLUMNS = (
+        "{path} has {columns:,} columns with {letters:,} letters in their titles, and a page shows {most:,} columns and "
+        "{most_letters:,} letters at most: delete columns that the book doesn't need, and shorten titles"
+    )
     LONG_CELL = "line {line}: a cell has more than {most:,} letters: shorten it. Is a quotation mark missing?"
     TOO_SLOW = (
         "to look at it would take more than {seconds} seconds: is it the right file? Leave out what isn't about "

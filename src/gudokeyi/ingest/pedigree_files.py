@@ -18,7 +18,7 @@ from gudokeyi.ingest.encodings import decoded
 from gudokeyi.ingest.files import MOST_LETTERS, GivenFile, bounded, read_all, read_bytes, read_file
 from gudokeyi.ingest.messages import SheetFault
 from gudokeyi.ingest.titles import KNOWN_TITLES
-from gudokeyi.ingest.words import composed, listed, plain
+from gudokeyi.ingest.texts import composed, listed, plain
 
 # The lines of a geneticist's pedigree: a text file, or what comes from standard input.
 

@@ -20,7 +20,7 @@ from gudokeyi.ingest.pedigree_files import (
     columns_read, family_column, find_pedigree_columns, separator_of,
 )  # fmt: skip
 from gudokeyi.ingest.plain_cells import NumberedCells, PlainCells, numbered_cells, plain_cells
-from gudokeyi.ingest.words import composed
+from gudokeyi.ingest.texts import composed
 
 # so many lines are parted at a time
 AT_ONCE = 100_000

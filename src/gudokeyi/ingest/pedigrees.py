@@ -22,7 +22,7 @@ from gudokeyi.ingest.pedigree_files import (
     find_pedigree_columns, read_lines,
 )  # fmt: skip
 from gudokeyi.ingest.sexes import Sexes
-from gudokeyi.ingest.words import composed
+from gudokeyi.ingest.texts import composed
 
 # the sexes of PLINK and of R's kinship2; other numbers stand for an unknown sex there
 SEX_CODES = {"1": "M", "2": "F"}

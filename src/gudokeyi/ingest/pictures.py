@@ -40,7 +40,8 @@ def picture_read(file: bytes) -> Picture:
         raise InvalidValue(PictureFault.NO_PICTURE.said()) from None
     if found is None:
         raise InvalidValue(PictureFault.MANY_POINTS.said(most=MOST_POINTS // 1_000_000))
-    return Picture(KINDS[kind], *found.size, written(found, kind))
+    width, height = found.size
+    return Picture(KINDS[kind], width, height, written(found, kind))
 
 
 def points_of(image: Image) -> Image:

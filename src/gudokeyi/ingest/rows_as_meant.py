@@ -12,7 +12,8 @@ from gudokeyi.domain.findings import Report
 from gudokeyi.domain.kinds import Field
 from gudokeyi.ingest.findings.rows import CellsRepeated, NoteRow, StatusDisagrees, StatusRead
 from gudokeyi.ingest.sheets import Sheet, SheetRow
-from gudokeyi.ingest.words import DEAD, KNOWN_SUMS, KNOWN_YES, exit_word, lives, nearly, plain
+from gudokeyi.ingest.texts import nearly, plain
+from gudokeyi.ingest.words import DEAD, KNOWN_SUMS, KNOWN_YES, exit_word, lives
 
 # Rows that are headings between animals, or notes below them: they say nothing of an animal, and don't read like the
 # ids of the others.

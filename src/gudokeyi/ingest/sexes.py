@@ -8,7 +8,8 @@ from typing import NamedTuple
 
 from gudokeyi.ingest.findings.columns import SheetFinding
 from gudokeyi.ingest.findings.sheets import SexWord, SexWordsShort, TextCount
-from gudokeyi.ingest.words import KNOWN_CASTRATED, KNOWN_SEXES, has_word, plain, sex_word
+from gudokeyi.ingest.texts import plain
+from gudokeyi.ingest.words import KNOWN_CASTRATED, KNOWN_SEXES, has_word, sex_word
 
 
 class Meaning(NamedTuple):
@@ -50,20 +51,25 @@ class Sexes:
     def find(self, text: str) -> Meaning:
         word = sex_word(text)
         sex, longer = self.known.get(word, ""), self.short.get(word, [])
-        taken_for = ""
+        taken_for, meant = "", [text]
         if not sex and text and len({sex for _, sex in longer}) == 1:
-            taken_for, sex = longer[0]
+            (taken_for, sex), meant = longer[0], [whole for whole, _ in longer]
         elif not sex:
             taken_for, sex = self.among_words(text)
-        return Meaning(sex, sex == "M" and has_word(text, KNOWN_CASTRATED), taken_for)
+        return Meaning(sex, sex == "M" and all(has_word(one, KNOWN_CASTRATED) for one in meant), taken_for)
 
     def among_words(self, text: str) -> tuple[str, str]:
-        """A word of the text and its sex, where that is the only one in it, as in `Rüde (kastriert)`."""
-        words = [word for word in re.split(r"[\s,;/()]+", text) if len(plain(word)) > 1 or word in "mwfMWF"]
+        """A word of the text and its sex, where that is the only one in it, as in `Rüde (kastriert)`; that of one that
+        was castrated since, as in `H (ex étalon)`, with what it was."""
+        parts = [word for word in re.split(r"[\s,;/()]+", text) if any(map(str.isalpha, word))]
+        words = [word for word in parts if len(plain(word)) > 1 or word in "mwfMWF"]
         found = {word: self.known[plain(word)] for word in words if plain(word) in self.known}
-        if len(words) < 2 or len(set(found.values())) != 1:
+        is_letter = len(words) == 1 and len(plain(words[0])) == 1
+        if len(parts) < 2 or is_letter or len(set(found.values())) != 1:
             return "", ""
-        return next(iter(found.items()))
+        former = (f"{one} {word}" for one, word in zip(words, words[1:]) if plain(one + word) in KNOWN_CASTRATED)
+        first, sex = next(iter(found.items()))
+        return next(former, first), sex
 
     def told(self) -> list[SheetFinding]:
         """Which words are taken for others."""

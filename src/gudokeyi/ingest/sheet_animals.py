@@ -28,7 +28,8 @@ from gudokeyi.ingest.sheets import Sheet, SheetRow
 from gudokeyi.ingest.spellings import CUT
 from gudokeyi.ingest.titles import BETWEEN_WORDS, names_both_sexes, parts_of
 from gudokeyi.ingest.unknown_parents import UnknownParents
-from gudokeyi.ingest.words import KNOWN_SUMS, is_error_value, nearly, plain
+from gudokeyi.ingest.texts import nearly, plain
+from gudokeyi.ingest.words import KNOWN_SUMS, is_error_value
 
 # Rows that may be no animals: those that count or sum up, and those that have an id alone. They are taken, and told,
 # unless somebody says by a word of theirs that they are none.

@@ -19,7 +19,7 @@ from gudokeyi.ingest.encodings import decoding
 from gudokeyi.ingest.files import MOST_LETTERS, GivenFile, check_bounds
 from gudokeyi.ingest.findings.columns import SheetFinding
 from gudokeyi.ingest.messages import SheetFault
-from gudokeyi.ingest.words import clean
+from gudokeyi.ingest.texts import clean
 from gudokeyi.ingest.workbooks import Formulas, read_workbook
 
 SEPARATORS = ";\t,"

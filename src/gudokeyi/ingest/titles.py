@@ -9,7 +9,8 @@ from collections.abc import Iterable
 from gudokeyi.domain.kinds import Field
 from gudokeyi.domain.messages import Mistake, some_of
 from gudokeyi.ingest.messages import SheetFault
-from gudokeyi.ingest.words import KNOWN_EXITS, KNOWN_SEXES, composed, listed, plain, sex_word
+from gudokeyi.ingest.texts import composed, listed, plain
+from gudokeyi.ingest.words import KNOWN_EXITS, KNOWN_SEXES, sex_word
 
 # What a column of a sheet may have, and the usual titles in English, German and French.
 

@@ -6,7 +6,8 @@ import re
 from collections.abc import Collection
 
 from gudokeyi.domain.cells import FIRST_LETTER
-from gudokeyi.ingest.words import UNKNOWN, is_error_value, listed
+from gudokeyi.ingest.texts import listed
+from gudokeyi.ingest.words import UNKNOWN, is_error_value
 
 # signs alone, as `?`, `*` and `---`, zeros alone, as `00` and `0.0`, and the usual numbers as pandas writes them, as
 # `-9.0`

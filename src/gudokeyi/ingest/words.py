@@ -1,16 +1,14 @@
-"""The words that cells of sheets have, in English, German and French, how texts and ids are compared, and what a cell
-for an exit says in words."""
+"""The words that cells of sheets have, in English, German and French, and what a cell for an exit says in words."""
 from __future__ import annotations
 
-import functools
 import itertools
 import re
-import unicodedata
-from collections.abc import Container, Iterator
+from collections.abc import Iterator
 
 from gudokeyi.ingest.days import DayFault
+from gudokeyi.ingest.texts import listed, plain
 
-# The words that cells of sheets have, in English, German and French, and how texts are compared.
+# The words that cells of sheets have, in English, German and French.
 
 UNKNOWN = (
     "na, <na>, nan, n/a, nn, none, null, unknown, unk, not known, not recorded, not available, unknown sire, unknown "
@@ -36,6 +34,11 @@ CASTRATED = (
     "ox, steer, bullock, wether, gelding, barrow, neutered male, castrated, castrate, male castrated, kastr, Ochse, Hammel, "
     "Schöps, Wallach, Kastrat, kastriert, männlich kastriert, Rüde kastriert, Borg, Kapaun, hongre, boeuf, bœuf, "
     "mouton castré, castré, mâle castré"
+)
+# a word for a grown male that isn't castrated tells behind one of these that it was castrated since
+FORMER = "ex, former, formerly, was, früher, früherer, ehemals, ehemaliger, ehem, war, ancien, anciennement"
+GROWN_MALES = (
+    "stallion, bull, ram, buck, boar, Hengst, Bulle, Stier, Widder, Bock, Eber, étalon, taureau, bélier, bouc, verrat"
 )
 # what cells for an exit say of animals that haven't left, and of those that have
 STAYS = (
@@ -71,35 +74,6 @@ ERROR_VALUE = re.compile(
 )
 # what words are written with, but for digits
 LETTER = re.compile(r"[^\W\d_]|[°♂♀]")
-# signs that no one sees, which text copied from a page may have
-INVISIBLE = dict.fromkeys(map(ord, "\u00ad\u200b\u200c\u200d\u200e\u200f\u2060\ufeff"))
-
-
-def clean(text: str) -> str:
-    """The text with composed letters, with one blank for several or for a line's end, and without any at its ends."""
-    return " ".join(composed(text).split())
-
-
-def composed(text: str) -> str:
-    """The text with composed letters, and without signs that no one sees."""
-    return text if text.isascii() else unicodedata.normalize("NFC", text.translate(INVISIBLE))
-
-
-def as_known(text: str, known: Container[str]) -> str:
-    """The text as it is written; cleaned where it isn't known so."""
-    written = " ".join(text.split())
-    return written if written in known else clean(text)
-
-
-@functools.lru_cache(100_000)
-def plain(text: str) -> str:
-    """The text in small letters, without accents, blanks and signs but `°`, `♂` and `♀`."""
-    apart = unicodedata.normalize("NFKD", text.casefold().replace("°", "o"))
-    return "".join(one for one in apart if one.isalnum() or one in "♂♀")
-
-
-def listed(text: str) -> list[str]:
-    return [one.strip() for one in composed(text).split(",")]
 
 
 def is_error_value(text: str) -> bool:
@@ -109,6 +83,7 @@ def is_error_value(text: str) -> bool:
 
 KNOWN_SEXES = {plain(word): sex for sex, words in SEXES.items() for word in listed(words)}
 KNOWN_CASTRATED = {plain(word) for word in listed(CASTRATED)}
+KNOWN_CASTRATED |= {plain(former + word) for former in listed(FORMER) for word in listed(GROWN_MALES)}
 KNOWN_SEXES |= {word: "M" for word in KNOWN_CASTRATED}
 KNOWN_YES = {word.casefold() for word in listed(YES)}
 KNOWN_NO = {word.casefold() for word in listed(NO)}
@@ -143,28 +118,6 @@ def beginnings(words: list[str], at: int, longest: int) -> Iterator[str]:
         if len(text) > longest:
             return
         yield text
-
-
-# How ids are compared that are meant alike.
-
-ZEROS = re.compile(r"(?<!\d)0+(?=\d)")
-# stands in no id, and isn't a blank
-BETWEEN = "\0"
-
-
-@functools.lru_cache(200_000)
-def nearly(id: str) -> str:
-    """An id in small letters, without blanks and without zeros before a number: two that differ in these alone are
-    meant alike."""
-    return ZEROS.sub("", "".join(id.casefold().split()))
-
-
-def nearly_all(ids: list[str]) -> list[str]:
-    """The same of many, which are looked at as one text."""
-    together = BETWEEN.join(ids)
-    if together.count(BETWEEN) != len(ids) - 1:
-        return [*map(nearly, ids)]
-    return ZEROS.sub("", "".join(together.casefold().split())).split(BETWEEN)
 
 
 # What a cell for an exit says in words: that an animal lives, or that it left.

@@ -23,7 +23,7 @@ from gudokeyi.ingest.files import MOST_CELLS, MOST_ROWS
 from gudokeyi.ingest.findings.columns import SheetFinding
 from gudokeyi.ingest.findings.files import DigitsLost, FormulasWithoutValue, WorksheetLacks, WorksheetUnclear
 from gudokeyi.ingest.messages import SheetFault
-from gudokeyi.ingest.words import clean
+from gudokeyi.ingest.texts import clean
 
 # What the parts of a workbook would become: their cells are counted before they are made, since a file of few bytes may
 # ask for very many.

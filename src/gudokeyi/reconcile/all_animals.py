@@ -89,7 +89,8 @@ def add_others(next_book: NextBook, drop_gone: bool) -> None:
         near = NearIds(animals, all_animals, book)
         near.find_parents(report)
         near.tell_alike(report)
-    Names(all_animals, report).find_parents(animals, book)
+    before = Names(all_animals, report)
+    before.find_parents(animals, book)
     try_parents_again(next_book, gone, all_animals)
     if not next_book.is_pedigree:
         tell_new_tags(next_book, gone)
@@ -99,7 +100,7 @@ def add_others(next_book: NextBook, drop_gone: bool) -> None:
     else:
         add_gone(animals, gone, book, drop_gone, report)
     leave_out_unread_sexes(next_book)
-    names = Names(animals, report)
+    names = Names(animals, report, before)
     names.advise_unknown(next_book.is_pedigree)
     names.add_parents()
     if len(animals) > MOST_ANIMALS:

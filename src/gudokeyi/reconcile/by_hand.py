@@ -10,18 +10,18 @@ from collections.abc import Iterator
 from gudokeyi.domain.animals import SocietyRecord
 from gudokeyi.domain.kinds import Remembered, Role
 from gudokeyi.domain.spelling import closest
-from gudokeyi.ingest.words import nearly, plain
+from gudokeyi.ingest.texts import nearly, plain
 from gudokeyi.reconcile.findings.by_hand import IdsAlike, OwnerMeant, YoungParent
 from gudokeyi.reconcile.limits import YOUNGEST
 from gudokeyi.store.book import Book
-from gudokeyi.store.conditions import ANY, likeness, with_id_like
+from gudokeyi.store.conditions import ANY, likeness
 
 # Ids that differ in case, blanks or leading zeros alone.
 
 
 def id_alike(book: Book, id: str, before: str = "") -> list[IdsAlike]:
     """The animal of the book whose id differs so from that of one that is filed by hand, and had another before."""
-    likely = book.rows(with_id_like(id))
+    likely = book.rows_like(id)
     alike = sorted(row.id for row in likely if row.id not in (id, before) and nearly(row.id) == nearly(id))
     return [IdsAlike(one, 0) for one in alike[:1]]
 

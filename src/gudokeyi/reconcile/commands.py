@@ -2,6 +2,7 @@
 from __future__ import annotations
 
 import datetime
+import functools
 
 from gudokeyi.domain.animals import SocietyRecord
 from gudokeyi.domain.collections import made
@@ -29,6 +30,8 @@ class Filing:
 
     def __init__(self, next_book: NextBook, owners: OwnerDays) -> None:
         self.next_book, self.book, self.owners = next_book, next_book.book, owners
+        # was a birth refused with its parents, when the commands were asked about last?
+        self.refuses_births = False
 
     def filed(self, program: Herdbook) -> Filed:
         """The commands, none of which is refused: an exit or a transfer that is refused is left out before, and told;
@@ -50,7 +53,9 @@ class Filing:
         if more is None:
             return None
         text = self.text_behind(more)
-        return None if self.refused_behind(program, text, len(more)) else Filed(accepted(more), text=text)
+        refused = self.refused_behind(program, text, len(more))
+        self.refuses_births = any(more[place].kind == "birth" for place in refused)
+        return None if refused else Filed(accepted(more), text=text)
 
     def leave_out(self, commands: list[Command], refused: dict[int, Refusal]) -> None:
         by_number = {animal.registration_number: animal for animal in self.next_book.animals.values()}
@@ -73,10 +78,10 @@ class Filing:
         """The journal with commands behind it, as a command file."""
         return self.book.command_file() + lines_of(more) if self.book.journal.length else text_of(more)
 
-    def refused_behind(self, program: Herdbook, text: bytes, count: int) -> bool:
-        """Is any of so many commands behind the journal refused?"""
+    def refused_behind(self, program: Herdbook, text: bytes, count: int) -> list[int]:
+        """The places of those that are refused of so many commands behind the journal."""
         length = self.book.journal.length
-        return any(place >= length for place in program.file_text(text, length + count))
+        return [place - length for place in program.file_text(text, length + count) if place >= length]
 
     def more(self) -> list[Command] | None:
         """The commands that the book lacks, or none where what stands in it has to be corrected."""
@@ -85,16 +90,17 @@ class Filing:
         if self.book.society_records.keys() - self.next_book.animals.keys():
             return None
         births, corrections, transfers, exits = [], [], [], []
+        numbers = self.next_book.numbers()
         for animal in self.next_book.by_birth:
             record, owners = self.next_book.record(animal.id), self.owners.of(animal)
             if record is None:
-                births.append(self.next_book.birth_of(animal, owners.first_herd))
+                births.append(self.next_book.birth_of(animal, owners.first_herd, numbers))
                 transfers += owners.transfers
                 exits += [leave(animal.registration_number, animal.left)] if animal.left else []
                 continue
             if owners.is_corrected or is_corrected(animal, record):
                 return None
-            wanted = self.next_book.parents_of(animal)
+            wanted = self.next_book.parents_of(animal, numbers)
             if (wanted.sire, wanted.dam) != (record.sire or "0", record.dam or "0"):
                 corrections.append(wanted)
             transfers += owners.new
@@ -107,9 +113,10 @@ class Filing:
         births: list[Command] = []
         transfers: list[Command] = []
         exits: list[Command] = []
+        numbers = self.next_book.numbers()
         for animal in self.next_book.by_birth:
             owners = self.owners.of(animal)
-            births.append(self.next_book.birth_of(animal, owners.first_herd))
+            births.append(self.next_book.birth_of(animal, owners.first_herd, numbers))
             transfers += owners.transfers
             exits += [leave(animal.registration_number, animal.left)] if animal.left else []
         return births + transfers + exits
@@ -117,14 +124,34 @@ class Filing:
     # -- what is told
 
     def tell_changes(self) -> None:
-        report = self.next_book.report
-        for animal in self.next_book.animals.values() if self.book.society_records else ():
-            record, in_book = self.next_book.record(animal.id), self.book.society_records.get(animal.id)
+        report, society_records, records = self.next_book.report, self.book.society_records, self.book.records
+        for animal in self.next_book.animals.values() if society_records else ():
+            in_book = society_records.get(animal.id)
+            record = records[in_book.registration_number] if in_book else None
+            if record and in_book and self.is_same(animal, record, in_book):
+                continue
             if record and in_book:
                 for found in self.changes(animal, record, in_book):
                     report.add(animal.line, animal.id, found)
             elif animal.line:
                 report.add(animal.line, animal.id, NewAnimal(animal.registration_number))
+
+    @functools.cached_property
+    def ids(self) -> dict[str, str]:
+        """The ids of the book's animals by their numbers, and that of an unknown one."""
+        return {"": "", **{number: one.id for number, one in self.next_book.names.items()}}
+
+    def is_same(self, animal: SheetAnimal, record: RegisterRecord, in_book: SocietyRecord) -> bool:
+        """Is it as the book has it? Most are, and are told by nothing."""
+        ids = self.ids
+        return (
+            animal.name == in_book.name and animal.born == record.born and animal.left == record.left
+            and animal.registration_number == record.registration_number
+            and animal.sire == ids[record.sire] and animal.dam == ids[record.dam]
+            and animal.embryo == record.embryo and animal.castrated == in_book.castrated
+            and animal.owner == self.book.owner_of(record.owner_code) and animal.id not in self.owners.other_days
+            and (animal.left is not None or animal.exit_basis.day_is_unknown == in_book.exit.day_is_unknown)
+        )  # fmt: skip
 
     def changes(self, animal: SheetAnimal, record: RegisterRecord, in_book: SocietyRecord) -> list[ValueChanged]:
         owner, exit = self.book.owner_of(record.owner_code), exit_words(record.left, in_book.exit)

@@ -10,7 +10,7 @@ from gudokeyi.domain.animals import SocietyRecord
 from gudokeyi.domain.kinds import Role, Standing
 from gudokeyi.ingest.animals import SheetAnimal, links_outside
 from gudokeyi.ingest.columns import Columns
-from gudokeyi.ingest.words import nearly
+from gudokeyi.ingest.texts import nearly
 from gudokeyi.reconcile.findings.obstacles import (
     Changed, Guard, IdsLack, LooksLike, ManyDropped, ManyGone, ManyOthers, ParentsLack,
 )  # fmt: skip
@@ -60,7 +60,7 @@ class OtherAnimals:
     def has_other_day(self, row: SheetAnimal, in_book: SocietyRecord) -> bool:
         """Do both say another day? One that was inferred says nothing."""
         born = self.book.records[in_book.registration_number].born
-        return row.has_day() and not in_book.birth.is_inferred and row.birth.first != born
+        return row.birth.first != born and row.has_day() and not in_book.birth.is_inferred
 
     def other_sexes(self) -> Guard | None:
         pairs = [(row, in_book) for row, in_book in self.both if row.sex and not in_book.sex.is_inferred]
@@ -75,6 +75,8 @@ class OtherAnimals:
         changed = []
         for row, in_book in self.both:
             record = self.book.records[in_book.registration_number]
+            if (had_row.get(record.sire, ""), had_row.get(record.dam, "")) == (row.sire, row.dam):
+                continue
             read = [role for role in Role if role in self.given and role not in row.unread]
             pairs = [(had_row.get(record.parent(role)), row.parent(role)) for role in read]
             if any(before and before != now and (not now or now in self.rows) for before, now in pairs):

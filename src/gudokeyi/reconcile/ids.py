@@ -13,7 +13,7 @@ from gudokeyi.domain.kinds import CELL_FIELDS, Field
 from gudokeyi.domain.settings import Setting
 from gudokeyi.ingest.animals import YEARS_LATER, SheetAnimal, lines_that_name, links_outside
 from gudokeyi.ingest.findings.cells import IdUsedAgain
-from gudokeyi.ingest.words import nearly, nearly_all
+from gudokeyi.ingest.texts import nearly, nearly_all
 from gudokeyi.reconcile.findings.animals import FormerId
 from gudokeyi.reconcile.findings.obstacles import LettersUnsaid
 from gudokeyi.reconcile.findings.parents import FoundByNearId
@@ -136,9 +136,10 @@ def earliest_offspring(book: Book) -> dict[str, RegisterRecord]:
 
 def are_years_apart(animal: SheetAnimal, in_book: SocietyRecord, book: Book) -> bool:
     """Was it born years before or after the animal of the book? A day that was inferred tells nothing."""
-    if not animal.has_day() or in_book.birth.is_inferred or has_corrected_birth(animal, in_book, book):
+    years = abs((animal.birth.first - book.records[in_book.registration_number].born).days) >= YEARS_LATER
+    if not years or not animal.has_day() or in_book.birth.is_inferred:
         return False
-    return abs((animal.birth.first - book.records[in_book.registration_number].born).days) >= YEARS_LATER
+    return not has_corrected_birth(animal, in_book, book)
 
 
 def has_corrected_birth(animal: SheetAnimal, in_book: SocietyRecord, book: Book) -> bool:

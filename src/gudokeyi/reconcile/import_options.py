@@ -13,10 +13,10 @@ from gudokeyi.domain.findings import Call, quoted
 from gudokeyi.domain.kinds import Field, Remembered
 from gudokeyi.domain.messages import Mistake
 from gudokeyi.domain.options import AS_STORED, IMPORT, Described, Kind
-from gudokeyi.domain.requests import refuse_long
+from gudokeyi.domain.requests import refuse_text
 from gudokeyi.domain.settings import Setting
 from gudokeyi.ingest.titles import parts_of
-from gudokeyi.ingest.words import clean, listed, plain
+from gudokeyi.ingest.texts import clean, listed, plain
 from gudokeyi.reconcile.limits import APART, YOUNGEST, Limits
 from gudokeyi.reconcile.messages import ImportFault
 from gudokeyi.store.book import Book
@@ -191,7 +191,7 @@ def owner_pair(word: str) -> tuple[str, str]:
     before, equals, now = (clean(piece) for piece in word.partition("="))
     if not equals or not before or not now:
         raise Mistake(ImportFault.OWNER_OPTION.said(word=word))
-    refuse_long(Field.OWNER, now)
+    refuse_text(Field.OWNER, now)
     return before, now
 
 

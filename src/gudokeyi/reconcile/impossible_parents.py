@@ -2,10 +2,10 @@
 from __future__ import annotations
 
 import datetime
-from collections.abc import Callable
+from collections.abc import Callable, Sequence
 
 from gudokeyi.domain.animals import SocietyRecord
-from gudokeyi.domain.commands import HEADER, birth, leave, lines_of
+from gudokeyi.domain.commands import HEADER, day_text, leave, lines_of
 from gudokeyi.domain.findings import Report
 from gudokeyi.domain.kinds import Field, Role
 from gudokeyi.domain.messages import MessageText, Mistake, Some, why
@@ -180,29 +180,61 @@ ROLES = {
 }
 
 
-def leave_out_faulty_parents(next_book: NextBook, program: Herdbook) -> None:
-    """Files all animals with their parents, the oldest first. Where anything is refused it files them without, and then
-    asks for the parents of each until none is refused."""
+def leave_out_faulty_parents(next_book: NextBook, program: Herdbook, is_refused: bool = False) -> None:
+    """Files all animals with their parents, the oldest first, where it isn't known that anything is refused. Then it
+    files them without, and asks for the parents of each until none is refused."""
     by_age = next_book.by_birth
-    exits = [leave(animal.registration_number, animal.left) for animal in by_age if animal.left]
-    births = HEADER + next_book.births_text(by_age) + lines_of(exits)
-    if not program.file_text(births, len(by_age) + len(exits)):
+    if not is_refused and not is_any_refused(next_book, program):
         return
-    first = [birth(animal.registration_number, animal.born, "", "", 1, animal.embryo) for animal in by_age] + exits
-    while True:
-        progeny = [animal for animal in by_age if animal.sire or animal.dam]
-        refused = program.file(first + [next_book.parents_of(animal) for animal in progeny])
-        # an exit may be refused too: that is told when the book itself is filed
-        faults = [(progeny[place - len(first)], refusal) for place, refusal in refused.items() if place >= len(first)]
-        if not faults:
-            return
+    while faults := refused_parents(next_book, program, by_age):
         # paths come last: without a parent that is refused they may be shorter
         deep = [animal for animal, refusal in faults if refusal is Refusal.PATH_TOO_LONG]
         if len(deep) == len(faults) and not take_back(next_book):
             raise too_deep(next_book.animals, deep, next_book.is_pedigree)
+        leave_out_parents(next_book, program, faults)
+        if not deep:
+            return
+
+
+# an animal whose parents the program refuses, and why
+Fault = tuple[SheetAnimal, Refusal]
+
+
+def is_any_refused(next_book: NextBook, program: Herdbook) -> bool:
+    """Does the program refuse any birth with its parents, or an exit?"""
+    by_age = next_book.by_birth
+    exits = [leave(animal.registration_number, animal.left) for animal in by_age if animal.left]
+    births = HEADER + next_book.births_text(by_age) + lines_of(exits)
+    return bool(program.file_text(births, len(by_age) + len(exits)))
+
+
+def refused_parents(next_book: NextBook, program: Herdbook, progeny: Sequence[SheetAnimal]) -> list[Fault]:
+    """Which of these have parents that the program refuses, once they and all whom they name are filed without."""
+    numbers = next_book.numbers()
+    those = next_book.by_birth
+    if progeny is not those:
+        named = {id for animal in progeny for id in (animal.id, animal.sire, animal.dam)}
+        those = [animal for animal in those if animal.id in named]
+    exits = [leave(animal.registration_number, animal.left) for animal in those if animal.left]
+    asked = [animal for animal in progeny if animal.sire or animal.dam]
+    births = (f"birth,{one.registration_number},{day_text(one.born)},0,0,,1,{'1' * one.embryo}\n" for one in those)
+    links = (f"parents,{one.registration_number},,{numbers[one.sire]},{numbers[one.dam]},,,\n" for one in asked)
+    text = HEADER + "".join(births).encode() + lines_of(exits) + "".join(links).encode()
+    first = len(those) + len(exits)
+    refused = program.file_text(text, first + len(asked))
+    # an exit may be refused too: that is told when the book itself is filed
+    return [(asked[place - first], refusal) for place, refusal in refused.items() if place >= first]
+
+
+def leave_out_parents(next_book: NextBook, program: Herdbook, faults: list[Fault]) -> None:
+    """Leaves out what is refused of each, and then of its other parent. Whom else a refusal was about has stayed as it
+    was, but for paths: they may be shorter now."""
+    while faults:
         for animal, refusal in faults:
             if refusal is not Refusal.PATH_TOO_LONG:
                 leave_out_parent(next_book, animal, refusal)
+        left = [animal for animal, refusal in faults if refusal is not Refusal.PATH_TOO_LONG]
+        faults = refused_parents(next_book, program, left) if left else []
 
 
 def leave_out_parent(next_book: NextBook, animal: SheetAnimal, refusal: Refusal) -> None:

@@ -14,7 +14,8 @@ from gudokeyi.domain.findings import Finding, Report
 from gudokeyi.domain.kinds import Field, Role, Standing
 from gudokeyi.ingest.animals import SheetAnimal
 from gudokeyi.ingest.day_cells import DayCell, DayCells
-from gudokeyi.ingest.words import KNOWN_CASTRATED, KNOWN_SEXES, KNOWN_YES, clean, nearly, sex_word
+from gudokeyi.ingest.texts import clean, nearly
+from gudokeyi.ingest.words import KNOWN_CASTRATED, KNOWN_SEXES, KNOWN_YES, sex_word
 from gudokeyi.store.book import Book
 from gudokeyi.store.state import Rows, Table
 
@@ -135,16 +136,14 @@ class NextBook:
 
     # -- what commands name
 
-    def birth_of(self, animal: SheetAnimal, owner_code: int) -> Command:
-        """The birth in a herd, with the parents of today."""
-        animals = self.animals
-        sire = animals[animal.sire].registration_number if animal.sire else ""
-        dam = animals[animal.dam].registration_number if animal.dam else ""
+    def birth_of(self, animal: SheetAnimal, owner_code: int, numbers: Mapping[str, str]) -> Command:
+        """The birth in a herd, with the parents of today; `numbers` are those of all."""
+        sire, dam = numbers[animal.sire], numbers[animal.dam]
         return birth(animal.registration_number, animal.born, sire, dam, owner_code, animal.embryo)
 
     def births_text(self, animals: list[SheetAnimal]) -> bytes:
         """The births of animals in the first herd, as records of a command file."""
-        numbers = {"": "0", **{id: animal.registration_number for id, animal in self.animals.items()}}
+        numbers = self.numbers()
         births = [
             f"birth,{one.registration_number},{day_text(one.born)},{numbers[one.sire]},{numbers[one.dam]},,1,"
             f"{'1' * one.embryo}\n"
@@ -152,11 +151,13 @@ class NextBook:
         ]
         return "".join(births).encode()
 
-    def parents_of(self, animal: SheetAnimal) -> Command:
-        return parents(animal.registration_number, self.number_of(animal.sire), self.number_of(animal.dam))
+    def numbers(self) -> dict[str, str]:
+        """The numbers of all animals by their ids, once they have them, and that of an unknown parent: made where they
+        are needed, and not kept, as much as they take."""
+        return {"": "0", **{id: animal.registration_number for id, animal in self.animals.items()}}
 
-    def number_of(self, id: str) -> str:
-        return self.animals[id].registration_number if id else ""
+    def parents_of(self, animal: SheetAnimal, numbers: Mapping[str, str]) -> Command:
+        return parents(animal.registration_number, numbers[animal.sire], numbers[animal.dam])
 
     @functools.cached_property
     def by_birth(self) -> list[SheetAnimal]:

@@ -3,7 +3,7 @@ from __future__ import annotations
 
 import collections
 from collections.abc import Sequence
-from dataclasses import dataclass, replace
+from dataclasses import dataclass
 
 from gudokeyi.domain.animals import LETTERS
 from gudokeyi.domain.messages import Mistake
@@ -12,7 +12,7 @@ from gudokeyi.domain.own_columns import MOST_CHOICES, MOST_COLUMNS, MOST_IN_TITL
 from gudokeyi.domain.requests import OwnFault
 from gudokeyi.ingest.columns import Columns
 from gudokeyi.ingest.sheets import Sheet
-from gudokeyi.ingest.words import clean, plain
+from gudokeyi.ingest.texts import clean, plain
 from gudokeyi.reconcile.findings.own_columns import OwnCellUnread, OwnColumnRead
 from gudokeyi.reconcile.next_book import NextBook
 from gudokeyi.reconcile.own_values import value_read
@@ -51,7 +51,7 @@ def find_own_columns(book: Book, columns: Columns, said: Sequence[str]) -> OwnSh
         if plain(title) not in {plain(one) for one in titles}:
             raise Mistake(OwnFault.NO_OTHER_COLUMN.said(title=title, titles=", ".join(titles)))
         known = now.get(plain(title))
-        now[plain(title)] = replace(known, kind=kind) if known else OwnColumn(place, title, kind)
+        now[plain(title)] = known._replace(kind=kind) if known else OwnColumn(place, title, kind)
         place += known is None
     if sum(one.is_kept for one in now.values()) > MOST_COLUMNS:
         raise InvalidValue(OwnFault.MANY_COLUMNS.said(most=MOST_COLUMNS))
@@ -70,7 +70,7 @@ def with_choices(column: OwnColumn, sheet: Sheet, places: dict[int, int], is_kno
     choices = sorted(alike.values())
     if len(choices) > MOST_CHOICES:
         raise InvalidValue(OwnFault.MANY_CHOICES.said(title=column.title, most=MOST_CHOICES))
-    return replace(column, choices=tuple(choices))
+    return column._replace(choices=tuple(choices))
 
 
 def take_own_values(next_book: NextBook, own: OwnSheetColumns, sheet: Sheet, month_first: bool) -> None:

@@ -8,7 +8,8 @@ from gudokeyi.domain.mistakes import InvalidValue
 from gudokeyi.domain.own_columns import MOST_IN_VALUE, NO, YES, OwnColumn, OwnKind
 from gudokeyi.domain.requests import OwnFault
 from gudokeyi.ingest.days import Unreadable, read_span
-from gudokeyi.ingest.words import KNOWN_YES, NO as NO_WORDS, clean, listed
+from gudokeyi.ingest.texts import clean, listed
+from gudokeyi.ingest.words import KNOWN_YES, NO as NO_WORDS
 
 NUMBER = re.compile(r"[-+]?\d{1,15}([.,]\d{1,15})?")
 KNOWN_NO = {word.casefold() for word in listed(NO_WORDS)}

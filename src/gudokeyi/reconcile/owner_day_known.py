@@ -4,7 +4,6 @@ from __future__ import annotations
 import datetime
 
 from gudokeyi.domain.animals import NO_OWNER, SocietyRecord
-from gudokeyi.ingest.days import Unreadable, behind_since, read_span
 from gudokeyi.store.book import Book
 from gudokeyi.store.given_days import last_cell
 
@@ -19,6 +18,9 @@ def owner_day_known(book: Book, in_book: SocietyRecord, from_owner: int | None, 
 
 def has_period(book: Book, id: str, since: datetime.date) -> bool:
     """Says the animal's last cell a month or a year in which this day is?"""
+    # of most animals nobody asks
+    from gudokeyi.ingest.days import Unreadable, behind_since, read_span
+
     try:
         span = read_span(behind_since(last_cell(book, id)))
     except Unreadable:

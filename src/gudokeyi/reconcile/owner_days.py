@@ -16,7 +16,7 @@ from gudokeyi.ingest.animals import SheetAnimal
 from gudokeyi.ingest.days import DayFault, Span
 from gudokeyi.ingest.findings.cells import DayLeftOut
 from gudokeyi.ingest.unknown_parents import names_no_owner
-from gudokeyi.ingest.words import clean, plain
+from gudokeyi.ingest.texts import clean, plain
 from gudokeyi.reconcile.findings.rows import OwnerDayBack, OwnerDayInferred, OwnerDayMoved, OwnerDayOfOther
 from gudokeyi.reconcile.next_book import Meanings
 from gudokeyi.reconcile.owner_day_known import has_period

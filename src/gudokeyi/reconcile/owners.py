@@ -6,7 +6,8 @@ import difflib
 import re
 
 from gudokeyi.ingest.animals import SheetAnimal
-from gudokeyi.ingest.words import BEGINS_BORN_DEAD, KNOWN_BORN_DEAD, TELLING_EXITS, has_word, plain
+from gudokeyi.ingest.texts import plain
+from gudokeyi.ingest.words import BEGINS_BORN_DEAD, KNOWN_BORN_DEAD, TELLING_EXITS, has_word
 from gudokeyi.reconcile.findings.animals import (
     OwnerMistyped, OwnerRenamed, OwnerRespelt, OwnersAlike, Spelling,
 )  # fmt: skip

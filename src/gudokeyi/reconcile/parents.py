@@ -13,9 +13,10 @@ from gudokeyi.domain.requests import MOST_IN_ID
 from gudokeyi.domain.spelling import SameLetters
 from gudokeyi.ingest.animals import Link, SheetAnimal, links_outside
 from gudokeyi.ingest.findings.cells import TextTooLong
-from gudokeyi.ingest.words import nearly
+from gudokeyi.ingest.texts import nearly
 from gudokeyi.reconcile.findings.parents import AddedAsParent, FoundByName, FoundByNearId, FoundInBook, FoundWithin
-from gudokeyi.reconcile.findings.plausibility import MayBeUnknown, MoreMayBeUnknown
+from gudokeyi.reconcile.findings.plausibility import LikeNoId, MayBeUnknown, MoreMayBeUnknown
+from gudokeyi.reconcile.near_names import NearNames, have_digits, is_like_word
 from gudokeyi.reconcile.next_book import NextBook
 from gudokeyi.store.book import Book
 
@@ -27,6 +28,8 @@ MANY = 3
 SEVERAL, MOST_WORDS = 2, 9
 # so few parents without a row may be short ids in which two letters are swapped
 FEW = 5
+# and so few may be names with more or less than these
+FEW_NAMED = 50
 WITHOUT_ROW = Standing.PARENT
 FIELDS = {Role.SIRE: Field.SIRE, Role.DAM: Field.DAM}
 
@@ -34,12 +37,15 @@ FIELDS = {Role.SIRE: Field.SIRE, Role.DAM: Field.DAM}
 class Names:
     """Finds parents by their names, and tells which animals may be meant by a text that is no id."""
 
-    def __init__(self, animals: dict[str, SheetAnimal], report: Report) -> None:
-        self.animals, self.report = animals, report
+    def __init__(self, animals: dict[str, SheetAnimal], report: Report, before: Names | None = None) -> None:
+        """`before` are those of whom `animals` are the ones that stay."""
+        self.animals, self.report, self.before = animals, report, before
 
     @functools.cached_property
     def named(self) -> dict[str, list[SheetAnimal]]:
         """The animals by their names in small letters."""
+        if self.before:
+            return self.before.named
         named: collections.defaultdict[str, list[SheetAnimal]] = collections.defaultdict(list)
         for animal in self.animals.values():
             if animal.name:
@@ -74,13 +80,13 @@ class Names:
 
     def others(self, offspring: SheetAnimal, name: str) -> list[SheetAnimal]:
         """The animals of a name, but for the offspring itself."""
-        return [one for one in self.named.get(name.casefold(), ()) if one is not offspring]
+        same = self.named.get(name.casefold(), ())
+        return [one for one in same if one is not offspring and self.animals.get(one.id) is one]
 
     def add_parents(self) -> None:
         """A founder for each parent without a row."""
         links = self.without_row
         progeny = collections.Counter(parent for _, _, parent in links)
-        are_few = len(progeny.keys() - self.animals.keys()) <= FEW
         for animal, role, parent in links:
             if parent not in self.animals and len(parent) > MOST_IN_ID:
                 # a name that no animal has is no id
@@ -88,7 +94,7 @@ class Names:
                 self.report.add(animal.line, animal.id, TextTooLong(FIELDS[role], len(parent), MOST_IN_ID))
                 continue
             if parent not in self.animals:
-                found = AddedAsParent(role, animal.id, progeny[parent] - 1, *self.meant(animal, role, parent, are_few))
+                found = AddedAsParent(role, animal.id, progeny[parent] - 1, *self.meant(animal, role, parent))
                 self.report.add(animal.line, parent, found)
                 self.animals[parent] = SheetAnimal(parent)
             one = self.animals[parent]
@@ -100,9 +106,13 @@ class Names:
         with_row = {id for id, animal in self.animals.items() if animal.line}
         return links_outside(self.animals.values(), with_row)
 
+    @functools.cached_property
+    def lacking(self) -> set[str]:
+        return {parent for _, _, parent in self.without_row} - self.animals.keys()
+
     def advise_unknown(self, is_pedigree: bool) -> None:
         """A parent without a row that several animals have may be a word for an unknown one: one that is both a sire
-        and a dam, or, in a sheet, a text without a digit."""
+        and a dam, or, in a sheet, a text without a digit; and so may be one that is written like no id there."""
         progeny = collections.defaultdict[str, dict[Role, int]](lambda: {Role.SIRE: 0, Role.DAM: 0})
         children = collections.defaultdict[str, set[str]](set)
         for offspring, role, parent in self.without_row:
@@ -115,12 +125,28 @@ class Names:
                 may_be = is_both and sum(counts.values()) >= MANY
             else:
                 may_be = len(children[parent]) >= SEVERAL and (is_both or not any(map(str.isdigit, parent)))
-            if may_be and "," not in parent:
-                told.append((-sum(counts.values()), parent, counts))
-        for _, parent, counts in sorted(told, key=lambda one: one[:2])[:MOST_WORDS]:
-            self.report.add(0, "", MayBeUnknown(parent, counts[Role.SIRE], counts[Role.DAM]))
+            is_odd = not is_pedigree and not may_be and self.is_like_no_id(parent)
+            if (may_be or is_odd) and "," not in parent:
+                told.append((-sum(counts.values()), parent, counts, MayBeUnknown if may_be else LikeNoId))
+        for _, parent, counts, kind in sorted(told, key=lambda one: one[:2])[:MOST_WORDS]:
+            self.report.add(0, "", kind(parent, counts[Role.SIRE], counts[Role.DAM]))
         if len(told) > MOST_WORDS:
             self.report.add(0, "", MoreMayBeUnknown(len(told) - MOST_WORDS))
+
+    def is_like_no_id(self, parent: str) -> bool:
+        """Is it a short word, or one behind an abbreviation, where ids have digits, and means no animal by its name?"""
+        if parent not in self.lacking or not is_like_word(parent) or not self.have_digits:
+            return False
+        offspring, role = next((one, role) for one, role, text in self.without_row if text == parent)
+        return not any(self.meant(offspring, role, parent))
+
+    @functools.cached_property
+    def have_digits(self) -> bool:
+        return have_digits([id for id, animal in self.animals.items() if animal.line])
+
+    @functools.cached_property
+    def near_names(self) -> NearNames:
+        return NearNames(self.animals)
 
     @functools.cached_property
     def same_letters(self) -> SameLetters:
@@ -128,16 +154,21 @@ class Names:
         names = [(animal.name, id) for id, animal in self.animals.items() if animal.name]
         return SameLetters([*names, *((id, id) for id in self.animals)])
 
-    def meant(self, offspring: SheetAnimal, role: Role, text: str, are_few: bool) -> tuple[str, tuple[str, ...]]:
+    def meant(self, offspring: SheetAnimal, role: Role, text: str) -> tuple[str, tuple[str, ...]]:
         """Which id may be meant by a text that is none, or several that have it as their name. Where few parents lack a
-        row, a short text may also be one that can be the parent, two of whose letters are swapped."""
+        row, a short text may also be one that can be the parent, two of whose letters are swapped, or the only one
+        whose name is near it."""
         ids = [one.id for one in self.others(offspring, text)]
         if len(ids) > 1:
             return "", tuple(ids)
         alike = ids[0] if ids else self.same_letters.meant(text.removesuffix(".0")) or self.same_letters.meant(text)
-        if not alike and are_few:
+        if not alike and len(self.lacking) <= FEW:
             swapped = self.same_letters.swapped(text)
             alike = next((id for id in swapped if can_be(self.animals[id], role, offspring)), "")
+        if not alike and len(self.lacking) <= FEW_NAMED:
+            near = {id for id in self.near_names.meant(text, len(self.lacking) <= FEW) if id != offspring.id}
+            near = {id for id in near if can_be(self.animals[id], role, offspring)}
+            alike = near.pop() if len(near) == 1 else ""
         return (alike if alike != offspring.id else ""), ()
 
 

@@ -6,7 +6,7 @@ from collections.abc import Iterator, Mapping
 
 from gudokeyi.domain.findings import Report
 from gudokeyi.ingest.animals import SheetAnimal, links_outside
-from gudokeyi.ingest.words import nearly
+from gudokeyi.ingest.texts import nearly
 from gudokeyi.reconcile.findings.parents import EitherParent, FoundWithin, NamedByRelation
 from gudokeyi.reconcile.parents import can_be, ids_given
 from gudokeyi.store.book import Book

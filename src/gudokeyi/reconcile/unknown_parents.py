@@ -6,7 +6,7 @@ from collections.abc import Collection, Iterable
 from gudokeyi.domain.kinds import Remembered
 from gudokeyi.domain.settings import Setting
 from gudokeyi.ingest.unknown_parents import UnknownParents
-from gudokeyi.ingest.words import listed
+from gudokeyi.ingest.texts import listed
 from gudokeyi.store.book import Book
 from gudokeyi.store.settings import settings_of
 

@@ -50,8 +50,9 @@ class Keeping:
         for role in Role:
             if role not in self.given or role in animal.unread:
                 animal.set_parent(role, self.next_book.id_of(record.parent(role)))
-        exit = exit_in_book(in_book, record, animal.birth.first)
-        if "exit" not in self.given or ("exit" in animal.unread and self.may_keep_exit(animal, exit)):
+        is_asked = "exit" not in self.given or "exit" in animal.unread
+        exit = exit_in_book(in_book, record, animal.birth.first) if is_asked else None
+        if exit and ("exit" not in self.given or self.may_keep_exit(animal, exit)):
             self.keep_exit(animal, exit)
             if exit.day:
                 self.tell_kept(animal, Field.EXIT, str(exit.day))

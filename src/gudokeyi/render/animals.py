@@ -9,12 +9,11 @@ from gudokeyi.domain.messages import counted
 from gudokeyi.reconcile.owner_day_known import owner_day_known
 from gudokeyi.render.history import told_of_animal
 from gudokeyi.services.animals import Relatives, breeders_of, relatives_of
-from gudokeyi.services.lists import exit_of
-from gudokeyi.services.notes import notes_of
 from gudokeyi.services.own_columns import values_of
-from gudokeyi.store.animal_rows import AnimalRow, society_record_of
+from gudokeyi.store.animal_rows import AnimalRow, exit_of, society_record_of
 from gudokeyi.store.book import Book
 from gudokeyi.store.coefficients import Coefficient, kept_coefficients
+from gudokeyi.store.own_data import notes_of
 
 SEXES = {"M": "male", "F": "female"}
 # so many animals of a kind are shown, but where all are asked for
@@ -66,7 +65,7 @@ class AnimalView:
 
     def notes(self) -> Iterator[str]:
         """Each in a line, where there are some."""
-        for note in notes_of(self.book, self.animal):
+        for note in notes_of(self.book.connection, self.animal.digits):
             yield f"note {note.number}, {note.day}, {note.author}: {' '.join(note.text.split())}"
 
     def parent(self, role: Role, row: AnimalRow | None) -> str:

@@ -6,7 +6,8 @@ import datetime
 import functools
 import itertools
 from collections.abc import Callable, Iterator, Mapping, Sequence
-from dataclasses import dataclass, field
+from types import MappingProxyType
+from typing import NamedTuple
 
 from gudokeyi.domain.animals import SocietyRecord
 from gudokeyi.domain.kinds import Role
@@ -34,6 +35,10 @@ OF_PROGRAM = (
     "Numbers, sexes, days, parents and coefficients are lines of the proved program herdbook; all else is what the "
     "society wrote."
 )
+SEALED = (
+    "Whoever has this certificate's file checks it under the seal, as the society published it: the code has all 64 "
+    "digits."
+)
 BREEDER = "The breeder is who owned the dam at the birth, by the society's book."
 MARK_NOTES = {
     Mark.INFERRED: (
@@ -52,8 +57,7 @@ STYLE_VALUES = {
 }  # fmt: skip
 
 
-@dataclass(frozen=True, slots=True)
-class DrawnAnimal:
+class DrawnAnimal(NamedTuple):
     """An ancestor as its cell shows it. What an animal hasn't is empty."""
 
     id: str
@@ -65,8 +69,7 @@ class DrawnAnimal:
     letter: str
 
 
-@dataclass(frozen=True, slots=True)
-class Cell:
+class Cell(NamedTuple):
     """A cell of the drawn pedigree: an animal, or else what is told of an unknown one."""
 
     generation: str
@@ -77,8 +80,7 @@ class Cell:
     unknown: str
 
 
-@dataclass(frozen=True, slots=True)
-class CertificateView:
+class CertificateView(NamedTuple):
     """What stands on the page of an animal."""
 
     id: str
@@ -95,8 +97,7 @@ class CertificateView:
     file: str
 
 
-@dataclass(frozen=True, slots=True)
-class PrintedPicture:
+class PrintedPicture(NamedTuple):
     """The society's picture: its address, or all of it as one, and its width and height in points."""
 
     address: str
@@ -112,8 +113,7 @@ class PrintedPicture:
         return cls(f"data:{picture.media_type};base64,{file}", picture.width, picture.height)
 
 
-@dataclass(frozen=True, slots=True)
-class Society:
+class Society(NamedTuple):
     """What a society says of itself: the breed is that of the numbers that begin with these letters."""
 
     name: str
@@ -134,8 +134,7 @@ class Society:
         return self.breed if self.breed and letters == self.letters else letters
 
 
-@dataclass(frozen=True, slots=True)
-class Issue:
+class Issue(NamedTuple):
     """What is the same on all certificates that are issued at once: the society, the day, the seal that was published
     last, if one was, and how many generations are drawn. An empty title is the usual one. `address_of` answers the
     address of the file of an animal by its number, where the page is shown in a browser."""
@@ -147,7 +146,7 @@ class Issue:
     address_of: Callable[[str], str] | None = None
     generations: int = GENERATIONS
     # the addresses of the same with as many generations, likewise
-    others: Mapping[int, str] = field(default_factory=dict)
+    others: Mapping[int, str] = MappingProxyType({})
 
 
 class Certificate:
@@ -179,9 +178,14 @@ class Certificate:
             self.facts(),
             [[self.cell(letters) for letters in line] for line in self.lines],
             self.notes(),
-            issue.sealed is not None and number in issue.sealed.numbers,
+            self.is_sealed,
             issue.address_of(number) if issue.address_of else "",
         )
+
+    @property
+    def is_sealed(self) -> bool:
+        sealed = self.issue.sealed
+        return sealed is not None and self.animal.registration_number in sealed.numbers
 
     def facts(self) -> list[tuple[str, str]]:
         """The animal's record. The owner has no name where the sheet gave none."""
@@ -272,7 +276,8 @@ class Certificate:
         common = [gettext(COMMON_NOTE, letters_named(self.common))] * bool(self.common)
         told = (gettext(MARK_NOTES[mark]) for mark in Mark if mark in marks)
         bred = [gettext(BREEDER)] * (self.finds_breeder and bool(self.breeder))
-        return [gettext(NOTE), gettext(OF_PROGRAM), *bred, *common, *told]
+        sealed = [gettext(SEALED)] * self.is_sealed
+        return [gettext(NOTE), gettext(OF_PROGRAM), *sealed, *bred, *common, *told]
 
 
 def certificates_page(

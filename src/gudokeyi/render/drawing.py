@@ -2,17 +2,22 @@
 from __future__ import annotations
 
 import bisect
+import contextlib
 import hashlib
-import html
 import itertools
+import os
 import pathlib
+import pickle
+import stat
 import unicodedata
 from collections.abc import Callable
 
 import jinja2
+import jinja2.bccache
 
 from gudokeyi.domain.animals import SocietyRecord
 from gudokeyi.render.languages import Language, mark_of
+from gudokeyi.services.cache import cache, cached_file
 from gudokeyi.store.book import Book
 
 # How wide a text is drawn, and what of it fits. Fonts differ, so widths are taken rather too wide than too narrow.
@@ -94,9 +99,13 @@ def printable(text: str) -> str:
     return "".join(one for one in text if one >= " " and not 0xD800 <= ord(one) < 0xE000 and one not in "\ufffe\uffff")
 
 
+# signs that mean something in a page, as a text has them there
+ESCAPED = str.maketrans({"&": "&amp;", "<": "&lt;", ">": "&gt;", '"': "&quot;", "'": "&#x27;"})
+
+
 def escape(text: object) -> str:
     """The text for a picture."""
-    return html.escape(printable(str(text)), quote=True)
+    return printable(str(text)).translate(ESCAPED)
 
 
 def text_at(
@@ -153,7 +162,27 @@ def finished(value: object) -> object:
     return printable(value) if type(value) is str else value
 
 
+class KeptTemplates(jinja2.BytecodeCache):
+    """Templates as Jinja2 has made Python of them, in the caches of who asks: else each call makes it anew. It is run,
+    so nobody else may have written it."""
+
+    def file(self, bucket: jinja2.bccache.Bucket) -> pathlib.Path:
+        return cached_file(f"{bucket.key[:16]}-{jinja2.__version__}.template")
+
+    def load_bytecode(self, bucket: jinja2.bccache.Bucket) -> None:
+        with contextlib.suppress(OSError, EOFError, pickle.UnpicklingError), open(self.file(bucket), "rb") as file:
+            found = os.fstat(file.fileno())
+            if found.st_uid == os.getuid() and not found.st_mode & WRITTEN_BY_OTHERS:
+                bucket.load_bytecode(file)
+
+    def dump_bytecode(self, bucket: jinja2.bccache.Bucket) -> None:
+        cache(self.file(bucket), bucket.bytecode_to_string())
+
+
+# the bits of a file that its group or others may write
+WRITTEN_BY_OTHERS = stat.S_IWGRP | stat.S_IWOTH
 ENVIRONMENT = jinja2.Environment(
+    bytecode_cache=KeptTemplates(),
     loader=jinja2.FileSystemLoader([HERE / "templates", HERE / "styles"]),
     autoescape=True,
     undefined=jinja2.StrictUndefined,

@@ -5,6 +5,7 @@ import itertools
 import string
 from collections.abc import Iterator, Sequence
 from dataclasses import dataclass, field
+from typing import NamedTuple
 
 from gudokeyi.domain.animals import SocietyRecord
 from gudokeyi.domain.kinds import Role
@@ -112,16 +113,14 @@ THREE_LINES, TWO_LINES = 54.0, 28.0
 PADDING = 8.0
 
 
-@dataclass(frozen=True, slots=True)
-class Place:
+class Place(NamedTuple):
     x: float
     y: float
     width: float
     height: float
 
 
-@dataclass(frozen=True, slots=True)
-class Drawn:
+class Drawn(NamedTuple):
     """An animal as its box shows it. `letter` is that of a common ancestor, `page` that on which it goes on; each is
     empty for none."""
 

@@ -3,12 +3,13 @@ from __future__ import annotations
 
 import datetime
 import functools
-from collections.abc import Iterable, Sequence
+import itertools
+from collections.abc import Iterable, Mapping, Sequence
 from dataclasses import dataclass
+from typing import TYPE_CHECKING
 
 from gudokeyi.domain.animals import LETTERS, SocietyRecord
 from gudokeyi.domain.kinds import Role
-from gudokeyi.reconcile.rewriting import Life, lives_of
 from gudokeyi.store.animal_rows import (
     SEX_SOURCES as SEX_SOURCES, AnimalRow as AnimalRow, society_record_of as society_record_of,
 )  # fmt: skip
@@ -16,9 +17,15 @@ from gudokeyi.store.book import Book
 from gudokeyi.store.coefficients import (
     Coefficient as Coefficient, coefficients_among as coefficients_among, kept_coefficients as kept_coefficients,
 )  # fmt: skip
-from gudokeyi.store.conditions import offspring_of, with_digits
+from gudokeyi.store.conditions import among, descends_to, offspring_of, with_digits
 from gudokeyi.store.former_ids import former_ids_of
 from gudokeyi.store.journal import commands_of
+
+if TYPE_CHECKING:
+    from gudokeyi.reconcile.rewriting import Life
+
+# so many generations further back it is looked whether an ancestor stands on both sides
+MORE_GENERATIONS = 3
 
 
 @dataclass(frozen=True)
@@ -43,6 +50,20 @@ def relatives_of(book: Book, animal: SocietyRecord) -> Relatives:
     halves = {role: [row for row in with_parent[role] if row.registration_number not in are_full] for role in Role}
     own = Role.SIRE if animal.is_male else Role.DAM
     return Relatives(rows, by_partner(offspring_rows(book, animal.registration_number, own), own), full, halves)
+
+
+def read_line(book: Book, number: str, generations: int) -> None:
+    """Reads an animal and its ancestors at once, so many generations of them and those that may stand there too, for
+    whoever shows them."""
+    book.read_at_once(descends_to(number, generations + MORE_GENERATIONS))
+
+
+def family_coefficients(book: Book, relatives: Relatives) -> Mapping[str, Coefficient]:
+    """The coefficients, of which those of the animals that were read, of relatives and of partners are read at once,
+    with the partners themselves."""
+    book.read_at_once(among([*filter(None, relatives.offspring)]))
+    rows = [*itertools.chain(*relatives.offspring.values(), relatives.full_sibs, *relatives.half_sibs.values())]
+    return kept_coefficients(book, [*book.rows_read, *(row.registration_number for row in rows)])
 
 
 def former_ids(book: Book, known: SocietyRecord) -> list[str]:
@@ -76,13 +97,18 @@ def by_partner(offspring: Sequence[AnimalRow], role: Role) -> dict[str, list[Ani
 def breeders_of(book: Book, numbers: Iterable[str]) -> dict[str, str]:
     """Who had the dam of each of these animals on the day of its birth, by the animals' numbers; empty where the dam
     or that isn't known."""
+    from gudokeyi.reconcile.rewriting import lives_of
+
     records = {number: book.records[number] for number in numbers}
-    dams = {record.dam for record in records.values() if record.dam}
-    lives = lives_of(commands_of(book.connection, book.journal, dams)) if dams else {}
+    dams = {record.dam: book.records[record.dam] for record in records.values() if record.dam}
+    # one that was never given on has the owner of its birth, and the journal isn't looked through for it
+    given = [number for number, dam in dams.items() if dam.from_owner]
+    lives = lives_of(commands_of(book.connection, book.journal, given)) if given else {}
     found = dict.fromkeys(records, "")
     for number, record in records.items():
         if record.dam:
-            found[number] = book.owner_of(owner_on(lives[record.dam], record.born))
+            life = lives.get(record.dam)
+            found[number] = book.owner_of(owner_on(life, record.born) if life else dams[record.dam].owner_code)
     return found
 
 

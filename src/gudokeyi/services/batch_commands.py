@@ -7,7 +7,7 @@ from typing import Any
 
 from gudokeyi.domain.animals import SocietyRecord
 from gudokeyi.domain.messages import Mistake
-from gudokeyi.ingest.words import as_known
+from gudokeyi.ingest.texts import as_known
 from gudokeyi.reconcile.unknown_parents import unknown_parents
 from gudokeyi.services.batch_fields import Asked, FieldFault, Newborn
 from gudokeyi.services.filing import (

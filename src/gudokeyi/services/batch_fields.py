@@ -10,12 +10,12 @@ from typing import TYPE_CHECKING
 
 from gudokeyi.domain.kinds import ExitReason, Field
 from gudokeyi.domain.messages import Mistake
-from gudokeyi.domain.requests import refuse_long
+from gudokeyi.domain.requests import refuse_text
 from gudokeyi.ingest.command_lines import CommandLine
 from gudokeyi.ingest.days import ANY_DAY, Span
-from gudokeyi.ingest.words import clean
+from gudokeyi.ingest.texts import clean
 from gudokeyi.services import option_values
-from gudokeyi.services.filing import refuse_to_come
+from gudokeyi.services.filing import refuse_day
 
 if TYPE_CHECKING:
     from gudokeyi.reconcile.corrections import Exit
@@ -84,13 +84,13 @@ def note(value: object) -> str:
 
 def bounded(field: Field, value: object) -> str:
     text = text_of(value)
-    refuse_long(field, text)
+    refuse_text(field, text)
     return text
 
 
 def day(value: object) -> datetime.date:
     found = option_values.day(text_of(value))
-    refuse_to_come(found)
+    refuse_day(found)
     return found
 
 
@@ -102,7 +102,7 @@ def born(value: object) -> Span:
 def span(text: str) -> Span:
     """A day, month or year that has begun."""
     found = option_values.day_or_period(text)
-    refuse_to_come(found.first)
+    refuse_day(found.first)
     return found
 
 

@@ -171,7 +171,7 @@ class Batch:
         refusal = self.program.reply(one.command, self.book)
         self.go_on(FiledSteps([Step(one.command, refusal or 0)]))
         findings = (one.refused(refusal),) if refusal else one.findings
-        self.told += (replace(found, line=asked.line) for found in told_by(one, findings))
+        self.told += (found._replace(line=asked.line) for found in told_by(one, findings))
         if refusal:
             sentence = str(one.refused(refusal).why().words())
             return self.refused(asked, one.animal.id, refusal, sentence)

@@ -3,18 +3,23 @@ from __future__ import annotations
 
 import contextlib
 import threading
-from collections.abc import Sequence
+import time
+from collections.abc import Iterator, Sequence
 
 from gudokeyi.background import Background
 from gudokeyi.domain.changes import NO_MARK, Change, Mark
 from gudokeyi.domain.commands import Command
-from gudokeyi.domain.mistakes import ProgramFailed
+from gudokeyi.domain.mistakes import BookBusy, ProgramFailed
 from gudokeyi.domain.refusals import Refusal
+from gudokeyi.domain.waiting import seconds_left
 from gudokeyi.engine.messages import ProgramFault
-from gudokeyi.engine.session import Answer, Places, Session, SessionEnded as SessionEnded, SessionFault
+from gudokeyi.engine.session import (
+    Answer, Places, Session, SessionBusy, SessionEnded as SessionEnded, SessionFault,
+)  # fmt: skip
 from gudokeyi.services.book_program import BookProgram
 from gudokeyi.services.cache import mark_of
 from gudokeyi.store.book import Book
+from gudokeyi.store.database import busy
 from gudokeyi.store.history import is_change, last_change, login
 from gudokeyi.store.journal import (
     NO_JOURNAL, Journal, Part, journal_lines, lines_with_refusals, parts_of, refusals_of,
@@ -25,6 +30,8 @@ from gudokeyi.store.transactions import reading
 TRIES = 2
 # so many commands are filed at once
 AT_ONCE = 20_000
+# so long a change that is under way is waited for, and so often it is looked whether it is made, in seconds
+SECONDS_FOR_CHANGE, A_MOMENT = 10, 0.02
 # so many numbers of animals stand in one question: a request and an answer have an end
 MOST_NUMBERS = 20_000
 # the words that an inspector answers, which has no way to ask for two lists of animals
@@ -81,14 +88,6 @@ class BookSession(BookProgram):
         text = "".join(f"{line}\n" for line in self.ask(words, book))
         return Background(lambda: text)
 
-    def begin_certificates(self, numbers: Sequence[str], book: Book) -> list[Background[str]]:
-        """Of the book that was opened: where the session stands behind it already, by a run of the program. Whoever
-        prints while others file needn't ask again and again."""
-        try:
-            return super().begin_certificates(numbers, book)
-        except BookMoved:
-            return BookProgram().begin_certificates(numbers, book)
-
     def records(self, numbers: Sequence[str], book: Book) -> list[str]:
         return [line for number in numbers for line in self.asked(["record", number], book)]
 
@@ -121,6 +120,8 @@ class BookSession(BookProgram):
         session = self.at(book)
         try:
             return session.ask(question)
+        except SessionBusy:
+            raise busy() from None
         except SessionEnded:
             self.forget(session)
             raise
@@ -128,7 +129,7 @@ class BookSession(BookProgram):
     def reply(self, command: Command, book: Book) -> Refusal | None:
         """The reply of the session's desk. Nobody else changes the book, and whoever asks stores it, or forgets the
         session."""
-        with self.lock:
+        with self.in_turn():
             for _ in range(TRIES):
                 with contextlib.suppress(SessionEnded):
                     return self.reply_of(command, book)
@@ -147,8 +148,9 @@ class BookSession(BookProgram):
         return refusal
 
     def stands_at(self, change: Change) -> None:
-        """A change is stored, which may be that of the session's last reply: without it a book is another one."""
-        with self.lock:
+        """A change is stored, which may be that of the session's last reply: without it a book is another one, and
+        where the session can't be asked for long another one is begun later."""
+        with contextlib.suppress(BookBusy), self.in_turn():
             if (change.edition, change.length) == (self.journal.edition, self.journal.length):
                 self.mark = max(self.mark, change.mark)
 
@@ -157,31 +159,57 @@ class BookSession(BookProgram):
         return self.desks.setdefault(name, len(self.desks) % self.places.desks + 1)
 
     def at(self, book: Book, to_file: bool = False) -> Session:
-        """The session, brought to a book's journal."""
-        with self.lock:
-            journal = book.journal
-            is_of_it = journal.edition == self.journal.edition and self.is_known_to(book)
-            goes_on = is_of_it and journal.length >= self.journal.length
-            is_there = self.session is not None and not self.session.has_ended
-            if is_there and not goes_on and not to_file and not is_of_now(book):
-                raise BookMoved
-            if self.is_closed:
-                raise SessionEnded
-            try:
-                if not is_there or not goes_on:
-                    self.forget(self.session)
-                    self.session = Session(self, self.places)
-                    self.replay(self.session, book)
-                assert self.session
-                self.catch_up(self.session, book)
-            except SessionEnded:
+        """The session, brought to a book's journal. A change that is under way behind the book is waited for: the
+        session has filed it, and to begin another one each time would keep those waiting who ask and who file."""
+        until = time.monotonic() + min(seconds_left(), SECONDS_FOR_CHANGE)
+        while True:
+            with self.in_turn():
+                if to_file or not self.is_ahead_of(book) or time.monotonic() > until:
+                    return self.brought_to(book, to_file)
+                if not is_of_now(book):
+                    raise BookMoved
+            time.sleep(A_MOMENT)
+
+    @contextlib.contextmanager
+    def in_turn(self) -> Iterator[None]:
+        """Nobody else brings the session to a book meanwhile; a mistake where somebody does for long."""
+        if not self.lock.acquire(timeout=seconds_left()):
+            raise busy()
+        try:
+            yield
+        finally:
+            self.lock.release()
+
+    def is_ahead_of(self, book: Book) -> bool:
+        """Has the session filed more than a book's journal has, of the same history?"""
+        is_there = self.session is not None and not self.session.has_ended
+        edition, length = self.journal
+        return is_there and edition == book.journal.edition and length > book.journal.length
+
+    def brought_to(self, book: Book, to_file: bool) -> Session:
+        journal = book.journal
+        is_of_it = journal.edition == self.journal.edition and self.is_known_to(book)
+        goes_on = is_of_it and journal.length >= self.journal.length
+        is_there = self.session is not None and not self.session.has_ended
+        if is_there and not goes_on and not to_file and not is_of_now(book):
+            raise BookMoved
+        if self.is_closed:
+            raise SessionEnded
+        try:
+            if not is_there or not goes_on:
                 self.forget(self.session)
-                raise
-            except SessionFault as fault:
-                self.forget(self.session)
-                raise ProgramFailed(ProgramFault.JOURNAL_CANT_BE_FILED.said(fault=str(fault))) from None
-            self.mark = mark_of(book)
-            return self.session
+                self.session = Session(self, self.places)
+                self.replay(self.session, book)
+            assert self.session
+            self.catch_up(self.session, book)
+        except SessionEnded:
+            self.forget(self.session)
+            raise
+        except SessionFault as fault:
+            self.forget(self.session)
+            raise ProgramFailed(ProgramFault.JOURNAL_CANT_BE_FILED.said(fault=str(fault))) from None
+        self.mark = mark_of(book)
+        return self.session
 
     def is_known_to(self, book: Book) -> bool:
         """Is the change after which the session stands one of this book? It isn't where another book was restored."""
@@ -223,10 +251,15 @@ class BookSession(BookProgram):
                 session.end()
 
     def keep_to(self, stored: Journal) -> None:
-        """Ends a session that has filed what isn't stored."""
-        with self.lock:
-            if self.journal.edition != stored.edition or self.journal.length > stored.length:
-                self.forget(self.session)
+        """Ends a session that has filed what isn't stored, or of which that can't be seen."""
+        session = self.session
+        try:
+            with self.in_turn():
+                if self.journal.edition != stored.edition or self.journal.length > stored.length:
+                    self.forget(self.session)
+        except BookBusy:
+            if session:
+                session.end()
 
     def close(self) -> None:
         """Ends the session; no other begins."""

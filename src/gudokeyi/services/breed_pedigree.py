@@ -13,7 +13,7 @@ from gudokeyi.domain.provenance import BirthSource, ExitSource
 from gudokeyi.domain.requests import Naming
 from gudokeyi.genetics.breed_state import State
 from gudokeyi.genetics.pedigree import COEFFICIENT_BITS, UNKNOWN, Pedigree
-from gudokeyi.ingest.words import as_known
+from gudokeyi.ingest.texts import as_known
 from gudokeyi.store.animal_rows import AnimalRow, society_record_of
 from gudokeyi.store.book import Book
 from gudokeyi.store.coefficients import kept_coefficients

@@ -18,6 +18,8 @@ Stamp = tuple[object, ...]
 Value = TypeVar("Value")
 # so many values are kept
 MOST_CACHED = 64
+# so many bytes a file beside the book begins with that tell what it is of
+BEGINNING = 32
 
 
 class BookCache:
@@ -55,16 +57,40 @@ def mark_of(book: Book) -> Mark:
 
 
 def stamp_of(book: Book) -> Stamp:
-    """By which it is seen that a book or its file is another than before: whoever writes a file can't set when its
-    entry was changed."""
-    files = (state_of(one) for one in with_unfinished(book.path) if one.exists())
+    """By which it is seen that a book or its file is another than before."""
+    file, *beside = with_unfinished(book.path)
+    files = (state_of(file), *map(state_beside, beside))
     return (mark_of(book), *filter(None, files))
 
 
 def state_of(path: pathlib.Path) -> Stamp:
-    """That of a file; an empty one is as one that isn't there."""
-    found = path.stat()
-    return (found.st_ino, found.st_size, found.st_mtime_ns, found.st_ctime_ns) if found.st_size else ()
+    """That of a file; an empty one is as one that isn't there. Whoever writes it can't set when its entry was
+    changed."""
+    found = stat_of(path)
+    return (found.st_ino, found.st_size, found.st_mtime_ns, found.st_ctime_ns) if found else ()
+
+
+def state_beside(path: pathlib.Path) -> Stamp:
+    """That of a file beside. SQLite touches its entry where it is opened by root, and writes a new beginning where it
+    is written anew."""
+    found = stat_of(path)
+    if not found:
+        return ()
+    try:
+        with open(path, "rb") as file:
+            return found.st_ino, found.st_size, found.st_mtime_ns, file.read(BEGINNING)
+    except OSError:
+        # it may go meanwhile
+        return ()
+
+
+def stat_of(path: pathlib.Path) -> os.stat_result | None:
+    """None where there is no file, or an empty one."""
+    try:
+        found = path.stat()
+    except FileNotFoundError:
+        return None
+    return found if found.st_size else None
 
 
 class StateKept:
@@ -97,6 +123,8 @@ def cache(path: pathlib.Path, content: bytes) -> None:
     with contextlib.suppress(OSError):
         path.parent.mkdir(parents=True, exist_ok=True)
         written = path.with_suffix(f".{os.getpid()}")
+        # nobody else writes it, whatever is usual here
+        written.touch(0o600)
         written.write_bytes(content)
         written.replace(path)
 

@@ -14,7 +14,7 @@ from gudokeyi.domain.kinds import ChangeKind, ExitReason as ExitReason, Field, R
 from gudokeyi.domain.messages import MessageText, Mistake, why
 from gudokeyi.domain.mistakes import InvalidValue, RegisterRefused
 from gudokeyi.domain.refusals import Refusal
-from gudokeyi.domain.requests import NotSuch, refuse_long
+from gudokeyi.domain.requests import NotSuch, refuse_text
 from gudokeyi.engine.answers import records_of
 from gudokeyi.ingest.days import ANY_DAY as ANY_DAY, Span as Span
 from gudokeyi.ingest.unknown_parents import names_no_owner
@@ -28,7 +28,7 @@ from gudokeyi.reconcile.plausibility_by_hand import ByHandAnimal, MayBeWrong as 
 from gudokeyi.reconcile.rewriting import RefusedCommand, Rewriting, RewritingRefused
 from gudokeyi.reconcile.stored_findings import told_of
 from gudokeyi.services.book_program import BookProgram
-from gudokeyi.services.filing import refuse_to_come
+from gudokeyi.services.filing import refuse_day
 from gudokeyi.services.verification import check_records
 from gudokeyi.services.writing import end, write_unended
 from gudokeyi.store.animal_rows import AnimalRow, changed_by, row_of
@@ -47,7 +47,7 @@ def corrected(book: Book, known: SocietyRecord, said: Correction) -> Corrected:
     days = [said.birth, said.exit.on if said.exit else None]
     for day in (*(one.first for one in days if one and one != ANY_DAY), *(one.since for one in said.owners or ())):
         if day:
-            refuse_to_come(day)
+            refuse_day(day)
     is_male = (said.sex or known.registration_number[6]) == Role.SIRE.sex
     if said.is_castrated and not is_male:
         raise InvalidValue(CorrectionFault.NO_MALE_CASTRATED.said())
@@ -64,7 +64,7 @@ def refuse_texts(book: Book, known: SocietyRecord, said: Correction) -> None:
     """A mistake where the id or a name is none that can be."""
     names = [(Field.NAME, said.name), *((Field.OWNER, one.owner) for one in said.owners or ())]
     for field, text in ((Field.ID, said.id), *names):
-        refuse_long(field, text or "")
+        refuse_text(field, text or "")
     if said.id is None or said.id == known.id:
         return
     if not said.id:

@@ -12,10 +12,11 @@ from gudokeyi.domain.kinds import ChangeKind, Field, Standing
 from gudokeyi.domain.mistakes import InvalidValue, OwnerNotFound
 from gudokeyi.domain.provenance import GIVEN_EXIT, OwnerDay
 from gudokeyi.domain.refusals import Refusal
-from gudokeyi.domain.requests import Naming, NotSuch, refuse_long
+from gudokeyi.domain.requests import Naming, NotSuch, refuse_text
 from gudokeyi.engine.answers import records_of
+from gudokeyi.ingest.days import FIRST_DAY
 from gudokeyi.ingest.unknown_parents import names_no_owner
-from gudokeyi.ingest.words import clean as clean
+from gudokeyi.ingest.texts import clean as clean
 from gudokeyi.reconcile.by_hand import id_alike, new_owner, young_parents
 from gudokeyi.reconcile.findings.by_hand import CommandRefused, IdsAlike, NewAnimal, ValueChanged
 from gudokeyi.reconcile.stored_findings import told_of
@@ -90,8 +91,8 @@ def born(book: Book, offspring: Offspring, new: NewAnimals = NewAnimals()) -> Fi
     if offspring.id in unknown_parents(book):
         raise InvalidValue(NotSuch.NO_ANIMALS_ID.said(word=offspring.id))
     for field, text in ((Field.ID, offspring.id), (Field.NAME, offspring.name), (Field.OWNER, offspring.owner)):
-        refuse_long(field, text)
-    refuse_to_come(offspring.day)
+        refuse_text(field, text)
+    refuse_day(offspring.day)
     before = book.society_records.get(offspring.id)
     number = before.registration_number if before else number_for(book, offspring, new)
     owner = "" if names_no_owner(offspring.owner) else offspring.owner
@@ -119,10 +120,13 @@ def parent_named(book: Book, word: str, may_be_file: bool = True) -> SocietyReco
     return None if clean(word) in unknown_parents(book) else find(book, word, may_be_file)
 
 
-def refuse_to_come(day: datetime.date) -> None:
-    """A mistake where a day is after today, as in a sheet: nobody knows yet whether it comes so."""
+def refuse_day(day: datetime.date) -> None:
+    """A mistake where a day is after today, as in a sheet: nobody knows yet whether it comes so; or where it is before
+    the first that a book takes."""
     if day > datetime.date.today():
         raise InvalidValue(NotSuch.AFTER_TODAY.said(day=day))
+    if day < FIRST_DAY:
+        raise InvalidValue(NotSuch.BEFORE_FIRST.said(day=day, first=FIRST_DAY))
 
 
 def number_for(book: Book, offspring: Offspring, new: NewAnimals) -> str:
@@ -173,10 +177,10 @@ def transferred(
 ) -> FiledCommand:
     """Another owner; the from_owner is the owner that the book has where none is named."""
     to_owner, from_owner = clean(to_owner), None if from_owner is None else clean(from_owner)
-    refuse_long(Field.OWNER, to_owner)
+    refuse_text(Field.OWNER, to_owner)
     if names_no_owner(to_owner):
         raise InvalidValue(NotSuch.NO_TAKER.said())
-    refuse_to_come(day)
+    refuse_day(day)
     record = book.records[animal.registration_number]
     owner_code, new_owners = owner_code_of(book, to_owner)
     if from_owner is not None and from_owner not in book.owners:
@@ -193,7 +197,7 @@ def transferred(
 
 def departed(book: Book, animal: SocietyRecord, day: datetime.date, reason: str = "") -> FiledCommand:
     """An exit, with one of the reasons where it is known."""
-    refuse_to_come(day)
+    refuse_day(day)
     record = book.records[animal.registration_number]
     after = animal._replace(exit=GIVEN_EXIT, by_hand=animal.by_hand | {Field.EXIT}, exit_reason=reason)
     found = ValueChanged("exit", day.isoformat(), str(record.left or ""))
@@ -236,7 +240,7 @@ def file(book: Book, program: BookProgram, one: FiledCommand) -> tuple[Change, R
 
     told = (*told_by(one, findings), *map(told_of, () if refusal else one.warnings))
     made = ChangeDetails(one.kind, options=one.options, told=told, form=one.form)
-    made = replace(made, counts=(("refused", 1),) if refusal else (("filed", 1),))
+    made = made._replace(counts=(("refused", 1),) if refusal else (("filed", 1),))
     return write(book, program, Filed([Step(one.command, refusal or 0)]), find_state, made), refusal
 
 

@@ -13,7 +13,7 @@ from gudokeyi.domain.own_columns import OwnColumn, OwnKind
 from gudokeyi.domain.provenance import BirthSource
 from gudokeyi.services.selection import Choice, condition_of
 from gudokeyi.services.tables import Cell, Kind, Table
-from gudokeyi.store.animal_rows import SEX_SOURCES, birth_basis, exit_basis
+from gudokeyi.store.animal_rows import SEX_SOURCES, birth_basis, exit_of
 from gudokeyi.store.book import Book
 from gudokeyi.store.conditions import Condition
 from gudokeyi.store.own_data import columns_now, values_at
@@ -155,12 +155,6 @@ def birth_of(born: str | None, source: str, period: str | None, no_such_day: str
     if source == GIVEN:
         return born or ""
     return f"{born or ''}{birth_basis(source, period, no_such_day).mark()}"
-
-
-def exit_of(departed: str | None, source: str, period: str | None, no_such_day: str | None, text: str | None) -> str:
-    """The day of the exit with its mark, or what is told of one without a day."""
-    basis = exit_basis(source, period, no_such_day, text)
-    return f"{departed}{basis.mark()}" if departed else basis.words()
 
 
 def sex_of(number: str, source: str) -> str:

@@ -12,10 +12,10 @@ from gudokeyi.domain.kinds import ChangeKind, Field
 from gudokeyi.domain.members import MOST_IN_MEMBER, Member as Member
 from gudokeyi.domain.messages import Mistake
 from gudokeyi.domain.mistakes import InvalidValue, OwnerNotFound
-from gudokeyi.domain.requests import OwnFault, refuse_long
+from gudokeyi.domain.requests import OwnFault, refuse_text
 from gudokeyi.engine.answers import records_of
 from gudokeyi.ingest.unknown_parents import names_no_owner
-from gudokeyi.ingest.words import clean
+from gudokeyi.ingest.texts import clean
 from gudokeyi.reconcile.findings.animals import OwnerRenamed, OwnersMerged
 from gudokeyi.reconcile.import_options import rename
 from gudokeyi.reconcile.rewriting import Life, Rewriting, RewritingRefused, lives_of
@@ -110,7 +110,7 @@ def checked(member: Member) -> Member:
     name = clean(member.name)
     if not name or names_no_owner(name):
         raise InvalidValue(OwnFault.NO_OWNER_NAME.said())
-    refuse_long(Field.OWNER, name)
+    refuse_text(Field.OWNER, name)
     longest = max(map(len, texts))
     if longest > MOST_IN_MEMBER:
         raise InvalidValue(OwnFault.LONG_MEMBER.said(most=MOST_IN_MEMBER, count=longest))

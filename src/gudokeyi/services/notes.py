@@ -11,11 +11,11 @@ from gudokeyi.domain.messages import Mistake
 from gudokeyi.domain.mistakes import InvalidValue
 from gudokeyi.domain.own_columns import MOST_IN_NOTE, Note as Note
 from gudokeyi.domain.requests import OwnFault
-from gudokeyi.ingest.words import clean
+from gudokeyi.ingest.texts import clean
 from gudokeyi.reconcile.findings.animals import NoteWritten
 from gudokeyi.reconcile.stored_findings import told_of
 from gudokeyi.services.book_program import BookProgram
-from gudokeyi.services.filing import refuse_to_come
+from gudokeyi.services.filing import refuse_day
 from gudokeyi.services.writing import write
 from gudokeyi.store import own_data
 from gudokeyi.store.book import Book
@@ -57,7 +57,7 @@ def noted(
 ) -> tuple[StoredFinding, State]:
     """What is told of such a note, and the state with it."""
     text = text_of_note(text)
-    refuse_to_come(day)
+    refuse_day(day)
     if not text and before is None:
         raise InvalidValue(OwnFault.NO_NOTE.said())
     if before and text == before.text and day.isoformat() == before.day:

@@ -2,7 +2,6 @@
 from __future__ import annotations
 
 import pathlib
-from dataclasses import replace
 
 from gudokeyi.domain.changes import ChangeDetails, Source
 from gudokeyi.domain.commands import givers_of
@@ -38,7 +37,7 @@ def write_old(book: Book, program: BookProgram, old: OldBook, text: bytes) -> No
     """The book of the files, once it is seen that it is whole."""
     made = ChangeDetails(ChangeKind.FOLDER, Source(COMMANDS, place_of(book.folder / OLD / COMMANDS), digest_of(text)))
     in_book = {id: animal for id, animal in old.society_records.items() if animal.standing is not Standing.DROPPED}
-    made = replace(made, counts=(("animals", len(in_book)), ("commands", len(old.commands))))
+    made = made._replace(counts=(("animals", len(in_book)), ("commands", len(old.commands))))
     records = records_of(program.lines(["records"], text), givers_of(old.commands))
     cells = Rows({}, last_cells(in_book, records, {owner_code: owner for owner, owner_code in old.owners.items()}))
     state = State(Rows({}, animal_rows(old.society_records, records)), cells, old.remembered, old.owners)

@@ -13,7 +13,7 @@ from gudokeyi.store.database import DATABASE as DATABASE, busy as busy
 from gudokeyi.store.legacy.files import is_old
 from gudokeyi.store.messages import BookFault as BookFault
 from gudokeyi.store.transactions import (
-    Overtaken as Overtaken, changing, no_book as no_book, reading, up_to_date as up_to_date,
+    HeldOpen as HeldOpen, Overtaken as Overtaken, changing, no_book as no_book, reading, up_to_date as up_to_date,
 )  # fmt: skip
 
 # so long exports wait for somebody who writes them, after a change of one's own
@@ -41,10 +41,11 @@ def opened(folder: pathlib.Path, program: BookProgram) -> Iterator[Book]:
     with only_read(folder) as book:
         yield book
     # whoever asks waits for less before the answer
-    from gudokeyi.services.folder_files import refresh
     from gudokeyi.store.exports import are_fresh
 
     if book.change is not None and not are_fresh(folder, book.change):
+        from gudokeyi.services.folder_files import refresh
+
         # somebody who changes the book writes them too, and in a folder without rights they stay as they are
         refresh(folder, 0)
 

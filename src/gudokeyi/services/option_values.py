@@ -40,13 +40,16 @@ def day(text: str) -> datetime.date:
 
 
 def day_or_period(text: str) -> Span:
-    """A day, or a month or a year where no more is known."""
+    """A day, or a month or a year where no more is known; a day that there isn't is no month."""
     from gudokeyi.ingest.days import Unreadable, read_span
 
     try:
-        return read_span(text, legible=False)
+        found = read_span(text, legible=False)
     except Unreadable:
         raise InvalidValue(NotSuch.DAY_OR_PERIOD.said(text=text)) from None
+    if found.wrong:
+        raise InvalidValue(NotSuch.DAY_OR_PERIOD.said(text=text))
+    return found
 
 
 def day_until_today(text: str) -> datetime.date:

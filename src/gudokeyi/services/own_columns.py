@@ -1,21 +1,18 @@
-"""The society's own columns, and their values for an animal: set up and written as changes of their own."""
+"""The society's own columns, and their values for an animal: set up and written as changes of their own. Who shows
+values waits for nothing that writing them needs."""
 from __future__ import annotations
 
 from collections.abc import Mapping, Sequence
 
 from gudokeyi.domain.animals import SocietyRecord
 from gudokeyi.domain.changes import Change, ChangeDetails
-from gudokeyi.domain.findings import Entry
 from gudokeyi.domain.kinds import ChangeKind
 from gudokeyi.domain.messages import Mistake
 from gudokeyi.domain.mistakes import InvalidValue
 from gudokeyi.domain.own_columns import MOST_CHOICES, MOST_COLUMNS, MOST_IN_TITLE, OwnColumn, OwnKind, OwnValue
 from gudokeyi.domain.requests import OwnFault
-from gudokeyi.ingest.words import clean, plain
-from gudokeyi.reconcile.own_values import value_read
-from gudokeyi.reconcile.stored_findings import told_of
+from gudokeyi.ingest.texts import clean, plain
 from gudokeyi.services.book_program import BookProgram
-from gudokeyi.services.writing import write
 from gudokeyi.store import own_data
 from gudokeyi.store.book import Book
 from gudokeyi.store.conditions import NOBODY, Condition, with_own_value
@@ -59,6 +56,8 @@ def condition_of_value(book: Book, place: int, text: str) -> Condition:
     column = next((one for one in columns_of(book) if one.place == place), None)
     if column is None:
         return NOBODY
+    from gudokeyi.reconcile.own_values import value_read
+
     if column.kind in (OwnKind.TEXT, OwnKind.CHOICE):
         return with_own_value(place, clean(text), is_whole=False)
     return with_own_value(place, value_read(column, text), is_whole=bool(clean(text)))
@@ -66,6 +65,8 @@ def condition_of_value(book: Book, place: int, text: str) -> Condition:
 
 def set_columns(book: Book, program: BookProgram, columns: Sequence[OwnColumn], form: str = "") -> Change:
     """From now on the society has these columns. Values of one that goes stay in the history."""
+    from gudokeyi.services.writing import write
+
     before = all_columns(book)
     after = [checked(one, columns) for one in columns]
     if sum(one.is_kept for one in after) > MOST_COLUMNS:
@@ -99,6 +100,8 @@ def checked(column: OwnColumn, columns: Sequence[OwnColumn]) -> OwnColumn:
 
 def refuse_unreadable(book: Book, column: OwnColumn) -> None:
     """A mistake where a value that is there can't be one of the column as it is to be."""
+    from gudokeyi.reconcile.own_values import value_read
+
     for value in {*own_data.values_at(book.connection, column.place).values()} if column.is_kept else ():
         value_read(column, value)
 
@@ -107,8 +110,11 @@ def write_values(
     book: Book, program: BookProgram, animal: SocietyRecord, written: Mapping[int, str], form: str = ""
 ) -> Change:
     """Writes values of an animal by the places of their columns; the others stay."""
-    # a certificate, which shows values, waits for none of the findings
+    from gudokeyi.domain.findings import Entry
     from gudokeyi.reconcile.findings.animals import OwnValueWritten
+    from gudokeyi.reconcile.own_values import value_read
+    from gudokeyi.reconcile.stored_findings import told_of
+    from gudokeyi.services.writing import write
 
     columns = {one.place: one for one in columns_of(book)}
     kept = own_data.value_rows_of(book.connection, animal.digits)

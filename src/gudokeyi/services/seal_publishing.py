@@ -3,26 +3,22 @@ from __future__ import annotations
 
 import datetime
 import pathlib
-import re
-from collections.abc import Callable, Iterator, Sequence
+from collections.abc import Callable, Iterator
 from dataclasses import dataclass
 
-from gudokeyi.domain.changes import Change
 from gudokeyi.domain.messages import Count, MessageText, Mistake
 from gudokeyi.domain.mistakes import BookBusy, BookNotWhole
-from gudokeyi.domain.seals import TITLES, PublishedSeal, Seal, SealFault
+from gudokeyi.domain.seals import LINE, TITLES, PublishedSeal, Seal, SealFault
 from gudokeyi.services.book_program import BookProgram
 from gudokeyi.services.cache import mark_of
 from gudokeyi.services.opening import only_read
 from gudokeyi.services.seals import journal_of, published_seals, seal_at, seal_of
 from gudokeyi.services.verification import verify
+from gudokeyi.services.written_anew import WrittenAnew, written_anew
 from gudokeyi.store.book import Book
-from gudokeyi.store.history import all_changes
-from gudokeyi.store.journal import Journal
-from gudokeyi.store.published_seals import common_length, keep_published, length_of
+from gudokeyi.store.published_seals import keep_published, length_of
 from gudokeyi.store.transactions import Overtaken
 
-LINE = re.compile(r"(\d{4}-\d\d-\d\d)([,;])([1-9]\d{0,8}|0)\2(\d{1,12})\2(\d{1,12})\2([0-9a-f]{64})")
 TITLE_LINES = {separator.join(titles) for titles in TITLES.values() for separator in ",;"}
 
 
@@ -63,11 +59,10 @@ def verify_published(book: Book, program: BookProgram, path: pathlib.Path) -> tu
     are, and what is told of those whose journal was written anew since, or that the book doesn't keep. The first that
     differs is a mistake."""
     lines, kept = list(read_lines(path)), {journal_of(one): one for one in published_seals(book)}
-    changes, notes = all_changes(book.connection), list[MessageText]()
     for line in lines:
         refuse_other(book, program, line, kept.get(journal_of(line.published)))
-        notes += told_of(book, line, journal_of(line.published) in kept, changes)
-    return len(lines), notes
+    anew = written_anew(book, [line.published for line in lines])
+    return len(lines), [note for line in lines for note in told_of(line, journal_of(line.published) in kept, anew)]
 
 
 def read_lines(path: pathlib.Path) -> Iterator[GivenLine]:
@@ -108,25 +103,9 @@ def refuse_other(book: Book, program: BookProgram, given: GivenLine, kept: Publi
         raise BookNotWhole(SealFault.DAY_DIFFERS.said(line=place, day=kept.day))
 
 
-def told_of(book: Book, given: GivenLine, is_kept: bool, changes: Sequence[Change]) -> Iterator[MessageText]:
+def told_of(given: GivenLine, is_kept: bool, anew: WrittenAnew) -> Iterator[MessageText]:
     """What is to be seen of a line that doesn't differ."""
     if not is_kept:
         yield SealFault.NOT_KEPT.said(line=given.place)
-    journal = journal_of(given.published)
-    since = written_anew_since(book, journal, changes)
-    if since:
-        kept = common_length(book.connection, journal, book.journal)
-        yield SealFault.WRITTEN_ANEW.said(
-            line=given.place, edition=journal.edition, day=since.time.astimezone().date(), change=since.number,
-            kept=kept, commands=Count(journal.length, "command"),
-        )  # fmt: skip
-
-
-def written_anew_since(book: Book, journal: Journal, changes: Sequence[Change]) -> Change | None:
-    """The change since which the book's journal doesn't begin with this one any more; none where it does."""
-    found = None
-    for change in reversed(changes):
-        if common_length(book.connection, journal, Journal(change.edition, change.length)) == journal.length:
-            break
-        found = change
-    return found
+    if given.published in anew:
+        yield SealFault.OF_LINE.said(line=given.place, told=anew[given.published])

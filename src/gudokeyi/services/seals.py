@@ -3,17 +3,18 @@ from __future__ import annotations
 
 import datetime
 import os
+import unicodedata
 from collections.abc import Collection
-from dataclasses import dataclass
-from typing import IO
+from typing import IO, NamedTuple
 
 from gudokeyi.domain.animals import SocietyRecord
 from gudokeyi.domain.messages import MessageText, Mistake
 from gudokeyi.domain.mistakes import BookNotWhole, InvalidValue, ProgramFailed
-from gudokeyi.domain.seals import IS_SEAL, PublishedSeal, Seal, SealFault
+from gudokeyi.domain.seals import DIGITS, HEXADECIMAL, LINE, CertificateRefused, PublishedSeal, Seal, SealFault
 from gudokeyi.engine.answers import records_of, seal_of_certificate, seal_told
 from gudokeyi.engine.check_program import CheckProgram, file_with
 from gudokeyi.services.book_program import BookProgram
+from gudokeyi.services.refused_certificates import advice_on
 from gudokeyi.store.book import Book
 from gudokeyi.store.coefficients import Coefficient
 from gudokeyi.store.journal import Journal, command_file, registered_numbers
@@ -27,8 +28,7 @@ MOST_BYTES = 64 << 20
 NOT_REGISTERED = "not registered"
 
 
-@dataclass(frozen=True, slots=True)
-class SealedCertificate:
+class SealedCertificate(NamedTuple):
     """A certificate that anyone can check who has the seal: the text of its file, the seal, and the day on which that
     was published; none where it is the seal of now."""
 
@@ -37,16 +37,14 @@ class SealedCertificate:
     published: datetime.date | None
 
 
-@dataclass(frozen=True, slots=True)
-class LastSealed:
+class LastSealed(NamedTuple):
     """The seal that was published last, and the numbers of the animals that were in the book then."""
 
     published: PublishedSeal
     numbers: Collection[str]
 
 
-@dataclass(frozen=True, slots=True)
-class CheckedRecord:
+class CheckedRecord(NamedTuple):
     """What a sealed book has of an animal. Animals are named by their registration numbers, parents that aren't known
     by an empty text, and owners by the numbers that the society gave them."""
 
@@ -60,8 +58,7 @@ class CheckedRecord:
     is_embryo: bool
 
 
-@dataclass(frozen=True, slots=True)
-class CheckedCertificate:
+class CheckedCertificate(NamedTuple):
     """What the program says of a certificate that it accepts: `text` is its answer, and all of the file that is to be
     believed. The records are those of the animal and of all its known ancestors, from the oldest on."""
 
@@ -141,9 +138,11 @@ def check_certificate(certificate: str | os.PathLike[str] | bytes, seal: str) ->
 
 def check_file(certificate: IO[bytes], seal: str) -> CheckedCertificate:
     """The same of a file that is open at its beginning."""
-    if not IS_SEAL.fullmatch(seal):
-        raise InvalidValue(SealFault.NO_SEAL.said(text=seal) if seal else SealFault.SEAL_MISSING.said())
-    told = CheckProgram().check(certificate, seal)
+    digits = digits_of(seal)
+    try:
+        told = CheckProgram().check(certificate, digits)
+    except CertificateRefused as refused:
+        raise CertificateRefused(refused.fault, refused.line, advice_on(certificate, refused.fault, digits)) from None
     records = tuple(
         CheckedRecord(
             one.registration_number, one.born, one.sire, one.dam, one.owner_code, one.since, one.left, one.embryo
@@ -152,3 +151,24 @@ def check_file(certificate: IO[bytes], seal: str) -> CheckedCertificate:
     )
     coefficient = Coefficient(told.fraction, told.percent)
     return CheckedCertificate(told.text, told.number, coefficient, told.steps, told.animals, records)
+
+
+def digits_of(seal: str) -> str:
+    """Those of a seal as somebody wrote it or took it from paper, in capital letters or with blanks in it, or in the
+    whole line that was published; a mistake where that is none."""
+    written = "".join(letter for letter in seal if not is_blank(letter)).lower()
+    line = LINE.fullmatch(written)
+    digits = line[line.lastindex or 0] if line else written
+    if not digits:
+        raise InvalidValue(SealFault.SEAL_MISSING.said())
+    if len(digits) != DIGITS:
+        raise InvalidValue(SealFault.NO_SEAL.said(count=len(digits)))
+    other = digits.lstrip(HEXADECIMAL)[:1]
+    if other:
+        raise InvalidValue(SealFault.NO_DIGIT.said(letter=other))
+    return digits
+
+
+def is_blank(letter: str) -> bool:
+    """Blanks, ends of lines, and marks that aren't seen, as where a word may be parted."""
+    return letter.isspace() or unicodedata.category(letter) == "Cf"

@@ -12,7 +12,7 @@ from gudokeyi.domain.messages import MOST_IN_PASSING, MOST_NAMED, AnyOf, Message
 from gudokeyi.domain.mistakes import AnimalAmbiguous, AnimalNotFound, InvalidValue
 from gudokeyi.domain.requests import Naming, NotSuch
 from gudokeyi.domain.spelling import closest
-from gudokeyi.ingest.words import as_known, clean
+from gudokeyi.ingest.texts import as_known, clean
 from gudokeyi.store.animal_rows import AnimalRow, digits_of, society_record_of
 from gudokeyi.store.book import Book
 from gudokeyi.store.conditions import (

@@ -11,7 +11,7 @@ from gudokeyi.domain.messages import AnyOf
 from gudokeyi.domain.mistakes import OwnerNotFound
 from gudokeyi.domain.requests import Naming
 from gudokeyi.domain.spelling import closest
-from gudokeyi.ingest.words import as_known as as_known
+from gudokeyi.ingest.texts import as_known as as_known
 from gudokeyi.store.animal_rows import AnimalRow, society_record_of
 from gudokeyi.store.book import Book
 from gudokeyi.store.conditions import LIVING, Condition, all_of, born_between, of_owner, of_sex

@@ -86,7 +86,7 @@ def file(
     # a new book of which nothing is refused has no faulty parents
     filed = None if book.journal.length else filing.appended(program)
     if filed is None:
-        leave_out_faulty_parents(next_book, program)
+        leave_out_faulty_parents(next_book, program, filing.refuses_births)
     if next_book.is_pedigree and not import_options.leave_out:
         refuse_lost_links(report)
     if about.understood:

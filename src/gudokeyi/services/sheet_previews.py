@@ -16,7 +16,7 @@ from gudokeyi.ingest.files import read_file
 from gudokeyi.ingest.findings.cells import OddRow
 from gudokeyi.ingest.messages import SheetFault
 from gudokeyi.ingest.sheets import Sheet as Sheet
-from gudokeyi.ingest.words import plain
+from gudokeyi.ingest.texts import plain
 from gudokeyi.reconcile.findings.by_hand import NewAnimal
 from gudokeyi.reconcile.import_options import ImportOptions, remember, with_settings
 from gudokeyi.reconcile.outcome import Outcome
@@ -27,6 +27,8 @@ from gudokeyi.store.own_data import columns_now
 
 # so many of the first rows are shown, and so many letters of a cell
 ROWS, LETTERS = 5, 60
+# a page has so many columns at most, each of which is a choice for each field, with so many letters in their titles
+MOST_COLUMNS, MOST_TITLE_LETTERS = 2_000, 100_000
 # so many columns are asked for that the book doesn't know
 MOST_OTHERS = 60
 
@@ -60,6 +62,11 @@ def columns_shown(
     fields = {at: name for name, at in columns.found.items()}
     if not any(sheet.titles):
         raise Mistake(SheetFault.NO_TITLES.said(path=path))
+    letters = sum(map(len, sheet.titles))
+    if len(sheet.titles) > MOST_COLUMNS or letters > MOST_TITLE_LETTERS:
+        raise Mistake(SheetFault.MANY_COLUMNS.said(
+            path=path, columns=len(sheet.titles), letters=letters, most=MOST_COLUMNS, most_letters=MOST_TITLE_LETTERS
+        ))  # fmt: skip
     view = ColumnsView(
         tuple(sheet.titles),
         tuple(fields.get(at, "") for at in range(len(sheet.titles))),

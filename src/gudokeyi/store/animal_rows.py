@@ -83,6 +83,12 @@ def exit_basis(source: str, period: str | None, no_such_day: str | None, text: s
     return GIVEN_EXIT if basis == GIVEN_EXIT else basis
 
 
+def exit_of(departed: str | None, source: str, period: str | None, no_such_day: str | None, text: str | None) -> str:
+    """The day of the exit with its mark, or what is told of one without a day."""
+    basis = exit_basis(source, period, no_such_day, text)
+    return f"{departed}{basis.mark()}" if departed else basis.words()
+
+
 @functools.lru_cache(maxsize=1024)
 def fields_of(words: str) -> frozenset[Field]:
     return frozenset(Field(word) for word in words.split()) if words else NO_FIELDS

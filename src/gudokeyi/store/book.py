@@ -6,7 +6,7 @@ import functools
 import pathlib
 import sqlite3
 from collections.abc import Iterable, Iterator, Mapping
-from dataclasses import dataclass
+from typing import NamedTuple
 
 from gudokeyi.background import Pieces
 from gudokeyi.domain.animals import NO_OWNER, SocietyRecord
@@ -15,7 +15,9 @@ from gudokeyi.domain.collections import Lazy, whole
 from gudokeyi.domain.commands import RegisterRecord
 from gudokeyi.domain.kinds import Standing
 from gudokeyi.store.animal_rows import AnimalRow, society_record_of, record_of
-from gudokeyi.store.conditions import AGE_ORDER, ANY, IN_BOOK, WITHOUT_ROW, Condition, with_id, with_number
+from gudokeyi.store.conditions import (
+    AGE_ORDER, ANY, IN_BOOK, WITHOUT_ROW, Condition, with_id, with_id_like, with_number,
+)  # fmt: skip
 from gudokeyi.store.database import empty, path_of
 from gudokeyi.store.history import last_change
 from gudokeyi.store.journal import (
@@ -32,8 +34,7 @@ HAS_OTHER_ID = """
 """
 
 
-@dataclass(frozen=True)
-class BookState:
+class BookState(NamedTuple):
     """All animals of a book, as they were read: whoever opens the book in the same state needn't read them again."""
 
     rows: list[AnimalRow]
@@ -65,6 +66,9 @@ class Book:
         # by its number
         self.names: Mapping[str, SocietyRecord] = Lazy(self.read_numbered, self.read_all_numbered)
         self.records: Mapping[str, RegisterRecord] = Lazy(self.read_record, self.read_all_records)
+        # rows by numbers, which were read at once for whoever needs them one by one
+        self.rows_read: dict[str, AnimalRow] = {}
+        self.likely: dict[str, list[AnimalRow]] = {}
         # the ids by numbers
         self.ids: Mapping[str, str] = Lazy(self.read_id, self.read_all_ids)
 
@@ -137,19 +141,33 @@ class Book:
         return self.rows(with_number(animal.registration_number))[0]
 
     def row_of(self, number: str) -> AnimalRow | None:
-        return next(iter(self.rows(with_number(number))), None)
+        return self.rows_read.get(number) or next(iter(self.rows(with_number(number))), None)
+
+    def read_at_once(self, condition: Condition) -> None:
+        """Reads the animals for which a condition holds, for whoever needs them one by one and changes nothing: each
+        question waits for the other threads of a desk."""
+        self.rows_read |= {row.registration_number: row for row in self.rows(condition)}
+
+    def rows_like(self, id: str) -> list[AnimalRow]:
+        """Those with an id that may differ in case, blanks and zeros alone; all ids are looked through once for it."""
+        if id not in self.likely:
+            self.likely[id] = self.rows(with_id_like(id))
+        return self.likely[id]
 
     def read_society_record(self, id: str) -> SocietyRecord | None:
         return next((society_record_of(row) for row in self.rows(with_id(id))), None)
 
     def read_numbered(self, number: str) -> SocietyRecord | None:
-        return next((society_record_of(row) for row in self.rows(with_number(number))), None)
+        row = self.row_of(number)
+        return society_record_of(row) if row else None
 
     def read_record(self, number: str) -> RegisterRecord | None:
-        return next((record_of(row) for row in self.rows(with_number(number))), None)
+        row = self.row_of(number)
+        return record_of(row) if row else None
 
     def read_id(self, number: str) -> str | None:
-        return next((row.id for row in self.rows(with_number(number))), None)
+        row = self.row_of(number)
+        return row.id if row else None
 
     def read_all_ids(self) -> dict[str, str]:
         return dict(self.numbers_and_ids(ANY))

@@ -83,13 +83,16 @@ def of_offspring(relationship: str) -> Coefficient:
     return Coefficient(fraction, rounded(50 * above, number_of(denominator), 2))
 
 
-def kept_coefficients(book: Book) -> Mapping[str, Coefficient]:
-    """The coefficient of each number, in age order."""
+def kept_coefficients(book: Book, numbers: Iterable[str] = ()) -> Mapping[str, Coefficient]:
+    """The coefficient of each number, in age order; those of some are read at once."""
 
     def one(number: str) -> Coefficient | None:
         return kept_coefficient(book.connection, number)
 
-    return Lazy(one, lambda: read_coefficients(book.connection))
+    found = Lazy(one, lambda: read_coefficients(book.connection))
+    some = [*numbers]
+    found.kept |= coefficients_among(book, some) if some else {}
+    return found
 
 
 def kept_coefficient(connection: sqlite3.Connection, number: str) -> Coefficient | None:

@@ -6,9 +6,9 @@ import datetime
 import functools
 import json
 from collections.abc import Iterable, Sequence
-from dataclasses import dataclass
+from typing import NamedTuple
 
-from gudokeyi.domain.folding import SIGNS, folded, pattern_of, tag_of
+from gudokeyi.domain.folding import SIGNS, always_same, folded, pattern_of, tag_of
 from gudokeyi.domain.kinds import Role, Standing
 from gudokeyi.domain.provenance import BirthSource, ExitSource
 from gudokeyi.store.state import NOW
@@ -31,8 +31,7 @@ LIKELY = f"SELECT folded_id FROM animal WHERE {NOW} AND replace(replace(folded_i
 MOST_LETTERS = 1_000
 
 
-@dataclass(frozen=True, slots=True)
-class Condition:
+class Condition(NamedTuple):
     """What holds for the row of an animal."""
 
     text: str
@@ -73,6 +72,16 @@ def with_digits(digits: str) -> Condition:
 def among(numbers: Sequence[str]) -> Condition:
     """The animals that have one of these numbers."""
     return Condition("number IN (SELECT value FROM json_each(?))", (json.dumps([*numbers]),))
+
+
+def descends_to(number: str, generations: int) -> Condition:
+    """An animal, and its ancestors so many parents away at most."""
+    parents = " ".join(
+        f"UNION SELECT animal.{parent}, away + 1 FROM line CROSS JOIN animal USING (number) "
+        f"WHERE {NOW} AND animal.{parent} IS NOT NULL AND away < ?" for parent in ("sire", "dam")
+    )
+    line = f"WITH RECURSIVE line (number, away) AS (VALUES (?, 0) {parents}) SELECT number FROM line"
+    return Condition(f"number IN ({line})", (number, generations, generations))
 
 
 def but_for(id: str) -> Condition:
@@ -116,37 +125,53 @@ def with_text(text: str, owner_codes: Sequence[int]) -> Condition:
     in a note or a value of the society's own; or one of these owners. Ids may be parted by other signs."""
     if len(text) > MOST_LETTERS:
         return NOBODY
-    owners, plain = ", ".join(map(str, owner_codes)), folded(text)
+    tag, plain = tag_of(text), folded(text)
     # a text of signs alone is looked for as it is
-    parts = [with_tag(tag_of(text)) if tag_of(text) else Condition("instr(folded_id, ?)", (text,)), in_name(plain)]
-    parts += [Condition(f"instr(number, ?) OR herd IN ({owners})", (text.upper(),)), with_kept(plain)]
+    parts = [in_tag(tag) if tag else Condition("instr(folded_id, ?)", (text,)), in_name(plain)]
+    parts += [in_number(text.upper()), Condition(f"herd IN ({', '.join(map(str, owner_codes))})"), in_kept(plain, tag)]
     text = " OR ".join(one.text for one in parts)
     return Condition(f"({text})", tuple(value for one in parts for value in one.values))
 
 
-def with_tag(tag: str) -> Condition:
-    """With a text without signs in the id, or in one that it had. Of most ids it is seen at once that they don't have
-    its letters in their order."""
-    parted = (f"[{one}]" if one in "*?[" else one for one in tag)
-    letters, pattern = f"*{'*'.join(parted)}*", f"*{pattern_of(tag)}*"
-    now = f"(folded_id GLOB ? AND instr({TAG}, ?)) OR ({has_accents('folded_id')} AND {TAG} GLOB ?)"
-    had = f"substr(number, 8) IN (SELECT digits FROM former_id WHERE {NOW} AND {FORMER_TAG} GLOB ?)"
-    return Condition(f"{now} OR {had}", (letters, tag, pattern, pattern))
+def in_tag(tag: str) -> Condition:
+    """With a text without signs in the id. Of most ids it is seen at once that they don't have its letters in their
+    order, also where signs stand between these."""
+    same, pattern = always_same(tag), f"*{pattern_of(tag)}*"
+    if same:
+        return Condition(f"(folded_id GLOB ? AND {TAG} GLOB ?)", (in_order(same), pattern))
+    now = f"(folded_id GLOB ? AND instr({TAG}, ?))"
+    return Condition(f"{now} OR ({has_accents('folded_id')} AND {TAG} GLOB ?)", (in_order(tag), tag, pattern))
+
+
+def in_order(letters: str) -> str:
+    """What a text has to be that has these letters in their order."""
+    return f"*{'*'.join(f'[{one}]' if one in '*?[' else one for one in letters)}*"
 
 
 def in_name(plain: str) -> Condition:
     """With a text in the name."""
+    same, pattern = max(always_same(plain, "\0").split("\0"), key=len), f"*{pattern_of(plain)}*"
+    if same:
+        return Condition("(instr(folded_name, ?) AND folded_name GLOB ?)", (same, pattern))
     with_accents = f"({has_accents('folded_name')} AND folded_name GLOB ?)"
-    return Condition(f"instr(folded_name, ?) OR {with_accents}", (plain, f"*{pattern_of(plain)}*"))
+    return Condition(f"instr(folded_name, ?) OR {with_accents}", (plain, pattern))
 
 
-def with_kept(plain: str) -> Condition:
-    """With a text in a note or in a value of the society's own."""
+def in_number(text: str) -> Condition:
+    """With a text in the number, which has capitals and digits alone."""
+    return Condition("instr(number, ?)", (text,)) if text.isascii() and text.isalnum() else NOBODY
+
+
+def in_kept(plain: str, tag: str) -> Condition:
+    """With a text in a note or in a value of the society's own, or with one without signs in an id that it had. Mostly
+    there are none, which is seen once."""
+    had = f"SELECT digits FROM former_id WHERE {NOW} AND {FORMER_TAG} GLOB ?"
     kept = (
         f"SELECT digits FROM note WHERE {NOW} AND instr(folded, ?) "
         f"UNION ALL SELECT digits FROM own_value WHERE {NOW} AND instr(folded, ?)"
     )
-    return Condition(f"substr(number, 8) IN ({kept})", (plain, plain))
+    digits, values = f"{kept} UNION ALL {had}" if tag else kept, (plain, plain, f"*{pattern_of(tag)}*")[: 2 + bool(tag)]
+    return Condition(f"(EXISTS ({digits}) AND substr(number, 8) IN ({digits}))", 2 * values)
 
 
 def has_accents(column: str) -> str:

@@ -57,13 +57,20 @@ class NotAllowed(sqlite3.OperationalError):
     sqlite_errorcode = sqlite3.SQLITE_READONLY
 
 
-def connect(path: pathlib.Path, mode: str) -> sqlite3.Connection:
+def connect(path: pathlib.Path, mode: str, check_same_thread: bool = True) -> sqlite3.Connection:
     if path.exists() and not os.access(path, os.W_OK):
         raise NotAllowed("it belongs to somebody else, and is only to be read")
     address = f"file:{urllib.parse.quote(os.fsencode(path.absolute()))}?mode={mode}"
-    connection = sqlite3.connect(address, uri=True, timeout=seconds_left(), isolation_level=None)
+    connection = sqlite3.connect(
+        address, uri=True, timeout=seconds_left(), isolation_level=None, check_same_thread=check_same_thread
+    )
     connection.execute("PRAGMA foreign_keys = ON")
     return connection
+
+
+def connect_to_hold(path: pathlib.Path) -> sqlite3.Connection:
+    """One that any thread may close."""
+    return connect(path, "ro", check_same_thread=False)
 
 
 def empty() -> sqlite3.Connection:

@@ -12,7 +12,7 @@ import os
 import pathlib
 import time
 from collections.abc import Iterator
-from dataclasses import dataclass
+from typing import NamedTuple
 
 from gudokeyi.domain.changes import Change
 from gudokeyi.domain.provenance import GIVEN_BIRTH, GIVEN_EXIT, BirthSource, ExitSource, SexSource
@@ -31,8 +31,7 @@ LAST_BACKUP = "last_backup.csv"
 LAST_BACKUP_TITLES = ["time", "change", "moment"]
 
 
-@dataclass(frozen=True, slots=True)
-class LastBackup:
+class LastBackup(NamedTuple):
     """Its time, and the last change that it has."""
 
     time: datetime.datetime

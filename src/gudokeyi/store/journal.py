@@ -6,7 +6,6 @@ import json
 import pathlib
 import sqlite3
 from collections.abc import Collection, Iterable, Iterator
-from dataclasses import dataclass
 from typing import NamedTuple
 
 from gudokeyi.background import Pieces
@@ -237,8 +236,7 @@ def command_file_in_background(connection: sqlite3.Connection, journal: Journal)
     return Pieces(HEADER, len(parts), [read] * READERS)
 
 
-@dataclass(frozen=True)
-class Filed:
+class Filed(NamedTuple):
     """The commands of a change. They go on from the journal, or from as many of its commands as a new edition keeps.
     `text` is the command file after them, where it was made before."""
 

@@ -23,7 +23,7 @@ OFFSPRING = " + ".join(
 
 # where an animal stands in age order, and its coefficient
 PLACE, FRACTION, PERCENT = "place", "fraction", "percent"
-WITH_COEFFICIENT = f"{ALL_ROWS} CROSS JOIN coefficient USING (number)"
+WITH_COEFFICIENT = f"{ALL_ROWS} LEFT JOIN coefficient USING (number)"
 ALL_WITH_COEFFICIENT = "coefficient CROSS JOIN animal USING (number)"
 
 
@@ -31,12 +31,16 @@ def selected(book: Book, wanted: Sequence[str], condition: Condition = ANY) -> l
     """These columns of each animal for which a condition holds: of its row, or of its coefficient. A column may be an
     expression."""
     source, order = ALL_ROWS, "born, number"
-    if {PLACE, FRACTION, PERCENT} & set(wanted):
+    of_coefficient = [at for at, one in enumerate(wanted) if one in (PLACE, FRACTION, PERCENT)]
+    if of_coefficient:
         source, order = ALL_WITH_COEFFICIENT if condition == ANY else WITH_COEFFICIENT, PLACE
-        check_coefficients(book)
     where = f"{NOW} AND {IN_BOOK} AND {condition.text}"
     asked = f"SELECT {', '.join(wanted)} FROM {source} WHERE {where} ORDER BY {order}"
-    return book.connection.execute(asked, condition.values).fetchall()
+    found = book.connection.execute(asked, condition.values).fetchall()
+    # an animal without a coefficient comes first; of all animals it is left out, which their number tells
+    if of_coefficient and (condition == ANY or (found and found[0][of_coefficient[0]] is None)):
+        check_coefficients(book)
+    return found
 
 
 def check_coefficients(book: Book) -> None:

@@ -2,6 +2,7 @@
 from __future__ import annotations
 
 import enum
+import json
 from collections.abc import Iterable
 from typing import NamedTuple
 
@@ -82,6 +83,7 @@ def first_by_id(book: Book, condition: Condition, most: int) -> list[AnimalRow]:
 
 def rows_at(book: Book, found: Iterable[tuple[int, ...]]) -> list[AnimalRow]:
     """The rows at places of the table, each the first of what was found."""
-    one = f"SELECT {COLUMNS} FROM animal WHERE animal = ?"
     places = [place for place, *_ in found]
-    return [AnimalRow(*book.connection.execute(one, (place,)).fetchone()) for place in places]
+    those = f"SELECT animal, {COLUMNS} FROM animal WHERE animal IN (SELECT value FROM json_each(?))"
+    rows = {place: AnimalRow(*row) for place, *row in book.connection.execute(those, (json.dumps(places),))}
+    return [rows[place] for place in places]

@@ -220,8 +220,7 @@ def renamings(came: Mapping[str, int], now: Mapping[int, str]) -> list[tuple[str
     return found
 
 
-@dataclass(frozen=True)
-class Rows:
+class Rows(NamedTuple):
     """Rows of the state before and after a change. Those that aren't named stay."""
 
     before: dict[Values, Values]

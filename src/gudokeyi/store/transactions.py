@@ -5,6 +5,7 @@ from __future__ import annotations
 import contextlib
 import pathlib
 import sqlite3
+import threading
 import time
 from collections.abc import Callable, Iterator
 from typing import BinaryIO, TypeVar
@@ -13,7 +14,7 @@ from gudokeyi.domain.messages import CALLED
 from gudokeyi.domain.mistakes import BookBusy, BookUnusable, NoBook
 from gudokeyi.domain.waiting import seconds_left
 from gudokeyi.store.database import (
-    CLOSED, TRIES, connect, is_empty, migrate, path_of, primary, told, version_of, with_unfinished,
+    CLOSED, TRIES, connect, connect_to_hold, is_empty, migrate, path_of, primary, told, version_of, with_unfinished,
 )  # fmt: skip
 from gudokeyi.store.messages import BookFault
 from gudokeyi.store.schema import VERSION
@@ -22,6 +23,9 @@ from gudokeyi.store.schema import VERSION
 
 # so much of a book is kept in memory
 MOST_KILOBYTES = 64_000
+# by which it is seen whether a file was changed
+FileMark = tuple[int, int, int]
+MISSING: FileMark = (0, 0, 0)
 # how the names of sheets end
 SHEETS = (".csv", ".xlsx")
 
@@ -82,6 +86,42 @@ def begin_to_read(connection: sqlite3.Connection) -> None:
     connection.execute("SELECT count(*) FROM sqlite_schema").fetchone()
 
 
+class HeldOpen:
+    """Keeps what stands beside the file of a book as long as somebody goes on to ask it. By itself the last connection
+    that ends puts what isn't in the file yet into that: so the file would be another one again and again, and it would
+    have to be seen anew whether the book is whole, though nobody changed it."""
+
+    def __init__(self, folder: pathlib.Path) -> None:
+        self.path, self.lock = path_of(folder), threading.Lock()
+        self.connections, self.held = list[sqlite3.Connection](), MISSING
+
+    def hold(self) -> None:
+        """Holds the file that is there now; another one may have come to its place."""
+        if mark_of_file(self.path) == self.held:
+            return
+        with self.lock:
+            if mark_of_file(self.path) != self.held:
+                self.let_go()
+                self.hold_anew()
+                self.held = mark_of_file(self.path)
+
+    def hold_anew(self) -> None:
+        with contextlib.suppress(sqlite3.Error):
+            # one that only reads puts nothing into the file as it ends, and takes away nothing beside it
+            self.connections.append(connect_to_hold(self.path))
+            self.connections[0].execute("SELECT count(*) FROM sqlite_schema").fetchone()
+
+    def let_go(self) -> None:
+        while self.connections:
+            self.connections.pop().close()
+        self.held = MISSING
+
+    def end(self) -> None:
+        """Leaves the file as the last one who asks leaves it."""
+        with self.lock:
+            self.let_go()
+
+
 def bytes_of(connection: sqlite3.Connection) -> bytes:
     """A database as one file, with nothing beside it."""
     with file_of(connection) as file:
@@ -123,16 +163,17 @@ def copy_of(path: pathlib.Path, room: pathlib.Path) -> pathlib.Path:
     raise BookBusy(BookFault.ALWAYS_CHANGED.said(path=path))
 
 
-def marks(path: pathlib.Path) -> list[tuple[int, int, int] | None]:
-    """By which it is seen whether a file, or what isn't in it yet, was changed."""
-    found: list[tuple[int, int, int] | None] = []
-    for one in with_unfinished(path):
-        try:
-            stat = one.stat()
-            found.append((stat.st_ino, stat.st_size, stat.st_mtime_ns))
-        except FileNotFoundError:
-            found.append(None)
-    return found
+def marks(path: pathlib.Path) -> list[FileMark]:
+    """Those of a file and of what isn't in it yet."""
+    return [mark_of_file(one) for one in with_unfinished(path)]
+
+
+def mark_of_file(path: pathlib.Path) -> FileMark:
+    try:
+        stat = path.stat()
+    except FileNotFoundError:
+        return MISSING
+    return stat.st_ino, stat.st_size, stat.st_mtime_ns
 
 
 # A book as it is changed: by one at a time, whole or not at all.

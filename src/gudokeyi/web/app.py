@@ -18,7 +18,7 @@ from gudokeyi.web.language import (
 )  # fmt: skip
 from gudokeyi.web.mistakes import show_mistakes
 from gudokeyi.web.routes import PAGES
-from gudokeyi.web.served_book import EXTENSION, ServedBook, served_book
+from gudokeyi.web.served_book import EXTENSION, ServedBook, book_of_page, served_book
 
 # what stands above the pages: those that whoever asks may ask for
 MENU = {
@@ -91,6 +91,6 @@ def faults_of_book() -> list[MessageView]:
     if the_person() is None:
         return []
     # a book that can't be read is told by the page
-    with contextlib.suppress(Mistake), served_book().opened() as book:
+    with contextlib.suppress(Mistake), book_of_page() as book:
         return on_page(not_whole(served_book(), book)) if book and book.change else []
     return []

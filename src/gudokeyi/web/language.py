@@ -15,7 +15,7 @@ from gudokeyi.domain.settings import LANGUAGES, Setting
 from gudokeyi.render.page_language import PageLanguage, name_of
 from gudokeyi.render.page_wording import MessageView, sentence_in
 from gudokeyi.services.settings import settings_of
-from gudokeyi.web.served_book import served_book
+from gudokeyi.web.served_book import book_of_page, served_book
 
 CHOSEN = "language"
 NAMES_OF_LANGUAGES = {"en": "English", "de": "Deutsch", "fr": "Français"}
@@ -25,7 +25,7 @@ def usual_language() -> str:
     """That of the settings, else the one that the browser likes best, as where the book can't be read: the page that
     says why has a language too."""
     kept = ""
-    with contextlib.suppress(Mistake), served_book().opened() as book:
+    with contextlib.suppress(Mistake), book_of_page() as book:
         kept = settings_of(book)[Setting.LANGUAGE] if book else ""
     # one of a country stands for the language: fr-CH is French
     asked = (asked.partition("-")[0].lower() for asked, quality in request.accept_languages if quality > 0)

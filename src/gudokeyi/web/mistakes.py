@@ -75,6 +75,11 @@ def look_anew(_: BookMoved) -> ResponseReturnValue:
     return redirect(f"{request.path}?{urllib.parse.urlencode(given | {AGAIN: ['1'] * (times + 1)}, doseq=True)}")
 
 
+def is_made_anew() -> bool:
+    """Is a page asked for again since the book was changed while it was made?"""
+    return AGAIN in request.args
+
+
 def show_refused(error: HTTPException) -> ResponseReturnValue:
     """A request that isn't answered, with the reason in words."""
     why, text = reason_of(error)

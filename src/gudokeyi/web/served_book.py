@@ -9,13 +9,14 @@ from collections.abc import Callable, Iterator
 from dataclasses import dataclass, field
 from typing import Concatenate, ParamSpec, cast
 
-from flask import current_app, redirect, url_for
+from flask import current_app, g, redirect, url_for
 from werkzeug.wrappers import Response
 
 from gudokeyi.domain.changes import Mark
+from gudokeyi.domain.messages import Mistake
 from gudokeyi.services.book_session import BookSession
 from gudokeyi.services.cache import BookCache, Stamp
-from gudokeyi.services.opening import DATABASE, Book, book_in
+from gudokeyi.services.opening import DATABASE, Book, HeldOpen, book_in
 from gudokeyi.services.overview import Overviews
 from gudokeyi.web.files import Uploads
 from gudokeyi.web.workers import Exports, Job, Jobs
@@ -59,12 +60,16 @@ class ServedBook:
     is_closing: bool = False
     closes: threading.Event = field(default_factory=threading.Event)
 
+    def __post_init__(self) -> None:
+        self.held = HeldOpen(self.folder)
+
     def has_book(self) -> bool:
         return (self.folder / DATABASE).exists()
 
     @contextlib.contextmanager
     def opened(self) -> Iterator[Book | None]:
         """The book as it is now, whoever changes it meanwhile; none where there is none."""
+        self.held.hold()
         with book_in(self.folder) as book:
             yield book if book.is_there else None
 
@@ -83,6 +88,10 @@ class ServedBook:
         self.is_seen.wait(SECONDS_TO_SEE)
         self.exports.end()
         self.program.close()
+        self.held.end()
+        with contextlib.suppress(Mistake), book_in(self.folder):
+            # the last that reads it: nothing stays beside it
+            pass
 
 
 def served_book() -> ServedBook:
@@ -95,9 +104,23 @@ def with_book(page: Callable[Concatenate[Book, Given], Answer]) -> Callable[Give
 
     @functools.wraps(page)
     def shown(*values: Given.args, **named: Given.kwargs) -> Answer:
-        with served_book().opened() as book:
+        with book_of_page() as book:
             if book is None or book.change is None:
                 return redirect(url_for("start.page"))
             return page(book, *values, **named)
 
     return shown
+
+
+@contextlib.contextmanager
+def book_of_page() -> Iterator[Book | None]:
+    """The book as the page that is answered shows it: it is opened once for all of the page."""
+    if "book" in g:
+        yield g.book
+        return
+    with served_book().opened() as book:
+        g.book = book
+        try:
+            yield book
+        finally:
+            g.pop("book")

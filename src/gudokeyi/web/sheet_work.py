@@ -19,6 +19,7 @@ from gudokeyi.domain.kinds import Doing
 from gudokeyi.domain.messages import Mistake
 from gudokeyi.domain.options import Kind
 from gudokeyi.domain.settings import Setting
+from gudokeyi.process import take_as_others, take_what_is_left
 from gudokeyi.services.book_program import BookProgram
 from gudokeyi.services.cache import Stamp, StateKept, mark_of, stamp_of
 from gudokeyi.services.imports import BookAfter, ImportOptions, LettersUnsaid, Outcome, read_file
@@ -35,7 +36,7 @@ from gudokeyi.services.sheet_previews import (
 )  # fmt: skip
 from gudokeyi.web.forms import SHEET_FIELDS, made_by, owners_of
 from gudokeyi.web.views.findings import Days, days_of, first_of_each, totals_of
-from gudokeyi.web.work_places import LOOKING as LOOKING
+from gudokeyi.web.work_places import BOUNDS, LOOKING as LOOKING, TAKING
 from gudokeyi.web.workers import Tell
 
 
@@ -45,8 +46,8 @@ Value = TypeVar("Value")
 # the field that drops what has no row
 DROPS = "drop_gone"
 # so often a sheet is prepared while others file, and so often at most where they would wait longer than this for it, in
-# seconds: they give up after ten
-TRIES_BESIDE, MOST_TRIES, SECONDS_OTHERS_WAIT = 3, 15, 6.0
+# seconds
+TRIES_BESIDE, MOST_TRIES, SECONDS_OTHERS_WAIT = 3, 15, 2.5
 # the book and the sheet that this process looked at last
 STATE, READING = StateKept(), LastReading()
 # the settings by which sheets are read
@@ -211,6 +212,8 @@ def imported(folder: pathlib.Path, path: pathlib.Path, chosen: Chosen, asked: As
             found = prepared_for(book, path, chosen, asked, program)
             if isinstance(found, Imported):
                 return found
+            # from here on others wait for it
+            take_as_others()
             with contextlib.nullcontext(book) if may_wait else still_to_change(folder, book.change) as now:
                 is_same = stamp_of(now) == stamp
                 change = save(now, program, found)
@@ -231,6 +234,10 @@ def tries() -> Iterator[bool]:
 @contextlib.contextmanager
 def book_for(folder: pathlib.Path, program: BookProgram, may_wait: bool) -> Iterator[Book]:
     """The book for what is prepared; where others are to wait for that nobody else changes it."""
+    if may_wait:
+        take_as_others()
+    else:
+        take_what_is_left(BOUNDS[TAKING].niceness)
     with to_change(folder, program) if may_wait else to_prepare(folder, program) as book:
         yield book
 

@@ -2,7 +2,6 @@
 from __future__ import annotations
 
 import contextlib
-import os
 import pathlib
 import threading
 from typing import cast
@@ -10,6 +9,8 @@ from typing import cast
 from gudokeyi.domain.changes import Mark
 from gudokeyi.domain.messages import CALLED, Mistake
 from gudokeyi.domain.mistakes import BookUnusable
+from gudokeyi.domain.waiting import seconds_left
+from gudokeyi.process import take_what_is_left
 from gudokeyi.services.book_program import BookProgram
 from gudokeyi.services.book_session import BookMoved, SessionEnded
 from gudokeyi.services.cache import mark_of, stamp_of
@@ -32,7 +33,7 @@ def seen_whole(folder: pathlib.Path, _: Tell) -> Mark:
 
 def seen_by_parts(folder: pathlib.Path, niceness: int, _: Tell) -> tuple[str, ...]:
     """What is told of a book that isn't whole, part by part."""
-    os.nice(niceness)
+    take_what_is_left(niceness)
     try:
         return faults_by_parts(lambda: book_in(folder), BookProgram())
     except BookUnusable as mistake:
@@ -123,13 +124,16 @@ MOST_LOOKED_AT_HERE = 5_000
 
 def not_whole(served: ServedBook, book: Book, may_wait: bool = False) -> tuple[str, ...]:
     """What is wrong with the book, as it was seen, or with the kept coefficients; nothing is where it isn't known yet
-    and nobody waits for it. These are seen anew where somebody changed the book, or its file alone."""
+    and nobody waits for it. These are seen anew where somebody changed the book, or its file alone: of a large one in a
+    process beside, of which the next pages tell."""
     if served.faulty is not None and served.faulty[0] == mark_of(book):
         return served.faulty[1]
+    if is_trusted(served, book, may_wait):
+        return ()
     stamp = stamp_of(book)
-    if served.trusted == stamp or (
-        book.journal.length > MOST_LOOKED_AT_HERE and not served.is_seen.is_set() and not may_wait
-    ):
+    if book.journal.length > MOST_LOOKED_AT_HERE and not may_wait:
+        if served.is_seen.is_set() and not served.jobs.turn.locked():
+            begin_to_see(served)
         return ()
     try:
         return served.kept.of(book, ("coefficients", stamp), lambda: told_of_coefficients(book, served.program))
@@ -137,6 +141,16 @@ def not_whole(served: ServedBook, book: Book, may_wait: bool = False) -> tuple[s
         return ()
     except Mistake as mistake:
         return mistake.sentences
+
+
+def is_trusted(served: ServedBook, book: Book, may_wait: bool) -> bool:
+    """Is it known that the book and its file are whole? Of a change that ends at this moment it is known in a
+    moment."""
+    if served.trusted == stamp_of(book):
+        return True
+    if may_wait and served.jobs.turn.acquire(timeout=seconds_left()):
+        served.jobs.turn.release()
+    return may_wait and served.trusted == stamp_of(book)
 
 
 def refuse_to_certify(served: ServedBook, book: Book) -> None:

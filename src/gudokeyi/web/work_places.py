@@ -25,7 +25,7 @@ class Bounds:
 
 
 BOUNDS = {
-    TAKING: Bounds(1, 3600, 0), LOOKING: Bounds(2, 1800, 2), BREED: Bounds(1, 900, 10), PLANNING: Bounds(1, 1800, 10),
+    TAKING: Bounds(1, 3600, 2), LOOKING: Bounds(2, 1800, 3), BREED: Bounds(1, 900, 10), PLANNING: Bounds(1, 1800, 10),
 }  # fmt: skip
 OTHERS = Bounds(1, 900, 10)
 # so many of a kind one person may have asked for that aren't over

@@ -7,7 +7,7 @@ import os
 import resource
 import sys
 
-from gudokeyi.process import is_for_one_change, with_cells_of_any_length, with_short_turns
+from gudokeyi.process import is_for_one_change, take_what_is_left, with_cells_of_any_length, with_short_turns
 from gudokeyi.web.worker_processes import work_in_process
 
 # so much memory it may use
@@ -22,7 +22,7 @@ if __name__ == "__main__":
     with_short_turns()
     with_cells_of_any_length()
     is_for_one_change()
-    os.nice(int(sys.argv[1]))
+    take_what_is_left(int(sys.argv[1]))
     # whatever the work prints stays out of the messages
     with os.fdopen(os.dup(1), "wb") as messages:
         os.dup2(2, 1)

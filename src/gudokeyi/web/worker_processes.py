@@ -129,8 +129,8 @@ def do_work(work: Work, values: tuple[object, ...], out: BinaryIO) -> None:
 
 # Processes that looked at something, for the next look at the same: they have read it already.
 
-# so many are kept, and each so many seconds
-MOST_KEPT, SECONDS_KEPT = 2, 120
+# so many are kept, of which each has a whole book, and each so many seconds
+MOST_KEPT, SECONDS_KEPT = 1, 120
 Key = tuple[object, ...]
 
 

@@ -17,6 +17,7 @@ from gudokeyi.domain.messages import Mistake
 from gudokeyi.domain.people import WORKER
 from gudokeyi.domain.requests import WebFault
 from gudokeyi.domain.waiting import UNTIL
+from gudokeyi.process import take_what_is_left
 from gudokeyi.services.folder_files import refresh
 from gudokeyi.web.work_places import BOUNDS, LOOKING, MOST_OF_PERSON, OTHERS, TAKING as TAKING, Bounds, Places
 from gudokeyi.web.worker_processes import Failed, Finished, KeptProcesses, Progress, Tell as Tell, WorkerProcess
@@ -334,4 +335,5 @@ class Exports:
 
 
 def refreshed(folder: pathlib.Path, _: Tell) -> str:
+    take_what_is_left(OTHERS.niceness)
     return refresh(folder, SECONDS)

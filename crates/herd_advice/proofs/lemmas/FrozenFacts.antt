@@ -24,12 +24,12 @@ use Rattle.herd_frozen.specs.rules.Book.{is_there, record_of}
 use Rattle.herd_frozen.specs.freezing.Frozen.{IsFrozen, IsFrozenRow, IsRankOf, age_cmp, book_of, numbers_of, parents_of}
 use Rattle.herd_frozen.proofs.lemmas.ListFacts.{there}
 use Rattle.herd_kinship.specs.Ancestry.{IsParentIn, PathTo}
-use Rattle.herd_advice.specs.BookCoefficients.{AreBookCoefficients, AreBookCoefficientsOf, AreBookRelationships, AreRanksOf, KnowsBookAncestors}
+use Rattle.herd_advice.specs.BookCoefficients.{AreBookCoefficients, AreBookCoefficientsOf, AreRanksOf, KnowsBookAncestors}
+use Rattle.herd_advice.specs.BookRelationships.{IsInLineage}
 use Rattle.herd_advice.specs.FrozenAncestry.{ancestry_of, number_of_row}
 use Rattle.herd_kinship.specs.Ranks.{AreParentsAt, ranked}
 use Rattle.herd_kinship.specs.Table.{coefficient, entry, mendelian}
 use Rattle.herd_kinship.specs.Coefficients.{AreCoefficients, KnowsAncestors}
-use Rattle.herd_kinship.specs.Columns.{AreRelationships}
 use Rattle.herd_lineage.specs.declared.lineage.Parents.{Parents}
 use Rattle.herd_pruned.specs.Known.{AreCoefficientsOf}
 use Rattle.herd_pruned.proofs.lemmas.MarkedFacts.{comes_itself}
@@ -284,10 +284,11 @@ module _ (l most : ℕ) (rows : List Row) (f : IsFrozen l most rows) (made : Lis
     right = λ i li. let at : i < length rows = subst (λ n. i < n) long li in are.right i at ∙ coefficient-book i at;
   }
 
-  pub relationships-book : (i : ℕ) → i < length rows → (column : List ℕ) → AreRelationships l made i column → AreBookRelationships l rows i column
-  relationships-book i li column are = record {
-    each = are.each ∙ long;
-    right = λ j lj. are.right j (rw long lj) ∙ sym (entry-book (2 * l) i j li lj);
+  -- the animal at a rank of the lineage is that of the book
+  pub rank-book : (i : ℕ) → i < length rows → IsInLineage l rows i (record { rows = made; rank = i })
+  rank-book i li = record {
+    each = long;
+    right = λ j lj. sym (entry-book (2 * l) i j li lj);
   }
 
   -- a path to an ancestor by ranks is one by numbers

@@ -10,3 +10,4 @@ pub mod RowsFacts
 pub mod NextRowFacts
 pub mod FreezeFacts
 pub mod LinkFacts
+pub mod ExistsFacts

@@ -13,3 +13,4 @@ pub mod ChainFacts
 pub mod CarryFacts
 pub mod CorrectionFacts
 pub mod CalvedFacts
+pub mod AncestorFacts

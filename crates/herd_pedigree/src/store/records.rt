@@ -157,6 +157,14 @@ impl<A: Allocator> Records<A> {
         self.animal_of(&self.entries[place])
     }
 
+    /// The number and the record at a place.
+    pub(crate) fn entry_at(&self, place: usize) -> (AnimalNumber, Animal)
+        requires { place < length self.now.book }
+        ensures { slice_get self.now.book place ≡ Some result }
+    {
+        (self.entries.keys()[place], self.animal_at(place))
+    }
+
     /// The record of an animal.
     #[inline(always)]
     pub fn get(&self, number: &AnimalNumber) -> Option<Animal>

@@ -1,19 +1,17 @@
 -- The lines of pairs.
-use Rattle.std.proofs.Common.{◌≡◌, ◌∙◌, ℕ, ◌+◌, ◌-◌, ◌*◌, ◌<◌, ◌^◌, decimal, Bool, true, false, List, [], ◌∷◌, ◌++◌, All, codes, length, drop, slice_get, Some, ap, ap₂, arith, refl, take}
+use Rattle.std.proofs.Common.{◌≡◌, ◌∙◌, ℕ, ◌+◌, ◌-◌, ◌*◌, ◌<◌, ◌^◌, decimal, Bool, true, false, List, [], ◌∷◌, ◌++◌, codes, length, drop, slice_get, Some, ap, arith, refl, take}
 use Rattle.std.proofs.Math.Seq.{take-length}
 use Rattle.std.proofs.lemmas.List.{drop_more, length-drop}
-use Rattle.std.proofs.lemmas.List.Elements.{All-head, All-tail}
 use Rattle.std.proofs.lemmas.Option.{get_or_from_slice_get, slice_get_within}
 use Rattle.herd_lineage.specs.declared.TheConstants.{DEPTH_LIMIT}
 use Rattle.herd_lineage.specs.declared.lineage.Parents.{Parents}
-use Rattle.herd_kinship.specs.Columns.{AreRelationships}
 use Rattle.herd_kinship.specs.Ranks.{ranked}
 use Rattle.herd_kinship.specs.Table.{entry}
 use Rattle.herd_kinship.specs.Fraction.{fraction_text, halved}
 use Rattle.herd_pedigree_file.specs.Number.{number_text}
 use Rattle.herd_text.proofs.lemmas.TextFacts.{some_after, some_before}
 use Rattle.herd_pedigree_report.specs.Notation.{relationship_line_end}
-use Rattle.herd_pedigree_report.specs.RelationshipList.{column_lines, lines_with, pair_line, pair_lines, partners_of}
+use Rattle.herd_pedigree_report.specs.RelationshipList.{lines_with, pair_line, pair_lines, partners_of}
 
 -- a line isn't empty
 some_relationship_end : (in_units : Bool) (numerator : ℕ) → 0 < length (relationship_line_end in_units numerator)
@@ -32,15 +30,6 @@ some_lines_with in_units lineage x [] some = absurd (omega arith)
 some_lines_with in_units lineage x (y ∷ partners) some =
     some_before (pair_line in_units x y (entry (ranked lineage) (2 * DEPTH_LIMIT) (Some x) (Some y))) (lines_with in_units lineage x partners)
     (some_pair_line in_units x y (entry (ranked lineage) (2 * DEPTH_LIMIT) (Some x) (Some y)))
-
--- a column has the entries of its animal
-pub column_lines-are : (in_units : Bool) (lineage : List Parents) (x : ℕ) (column partners : List ℕ) → AreRelationships DEPTH_LIMIT lineage x column
-    → All (λ rank. rank < length lineage) partners → column_lines in_units column x partners ≡ lines_with in_units lineage x partners
-column_lines-are in_units lineage x column [] are all = refl
-column_lines-are in_units lineage x column (y ∷ partners) are all =
-    ap₂ (λ numerator rest. pair_line in_units x y numerator ++ rest)
-    (are.right y (All-head (λ rank. rank < length lineage) y partners all))
-    (column_lines-are in_units lineage x column partners are (All-tail (λ rank. rank < length lineage) y partners all))
 
 -- the partners are the same where a part of a list is its end
 pub partners_are : (among among' : Bool) (others animals partners : List ℕ) (place : ℕ) → among' ≡ among

@@ -1,16 +1,21 @@
 -- What is shown of each level, of whole trees.
-use Rattle.std.proofs.Common.{◌≡◌, ℕ, ◌<◌, ◌≤◌, ◌^◌, List, [], length, sym, ◌∙◌, ap, subst, arith, append-nil}
+use Rattle.std.proofs.Common.{◌≡◌, ℕ, zero, suc, ◌+◌, ◌<◌, ◌≤◌, ◌^◌, List, [], ◌∷◌, length}
+use Rattle.std.proofs.Common.{take, drop, sym, ◌∙◌, ap, subst, arith, append-nil, inl, inr}
+use Rattle.std.proofs.lemmas.Bool.{cases_lt}
+use Rattle.std.proofs.lemmas.List.Elements.{All-append, All-cons, All-drop, All-nil, All-take}
 use Rattle.std.specs.List.{All}
 use Rattle.std.specs.Prelude.{IfSome}
 use Rattle.std.specs.Option.{option_map}
 use Rattle.std.specs.declared.option.Option.{Option}
 use Rattle.std.specs.declared.option.Option.TheVariants.{None, Some}
-use Rattle.merkle_tree.specs.Tree.{IsDigest, tree_root}
-use Rattle.merkle_tree.specs.Shown.{AreDigests, Found, IsAscending, LieWithin, beside, beside_at, found, found_at, found_in, shown_of}
+use Rattle.merkle_tree.specs.Tree.{IsDigest, tree_at, tree_root}
+use Rattle.merkle_tree.specs.Shown.{AreDigests, Found, IsAscending, LieWithin, beside, beside_at}
+use Rattle.merkle_tree.specs.Shown.{count_before, found, found_at, found_in, shown_of}
 use Rattle.merkle_tree.specs.Collision.{ShowsLeaves, checked_of, nodes_of}
 use Rattle.merkle_tree.specs.declared.shown.Shown.{Shown}
 use Rattle.merkle_tree.specs.declared.shown.Part.{Part}
-use Rattle.merkle_tree.proofs.lemmas.Sound.{sound_at}
+use Rattle.merkle_tree.proofs.lemmas.Sound.{sound_at, tree_is_digest}
+use Rattle.merkle_tree.proofs.lemmas.Steps.{beside_nothing, beside_skip, beside_split, beside_zero}
 use Rattle.merkle_tree.proofs.lemmas.Complete.{complete_at}
 
 pub shows_leaves : (count : ℕ) (shown : List Shown) (digests : List (List ℕ)) (f : Found) → All IsDigest digests → AreDigests shown → 0 < count → count ≤ 2 ^ 64
@@ -41,3 +46,42 @@ found_complete count shown digests few leaves places long ascending lie are is =
 pub exact : (count : ℕ) (shown : List Shown) (digests : List (List ℕ)) (o : Option Found) → o ≡ found_at 64 0 count shown digests → o ≡ found count shown digests
 unfolding found
 exact count shown digests o e = e
+
+-- digests beside some of a tree's leaves are digests where the leaves are
+abbrev AreBeside : ℕ → Type 0
+AreBeside level = (base : ℕ) (leaves : List (List ℕ)) (places : List ℕ) → All IsDigest leaves
+    → All IsDigest (beside_at level base leaves places)
+
+one_digest : (level base : ℕ) (leaves : List (List ℕ)) → All IsDigest leaves
+    → All IsDigest (beside_at level base leaves [])
+one_digest level base leaves each =
+    subst (λ (l : List (List ℕ)). All IsDigest l) (sym (beside_nothing level base leaves))
+    (All-cons IsDigest (tree_at level leaves) [] (tree_is_digest level leaves each) (All-nil IsDigest))
+
+of_halves : (level : ℕ) → AreBeside level → AreBeside (suc level)
+of_halves level lower base leaves [] each = one_digest (suc level) base leaves each
+of_halves level lower base leaves (first ∷ rest) each =
+    let n = count_before (base + 2 ^ level) (first ∷ rest) in
+    elim (cases_lt (2 ^ level) (length leaves)) [
+      | inl more ↦
+          subst (λ (l : List (List ℕ)). All IsDigest l) (sym (beside_split level base leaves first rest more))
+          (All-append IsDigest _ _
+          (lower base (take (2 ^ level) leaves) (take n (first ∷ rest)) (All-take IsDigest (2 ^ level) leaves each))
+          (lower (base + 2 ^ level) (drop (2 ^ level) leaves) (drop n (first ∷ rest))
+          (All-drop IsDigest (2 ^ level) leaves each)))
+      | inr fits ↦
+          subst (λ (l : List (List ℕ)). All IsDigest l) (sym (beside_skip level base leaves first rest fits))
+          (lower base leaves (first ∷ rest) each)
+    ]
+
+are_beside : (level : ℕ) → AreBeside level
+are_beside zero base leaves [] each = one_digest zero base leaves each
+are_beside zero base leaves (first ∷ rest) each =
+    subst (λ (l : List (List ℕ)). All IsDigest l)
+    (sym (beside_zero base leaves (first ∷ rest) (λ e. absurd (omega (arith, e))))) (All-nil IsDigest)
+are_beside (suc level) base leaves places each = of_halves level (are_beside level) base leaves places each
+
+pub beside_are_digests : (leaves : List (List ℕ)) (places : List ℕ) → All IsDigest leaves
+    → All IsDigest (beside leaves places)
+unfolding beside
+beside_are_digests leaves places each = are_beside 64 0 leaves places each

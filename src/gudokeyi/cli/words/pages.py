@@ -4,6 +4,7 @@ from __future__ import annotations
 import argparse
 import datetime
 import pathlib
+from typing import TYPE_CHECKING
 
 from gudokeyi.cli.arguments import add_choice, add_force, day, file, generations
 from gudokeyi.cli.parser import CommandWords
@@ -12,18 +13,13 @@ from gudokeyi.domain.messages import Mistake, counted
 from gudokeyi.domain.mistakes import WrongWords
 from gudokeyi.domain.settings import LANGUAGES
 from gudokeyi.packages import Group
-from gudokeyi.render.drawing import file_name
-from gudokeyi.render.languages import Language
 from gudokeyi.services.animals import kept_coefficients
-from gudokeyi.services.book_program import BookProgram
-from gudokeyi.services.cache import SeenWhole
 from gudokeyi.services.certificates import GENERATIONS, MOST_GENERATIONS, begin_certificates
-from gudokeyi.services.opening import Book
-from gudokeyi.services.output_files import write_outs, write_page
-from gudokeyi.services.seals import last_sealed
 from gudokeyi.services.search import find, named_in
-from gudokeyi.services.settings import picture_of
-from gudokeyi.services.verification import refuse_to_certify
+
+if TYPE_CHECKING:
+    from gudokeyi.services.book_program import BookProgram
+    from gudokeyi.services.opening import Book
 
 
 def add_words(words: CommandWords) -> None:
@@ -78,6 +74,12 @@ def certified(asked: argparse.Namespace, book: Book, program: BookProgram) -> ob
 
 def do_certificate(asked: argparse.Namespace, book: Book, program: BookProgram) -> None:
     from gudokeyi.render.certificates import Issue, PrintedPicture, Society, certificates_page
+    from gudokeyi.render.drawing import file_name
+    from gudokeyi.render.languages import Language
+    from gudokeyi.services.cache import SeenWhole
+    from gudokeyi.services.seals import last_sealed
+    from gudokeyi.services.settings import picture_of
+    from gudokeyi.services.verification import refuse_to_certify
 
     animals = animals_asked_for(asked, book)
     numbers = [animal.registration_number for animal in animals]
@@ -113,6 +115,8 @@ def drawn(asked: argparse.Namespace, book: Book, program: BookProgram) -> object
 
 
 def do_pedigree(asked: argparse.Namespace, book: Book, program: BookProgram) -> None:
+    from gudokeyi.render.drawing import file_name
+    from gudokeyi.render.languages import Language
     from gudokeyi.render.pedigree_pictures import Pedigree
 
     animal = find(book, asked.id)
@@ -130,6 +134,7 @@ def trend_values(asked: argparse.Namespace, book: Book, program: BookProgram) ->
 
 
 def do_trend(asked: argparse.Namespace, book: Book, program: BookProgram) -> None:
+    from gudokeyi.render.languages import Language
     from gudokeyi.render.trend_pictures import trend_picture
 
     give(asked, book, trend_picture(book, kept_coefficients(book), Language(asked.language)), "trend.svg")
@@ -137,6 +142,8 @@ def do_trend(asked: argparse.Namespace, book: Book, program: BookProgram) -> Non
 
 def give(asked: argparse.Namespace, book: Book, text: str, name: str, what: str = "") -> None:
     """Writes a page or picture, where no file is named to one in the book's folder."""
+    from gudokeyi.services.output_files import write_outs, write_page
+
     path = asked.out or asked.book / name
     if asked.out:
         write_outs(book, {path: text.encode()}, asked.force)

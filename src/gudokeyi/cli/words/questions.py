@@ -13,7 +13,6 @@ from gudokeyi.domain.messages import counted
 from gudokeyi.domain.mistakes import WrongWords
 from gudokeyi.services.book_program import BookProgram
 from gudokeyi.services.opening import Book
-from gudokeyi.services.output_files import write_outs
 from gudokeyi.services.search import find, named_in
 
 
@@ -129,6 +128,8 @@ def do_export(asked: argparse.Namespace, book: Book, program: BookProgram) -> No
         return
     rows = triples(book, kept)
     if asked.out:
+        from gudokeyi.services.output_files import write_outs
+
         write_outs(book, {asked.out: triples_text(rows).encode()}, asked.force)
         print(f"{asked.out}: {counted(len(rows), 'animal')}")
     else:

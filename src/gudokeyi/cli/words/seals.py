@@ -22,8 +22,9 @@ CHECKED = (
     "coefficient, unless somebody has two texts with the same SHA-256"
 )
 NOT_CHECKED = (
-    "not checked: who the society is and whether the seal is its own, whether the animal before you is this one, what "
-    "happened since the seal was made, and whether the society wrote the truth"
+    "not checked: who the society is and whether the seal is its own (take the seal from where the society published "
+    "it), whether the animal before you is this one (the file has neither tags nor names), what happened since the day "
+    "of the seal, and whether the society wrote the truth"
 )
 
 
@@ -93,7 +94,8 @@ def do_check(asked: argparse.Namespace) -> None:
     except CertificateRefused as refused:
         asked.status = Status.REFUSED
         print(f"refused,{refused.fault.code},{refused.line}")
-        tell(refused.sentences[0])
+        for sentence in refused.sentences:
+            tell(sentence)
         return
     sys.stdout.write(checked.text)
     tell(CHECKED)

@@ -288,6 +288,18 @@ class MayBeUnknown(PlausibilityWarning):
 
 
 @dataclass(frozen=True, slots=True)
+class LikeNoId(MayBeUnknown):
+    """A parent without a row that is written like no id of the sheet."""
+
+    code = "like no id"
+    message = Text("{word} has no row and is written like no id, and is {maybe_sire_of}{maybe_has_both}{maybe_dam_of}")
+    page_message = Text(
+        "'{word}' has no row, and is written like no id{maybe_sire_of_on_page}{maybe_dam_of_on_page}: is an unknown "
+        "animal meant?"
+    )
+
+
+@dataclass(frozen=True, slots=True)
 class MoreMayBeUnknown(PlausibilityWarning):
     """More such parents than are told one by one."""
 

@@ -11,8 +11,12 @@ from werkzeug.wrappers import Response
 from gudokeyi.domain.animals import SocietyRecord
 from gudokeyi.render.certificates import Issue, PrintedPicture, Society, certificates_page
 from gudokeyi.render.pedigree_pictures import Pedigree
+from gudokeyi.services.book_program import BookProgram
+from gudokeyi.services.book_session import BookMoved
 from gudokeyi.services.certificates import GENERATIONS, MOST_GENERATIONS as MOST_CERTIFIED, begin_certificates
-from gudokeyi.services.animals import animal_numbered, kept_coefficients, society_record_of, relatives_of
+from gudokeyi.services.animals import (
+    animal_numbered, family_coefficients, kept_coefficients, read_line, relatives_of, society_record_of,
+)  # fmt: skip
 from gudokeyi.services.notes import notes_of
 from gudokeyi.services.opening import Book
 from gudokeyi.services.selection import Choice, chosen
@@ -22,6 +26,7 @@ from gudokeyi.web.access import printed
 from gudokeyi.web.breed_work import kinship_of
 from gudokeyi.web.verification import refuse_to_certify
 from gudokeyi.web.language import page_language
+from gudokeyi.web.mistakes import is_made_anew
 from gudokeyi.web.served_book import Answer, served_book, with_book
 from gudokeyi.web.views.animals import Shower, drawn_within
 from gudokeyi.web.views.changes import own_changes
@@ -36,12 +41,13 @@ DRAWN, MOST_GENERATIONS = 4, 10
 @with_book
 def animal(book: Book, number: str) -> Answer:
     animal = animal_of(book, number)
-    row = book.row(animal)
-    coefficients, words = kept_coefficients(book), page_language()
+    read_line(book, animal.registration_number, DRAWN)
+    row, relatives = book.row(animal), relatives_of(book, animal)
+    coefficients, words = family_coefficients(book, relatives), page_language()
     pedigree = Pedigree(book, animal, coefficients, DRAWN, words.printed(), address_of)
     shower = Shower(book, coefficients, words)
     return render_template(
-        "animal.html", animal=shower.shown(row, relatives_of(book, animal)),
+        "animal.html", animal=shower.shown(row, relatives),
         ancestors=shower.ancestors(animal.registration_number, DRAWN),
         pedigree=Markup(drawn_within(pedigree, words.gettext("Pedigree of {}", animal.id))), changes=own_changes(
             book, animal.id, words
@@ -108,7 +114,13 @@ def certificates(
 ) -> Response:
     refuse_to_certify(served_book(), book)
     numbers = [animal.registration_number for animal in animals]
-    certified = begin_certificates(book, served_book().program, numbers, generations)
+    try:
+        certified = begin_certificates(book, served_book().program, numbers, generations)
+    except BookMoved:
+        # whoever prints while others file needn't ask again and again: the program itself tells of the book as it was
+        if not is_made_anew():
+            raise
+        certified = begin_certificates(book, BookProgram(), numbers, generations)
     picture = picture_of(book)
     shown = PrintedPicture(url_for("settings.picture"), picture.width, picture.height) if picture else None
     issue = Issue(
@@ -125,5 +137,8 @@ def pedigree(book: Book, number: str) -> Answer:
     refuse_to_certify(served_book(), book)
     asked = request.args.get("generations", "")
     generations = int(asked) if asked in map(str, range(1, MOST_GENERATIONS + 1)) else DRAWN
-    found = Pedigree(book, animal_of(book, number), kept_coefficients(book), generations, page_language().printed())
+    animal = animal_of(book, number)
+    read_line(book, animal.registration_number, generations)
+    coefficients = kept_coefficients(book, book.rows_read)
+    found = Pedigree(book, animal, coefficients, generations, page_language().printed())
     return printed(found.text(), "text/html" if found.is_long else "image/svg+xml")

@@ -9,13 +9,14 @@ from werkzeug.datastructures import FileStorage
 
 from gudokeyi.domain.messages import Mistake
 from gudokeyi.domain.requests import WebFault
-from gudokeyi.domain.seals import TITLES, PublishedSeal
+from gudokeyi.domain.seals import TITLES, CertificateRefused, PublishedSeal
 from gudokeyi.render.page_wording import MessageView
 from gudokeyi.services.book_program import BookProgram
 from gudokeyi.services.cache import stamp_of
 from gudokeyi.services.opening import Book
 from gudokeyi.services.seal_publishing import publish_seal
-from gudokeyi.services.seals import CheckedCertificate, check_file, first_with, published_seals
+from gudokeyi.services.seals import CheckedCertificate, check_file, digits_of, first_with, published_seals
+from gudokeyi.services.written_anew import written_anew
 from gudokeyi.web.language import csv_file, gettext, on_page, page_language
 from gudokeyi.web.served_book import Answer, served_book, with_book
 from gudokeyi.web.verification import verified
@@ -29,17 +30,19 @@ def seals() -> Answer:
     return shown([], "")
 
 
-def shown(faults: list[MessageView], given: str) -> str:
+def shown(faults: list[MessageView], given: str, is_refused: bool = False) -> str:
     """The page, also where there is no book: a certificate may be another society's. `given` is a seal that somebody
-    wrote."""
+    wrote, and `faults` say why nothing was checked, or why a certificate is refused."""
     with served_book().opened() as book:
         has_book = book is not None and book.change is not None
         published = published_seals(book) if book and has_book else []
+        anew = written_anew(book, published) if book else {}
         is_of_now = bool(published) and book is not None and is_sealed(book, published[-1])
-    lines = [line_of(one, page_language()) for one in reversed(published)]
+    lines = [line_of(one, anew.get(one), page_language()) for one in reversed(published)]
     return render_template(
-        "seals.html", faults=faults, given={"seal": given}, has_book=has_book, lines=lines, is_of_now=is_of_now
-    )
+        "seals.html", faults=faults, is_refused=is_refused, given={"seal": given}, has_book=has_book, lines=lines,
+        has_anew=bool(anew), is_of_now=is_of_now,
+    )  # fmt: skip
 
 
 def is_sealed(book: Book, published: PublishedSeal) -> bool:
@@ -77,16 +80,19 @@ def publish() -> Answer:
 @page.post("/seals/check")
 def check() -> Answer:
     """What the program says of a certificate's file, under a seal. Of the file nothing else is shown."""
-    seal, file = "".join(request.form.get("seal", "").split()), request.files.get("certificate")
+    given, file = request.form.get("seal", "").strip(), request.files.get("certificate")
     if file is None or not file.filename:
-        return shown([MessageView(gettext("Choose a file first."))], seal), 400
+        return shown([MessageView(gettext("Choose a file first."))], given), 400
     try:
+        seal = digits_of(given)
         checked = checked_of(file, seal)
     except Mistake as mistake:
-        return shown(on_page(mistake.sentences), seal), 400
+        return shown(on_page(mistake.sentences), given, isinstance(mistake, CertificateRefused)), 400
     with served_book().opened() as book:
         published = first_with(book, seal) if book else None
-    return render_template("checked.html", checked=view_of(checked, seal, published, page_language()))
+        anew = written_anew(book, [published]) if book and published else {}
+    line = line_of(published, anew.get(published), page_language()) if published else None
+    return render_template("checked.html", checked=view_of(checked, seal, page_language()), line=line)
 
 
 def checked_of(file: FileStorage, seal: str) -> CheckedCertificate:

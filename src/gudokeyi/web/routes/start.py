@@ -18,7 +18,7 @@ from gudokeyi.services.restoring import has_old_files, last_backup
 from gudokeyi.web.addresses import is_safe_redirect
 from gudokeyi.web.files import EXAMPLE
 from gudokeyi.web.language import CHOSEN, page_language
-from gudokeyi.web.served_book import Answer, served_book
+from gudokeyi.web.served_book import Answer, book_of_page, served_book
 from gudokeyi.web.views.animals import line_of
 from gudokeyi.web.views.changes import lines_of
 from gudokeyi.web.workers import TAKING
@@ -37,7 +37,7 @@ FILED = (CommandKind.BIRTH, CommandKind.EXIT, CommandKind.TRANSFER)
 @page.get("/", endpoint="page")
 def start() -> Answer:
     served = served_book()
-    with served.opened() as book:
+    with book_of_page() as book:
         if book is None or book.change is None:
             taking, is_old = served.jobs.under_way(TAKING), has_old_files(served.folder)
             return render_template("begin.html", has_example=EXAMPLE.exists(), taking=taking, is_old=is_old)

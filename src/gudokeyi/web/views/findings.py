@@ -50,8 +50,13 @@ def suggestions_of(findings: Iterable[Finding]) -> tuple[Suggestion, ...]:
 
 def days_of(findings: Iterable[Finding]) -> dict[str, list[int]]:
     """For each bound the days that findings suggest for it."""
-    options = [option for finding in findings for one in finding.suggestions() for option in one.options]
-    return {bound: [int(one.word) for one in options if one.option == bound] for bound in BOUNDS}
+    found: dict[str, list[int]] = {bound: [] for bound in BOUNDS}
+    # a large sheet has thousands, and few kinds suggest a bound
+    for finding in findings:
+        if isinstance(finding, BirthsTooNear | YoungParent):
+            for option in (option for one in finding.suggestions() for option in one.options if option.option in found):
+                found[option.option].append(int(option.word))
+    return found
 
 
 def proposed(suggestions: Sequence[Suggestion], words: PageLanguage) -> list[Proposed]:

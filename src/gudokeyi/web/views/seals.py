@@ -3,8 +3,10 @@ from __future__ import annotations
 
 from typing import NamedTuple
 
-from gudokeyi.domain.seals import PublishedSeal
+from gudokeyi.domain.messages import MessageText
+from gudokeyi.domain.seals import SHOWN_DIGITS, PublishedSeal
 from gudokeyi.render.page_language import PageLanguage, name_of
+from gudokeyi.render.page_wording import MessageView, sentence_in
 from gudokeyi.services.facts import Fact
 from gudokeyi.services.seals import CheckedCertificate, CheckedRecord
 
@@ -15,19 +17,27 @@ SEX_AT = 6
 
 
 class SealLine(NamedTuple):
-    """A published seal in a row of a table."""
+    """A published seal in a row of a table, and what is told where its journal was written anew since."""
 
     day: str
     edition: str
     steps: str
     animals: str
-    digits: str
+    parts: list[str]
+    anew: MessageView | None
 
 
-def line_of(published: PublishedSeal, words: PageLanguage) -> SealLine:
+def line_of(published: PublishedSeal, anew: MessageText | None, words: PageLanguage) -> SealLine:
     seal = published.seal
-    steps, animals = words.count(seal.steps), words.count(seal.animals)
-    return SealLine(words.day(published.day), words.count(published.edition), steps, animals, seal.digits)
+    return SealLine(
+        words.day(published.day), words.count(published.edition), words.count(seal.steps), words.count(seal.animals),
+        parts_of(seal.digits), sentence_in(anew, words) if anew else None,
+    )  # fmt: skip
+
+
+def parts_of(digits: str) -> list[str]:
+    """A seal in parts that are compared one by one."""
+    return [digits[at : at + SHOWN_DIGITS] for at in range(0, len(digits), SHOWN_DIGITS)]
 
 
 class RecordLine(NamedTuple):
@@ -44,28 +54,25 @@ class RecordLine(NamedTuple):
 
 
 class CheckedView(NamedTuple):
-    """What the page of a check shows. `published` is the day on which the seal was published, empty where it is none of
-    the society's own; `more` says how many records aren't shown."""
+    """What the page of a check shows: the animal's own record stands above those of its ancestors; `more` says how many
+    of these aren't shown."""
 
-    number: str
+    own: RecordLine
     percent: str
     fraction: str
     steps: str
     animals: str
-    seal: str
-    published: str
+    parts: list[str]
     records: list[RecordLine]
     more: int
 
 
-def view_of(
-    checked: CheckedCertificate, seal: str, published: PublishedSeal | None, words: PageLanguage
-) -> CheckedView:
-    """The animal first, and the youngest of its ancestors next."""
-    last_first = checked.records[::-1]
+def view_of(checked: CheckedCertificate, seal: str, words: PageLanguage) -> CheckedView:
+    """The youngest of the ancestors first."""
+    own, *last_first = checked.records[::-1]
     return CheckedView(
-        checked.registration_number, words.percent(checked.coefficient.percent), checked.coefficient.fraction,
-        words.count(checked.steps), words.count(checked.animals), seal.lower(), words.day(published and published.day),
+        record_line(own, words), words.percent(checked.coefficient.percent), checked.coefficient.fraction,
+        words.count(checked.steps), words.count(checked.animals), parts_of(seal),
         [record_line(one, words) for one in last_first[:MOST_SHOWN]], max(0, len(last_first) - MOST_SHOWN),
     )  # fmt: skip
 

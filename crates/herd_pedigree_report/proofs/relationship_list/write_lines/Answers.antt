@@ -1,8 +1,8 @@
 -- `write_lines`: its lines are those of its column.
-use Rattle.std.proofs.Common.{◌<◌, All, length, arith, subst, sym}
+use Rattle.std.proofs.Common.{◌<◌, length, arith}
 use Rattle.herd_text.proofs.lemmas.Exits.{on_err}
 use Rattle.herd_text.proofs.lemmas.TextFacts.{front_nothing, some_after}
-use Rattle.herd_pedigree_report.proofs.lemmas.PairFacts.{column_lines-are, some_lines_with}
+use Rattle.herd_pedigree_report.proofs.lemmas.PairFacts.{some_lines_with}
 use Rattle.herd_pedigree_report.specs.RelationshipList.{lines_with}
 use Rattle.herd_pedigree_report.proofs.relationship_list.write_lines.Goals as goal
 
@@ -15,15 +15,10 @@ returns-in_err-column-clause-err g c =
     on_err c.from_residual.result (front_nothing _ _ (some_after c.args.text.now lines (some_lines_with c.args.in_units lineage c.args.first partners given)))
 
 pub write_column-requires : goal.write_column-requires
-write_column-requires g c =
-    subst (λ n. All (λ rank. rank < n) c.args.partners.now) (sym c.in_ok-column.ensures.each) c.requires.partners
+write_column-requires g c = rw c.in_ok-column.ensures c.requires.partners
 
 pub returns-clause-ok : goal.returns-clause-ok
-returns-clause-ok g c =
-    let lines = column_lines-are c.args.in_units c.args.lineage.now c.args.first c.in_ok-column.column c.args.partners.now c.in_ok-column.ensures c.requires.partners in
-    rw (← lines) c.write_column.ensures.ok
+returns-clause-ok g c = rw c.in_ok-column.ensures at c.write_column.ensures.ok
 
 pub returns-clause-err : goal.returns-clause-err
-returns-clause-err g c =
-    let lines = column_lines-are c.args.in_units c.args.lineage.now c.args.first c.in_ok-column.column c.args.partners.now c.in_ok-column.ensures c.requires.partners in
-    rw (← lines) c.write_column.ensures.err
+returns-clause-err g c = rw c.in_ok-column.ensures at c.write_column.ensures.err

@@ -1,14 +1,12 @@
 -- What was read and filed is what the file says.
 use Rattle.std.proofs.Common.{◌≡◌, ◌∙◌, ℕ, List, length, None, Some, ap, inl, refl, subst}
 use Rattle.std.proofs.lemmas.Option.{IfSome_then}
-use Rattle.herd_frozen.specs.freezing.Frozen.{IsFrozenFrom}
-use Rattle.herd_frozen.specs.declared.TheConstants.{DEPTH_LIMIT, MOST_ANIMALS}
 use Rattle.herd_register.specs.Limits.{Limits}
 use Rattle.herd_register.specs.Register.{Register, register_book}
 use Rattle.herd_register.specs.Run.{commands_of}
 use Rattle.herd_register.specs.declared.step.Step.{Step}
 use Rattle.herd_report.specs.reading.CommandFile.{IsRead, IsReadUpTo, commands}
-use Rattle.herd_report.specs.Run.{HasFiled}
+use Rattle.herd_report.specs.Run.{HasFiled, SufficeFor}
 use Rattle.herd_report.proofs.RunFacts.{frozen_file}
 use Rattle.herd_report.proofs.orders.frozen_of_file.Goals as goal
 
@@ -50,8 +48,8 @@ returns-clause-ok g c =
     let rows = c.in_ok-frozen.frozen in
     let read = rw c.in-Ok-None.field-0-is at c.in-Ok-None.ensures.file in
     let filed : HasFiled limits list register = subst (λ (l : Limits). HasFiled l list register) same c.in-Ok-None.ensures.filed in
-    let frozen : IsFrozenFrom DEPTH_LIMIT MOST_ANIMALS (register_book register) rows =
-    subst (λ book. IsFrozenFrom DEPTH_LIMIT MOST_ANIMALS book rows) c.pedigree.ensures.book c.in_ok-frozen.ensures in
+    let frozen : SufficeFor c.args.order.now (register_book register) rows =
+    subst (λ book. SufficeFor c.args.order.now book rows) c.pedigree.ensures.book c.in_ok-frozen.ensures in
     IfSome_then (g.R.Read.remaining c.args.reader) (rw steps at c.in_ok-commands.ensures.opens)
-    (λ bytes given. frozen_file limits (commands bytes limits.steps) list register (length c.journal.result.now) rows
+    (λ bytes given. frozen_file limits c.args.order.now (commands bytes limits.steps) list register (length c.journal.result.now) rows
     (subst (λ (l : Limits). IsRead l.steps (commands bytes limits.steps) list None) same (read (commands bytes limits.steps) given)) filed (ap (λ (l : List Step). length l) c.journal.ensures.value) frozen)

@@ -1,4 +1,3 @@
-use Rattle.std.proofs.Common.{sym}
 use Rattle.herd_record_line.proofs.CutFacts.{if_none}
 use Rattle.herd_seal.proofs.ReadingFacts.{no_digest, not_both, other_digest}
 use Rattle.herd_seal.proofs.fields.read_digest.Goals as goal

@@ -1,5 +1,4 @@
-use Rattle.std.proofs.Common.{◌≡◌, ◌∙◌, List, ℕ, decimal, sym, rules}
-use Rattle.std.proofs.lemmas.Grind.{common_steps}
+use Rattle.std.proofs.Common.{◌≡◌, ◌∙◌, decimal, sym}
 use Rattle.herd_seal.proofs.ReadingFacts.{not_written, unlike}
 use Rattle.herd_seal.proofs.fields.read_number.Goals as goal
 

@@ -1,6 +1,6 @@
 use Rattle.herd_record_line.proofs.CutFacts.{if_none}
-use Rattle.herd_seal.specs.Reading.{HasComma, HasLine}
-use Rattle.herd_seal.proofs.ReadingFacts.{comma_there, first_line, no_comma, no_line}
+use Rattle.herd_seal.specs.Reading.{HasComma}
+use Rattle.herd_seal.proofs.ReadingFacts.{first_line, no_comma, no_line}
 use Rattle.herd_seal.proofs.reading.next_row.Goals as goal
 
 pub returns-in_err-line-clause-none : goal.returns-in_err-line-clause-none

@@ -1,4 +1,4 @@
-use Rattle.std.proofs.Common.{◌≡◌, ◌∙◌, ◌<◌, ◌^◌, inr, ◌+◌, ◌≤◌, ◌++◌, ◌∷◌, [], List, ℕ, length, sym, subst, arith, length-append, ap}
+use Rattle.std.proofs.Common.{◌≡◌, ◌∙◌, inr, ◌++◌, ◌∷◌, [], List, ℕ, length, sym, subst, arith, length-append, ap}
 use Rattle.std.specs.List.{All}
 use Rattle.std.proofs.lemmas.List.Elements.{All-append, All-cons, All-nil}
 use Rattle.herd_seal.specs.CheckFaults.{at_row}

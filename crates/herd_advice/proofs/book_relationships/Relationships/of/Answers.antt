@@ -1,6 +1,6 @@
--- `Relationships::of`: what that of a lineage requires, and that its column is one of the book.
+-- `Relationships::of`: what that of a lineage requires, and that its animal is that of the book.
 use Rattle.herd_lineage.specs.declared.TheConstants.{DEPTH_LIMIT, MOST_ANIMALS}
-use Rattle.herd_advice.proofs.lemmas.FrozenFacts.{known-lineage, long, relationships-book}
+use Rattle.herd_advice.proofs.lemmas.FrozenFacts.{known-lineage, long, rank-book}
 use Rattle.herd_advice.proofs.book_relationships.Relationships.of.Goals as goal
 
 pub of-requires-clause-rank : goal.of-requires-clause-rank
@@ -18,7 +18,7 @@ of-requires-clause-coefficients g c =
 pub invariant_of-result : goal.invariant_of-result
 invariant_of-result g c =
     let its = c.lineage.ensures in
-    let are =
-    relationships-book DEPTH_LIMIT MOST_ANIMALS c.args.frozen.now its.frozen c.lineage.result.now its.value its.lineage
-    c.args.rank c.requires.rank c.in_ok-column.column c.in_ok-column.ensures in
-    (c.requires.rank, are)
+    let same =
+    rank-book DEPTH_LIMIT MOST_ANIMALS c.args.frozen.now its.frozen c.lineage.result.now its.value its.lineage
+    c.args.rank c.requires.rank in
+    (c.requires.rank, rw c.in_ok-column.ensures same)

@@ -51,9 +51,11 @@ loop-j-preserved g c =
     let ok = c.loop-j.column.ok in
     subst (λ xs. AreRelated DEPTH_LIMIT rows c.args.rank (c.loop-j.j + 1) xs) (sym (take-written c.loop-j.column.len column items (omega arith))) next
 
-pub returns : goal.returns
-returns g c =
+pub invariant_of-result : goal.invariant_of-result
+invariant_of-result g c =
     let end = c.loop-j-test.false in
-    let all = c.len-j-end.ensures.value in
-    relationships-made DEPTH_LIMIT c.args.lineage.now c.len-j-end.ensures.lineage c.args.rank c.loop-j.column.items c.requires.rank c.loop-j.invariant.each
-    (λ j lj. c.loop-j.invariant.done j (omega arith))
+    let all = c.len-j-end.ensures.value in (
+      c.requires.rank,
+      relationships-made DEPTH_LIMIT c.args.lineage.now c.len-j-end.ensures.lineage c.args.rank c.loop-j.column.items c.requires.rank c.loop-j.invariant.each
+          (λ j lj. c.loop-j.invariant.done j (omega arith)),
+    )

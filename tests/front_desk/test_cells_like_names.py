@@ -1,0 +1,91 @@
+"""Cells of parents that are written like names or words and not like ids, and words for castrated males."""
+from __future__ import annotations
+
+import pytest
+
+from front_desk.desk import Desk
+from gudokeyi.ingest.sexes import Sexes
+from gudokeyi.reconcile.near_names import have_digits, is_like_word
+
+TITLES = "id;name;sex;born;sire;dam\n"
+ANIMALS = (
+    "DE-001;Fern 16;m;2001-01-01;;\nDE-002;Bella vom Hof;f;2001-01-01;;\nDE-003;Max X Moritz;m;2001-01-01;;\n"
+    "DE-004;Kennel Anka;f;2001-01-01;;\n"
+)  # fmt: skip
+MEANT = "has no row: added without parents (is {} meant?)"
+
+
+@pytest.mark.parametrize(
+    "sire, dam, told",
+    [
+        ("Ch. Fern 16", "", MEANT.format("DE-001")),
+        ("Fern 16 vom Bach", "", MEANT.format("DE-001")),
+        ("Fern-16", "", MEANT.format("DE-001")),
+        ("Max × Moritz", "", MEANT.format("DE-003")),
+        ("", "Anka", MEANT.format("DE-004")),
+        ("", "Bella vom Hoff", MEANT.format("DE-002")),
+    ],
+)
+def test_near_a_name(desk: Desk, sire: str, dam: str, told: str) -> None:
+    """One that has a title or a prefix beside an animal's name, or a sign otherwise, is proposed."""
+    done = desk.take(f"{TITLES}{ANIMALS}DE-005;;f;2004-01-01;{sire};{dam}\n")
+    assert told in done.out and "like no id" not in done.out
+    assert f"line 6: {sire or dam}: added: the {'sire' if sire else 'dam'} of DE-005 {told}" in done.out
+
+
+@pytest.mark.parametrize("sire", ["KB", "Ch. Hugo 9", "Ch. Fern 17", "IA"])
+def test_like_no_id(desk: Desk, sire: str) -> None:
+    """One that means no animal is told among what may be wrong, also where it stands once."""
+    done = desk.take(f"{TITLES}{ANIMALS}DE-005;;f;2004-01-01;{sire};\n")
+    assert f"{sire} has no row and is written like no id, and is the sire of 1\n" in done.out
+    assert "if it means an unknown parent:" in done.out and "meant?" not in done.out
+    done = desk.take(f"{TITLES}{ANIMALS}DE-005;;f;2004-01-01;{sire};\n", "--unknown", sire, "--drop-gone")
+    assert "like no id" not in done.out and desk.parents()["DE-005"] == ("", "")
+
+
+def test_no_word(desk: Desk) -> None:
+    """An id of a founder is none, nor a word where ids are words; nor is one proposed that can't be the parent."""
+    done = desk.take(f"{TITLES}{ANIMALS}DE-005;;f;2004-01-01;DE-900;Ch. Fern 16\n")
+    assert "DE-900 has no row" not in done.out and "is DE-001 meant?" not in done.out
+    assert "Ch. Fern 16 has no row and is written like no id, and is the dam of 1\n" in done.out
+    assert have_digits(["a1", "b2", "c"]) is False and have_digits([*(f"a{at}" for at in range(20)), "c"])
+    assert [is_like_word(one) for one in ("KB", "Ch. Fern 16", "Int.Ch. A", "Fern 16", "DE-1", "Berta")] == [
+        True, True, True, False, False, False,
+    ]  # fmt: skip
+
+
+def test_words_as_ids(desk: Desk) -> None:
+    done = desk.take(f"{TITLES}anna;;f;2001-01-01;;\nbert;;m;2001-01-01;;\ncleo;;f;2004-01-01;kb;anna\n")
+    assert "like no id" not in done.out
+
+
+@pytest.mark.parametrize(
+    "text, wanted",
+    [
+        ("H (ex étalon)", ("M", True, "ex étalon")),
+        ("H (ex-étalon)", ("M", True, "ex-étalon")),
+        ("ancien étalon", ("M", True, "")),
+        ("Wallach, früher Hengst", ("M", True, "früher Hengst")),
+        ("étalon (ex poulain)", ("M", False, "étalon")),
+        ("étalon", ("M", False, "")),
+        ("H", ("M", True, "hongre")),
+        ("X F", ("", False, "")),
+        ("ex", ("", False, "")),
+    ],
+)
+def test_sex_words(text: str, wanted: tuple[str, bool, str]) -> None:
+    assert Sexes(["M", "F", "hongre"], {}).find(text) == wanted
+
+
+def test_short_for_two() -> None:
+    """A letter that is short for a castrated male and for one that isn't is a male."""
+    assert Sexes(["Hengst", "hongre"], {}).find("H") == ("M", False, "Hengst")
+
+
+def test_gelding(desk: Desk) -> None:
+    """A stallion that was is a castrated male, and no sire is advised of it."""
+    rows = "F-1;Ulysse;H (ex étalon);2001-01-01;;\nF-2;Uranie;F;2001-01-01;;\nF-3;Urban;M;2001-01-01;;\n"
+    done = desk.take(TITLES + rows)
+    assert "words for sexes are read as others of the column: 'H (ex étalon)' as 'ex étalon'" in done.out
+    assert "male, castrated" in desk.good("show", "F-1").out and "castrated" not in desk.good("show", "F-3").out
+    assert [line.partition(",")[0] for line in desk.good("mating", "--dam", "F-2").out.splitlines()] == ["id", "F-3"]
