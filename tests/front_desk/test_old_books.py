@@ -99,7 +99,7 @@ def test_findings(kept_desk: Desk) -> None:
     assert len({one.kind for one in found}) > 15
     for one in found:
         again = told_of(entry_of(one))
-        assert again == dataclasses.replace(one, fields=again.fields) and {*one.fields} <= {*again.fields}
+        assert again == one._replace(fields=again.fields) and {*one.fields} <= {*again.fields}
         assert not any(value for _, value in {*again.fields} - {*one.fields})
 
 

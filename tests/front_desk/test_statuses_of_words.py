@@ -52,4 +52,5 @@ def test_busy(flock_desk: Desk) -> None:
         done = asked(*words)
         assert done.returncode == 4 and "is being changed by somebody else" in done.stderr, f"{words}: {done}"
     other.close()
-    assert asked("exit", "a8", "--day", "2012-03-04").returncode == 0
+    # one that waits for a moment, as calls do: a connection of its own that ends keeps the book to itself just so long
+    flock_desk.good("exit", "a8", "--day", "2012-03-04")
