@@ -128,6 +128,7 @@ def test_back_to_the_findings(empty_site: Site, monkeypatch: pytest.MonkeyPatch)
     and comes back to what is found."""
     address, _ = look_at(empty_site, TITLES + PAIR)
     monkeypatch.setattr("gudokeyi.web.workers.SOON", 0)
+    monkeypatch.setattr("gudokeyi.web.workers.SOON_BY_KEPT", 0)
     to = empty_site.post(f"{address}/suggested", option="--youngest", word="300").headers["Location"]
     assert "#" not in to and f'content="1; url={to}"' in empty_site.get(to).get_data(as_text=True)
     assert '<div id="findings">' in empty_site.page(to)

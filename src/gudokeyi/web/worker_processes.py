@@ -141,6 +141,10 @@ class KeptProcesses:
         self.lock, self.is_over = threading.Lock(), False
         self.kept: OrderedDict[Key, tuple[WorkerProcess, float]] = OrderedDict()
 
+    def has(self, key: Key) -> bool:
+        with self.lock:
+            return key in self.kept
+
     def taken(self, key: Key) -> WorkerProcess | None:
         """The one of a key, which is nobody else's from here on."""
         with self.lock:

@@ -25,9 +25,10 @@ from gudokeyi.web.worker_processes import Failed, Finished, KeptProcesses, Progr
 # Work that goes on in processes beside the server: how far each is, and what came of it, kept with the state of the
 # book that it is of.
 
-# so many results are kept, and so long a page waits for one that is there soon, in seconds
+# so many results are kept, and so long a page waits for one that is there soon, in seconds; so long behind its begin for
+# one by a process that is kept for it, of which there are few: a page that asks again would be a second late
 MOST = 12
-SOON = 0.15
+SOON, SOON_BY_KEPT = 0.15, 2.0
 # so long nobody asked for work that goes on, in seconds, and it is ended; so often that is looked at
 SECONDS_UNASKED, SECONDS_BETWEEN = 120, 1
 Key = tuple[object, ...]
@@ -61,6 +62,8 @@ class Job:
         self.process: WorkerProcess | None = None
         # why it is ended before it is done
         self.stopped = ""
+        # is a process kept for it, as it begins?
+        self.is_by_kept = False
 
     @property
     def kind(self) -> str:
@@ -78,6 +81,11 @@ class Job:
     @property
     def seconds(self) -> int:
         return int(time.monotonic() - self.began)
+
+    def wait_soon(self) -> None:
+        """Waits a moment for its end."""
+        left = self.began + SOON_BY_KEPT - time.monotonic() if self.is_by_kept else 0
+        self.is_over.wait(max(SOON, left))
 
     @property
     def waits(self) -> bool:
@@ -182,6 +190,7 @@ class Jobs:
                 if places and places.asked_by(WORKER.get()) >= MOST_OF_PERSON:
                     raise Mistake(WebFault.MUCH_WORK.said())
                 job = self.jobs[key] = Job(key, then)
+                job.is_by_kept = job.kind == LOOKING and self.kept.has(job.of)
                 # it is done for whoever asks, who doesn't wait at a page
                 context = contextvars.copy_context()
                 context.run(UNTIL.set, None)
@@ -195,7 +204,7 @@ class Jobs:
                     job.fail(WebFault.NO_PROCESS.said(error=error))
                 self.forget_old()
             job.asked = time.monotonic()
-        job.is_over.wait(SOON)
+        job.wait_soon()
         return job
 
     def do(
