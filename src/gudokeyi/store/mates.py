@@ -117,14 +117,17 @@ def mates_by_sex(book: Book, youngest: str, today: str) -> dict[str, int]:
 
 
 def ages_at_first_offspring(book: Book) -> dict[str, int]:
-    """Of each parent, by its number, in days, where both birth days are given."""
+    """Of each parent, by its number, in days, where both birth days are given. A page waits for it beside others that
+    are made: SQLite finds the first offspring by its indexes, while others go on."""
+    is_given = f"{NOW} AND {IN_BOOK} AND birth_source = :given"
+    first = " UNION ALL ".join(
+        f"SELECT {parent}, min(born) FROM animal WHERE {is_given} AND {parent} IS NOT NULL GROUP BY {parent}"
+        for parent in ("sire", "dam")
+    )
     asked = f"""
-        SELECT number, CAST(julianday(born) AS INTEGER) AS day, sire, dam FROM {ALL_ROWS}
-        WHERE {NOW} AND {IN_BOOK} AND birth_source = ? ORDER BY day DESC
+        WITH first (parent, day) AS ({first})
+        SELECT json_group_object(number, CAST(julianday(day) AS INTEGER) - CAST(julianday(born) AS INTEGER))
+        FROM first JOIN animal ON number = parent WHERE {is_given}
     """
-    born: dict[str, int] = {}
-    first: dict[str, int] = {}
-    # the older one's day stays: a page waits for each look at what is there already
-    for number, day, sire, dam in book.connection.execute(asked, (BirthSource.GIVEN.value,)):
-        born[number] = first[sire] = first[dam] = day
-    return {parent: day - born[parent] for parent, day in first.items() if parent in born}
+    found: dict[str, int] = json.loads(book.connection.execute(asked, {"given": BirthSource.GIVEN.value}).fetchone()[0])
+    return found
