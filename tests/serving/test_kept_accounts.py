@@ -186,3 +186,23 @@ def test_log_that_is_full() -> None:
         AccessLog(full).tell("something")
         with contextlib.suppress(OSError):
             full.close()
+
+
+def test_changed_meanwhile(accounts: Accounts, monkeypatch: pytest.MonkeyPatch) -> None:
+    """Where an account is removed, or gets another password, while its old password is looked at, no login begins; and
+    nobody is told that an account was changed that somebody else removed."""
+    before = accounts.fits("Carl", WORD)
+    assert before
+    other = "quite another word"
+    accounts.change_password("Carl", other, other)
+    with pytest.raises(Mistake, match="changed or removed this account meanwhile"):
+        accounts.begin_login(before)
+    now = accounts.fits("Carl", other)
+    assert now and accounts.person_of(accounts.begin_login(now))
+    accounts.remove("Carl")
+    # it was there when its page was made
+    monkeypatch.setattr(accounts, "found", lambda name: now)
+    with pytest.raises(Mistake, match="there is no account 'Carl'"):
+        accounts.change_role("Carl", AccountRole.CLERK)
+    with pytest.raises(Mistake, match="changed or removed this account meanwhile"):
+        accounts.begin_login(now)

@@ -38,7 +38,16 @@ def test_in_and_out(served: Served) -> None:
     stranger = served.app.test_client(use_cookies=False)
     assert stranger.get("/", headers={"Host": HOST, "Cookie": f"{cookie}={kept}"}).status_code == 302
     assert Visitor(served, "Carl").is_in()
-    assert Visitor(served).log_in("Carl", to="//evil.example/").headers["Location"] == "/"
+
+
+@pytest.mark.parametrize(
+    "to", ["//evil.example/", "/logout", "/book.sqlite", "/book%2esqlite", "/static/../book.sqlite", "/language/de", "/login", "/nothing"],
+)
+def test_way_back(served: Served, to: str) -> None:
+    """A login leads to no other server, and to no page that does something by being read: a copy counts as a backup."""
+    visitor = Visitor(served)
+    assert visitor.log_in("Carl", to=to).headers["Location"] == "/" and visitor.is_in()
+    assert visitor.get(f"/language/de?to={to}").headers["Location"] == ("/login" if to == "/login" else "/")
 
 
 @pytest.mark.parametrize("name, password", [("Carl", "x"), ("Carl", ""), ("nobody", WORD), ("", ""), ("Carl", WORD + " "),
@@ -155,7 +164,8 @@ def test_removal_is_asked(served: Served) -> None:
     keeper = Visitor(served, "Kim")
     assert 'href="/accounts/remove?name=Carl"' in keeper.page("/accounts")
     assert "Remove the account of Carl?" in shown(keeper.page("/accounts/remove?name=Carl"))
-    assert keeper.get("/accounts/remove?name=Nobody").status_code == 404
+    answer = keeper.get("/accounts/remove?name=Nobody")
+    assert answer.status_code == 404 and "there is no account 'Nobody'" in shown(answer.get_data(as_text=True))
     assert Visitor(served).log_in("Carl").status_code == 302
 
 

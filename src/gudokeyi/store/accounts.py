@@ -10,7 +10,7 @@ import threading
 import time
 import unicodedata
 from collections.abc import Callable
-from dataclasses import dataclass
+from dataclasses import dataclass, field
 
 from gudokeyi.domain.messages import Mistake
 from gudokeyi.domain.people import AccountRole, Person
@@ -84,6 +84,8 @@ class Account:
     role: AccountRole
     # was the password given by somebody else, who knows it?
     for_one_login: bool = False
+    # what is kept of the password by which it was seen who asks: a login begins by no other
+    digest: bytes = field(default=b"", repr=False)
 
 
 class Accounts:
@@ -136,13 +138,14 @@ class Accounts:
         """Gives another role, and ends what the account is logged in."""
         self.change(name, "UPDATE account SET role = ? WHERE folded = ?", role.value)
 
-    def change_password(self, name: str, password: str, again: str, for_one_login: bool = False) -> None:
-        """Gives another password, and ends what the account is logged in. One that somebody else gave is for one login:
-        whoever has it is asked for one of their own."""
+    def change_password(self, name: str, password: str, again: str, for_one_login: bool = False) -> bytes:
+        """Gives another password, and ends what the account is logged in; answers the digest that is kept. One that
+        somebody else gave is for one login: whoever has it is asked for one of their own."""
         kept = kept_of(checked(password, again, name))
         values = (kept.salt, kept.digest, kept.n, kept.r, kept.p, for_one_login)
         given = "salt = ?, digest = ?, n = ?, r = ?, p = ?, for_one_login = ?"
         self.change(name, f"UPDATE account SET {given} WHERE folded = ?", *values)
+        return kept.digest
 
     def remove(self, name: str) -> None:
         self.change(name, "DELETE FROM account WHERE folded = ?")
@@ -150,11 +153,13 @@ class Accounts:
     def change(self, name: str, statement: str, *values: object) -> None:
         """Changes an account that is there; one keeper stays."""
         if self.found(name) is None:
-            raise Mistake(AccountFault.NO_ACCOUNT.said(name=name))
+            raise no_account(name)
         with accounts_file.opened(self.path) as connection:
             connection.execute("BEGIN IMMEDIATE")
             connection.execute("DELETE FROM login WHERE folded = ?", (folded(name),))
-            connection.execute(statement, (*values, folded(name)))
+            if not connection.execute(statement, (*values, folded(name))).rowcount:
+                # somebody else removed it meanwhile
+                raise no_account(name)
             if not keepers(connection):
                 raise Mistake(AccountFault.NO_KEEPER.said())
             connection.execute("COMMIT")
@@ -165,14 +170,18 @@ class Accounts:
             chosen = "SELECT name, role, for_one_login, salt, digest, n, r, p FROM account WHERE folded = ?"
             row = connection.execute(chosen, (folded(name),)).fetchone()
         is_right = fits(password, StoredPassword(*row[3:]) if row else None)
-        return Account(row[0], AccountRole(row[1]), bool(row[2])) if row and is_right else None
+        return Account(row[0], AccountRole(row[1]), bool(row[2]), row[4]) if row and is_right else None
 
     def begin_login(self, account: Account) -> str:
-        """The token of a new login, of which its digest alone is kept."""
+        """The token of a new login, of which its digest alone is kept; a mistake where the account was removed, or has
+        another password, since it was seen that its password is right."""
         token, now = secrets.token_urlsafe(32), int(self.clock())
         with accounts_file.opened(self.path) as connection:
             connection.execute("DELETE FROM login WHERE began <= ?", (now - A_DAY,))
-            connection.execute("INSERT INTO login VALUES (?, ?, ?)", (token_digest(token), folded(account.name), now))
+            begun = "INSERT INTO login SELECT ?, folded, ? FROM account WHERE folded = ? AND digest = ?"
+            values = token_digest(token), now, folded(account.name), account.digest
+            if not connection.execute(begun, values).rowcount:
+                raise Mistake(AccountFault.CHANGED_MEANWHILE.said())
         return token
 
     def person_of(self, token: str) -> Person | None:
@@ -206,6 +215,10 @@ def name_of(text: str) -> str:
 def keepers(connection: sqlite3.Connection) -> int:
     chosen = "SELECT count(*) FROM account WHERE role = ?"
     return int(connection.execute(chosen, (AccountRole.KEEPER.value,)).fetchone()[0])
+
+
+def no_account(name: str) -> Mistake:
+    return Mistake(AccountFault.NO_ACCOUNT.said(name=name))
 
 
 def first_is_keeper() -> Mistake:

@@ -106,6 +106,7 @@ class AccountFault(Message):
     NONE_THERE = "there are no accounts here: name their folder by --book"
     NAME_IS_TAKEN = "there is an account {name} already: change that one"
     NO_ACCOUNT = "there is no account '{name}': name one of those that --list shows"
+    CHANGED_MEANWHILE = "a keeper changed or removed this account meanwhile: log in again"
     NO_KEEPER = "somebody has to be a keeper: make another account one before"
     NO_NAME = "'{name}' can't be an account's name: begin with a letter, and take at most {most}"
     FIRST_IS_KEEPER = "the first account is a keeper's: say --role keeper"

@@ -3,17 +3,21 @@ link that the terminal shows."""
 from __future__ import annotations
 
 import base64
+import contextlib
 import hashlib
 import hmac
 import re
 import time
+from collections.abc import Collection
 from dataclasses import dataclass
 from typing import Protocol
+from urllib.parse import unquote, urlsplit
 
 from flask import Blueprint, Flask, Request, abort, current_app, g, redirect, request, session, url_for
 from flask.typing import ResponseReturnValue
 from flask.wrappers import Response
 from flask_wtf.csrf import CSRFProtect
+from werkzeug.exceptions import HTTPException
 from werkzeug.wrappers import Response as AnyResponse
 
 from gudokeyi.domain.people import WORKER, AccountRole, Person
@@ -21,6 +25,7 @@ from gudokeyi.domain.waiting import SECONDS_OF_PAGE, UNTIL
 from gudokeyi.services.imports import MOST_BACKUP_BYTES, MOST_BYTES
 from gudokeyi.services.seals import MOST_BYTES as MOST_CERTIFICATE_BYTES
 from gudokeyi.services.settings import MOST_PICTURE_BYTES
+from gudokeyi.web.addresses import is_safe_redirect
 
 # Who asks the desk, and what each may do at the book.
 
@@ -81,6 +86,21 @@ def may(endpoint: str) -> bool:
     person, least = the_person(), LEAST.get(endpoint)
     is_there = endpoint in current_app.view_functions
     return is_there and person is not None and least is not None and person.role.may(least)
+
+
+# what does something by being read: a copy that was loaded counts as a backup
+ACTS_BY_READING = ("history.backup",)
+
+
+def way_back(to: str, also: Collection[str] = ()) -> str:
+    """Where a page leads back to: the page of this server at the address `to`, if it is one that is only read, and that
+    somebody who is known may ask for or that is named; else the start page."""
+    if is_safe_redirect(to):
+        with contextlib.suppress(HTTPException, ValueError):
+            endpoint, _ = current_app.url_map.bind("localhost").match(unquote(urlsplit(to).path), "GET")
+            if endpoint in also or (endpoint in LEAST and endpoint not in ACTS_BY_READING):
+                return to
+    return url_for("start.page")
 
 
 # The styles within a page that is printed, by their digests: so a browser takes these and no others.

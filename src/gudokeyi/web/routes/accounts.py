@@ -3,7 +3,7 @@ from __future__ import annotations
 
 from collections.abc import Callable
 
-from flask import Blueprint, abort, flash, g, redirect, render_template, request, url_for
+from flask import Blueprint, flash, g, redirect, render_template, request, url_for
 
 from gudokeyi.domain.messages import Mistake
 from gudokeyi.domain.people import AccountRole
@@ -22,11 +22,11 @@ def accounts() -> Answer:
     return shown([])
 
 
-def shown(faults: list[MessageView]) -> Answer:
+def shown(faults: list[MessageView], status: int = 400) -> Answer:
     given = {"name": request.form.get("name", ""), "role": request.form.get("role", "")} if faults else {}
     accounts = the_account_logins().accounts.all()
     text = render_template("accounts.html", accounts=accounts, roles=list(AccountRole), faults=faults, given=given)
-    return (text, 400) if faults else text
+    return (text, status) if faults else text
 
 
 def done(change: Callable[[Accounts], None], told: str, what: str) -> Answer:
@@ -89,10 +89,11 @@ def change() -> Answer:
 
 @page.get("/accounts/remove")
 def ask_removal() -> Answer:
-    """Asks whether an account is to be removed."""
-    found = the_account_logins().accounts.found(request.args.get("name", ""))
+    """Asks whether an account is to be removed, which somebody else may have removed by now."""
+    name = request.args.get("name", "")
+    found = the_account_logins().accounts.found(name)
     if found is None:
-        abort(404)
+        return shown(on_page((AccountFault.NO_ACCOUNT.said(name=name),)), 404)
     return render_template("remove_account.html", account=found)
 
 

@@ -14,8 +14,7 @@ from gudokeyi.domain.settings import Setting
 from gudokeyi.render.page_wording import MessageView
 from gudokeyi.services.accounts import AccountFault
 from gudokeyi.services.settings import settings_of
-from gudokeyi.web.access import LEAST, MOST_FORM_BYTES, may, the_person
-from gudokeyi.web.addresses import is_safe_redirect
+from gudokeyi.web.access import LEAST, MOST_FORM_BYTES, may, the_person, way_back
 from gudokeyi.web.language import gettext, ngettext, on_page
 from gudokeyi.web.logins import the_account_logins
 from gudokeyi.web.served_book import Answer, served_book
@@ -84,7 +83,7 @@ def enter() -> Answer:
         return render_template("again.html", kept=kept[:MOST_FIELDS], kept_to=kept_to)
     if endpoint:
         flash(gettext("Your role doesn't allow this: ask a keeper of the book."), "look")
-    return redirect(to if is_safe_redirect(to) else url_for("start.page"))
+    return redirect(way_back(to))
 
 
 def not_let_in(seconds: int, wrong: str) -> str:
@@ -125,8 +124,8 @@ def change_password() -> Answer:
             return render_template("password.html", faults=[MessageView(told)]), 400
         if found.for_one_login and given.get("new") == given.get("password"):
             raise Mistake(AccountFault.NOT_NEW.said())
-        logins.accounts.change_password(person.name, given.get("new", ""), given.get("again", ""))
-        logins.begin(replace(found, for_one_login=False))
+        digest = logins.accounts.change_password(person.name, given.get("new", ""), given.get("again", ""))
+        logins.begin(replace(found, for_one_login=False, digest=digest))
     except Mistake as mistake:
         return render_template("password.html", faults=on_page(mistake.sentences)), 400
     flash(gettext("You have a new password. Where else you were logged in you aren't any more."), "done")

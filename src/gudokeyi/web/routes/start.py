@@ -15,7 +15,7 @@ from gudokeyi.services.history import last_changes
 from gudokeyi.services.opening import Book
 from gudokeyi.services.recent import last_births, unanswered
 from gudokeyi.services.restoring import has_old_files, last_backup
-from gudokeyi.web.addresses import is_safe_redirect
+from gudokeyi.web.access import way_back
 from gudokeyi.web.files import EXAMPLE
 from gudokeyi.web.language import CHOSEN, page_language
 from gudokeyi.web.served_book import Answer, book_of_page, served_book
@@ -32,6 +32,8 @@ DAYS_WITHOUT_BACKUP = 3
 MOST_BIRTHS, MOST_FINDINGS = 8, 6
 # what is filed most
 FILED = (CommandKind.BIRTH, CommandKind.EXIT, CommandKind.TRANSFER)
+# those on which a stranger may choose the language
+OPEN_PAGES = ("login.page", "start.about")
 
 
 @page.get("/", endpoint="page")
@@ -86,5 +88,4 @@ def language(language: str) -> Response:
     """Goes back to where the language was chosen."""
     if language in LANGUAGES:
         session[CHOSEN] = language
-    to = request.args.get("to", "")
-    return redirect(to if is_safe_redirect(to) else url_for("start.page"))
+    return redirect(way_back(request.args.get("to", ""), OPEN_PAGES))
