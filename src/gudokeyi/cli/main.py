@@ -1,7 +1,6 @@
 """Reads the words of a call, does what they ask for, and tells mistakes."""
 from __future__ import annotations
 
-import gc
 import io
 import os
 import sys
@@ -17,8 +16,6 @@ from gudokeyi.process import end, is_for_one_change, with_cells_of_any_length, w
 
 
 def main(words: list[str]) -> int:
-    # most of what a call makes is needed to its end, so looking for what isn't comes rarely
-    gc.set_threshold(500_000)
     status = Status.NOT_DONE
     with_short_turns()
     with_cells_of_any_length()

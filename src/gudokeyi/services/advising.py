@@ -7,6 +7,7 @@ from typing import TYPE_CHECKING
 
 from gudokeyi.domain.animals import SocietyRecord
 from gudokeyi.services.book_program import BookProgram
+from gudokeyi.services.exported_journal import read_beside
 from gudokeyi.store.book import Book
 
 if TYPE_CHECKING:
@@ -24,7 +25,7 @@ def advise(
     from gudokeyi.domain.kinds import Role
     from gudokeyi.store.mates import MatesRead
 
-    with book.journal_read_beside():
+    with read_beside(book):
         sires = MatesRead(book, Role.SIRE, also_left)
         begun = program.begin_matings(dam.registration_number, sires.numbers, book)
         from gudokeyi.services.matings import advise_on_all

@@ -9,6 +9,7 @@ from gudokeyi.background import Background
 from gudokeyi.domain.commands import Command, lines_of
 from gudokeyi.domain.refusals import Refusal
 from gudokeyi.engine.program import Herdbook
+from gudokeyi.services.exported_journal import journal_of
 from gudokeyi.store.book import Book
 
 # so many numbers of animals may stand in one call, more than a book has at most: a command line has an end
@@ -23,7 +24,7 @@ class BookProgram(Herdbook):
 
     def ask(self, words: list[str], book: Book) -> list[str]:
         """The lines that it writes of a book's journal."""
-        return self.lines(words, book.command_file())
+        return self.lines(words, journal_of(book))
 
     def beside(self, words: list[str], book: Book) -> Background[str]:
         """The text that it writes of a book's journal, while something else is done, and while the journal is read if
@@ -32,7 +33,7 @@ class BookProgram(Herdbook):
         pieces = book.beside
         if pieces is not None and not pieces.has_failed:
             return Background(functools.partial(self.run_meanwhile, words, pieces))
-        return Background(functools.partial(self.run, words, book.command_file()))
+        return Background(functools.partial(self.run, words, journal_of(book)))
 
     def begin_matings(self, dam: str, sires: Sequence[str], book: Book) -> list[Background[str]]:
         """It begins to compute a mating of a dam with each of the sires, by their numbers: a text for some of them

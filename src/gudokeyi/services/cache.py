@@ -129,28 +129,33 @@ def cache(path: pathlib.Path, content: bytes) -> None:
         written.replace(path)
 
 
-# What was seen of a book by a call is known to the next ones, as long as neither its file nor the program is another.
+# What was seen of a book by a call is known to the next ones, as long as neither its file nor another is another.
 
 
-class SeenWhole:
-    """That the coefficients of a book are the program's, or by another ending all of it, kept by the name of its file
-    in the caches of who asks. Where nothing can be kept it is seen anew each time."""
+class SeenBefore:
+    """That a call saw something of a book and of another file; the ending says what, as `whole` that the coefficients
+    of the book are those of the program, which is the file. It is kept by the name of the book's file in the caches of
+    who asks. Where nothing can be kept it is seen anew each time."""
 
-    def __init__(self, book: Book, program: pathlib.Path, ending: str = "whole") -> None:
+    def __init__(self, book: Book, file: pathlib.Path, ending: str = "whole") -> None:
         self.path = str(book.path.resolve())
         self.place = cached_file(f"{zlib.crc32(os.fsencode(self.path)):08x}.{ending}")
-        self.book, self.program = book, program
+        self.book, self.file = book, file
         self.stamp = self.now()
 
     def now(self) -> bytes:
-        return os.fsencode(repr((self.path, stamp_of(self.book), str(self.program), state_of(self.program))))
+        return os.fsencode(repr((self.path, stamp_of(self.book), str(self.file), state_of(self.file))))
 
     def is_known(self) -> bool:
         with contextlib.suppress(OSError):
             return self.place.read_bytes() == self.stamp
         return False
 
+    def is_still_so(self) -> bool:
+        """Are both files as they were when this began?"""
+        return self.now() == self.stamp
+
     def keep(self) -> None:
-        """It was seen of the file as it was when this began; of one that was written meanwhile it isn't kept."""
-        if self.now() == self.stamp:
+        """It was seen of the files as they were when this began; of one that was written meanwhile it isn't kept."""
+        if self.is_still_so():
             cache(self.place, self.stamp)

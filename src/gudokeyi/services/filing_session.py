@@ -7,7 +7,7 @@ import pathlib
 from collections.abc import Iterator
 
 from gudokeyi.services.book_session import BookSession
-from gudokeyi.services.cache import SeenWhole
+from gudokeyi.services.cache import SeenBefore
 from gudokeyi.services.opening import alone_to_change, book_in, no_book, take_over
 from gudokeyi.services.verification import verify
 from gudokeyi.store.book import Book
@@ -34,7 +34,7 @@ def to_file(folder: pathlib.Path, program: BookSession) -> Iterator[Book]:
     with alone_to_change(folder) as book:
         if not book.is_there:
             raise no_book(folder)
-        if not SeenWhole(book, program.path, SEEN).is_known():
+        if not SeenBefore(book, program.path, SEEN).is_known():
             verify(book, program, quickly=True)
         try:
             yield book
@@ -47,4 +47,4 @@ def seen_whole(folder: pathlib.Path, program: BookSession, last: int) -> None:
     """As it is after its last change, which was filed so, it was seen to be whole."""
     with book_in(folder) as book:
         if book.change and book.change.number == last:
-            SeenWhole(book, program.path, SEEN).keep()
+            SeenBefore(book, program.path, SEEN).keep()

@@ -9,7 +9,7 @@ from gudokeyi.domain.messages import CALLED, Count, MessageText, why
 from gudokeyi.domain.mistakes import BookNotWhole
 from gudokeyi.domain.refusals import Refusal
 from gudokeyi.services.book_program import BookProgram
-from gudokeyi.services.cache import SeenWhole
+from gudokeyi.services.cache import SeenBefore
 from gudokeyi.store.book import Book
 from gudokeyi.store.coefficients import computed, kept_text, read_coefficients
 from gudokeyi.store.database import damages_of
@@ -72,6 +72,7 @@ def reply(refusal: Refusal | None) -> MessageText:
 
 def faults_of_records(book: Book, program: BookProgram) -> list[MessageText]:
     """The stored records beside the program's, and who gave each animal last beside the journal."""
+    from_database(book)
     begun = program.beside(["records"], book)
     kept = kept_records(book.connection)
     told = begun.value()
@@ -106,7 +107,7 @@ def told_of_coefficients(book: Book, program: BookProgram) -> tuple[MessageText,
 
 def told_once(book: Book, program: BookProgram) -> tuple[MessageText, ...]:
     """The same, where it isn't known of this file by an earlier call that nothing is to be told."""
-    seen = SeenWhole(book, program.path)
+    seen = SeenBefore(book, program.path)
     if seen.is_known():
         return ()
     told = told_of_coefficients(book, program)
@@ -115,7 +116,7 @@ def told_once(book: Book, program: BookProgram) -> tuple[MessageText, ...]:
     return told
 
 
-def refuse_to_certify(book: Book, program: BookProgram, seen: SeenWhole | None = None) -> None:
+def refuse_to_certify(book: Book, program: BookProgram, seen: SeenBefore | None = None) -> None:
     """A mistake where they aren't. With `seen` they are asked for once, as long as neither the book, its file nor the
     program is another."""
     if seen and seen.is_known():
@@ -128,6 +129,7 @@ def refuse_to_certify(book: Book, program: BookProgram, seen: SeenWhole | None =
 
 
 def faults_of_coefficients(book: Book, program: BookProgram) -> list[MessageText]:
+    from_database(book)
     begun = program.beside(["inbreeding"], book)
     stored = kept_text(book.connection)
     told = begun.value()
@@ -138,6 +140,11 @@ def faults_of_coefficients(book: Book, program: BookProgram) -> list[MessageText
     if not differing:
         return [NotWhole.ORDER.said()]
     return [NotWhole.COEFFICIENTS.said(coefficients=Count(len(differing), "kept coefficient"), first=min(differing))]
+
+
+def from_database(book: Book) -> None:
+    """What is seen is the database: the program isn't given the export of the journal."""
+    book.command_file()
 
 
 # what the program says of a book, part by part

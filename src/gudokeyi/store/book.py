@@ -99,7 +99,7 @@ class Book:
     def journal_read_beside(self) -> Iterator[None]:
         """The journal is read beside what is done within, for whoever needs it there later. Nothing that isn't
         committed may be in it."""
-        if not self.is_there:
+        if not self.is_there or self.has_journal_text:
             yield
             return
         self.beside = command_file_in_background(self.connection, self.journal)
@@ -108,6 +108,11 @@ class Book:
         finally:
             # a process that ended before the other connection is closed would leave files beside the book
             self.beside.wait()
+
+    @property
+    def has_journal_text(self) -> bool:
+        """Was it read before?"""
+        return "journal_text" in self.__dict__
 
     @functools.cached_property
     def journal_text(self) -> bytes:

@@ -61,7 +61,7 @@ def last_backup(book: Book) -> LastBackup | None:
 
 
 # What the folder of a book has besides the database, for others to read: it is written after each change, and where it
-# is missing or stale, and never read.
+# is missing or stale. Of these the journal alone is read, where a call saw that it is that of the database.
 
 COMMANDS, IDS, REPORT = "commands.csv", "ids.csv", "report.csv"
 NAMES = (COMMANDS, IDS, REPORT)

@@ -76,7 +76,7 @@ def do_certificate(asked: argparse.Namespace, book: Book, program: BookProgram) 
     from gudokeyi.render.certificates import Issue, PrintedPicture, Society, certificates_page
     from gudokeyi.render.drawing import file_name
     from gudokeyi.render.languages import Language
-    from gudokeyi.services.cache import SeenWhole
+    from gudokeyi.services.cache import SeenBefore
     from gudokeyi.services.seals import last_sealed
     from gudokeyi.services.settings import picture_of
     from gudokeyi.services.verification import refuse_to_certify
@@ -84,7 +84,7 @@ def do_certificate(asked: argparse.Namespace, book: Book, program: BookProgram) 
     animals = animals_asked_for(asked, book)
     numbers = [animal.registration_number for animal in animals]
     certified = begin_certificates(book, program, numbers, asked.generations)
-    refuse_to_certify(book, program, SeenWhole(book, program.path))
+    refuse_to_certify(book, program, SeenBefore(book, program.path))
     society = Society.of(book, PrintedPicture.within(picture_of(book)))
     issue = Issue(asked.title, society, asked.day, last_sealed(book), generations=asked.generations)
     page = certificates_page(book, animals, certified, Language(asked.language), issue)
