@@ -4,7 +4,10 @@ from __future__ import annotations
 import pytest
 
 from front_desk.desk import Desk
+from gudokeyi.domain.findings import Report
 from gudokeyi.domain.requests import MOST_IN_ID, MOST_IN_NAME, MOST_IN_OWNER, NotSuch
+from gudokeyi.ingest.rows_as_meant import as_seen
+from gudokeyi.ingest.sheets import Sheet, SheetRow
 
 SHEET = "id,name,sex,born,sire,dam,owner\na,Bella,F,2001-01-01,,,Mill\n"
 BIRTH = ["--sex", "f", "--day", "2003-01-01"]
@@ -50,3 +53,20 @@ def test_renamed_and_pedigree(desk: Desk) -> None:
     told_of_line = "line 2: an id has 61 letters, and 60 are kept at most: shorten it"
     file = desk.write("tree.txt", f"a 0 0\nb {'s' * 61} a\n")
     desk.wrong(told_of_line, "import", "--pedigree", file, "--book", "other")
+
+
+def test_unseen(desk: Desk) -> None:
+    """Signs that no one sees are dropped from the cells of a sheet, and told once; a row whose id has one is left out,
+    unless the book has the animal by this id."""
+    odd = "id,name,sex,born,sire,dam,owner\na,Be\x1blla,F,2001-01-01,,,Mi\u202ell\nb\u2066,Ben,M,2001-01-02,,,Mill\n"
+    done = desk.take(odd)
+    done.tells("to look at: 2 cells have signs that no one sees, the first in line 2: they are read without them")
+    done.tells("line 3: the row is left out: its id 'b' has a sign within that no one sees: write it by hand")
+    listed = desk.listed("list", "--columns", "id,name,owner")
+    assert [(row["id"], row["name"], row["owner"]) for row in listed] == [("a", "Bella", "Mill")]
+    rows, unseen = [SheetRow(2, ["b", ""]), SheetRow(3, ["c", "b"])], {(2, 0): "b\x7f", (3, 1): "b\x7f"}
+    sheet = Sheet(1, ["id", "dam"], rows, "", [], unseen=unseen)
+    report = Report()
+    assert as_seen(sheet, {"id": 0, "dam": 1}, {"b\x7f"}, report).rows == [(2, ["b\x7f", ""]), (3, ["c", "b\x7f"])]
+    assert not report.entries
+    desk.good("verify")

@@ -105,10 +105,17 @@ BOUNDS = {
 UNSEEN = ("Cc", "Cf", "Cs")
 
 
+def seen_of(text: str) -> str:
+    """The text without signs that no one sees, as of a key or one that turns the order of letters round."""
+    # none of them is printed, and most texts have none
+    if text.isprintable():
+        return text
+    return "".join(one for one in text if unicodedata.category(one) not in UNSEEN)
+
+
 def refuse_text(field: Field, text: str) -> None:
-    """A mistake where an id, a name or an owner is longer than it may be, or has a sign that no one sees, as of a key
-    or one that turns the order of letters round."""
-    seen = "".join(one for one in text if unicodedata.category(one) not in UNSEEN)
+    """A mistake where an id, a name or an owner is longer than it may be, or has a sign that no one sees."""
+    seen = seen_of(text)
     if seen != text:
         raise InvalidValue(NotSuch.UNSEEN.said(text=seen))
     most, sentence = BOUNDS[field]

@@ -1,5 +1,5 @@
-"""The rows of a sheet as they are meant: without headings and notes between them, with the cell above in place of a
-mark that repeats it, and with what a column of words such as `Status` says of exits."""
+"""The rows of a sheet as they are meant: without signs that no one sees, and headings and notes between them, with the
+cell above in place of a mark that repeats it, and with what a column of words such as `Status` says of exits."""
 from __future__ import annotations
 
 import collections
@@ -10,10 +10,39 @@ from typing import Container
 
 from gudokeyi.domain.findings import Report
 from gudokeyi.domain.kinds import Field
+from gudokeyi.ingest.findings.cells import UnseenInId
 from gudokeyi.ingest.findings.rows import CellsRepeated, NoteRow, StatusDisagrees, StatusRead
+from gudokeyi.ingest.findings.sheets import UnseenDropped
 from gudokeyi.ingest.sheets import Sheet, SheetRow
 from gudokeyi.ingest.texts import nearly, plain
 from gudokeyi.ingest.words import DEAD, KNOWN_SUMS, KNOWN_YES, exit_word, lives
+
+# Cells with signs that no one sees: they are read without, but an id, which others write otherwise than it is seen.
+
+# the columns of ids
+IDS = (Field.ID, Field.SIRE, Field.DAM)
+
+
+def as_seen(sheet: Sheet, columns: Mapping[str, int], animals: Container[str], report: Report) -> Sheet:
+    """The sheet without rows whose ids have such signs. An animal that is there by such an id keeps it."""
+    if not sheet.unseen:
+        return sheet
+    ids = {columns[name]: name for name in IDS if name in columns}
+    kept = {place: text for place, text in sheet.unseen.items() if place[1] in ids and text in animals}
+    of_ids = {line for line, at in sheet.unseen if ids.get(at) == Field.ID and (line, at) not in kept}
+    dropped = [line for line, at in sheet.unseen if (line, at) not in kept and line not in of_ids]
+    rows = list[SheetRow]()
+    for row in sheet.rows:
+        if row.line in of_ids:
+            report.add(row.line, "", UnseenInId(row.cells[columns[Field.ID]]))
+            continue
+        for at in ids:
+            row = with_cell(row, at, kept[row.line, at]) if (row.line, at) in kept else row
+        rows.append(row)
+    if dropped:
+        report.add(0, "", UnseenDropped(len(dropped), dropped[0]))
+    return replace(sheet, rows=rows, kept={})
+
 
 # Rows that are headings between animals, or notes below them: they say nothing of an animal, and don't read like the
 # ids of the others.
@@ -191,6 +220,7 @@ def as_meant(
     sheet: Sheet, columns: Mapping[str, int], unknown: Container[str], animals: Container[str], report: Report
 ) -> Sheet:
     """The sheet with its rows as they are meant; what is read so is told. `animals` are the ids of animals for sure."""
+    sheet = as_seen(sheet, columns, animals, report)
     notes = Notes(sheet, columns, animals).found()
     for line, text in notes.items():
         report.add(line, "", NoteRow(text))

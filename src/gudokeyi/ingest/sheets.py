@@ -15,6 +15,7 @@ from typing import NamedTuple
 from gudokeyi.domain.cells import from_spreadsheets, may_have_texts
 from gudokeyi.domain.collections import made
 from gudokeyi.domain.messages import Mistake
+from gudokeyi.domain.requests import seen_of
 from gudokeyi.ingest.encodings import decoding
 from gudokeyi.ingest.files import MOST_LETTERS, GivenFile, check_bounds
 from gudokeyi.ingest.findings.columns import SheetFinding
@@ -28,6 +29,9 @@ BLANKS = ("  ", " \n", "\n ", " \r", "\r ")
 # the titles stand in one of so many rows
 BEGINNING = 5
 Score = Callable[[list[str]], int]
+
+
+Unseen = dict[tuple[int, int], str]
 
 
 class SheetRow(NamedTuple):
@@ -49,6 +53,8 @@ class Sheet:
     faults: list[SheetFinding]
     # the columns that were asked for, by their places
     kept: dict[int, list[str]] = field(default_factory=dict)
+    # cells that were written with signs that no one sees, as they were, by their lines and places
+    unseen: Unseen = field(default_factory=dict)
     # its formulas without a value; none where the file doesn't say whether a cell is a text or a formula
     formulas: Formulas | None = None
 
@@ -91,12 +97,27 @@ def read_sheet(file: GivenFile, score: Score, worksheet: str = "") -> Sheet:
         rows, separator = read_text(text, score)
         how = f"{encoding}, cells separated by " + {";": "semicolons", "\t": "tabs", ",": "commas"}[separator]
         faults = [fault] if fault else []
+    rows, unseen = without_unseen(rows)
     if not rows:
         raise Mistake(SheetFault.EMPTY.said(path=path))
     at = title_row([row.cells for row in rows[:BEGINNING]], score)
     line, titles = rows[at]
     check_bounds(path, rows, at + 1)
-    return Sheet(line, titles, rows[at + 1 :], how, faults, formulas=formulas)
+    return Sheet(line, titles, rows[at + 1 :], how, faults, unseen=unseen, formulas=formulas)
+
+
+def without_unseen(rows: list[SheetRow]) -> tuple[list[SheetRow], Unseen]:
+    """The rows without signs that no one sees, and the cells that have some as they are written."""
+    are_printed = [*map(str.isprintable, map("".join, map(operator.itemgetter(1), rows)))]
+    if all(are_printed):
+        return rows, {}
+    seen = [*rows]
+    unseen: Unseen = {}
+    for at in itertools.compress(itertools.count(), map(operator.not_, are_printed)):
+        line, cells = rows[at]
+        seen[at] = SheetRow(line, [*map(seen_of, cells)])
+        unseen |= {(line, place): cell for place, cell in enumerate(cells) if cell != seen[at].cells[place]}
+    return seen, unseen
 
 
 def title_row(rows: list[list[str]], score: Score) -> int:

@@ -65,6 +65,16 @@ class IdTooLong(RowLeftOut):
 
 
 @dataclass(frozen=True, slots=True)
+class UnseenInId(RowLeftOut):
+    """The id has a sign that no one sees; `seen` is what one sees of it."""
+
+    seen: str
+
+    code = "unseen in id"
+    message = Text("the row is left out: its id '{seen}' has a sign within that no one sees: write it by hand")
+
+
+@dataclass(frozen=True, slots=True)
 class TitlesAgain(RowLeftOut):
     """The row has the titles, as a page's first one."""
 

@@ -235,6 +235,21 @@ class ErrorColumn(SheetFinding):
 
 
 @dataclass(frozen=True, slots=True)
+class UnseenDropped(SheetFinding):
+    """Cells that have signs that no one sees, which are read without them."""
+
+    count: int
+    line: int
+
+    code = "unseen dropped"
+    message = Counted(
+        "{count} cell has signs that no one sees, in line {line}: it is read without them",
+        "{count} cells have signs that no one sees, the first in line {line}: they are read without them",
+        "count",
+    )
+
+
+@dataclass(frozen=True, slots=True)
 class CutNumber(SheetFinding):
     """Ids that the spreadsheet has cut, as `2,76E+14`."""
 
