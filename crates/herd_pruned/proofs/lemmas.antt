@@ -1,4 +1,4 @@
 pub mod MarkedFacts
 pub mod PruningFacts
 pub mod EntryFacts
-pub mod BandFacts
+pub mod WindowFacts

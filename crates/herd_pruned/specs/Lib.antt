@@ -1,4 +1,4 @@
 pub mod Pruned
 pub mod Marked
 pub mod Known
-pub mod Band
+pub mod Window

@@ -4,14 +4,14 @@ ghost use Rattle.herd_lineage.specs.declared.TheConstants.{DEPTH_LIMIT};
 ghost use Rattle.herd_kinship.specs.Coefficients.{AreCoefficients, coefficient_at};
 ghost use Rattle.herd_pruned.specs.Known.{AreCoefficientsOf};
 
-use crate::band::{coefficients_in_band, width_of};
 use crate::pruned_lineage::PrunedLineage;
+use crate::window::{coefficients_in_window, span_of};
 use herd_kinship::{Coefficients, coefficients_plain};
 use herd_lineage::Lineage;
 use std::alloc::{AllocError, Allocator};
 
-// How many entries of a matrix are kept at most.
-const MOST_ENTRIES: u64 = 1 << 21;
+// How many entries of a matrix are computed at most.
+const MOST_ENTRIES: u64 = 1 << 20;
 
 /// The coefficient of inbreeding of the animal at a rank, in units of 2^-120. The only error is a growth of memory that
 /// is refused.
@@ -47,9 +47,9 @@ pub fn coefficients_of<F: Allocator, A: Allocator + Clone>(
 /// The coefficients of inbreeding of all animals of a lineage that is small, as that of one animal's ancestors mostly
 /// is.
 ///
-/// They are read row by row from the matrix by the tabular method, of which a band is kept as wide as the distance of
-/// the furthest parent, where that is a sixteenth of the animals at most and takes no more than 32 MB; else they are
-/// computed sire by sire. The only error is a growth of memory that is refused.
+/// They are computed row by row of the matrix by the tabular method, where the rows of all animals, each as long as the
+/// distance of the furthest parent, have no more than a million entries; else sire by sire. The only error is a growth
+/// of memory that is refused.
 pub fn coefficients<F: Allocator, A: Allocator + Clone>(
     alloc: A,
     lineage: &Lineage<F>,
@@ -57,9 +57,9 @@ pub fn coefficients<F: Allocator, A: Allocator + Clone>(
     ensures { IfOk result (AreCoefficients DEPTH_LIMIT lineage.now) }
 {
     let animals = u64::from(lineage.len());
-    let width = width_of(lineage);
-    if 16 * u64::from(width) <= animals && animals * u64::from(width) <= MOST_ENTRIES {
-        coefficients_in_band(alloc, lineage, width)
+    let span = span_of(lineage);
+    if animals.max(u64::from(span)) * u64::from(span) <= MOST_ENTRIES {
+        coefficients_in_window(alloc, lineage, span)
     } else {
         coefficients_plain(alloc, lineage)
     }

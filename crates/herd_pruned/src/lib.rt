@@ -9,15 +9,15 @@
 //! | some animals and all their ancestors | `Marked` | `marked` | `MarkedFacts` |
 //! | the lineage of these | `Pruned` | `pruned_lineage` | `PruningFacts` |
 //! | the entries are the same | `Pruned` | `laws` | `EntryFacts` |
-//! | coefficients row by row of the matrix, near its diagonal | `Band` | `band` | `BandFacts` |
+//! | coefficients row by row of the matrix, its last animals | `Window` | `window` | `WindowFacts` |
 //! | coefficients of some animals | `Known` | `coefficient` | `EntryFacts` |
 #![tactic(auto)]
 
-mod band;
 mod coefficient;
 pub mod laws;
 mod marked;
 mod pruned_lineage;
+mod window;
 
 pub use coefficient::{coefficient_of, coefficients, coefficients_of};
 pub use pruned_lineage::PrunedLineage;

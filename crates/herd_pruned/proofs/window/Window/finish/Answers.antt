@@ -1,9 +1,9 @@
--- `Band::finish`: each coefficient is below 1.
+-- `Window::finish`: each coefficient is below 1.
 use Rattle.std.proofs.Common.{ℕ, ◌*◌, ◌^◌, ◌<◌, ◌≡◌, ◌∙◌, List, arith, get_or, subst, sym}
 use Rattle.std.proofs.lemmas.List.{get_or_default}
 use Rattle.herd_lineage.specs.declared.TheConstants.{DEPTH_LIMIT}
-use Rattle.herd_pruned.proofs.lemmas.BandFacts.{below-one}
-use Rattle.herd_pruned.proofs.band.Band.finish.Goals as goal
+use Rattle.herd_pruned.proofs.lemmas.WindowFacts.{below-one}
+use Rattle.herd_pruned.proofs.window.Window.finish.Goals as goal
 
 pub from_list-requires : goal.from_list-requires
 from_list-requires g c = λ k d low.
