@@ -156,6 +156,10 @@ def test_proxy_has_the_same() -> None:
         address: int(size) << {"k": 10, "m": 20}[unit]
         for address, size, unit in re.findall(r"location = (\S+) \{\s*client_max_body_size (\d+)([km]);", text)
     }
-    assert sizes.keys() == {"/sheet", "/restore"}
-    assert all(most < size < 1.1 * most for size, most in zip(sizes.values(), FILES.values()))
+    pages = {
+        "/sheet": "sheet.drop", "/restore": "restoring.drop", "/seals/check": "seals.check",
+        "/settings/picture": "settings.change_picture",
+    }  # fmt: skip
+    assert sizes.keys() == pages.keys() and FILES.keys() == {*pages.values()}
+    assert all(FILES[page] < sizes[address] < 1.1 * FILES[page] for address, page in pages.items())
     assert f"client_max_body_size {MOST_FORM_BYTES >> 10}k;\n    location / {{" in text

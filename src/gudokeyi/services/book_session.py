@@ -34,6 +34,8 @@ AT_ONCE = 20_000
 SECONDS_FOR_CHANGE, A_MOMENT = 10, 0.02
 # so many numbers of animals stand in one question: a request and an answer have an end
 MOST_NUMBERS = 20_000
+# so many inspectors answer several people: each keeps all of the book as it froze that last
+INSPECTORS = 8
 # the words that an inspector answers, which has no way to ask for two lists of animals
 QUESTIONS = ("inbreeding", "inverse", "records", "certificate", "mating", "relationships", "seal", "sealed")
 
@@ -74,8 +76,8 @@ class BookSession(BookProgram):
 
     @classmethod
     def for_many(cls) -> BookSession:
-        """With as many desks and inspectors as an office may have."""
-        return cls(Places(16, 16))
+        """With as many desks as an office may have, and inspectors."""
+        return cls(Places(16, INSPECTORS))
 
     def ask(self, words: list[str], book: Book) -> list[str]:
         if words[0] in QUESTIONS and "--with" not in words and book.journal.length:

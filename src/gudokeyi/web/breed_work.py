@@ -30,8 +30,8 @@ class Whom:
 
 @dataclass(frozen=True)
 class Measured:
-    """The measures as a part of a page in each language, and each animal's mean kinship with the population; all of
-    the book with a mark."""
+    """The measures as a part of a page in each language, and each animal's mean kinship with the living ones where
+    these are the population; all of the book with a mark."""
 
     mark: Mark
     parts: dict[str, str]
@@ -53,7 +53,8 @@ def measured(folder: pathlib.Path, whom: Whom, tell: Tell) -> Measured:
             raise Mistake(WebFault.NONE_OF_THESE.said())
         state = state_of_breed(breed, population, tell)
         parts = {name: breed_part(state, breed, name, said_of(whom, BreedWords(name))) for name in LANGUAGES}
-        return Measured(mark_of(book), parts, mean_kinships_of(breed, population))
+        # of others nobody asks for it, and it is long
+        return Measured(mark_of(book), parts, mean_kinships_of(breed, population) if whom == Whom() else {})
 
 
 def population_of(breed: Breed, whom: Whom) -> Sequence[int]:

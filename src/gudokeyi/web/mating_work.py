@@ -26,12 +26,11 @@ from gudokeyi.services.relationships import coefficient_told
 from gudokeyi.services.tables import Table
 from gudokeyi.web.served_book import ServedBook
 from gudokeyi.web.work_places import PLANNING
-from gudokeyi.web.workers import ADVICE, Job, Stage, Tell
+from gudokeyi.web.workers import ADVICE, PLAN, Job, Stage, Tell
 
 # The plan of matings for all living dams, which is made in a process beside the server; what the program's session says
 # of its matings is compared with it before it is shown.
 
-PLAN = "plan"
 # so long a plan that was made is shown though somebody changed the book since, in seconds
 SECONDS_SHOWN = 60
 # so often it is made of a book that somebody changes

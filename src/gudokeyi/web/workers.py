@@ -19,14 +19,14 @@ from gudokeyi.domain.requests import WebFault
 from gudokeyi.domain.waiting import UNTIL
 from gudokeyi.process import take_what_is_left
 from gudokeyi.services.folder_files import refresh
-from gudokeyi.web.work_places import BOUNDS, LOOKING, MOST_OF_PERSON, OTHERS, TAKING as TAKING, Bounds, Places
+from gudokeyi.web.work_places import BOUNDS, BREED, LOOKING, MOST_OF_PERSON, OTHERS, TAKING as TAKING, Bounds, Places
 from gudokeyi.web.worker_processes import Failed, Finished, KeptProcesses, Progress, Tell as Tell, WorkerProcess
 
 # Work that goes on in processes beside the server: how far each is, and what came of it, kept with the state of the
 # book that it is of.
 
-# so many results are kept, and so long a page waits for one that is there soon, in seconds; so long behind its begin for
-# one by a process that is kept for it, of which there are few: a page that asks again would be a second late
+# so many results are kept, and so long a page waits for one that is there soon, in seconds; so long behind its begin
+# for one by a process that is kept for it, of which there are few: a page that asks again would be a second late
 MOST = 12
 SOON, SOON_BY_KEPT = 0.15, 2.0
 # so long nobody asked for work that goes on, in seconds, and it is ended; so often that is looked at
@@ -37,6 +37,10 @@ Then = Callable[[object], None]
 # the kind of advice on a dam, of which few are kept since each may be long
 ADVICE = "advice"
 MOST_ADVICE = 3
+# the kind of a plan of matings
+PLAN = "plan"
+# the kinds of which the last one is shown while one of the book of now is made
+OF_STATES = (BREED, PLAN)
 
 
 class Stage(enum.Enum):
@@ -280,10 +284,16 @@ class Jobs:
             self.jobs.pop(key, None)
 
     def forget_old(self) -> None:
-        """Of those that are over the oldest go first. The lock is held."""
+        """Of those that are over the oldest go first, and of the same of several states all but the last, which may be
+        long too. The lock is held."""
         over = [key for key, job in self.jobs.items() if job.is_over.is_set()]
         advice = [key for key in over if key[0] == ADVICE]
-        for key in {*over[: max(0, len(self.jobs) - MOST)], *advice[: max(0, len(advice) - MOST_ADVICE)]}:
+        of_states = [key for key in over if key[0] in OF_STATES and self.jobs[key].stage is Stage.DONE]
+        last = {(key[0], key[-1]): key for key in of_states}
+        earlier = [key for key in of_states if last[key[0], key[-1]] != key]
+        for key in {
+            *over[: max(0, len(self.jobs) - MOST)], *advice[: max(0, len(advice) - MOST_ADVICE)], *earlier
+        }:  # fmt: skip
             del self.jobs[key]
 
     def end(self) -> None:
