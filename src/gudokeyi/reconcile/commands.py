@@ -33,14 +33,16 @@ class Filing:
         # was a birth refused with its parents, when the commands were asked about last?
         self.refuses_births = False
 
-    def filed(self, program: Herdbook) -> Filed:
+    def filed(self, program: Herdbook, is_preview: bool = False) -> Filed:
         """The commands, none of which is refused: an exit or a transfer that is refused is left out before, and told;
-        a mistake where a birth is."""
+        a mistake where a birth is. Of a preview those that write the book anew aren't kept."""
         while True:
             if appended := self.appended(program):
                 return appended
             commands = self.anew()
             refused = program.file(commands)
+            if not refused and is_preview:
+                return Filed([], 0)
             if not refused:
                 steps = accepted(commands)
                 keeps = alike(self.book.steps, steps)
@@ -125,31 +127,32 @@ class Filing:
 
     def tell_changes(self) -> None:
         report, society_records, records = self.next_book.report, self.book.society_records, self.book.records
+        owner_names = {code: self.book.owner_of(code) for code in {record.owner_code for record in records.values()}}
         for animal in self.next_book.animals.values() if society_records else ():
             in_book = society_records.get(animal.id)
-            record = records[in_book.registration_number] if in_book else None
-            if record and in_book and self.is_same(animal, record, in_book):
+            if in_book is None:
+                if animal.line:
+                    report.add(animal.line, animal.id, NewAnimal(animal.registration_number))
                 continue
-            if record and in_book:
+            record = records[in_book.registration_number]
+            if not self.is_same(animal, record, in_book, owner_names[record.owner_code]):
                 for found in self.changes(animal, record, in_book):
                     report.add(animal.line, animal.id, found)
-            elif animal.line:
-                report.add(animal.line, animal.id, NewAnimal(animal.registration_number))
 
     @functools.cached_property
     def ids(self) -> dict[str, str]:
         """The ids of the book's animals by their numbers, and that of an unknown one."""
         return {"": "", **{number: one.id for number, one in self.next_book.names.items()}}
 
-    def is_same(self, animal: SheetAnimal, record: RegisterRecord, in_book: SocietyRecord) -> bool:
-        """Is it as the book has it? Most are, and are told by nothing."""
+    def is_same(self, animal: SheetAnimal, record: RegisterRecord, in_book: SocietyRecord, owner: str) -> bool:
+        """Is it as the book has it, which has this owner? Most are, and are told by nothing."""
         ids = self.ids
         return (
             animal.name == in_book.name and animal.born == record.born and animal.left == record.left
             and animal.registration_number == record.registration_number
             and animal.sire == ids[record.sire] and animal.dam == ids[record.dam]
             and animal.embryo == record.embryo and animal.castrated == in_book.castrated
-            and animal.owner == self.book.owner_of(record.owner_code) and animal.id not in self.owners.other_days
+            and animal.owner == owner and animal.id not in self.owners.other_days
             and (animal.left is not None or animal.exit_basis.day_is_unknown == in_book.exit.day_is_unknown)
         )  # fmt: skip
 

@@ -109,10 +109,10 @@ LOOKED_AT = ("name", "owner", "exit")
 
 
 def tell_withdrawn_exits(next_book: NextBook) -> None:
-    book, animals = next_book.book, next_book.animals.values() if next_book.book.society_records else ()
-    living = [animal for animal in animals if not animal.left and not animal.exit_basis.is_inferred]
-    before = ((animal, book.society_records.get(animal.id)) for animal in living)
-    withdrawn = [animal for animal, in_book in before if in_book and book.has_left(in_book)]
+    book, animals = next_book.book, next_book.animals
+    gone = {id for id, in_book in book.society_records.items() if book.has_left(in_book)}
+    before = [animals[id] for id in animals if id in gone] if gone else []
+    withdrawn = [animal for animal in before if not animal.left and not animal.exit_basis.is_inferred]
     if len(withdrawn) >= SEVERAL_WITHDRAWN:
         first = tuple(RowOf(animal.id, animal.line) for animal in withdrawn[:FIRST])
         next_book.report.add(0, "", ExitsWithdrawn(len(withdrawn), first))

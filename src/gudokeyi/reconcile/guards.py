@@ -7,6 +7,7 @@ import re
 from collections.abc import Collection
 
 from gudokeyi.domain.animals import SocietyRecord
+from gudokeyi.domain.commands import RegisterRecord
 from gudokeyi.domain.kinds import Role, Standing
 from gudokeyi.ingest.animals import SheetAnimal, links_outside
 from gudokeyi.ingest.columns import Columns
@@ -39,17 +40,33 @@ class OtherAnimals:
         return [guard for guard in found if guard]
 
     @functools.cached_property
-    def both(self) -> list[tuple[SheetAnimal, SocietyRecord]]:
-        """The rows of animals that the book has, with what it knows of them."""
-        return [(row, in_book) for id, row in self.rows.items() if (in_book := self.book.society_records.get(id))]
+    def otherwise(self) -> list[tuple[SheetAnimal, SocietyRecord, RegisterRecord]]:
+        """The rows that say something else than the book of their animals' birth days, names, sexes or parents: most
+        say the same, and all is asked of each at once."""
+        known, records = self.book.society_records, self.book.records
+        ids = {"": "", **{in_book.registration_number: id for id, in_book in known.items()}}
+        return [
+            (row, in_book, record) for id, row in self.rows.items() if (in_book := known.get(id)) and not (
+                row.birth.first == (record := records[in_book.registration_number]).born and row.name == in_book.name
+                and row.sex == record.registration_number[6]
+                and row.sire == ids[record.sire] and row.dam == ids[record.dam]
+            )
+        ]  # fmt: skip
+
+    @functools.cached_property
+    def count_of_both(self) -> int:
+        """How many rows are of animals that the book has."""
+        return len(self.rows.keys() & self.book.society_records.keys())
 
     def other_animals(self) -> Guard | None:
         """Animals that have another birth day than in the book, or the name of another one: an ordinary correction is
         of a few, and columns that were sorted one without the other change many."""
-        days = [row for row, in_book in self.both if self.has_other_day(row, in_book)]
-        ids = {in_book.name.casefold(): in_book.id for in_book in self.book.society_records.values() if in_book.name}
-        named = [row for row, in_book in self.both if ids.get(row.name.casefold(), in_book.id) != in_book.id]
-        named = [row for row in named if row.name.casefold() != self.book.society_records[row.id].name.casefold()]
+        # a day that was inferred says nothing
+        days = [
+            row for row, in_book, record in self.otherwise
+            if row.birth.first != record.born and row.has_day() and not in_book.birth.is_inferred
+        ]  # fmt: skip
+        named = self.named_as_others()
         names = {row.id: self.book.society_records[row.id].name.casefold() for row in days}
         renamed = [row for row in days if row.name.casefold() not in ("", names[row.id])]
         if self.are_many(days):
@@ -57,26 +74,27 @@ class OtherAnimals:
             return self.of_many(what, days)
         return self.of_many(Changed.NAMES, named) if self.are_many(named) else None
 
-    def has_other_day(self, row: SheetAnimal, in_book: SocietyRecord) -> bool:
-        """Do both say another day? One that was inferred says nothing."""
-        born = self.book.records[in_book.registration_number].born
-        return row.birth.first != born and row.has_day() and not in_book.birth.is_inferred
+    def named_as_others(self) -> list[SheetAnimal]:
+        """Those whose rows have the name of another animal of the book."""
+        named = [
+            (row, in_book) for row, in_book, _ in self.otherwise if row.name.casefold() != in_book.name.casefold()
+        ]  # fmt: skip
+        all_named = (in_book for in_book in self.book.society_records.values() if named and in_book.name)
+        ids = {in_book.name.casefold(): in_book.id for in_book in all_named}
+        return [row for row, in_book in named if ids.get(row.name.casefold(), in_book.id) != in_book.id]
 
     def other_sexes(self) -> Guard | None:
-        pairs = [(row, in_book) for row, in_book in self.both if row.sex and not in_book.sex.is_inferred]
+        pairs = [(row, in_book) for row, in_book, _ in self.otherwise if row.sex and not in_book.sex.is_inferred]
         changed = [row for row, in_book in pairs if row.sex != in_book.registration_number[6]]
         return self.of_many(Changed.SEXES, changed) if self.are_many(changed) else None
 
     def other_parents(self) -> Guard | None:
         """Animals that have another animal with a row as a parent than in the book, or none. A parent that is added or
         that had no row, and one whose cell can't be read, are ordinary."""
-        with_row = (in_book for in_book in self.book.society_records.values() if in_book.standing.had_row())
-        had_row = {in_book.registration_number: in_book.id for in_book in with_row}
+        known = self.book.society_records.values() if self.otherwise else ()
+        had_row = {in_book.registration_number: in_book.id for in_book in known if in_book.standing.had_row()}
         changed = []
-        for row, in_book in self.both:
-            record = self.book.records[in_book.registration_number]
-            if (had_row.get(record.sire, ""), had_row.get(record.dam, "")) == (row.sire, row.dam):
-                continue
+        for row, _, record in self.otherwise:
             read = [role for role in Role if role in self.given and role not in row.unread]
             pairs = [(had_row.get(record.parent(role)), row.parent(role)) for role in read]
             if any(before and before != now and (not now or now in self.rows) for before, now in pairs):
@@ -84,13 +102,13 @@ class OtherAnimals:
         return self.of_many(Changed.PARENTS, changed) if self.are_many(changed) else None
 
     def are_many(self, changed: list[SheetAnimal]) -> bool:
-        return len(changed) > MOST_OTHERS and len(changed) * 100 > PER_HUNDRED * len(self.both)
+        return len(changed) > MOST_OTHERS and len(changed) * 100 > PER_HUNDRED * self.count_of_both
 
     def of_many(self, what: Changed, changed: list[SheetAnimal]) -> ManyOthers:
         first = tuple(RowOf(row.id, row.line) for row in changed[:3])
         is_other = what is Changed.NAMES_AND_BIRTH_DAYS
         like = LooksLike.ANOTHER_FLOCK if is_other else LooksLike.SORTED_APART
-        return ManyOthers(what, len(changed), len(self.both), first, like)
+        return ManyOthers(what, len(changed), self.count_of_both, first, like)
 
 
 class Guards(OtherAnimals):

@@ -99,7 +99,7 @@ def leave_out_used_tags(
     """Leaves out rows of animals that can't be those of the book which have their ids; answers these ids. It is told as
     `another`, or as `after` of one that would be younger than its offspring."""
     found = set()
-    both = animals_of_book(animals, book)
+    both = with_other_days(animals, book)
     apart = [(animal, in_book) for animal, in_book in both if are_years_apart(animal, in_book, book)]
     progeny = earliest_offspring(book) if apart else {}
     for animal, in_book in apart:
@@ -118,10 +118,13 @@ def leave_out_used_tags(
     return found
 
 
-def animals_of_book(animals: dict[str, SheetAnimal], book: Book) -> list[tuple[SheetAnimal, SocietyRecord]]:
-    """Those that the book has, each with what it knows of it."""
-    before = book.society_records
-    return [(animal, before[id]) for id, animal in animals.items() if id in before] if before else []
+def with_other_days(animals: dict[str, SheetAnimal], book: Book) -> list[tuple[SheetAnimal, SocietyRecord]]:
+    """Those that the book has with another birth day, each with what it knows of it."""
+    known, records = book.society_records, book.records
+    return [
+        (animal, in_book) for id, animal in animals.items()
+        if (in_book := known.get(id)) and animal.birth.first != records[in_book.registration_number].born
+    ] if known else []  # fmt: skip
 
 
 def earliest_offspring(book: Book) -> dict[str, RegisterRecord]:

@@ -200,9 +200,9 @@ class OwnerDays:
             first, before = self.before[0][number], self.before[1].get(number, [])
         animal.owner_day = in_book.owner_day
         has_other_owner = self.has_other_owner(animal, record)
-        since = None if has_other_owner else self.other_days_of(animal, record)
+        since = None if has_other_owner or animal.since is None else self.other_days_of(animal, record)
         if not (before or has_other_owner or since):
-            return Owners(first, [], 0, False)
+            return made(Owners, (first, [], 0, False))
         has_new_owner = has_other_owner and animal.id not in self.refused
         before = [one._replace(animal=animal.registration_number) for one in before]
         transfers = given = self.as_given(animal, record, before, not has_new_owner)

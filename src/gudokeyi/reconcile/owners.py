@@ -32,10 +32,13 @@ def tell_respelt_owners(next_book: NextBook, owners_before: set[str]) -> None:
     """`owners_before` are those that the book had before this import. A row in whose place one by hand stays tells
     nothing."""
     taken, kept = collections.defaultdict[str, collections.Counter[str]](collections.Counter), next_book.kept_owners
-    for animal in next_book.animals.values() if next_book.book.society_records else ():
-        record = next_book.record(animal.id)
-        if record and animal.line and animal.id not in kept and (before := next_book.book.owner_of(record.owner_code)):
-            taken[before][animal.owner] += 1
+    book, animals = next_book.book, next_book.animals
+    numbers = {id: in_book.registration_number for id, in_book in book.society_records.items()}
+    rows = [one for id, one in animals.items() if one.line and id in numbers and id not in kept] if numbers else []
+    counts = collections.Counter((book.records[numbers[one.id]].owner_code, one.owner) for one in rows)
+    for (owner_code, owner), count in counts.items():
+        if before := book.owner_of(owner_code):
+            taken[before][owner] += count
     for before, now in taken.items():
         owner, count = now.most_common(1)[0]
         is_new = len(now) == 1 and owner not in owners_before

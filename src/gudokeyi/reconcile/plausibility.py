@@ -6,11 +6,11 @@ from __future__ import annotations
 import collections
 import datetime
 import operator
-from collections.abc import Collection
+from collections.abc import Collection, Mapping, Sequence
 from typing import TYPE_CHECKING
 
 from gudokeyi.domain.findings import Report
-from gudokeyi.domain.kinds import Field
+from gudokeyi.domain.kinds import Field, Role
 from gudokeyi.ingest.animals import DAM, SIRE, YEARS_LATER, SheetAnimal
 from gudokeyi.reconcile.findings.by_hand import YoungParent
 from gudokeyi.reconcile.findings.plausibility import (
@@ -52,9 +52,9 @@ class PlausibilityChecks:
         from gudokeyi.reconcile.findings.rows import BirthMovedByYears
 
         for animal in self.animals.values() if book.society_records else ():
-            in_book = book.society_records.get(animal.id) if animal.line and animal.has_day() else None
-            if in_book and not in_book.birth.is_inferred:
-                before = book.records[in_book.registration_number].born
+            in_book = book.society_records.get(animal.id)
+            before = book.records[in_book.registration_number].born if in_book else animal.born
+            if in_book and before != animal.born and animal.line and animal.has_day() and not in_book.birth.is_inferred:
                 if abs((animal.born - before).days) >= YEARS_LATER:
                     self.report.add(animal.line, animal.id, BirthMovedByYears(before, animal.born))
 
@@ -65,38 +65,46 @@ class PlausibilityChecks:
 
     def tell_families(self) -> None:
         """What is told of parents, offspring, and animals that are there twice."""
-        for animal in self.animals.values():
-            if self.is_new(animal):
-                self.look_at_parents(animal)
-        self.look_at_dams()
+        dated = [animal for animal in self.animals.values() if animal.has_day()]
+        days = {id: animal.born.toordinal() for id, animal in self.animals.items()}
+        left = {id: animal.left for id, animal in self.animals.items() if animal.left}
+        for animal in dated:
+            if animal.line or animal.id in self.filed:
+                self.look_at_parents(animal, days, left)
+        self.look_at_dams(dated, days)
         self.look_at_castrated()
-        self.look_at_names()
+        self.look_at_names(dated)
 
-    def look_at_parents(self, offspring: SheetAnimal) -> None:
-        if not offspring.has_day():
-            return
-        for role, id in (SIRE, offspring.sire), (DAM, offspring.dam):
-            if not id:
-                continue
-            parent = self.animals[id]
-            days = (offspring.born - parent.born).days
-            if 0 < days < self.limits.youngest and parent.has_day():
-                found = YoungParent(role, id, parent.line, days, self.limits.youngest)
-                self.report.add(offspring.line, offspring.id, found)
-            if role is SIRE and parent.left and offspring.born > parent.left + datetime.timedelta(YEAR):
-                left = SireLeftLongBefore(id, parent.line, parent.left, offspring.born)
-                self.report.add(offspring.line, offspring.id, left)
+    def look_at_parents(
+        self, offspring: SheetAnimal, days: Mapping[str, int], left: Mapping[str, datetime.date]
+    ) -> None:
+        """`days` are those of all births, and `left` those of exits."""
+        born, sire, dam, youngest = days[offspring.id], offspring.sire, offspring.dam, self.limits.youngest
+        if sire and 0 < born - days[sire] < youngest:
+            self.tell_young(offspring, SIRE, sire, born - days[sire])
+        if sire in left and offspring.born > left[sire] + datetime.timedelta(YEAR):
+            found = SireLeftLongBefore(sire, self.animals[sire].line, left[sire], offspring.born)
+            self.report.add(offspring.line, offspring.id, found)
+        if dam and 0 < born - days[dam] < youngest:
+            self.tell_young(offspring, DAM, dam, born - days[dam])
 
-    def look_at_dams(self) -> None:
+    def tell_young(self, offspring: SheetAnimal, role: Role, id: str, days: int) -> None:
+        parent = self.animals[id]
+        if parent.has_day():
+            found = YoungParent(role, id, parent.line, days, self.limits.youngest)
+            self.report.add(offspring.line, offspring.id, found)
+
+    def look_at_dams(self, dated: Sequence[SheetAnimal], born: Mapping[str, int]) -> None:
         progeny = collections.defaultdict(list)
-        for animal in self.animals.values():
-            if animal.dam and animal.has_day() and not animal.embryo:
+        for animal in dated:
+            if animal.dam and not animal.embryo:
                 progeny[animal.dam].append(animal)
         by_age = operator.attrgetter("born", "line")
         for dam, its in progeny.items():
-            its.sort(key=by_age)
+            if len(its) > 1:
+                its.sort(key=by_age)
             for before, offspring in zip(its, its[1:]):
-                days = (offspring.born - before.born).days
+                days = born[offspring.id] - born[before.id]
                 if LITTER < days < self.limits.apart and (self.is_new(offspring) or self.is_new(before)):
                     found = BirthsTooNear(dam, before.id, before.line, days, self.limits.apart)
                     self.report.add(offspring.line, offspring.id, found)
@@ -104,7 +112,7 @@ class PlausibilityChecks:
     def look_at_castrated(self) -> None:
         castrated = {id for id, animal in self.animals.items() if animal.castrated}
         progeny = collections.defaultdict(list)
-        for animal in self.animals.values():
+        for animal in self.animals.values() if castrated else ():
             if animal.sire in castrated:
                 progeny[animal.sire].append(animal)
         for sire, its in progeny.items():
@@ -112,11 +120,11 @@ class PlausibilityChecks:
             found = CastratedSire(animal.cells.get(Field.SEX, ""), len(its), its[0].id, its[0].line)
             self.report.add(animal.line, sire, found)
 
-    def look_at_names(self) -> None:
+    def look_at_names(self, dated: Sequence[SheetAnimal]) -> None:
         """Animals with one name and birth day. Many sheets have names that stand for none, as `Lamm`, at each."""
         alike = collections.defaultdict[tuple[str, datetime.date], list[SheetAnimal]](list)
-        for animal in self.animals.values():
-            if animal.name and animal.has_day():
+        for animal in dated:
+            if animal.name:
                 alike[animal.name.casefold(), animal.born].append(animal)
         for pair in alike.values():
             if len(pair) == 2 and any(map(self.is_new, pair)):

@@ -9,7 +9,7 @@ from typing import NamedTuple
 from gudokeyi.domain.findings import Report
 from gudokeyi.domain.kinds import Field, Role
 from gudokeyi.domain.provenance import SexSource
-from gudokeyi.ingest.animals import DAM_OF, SIRE_OF, SheetAnimal
+from gudokeyi.ingest.animals import DAM_OF, SIRE_OF, Link, SheetAnimal
 from gudokeyi.reconcile.findings.animals import SexInferred, SexNotKnown
 from gudokeyi.reconcile.findings.parents import Couple, NoSexesFit, ParentsSwapped
 from gudokeyi.reconcile.findings.same_animals import SexAgainstOffspring
@@ -98,22 +98,35 @@ def may_disagree(next_book: NextBook, gone: Mapping[str, SheetAnimal]) -> bool:
 def progeny_by_role(next_book: NextBook, gone: Mapping[str, SheetAnimal]) -> dict[str, dict[Role, set[str]]]:
     """The offspring of each animal in each role, as cells name it by its id or by a name that it has alone; where a
     cell names none so, as the book has it."""
-    animals, book = next_book.animals, next_book.book
-    names = collections.Counter(one.name.casefold() for one in (*animals.values(), *gone.values()) if one.name)
-    all_of = (*animals.items(), *gone.items())
-    named = {one.name.casefold(): id for id, one in all_of if names[one.name.casefold()] == 1}
+    all_animals = {**next_book.animals, **gone}
     found: dict[str, dict[Role, set[str]]] = {}
-    for offspring in (*animals.values(), *gone.values()):
-        in_book = book.society_records.get(offspring.id)
-        record = book.records[in_book.registration_number] if in_book else None
-        for role in Role:
-            text = offspring.parent(role)
-            parent = text if text in animals or text in gone else named.get(text.casefold(), "") if text else ""
-            if not parent and text and record:
-                parent = next_book.id_of(record.parent(role))
-            if parent:
-                found.setdefault(parent, {Role.SIRE: set(), Role.DAM: set()})[role].add(offspring.id)
+    texts: list[Link] = []
+    for role, parent_of in (Role.SIRE, SIRE_OF), (Role.DAM, DAM_OF):
+        for offspring, text in zip(all_animals.values(), map(parent_of, all_animals.values())):
+            if text in all_animals:
+                add_offspring(found, text, role, offspring)
+            elif text:
+                texts.append((offspring, role, text))
+    named = animals_named(all_animals) if texts else {}
+    for offspring, role, text in texts:
+        record = next_book.record(offspring.id)
+        parent = named.get(text.casefold(), "") or (next_book.id_of(record.parent(role)) if record else "")
+        if parent:
+            add_offspring(found, parent, role, offspring)
     return found
+
+
+def add_offspring(found: dict[str, dict[Role, set[str]]], parent: str, role: Role, offspring: SheetAnimal) -> None:
+    by_role = found.get(parent)
+    if by_role is None:
+        by_role = found[parent] = {Role.SIRE: set(), Role.DAM: set()}
+    by_role[role].add(offspring.id)
+
+
+def animals_named(animals: Mapping[str, SheetAnimal]) -> dict[str, str]:
+    """Those that have a name alone, by it in small letters."""
+    names = collections.Counter(one.name.casefold() for one in animals.values() if one.name)
+    return {name: id for id, one in animals.items() if names[name := one.name.casefold()] == 1}
 
 
 def find_sexes(next_book: NextBook) -> None:

@@ -41,18 +41,23 @@ class Keeping:
         self.days_of_others = DaysOfOthers(self.book, next_book.meanings, self.report)
         # the lines of animals whose exits keep the book's days
         self.kept_exits: set[int] = set()
+        # what no row says of its animal
+        self.roles_not_given = [role for role in Role if role not in self.given]
+        self.has_names, self.has_exits = "name" in self.given, "exit" in self.given
+        self.has_embryos, self.has_sexes = "embryo" in self.given, Field.SEX in self.given
 
     def keep(self, animal: SheetAnimal, in_book: SocietyRecord, record: RegisterRecord) -> None:
         if in_book.by_hand:
             self.keep_by_hand(animal, in_book, record)
-        if "name" not in self.given or Field.NAME in animal.unread:
+        unread = animal.unread
+        if not self.has_names or Field.NAME in unread:
             animal.name = in_book.name
-        for role in Role:
-            if role not in self.given or role in animal.unread:
+        for role in Role if unread else self.roles_not_given:
+            if role not in self.given or role in unread:
                 animal.set_parent(role, self.next_book.id_of(record.parent(role)))
-        is_asked = "exit" not in self.given or "exit" in animal.unread
+        is_asked = not self.has_exits or "exit" in unread
         exit = exit_in_book(in_book, record, animal.birth.first) if is_asked else None
-        if exit and ("exit" not in self.given or self.may_keep_exit(animal, exit)):
+        if exit and (not self.has_exits or self.may_keep_exit(animal, exit)):
             self.keep_exit(animal, exit)
             if exit.day:
                 self.tell_kept(animal, Field.EXIT, str(exit.day))
@@ -60,18 +65,18 @@ class Keeping:
             animal.left, animal.exit_basis = record.left, in_book.exit
             self.kept_exits.add(animal.line)
             self.tell_kept(animal, Field.EXIT, str(record.left))
-        if "embryo" not in self.given or "embryo" in animal.unread:
+        if not self.has_embryos or "embryo" in unread:
             animal.embryo = record.embryo
-        owner = self.book.owner_of(record.owner_code)
-        if owner and not animal.owner:
+        if not animal.owner and (owner := self.book.owner_of(record.owner_code)):
             animal.owner = owner
             self.tell_kept(animal, Field.OWNER, owner)
-        self.days_of_others.leave_out(animal, record)
+        if animal.since is not None:
+            self.days_of_others.leave_out(animal, record)
         is_within = not animal.has_day() and animal.birth.first <= record.born <= animal.birth.last
         if is_within and not in_book.birth.is_inferred:
             animal.birth = Span(record.born, record.born)
             self.tell_kept(animal, Field.BIRTH, str(record.born))
-        if Field.SEX not in self.given or not animal.cells.get(Field.SEX):
+        if not self.has_sexes or not animal.cells.get(Field.SEX):
             animal.castrated = in_book.castrated
         if not animal.sex and not in_book.sex.is_inferred:
             animal.sex = record.registration_number[6]

@@ -95,7 +95,7 @@ def file(
         checks = PlausibilityChecks(next_book.animals, about.limits, report)
         checks.tell_births(book)
         checks.tell("exit" in next_book.given)
-    filed = filed or filing.filed(program)
+    filed = filed or filing.filed(program, import_options.preview)
     tell_respelt_owners(next_book, owners_before)
     tell_owners_alike(next_book)
     tell_mistyped_owners(next_book, owners_before)

@@ -71,14 +71,33 @@ class Reading:
         values = (dict(self.columns), self.unknown.more, self.unknown.known, dict(self.sexes), self.month_first)
         return *values, [*self.no_animals], self.sure, self.born, self.owners, self.today
 
-    def animals(self, report: Report) -> tuple[Rows, dict[str, SheetAnimal]]:
-        has_ids = Field.ID in self.columns
-        meant = as_meant(self.sheet, self.columns, self.unknown, self.sure, report) if has_ids else self.sheet
+    def meant_by(self) -> tuple[object, ...]:
+        """By what the rows are changed into what they mean: by words for unknown parents beside a status alone."""
+        words = (self.unknown.more, self.unknown.known) if Field.STATUS in self.columns else ()
+        return dict(self.columns), self.sure, words
+
+    def meant(self, report: Report) -> Sheet:
+        """The sheet with its rows as they are meant."""
+        if Field.ID not in self.columns:
+            return self.sheet
+        return as_meant(self.sheet, self.columns, self.unknown, self.sure, report)
+
+    def animals(self, meant: Sheet, report: Report) -> tuple[Rows, dict[str, SheetAnimal]]:
         rows = Rows(
             meant, {name: at for name, at in self.columns.items() if name != Field.STATUS}, self.unknown, self.sexes,
             report, self.month_first, self.born, self.no_animals, self.owners,
         )  # fmt: skip
-        return rows, rows.animals() if has_ids else {}
+        return rows, rows.animals() if Field.ID in self.columns else {}
+
+
+@dataclass
+class RowsMeant:
+    """A sheet with its rows as they are meant, what was told of that, and by what they were changed."""
+
+    sheet: Sheet
+    meant_by: tuple[object, ...]
+    meant: Sheet
+    entries: list[Entry]
 
 
 @dataclass
@@ -108,6 +127,7 @@ class LastReading:
 
     def __init__(self) -> None:
         self.columns: ColumnsRead | None = None
+        self.meant: RowsMeant | None = None
         self.animals: AnimalsRead | None = None
 
     def columns_of(
@@ -120,12 +140,21 @@ class LastReading:
             self.columns = last = ColumnsRead(read_by, find_columns(sheet, given, before, unknown, ids))
         return last.columns
 
+    def meant_of(self, reading: Reading, report: Report) -> Sheet:
+        """The rows as they are meant, of which is told before all else."""
+        last, meant_by = self.meant, reading.meant_by()
+        if last is None or last.sheet is not reading.sheet or last.meant_by != meant_by:
+            meant = reading.meant(report)
+            self.meant = last = RowsMeant(reading.sheet, meant_by, meant, [*report.entries])
+        report.entries = [*last.entries]
+        return last.meant
+
     def animals_of(self, reading: Reading, report: Report) -> tuple[Rows, dict[str, SheetAnimal]]:
         """The animals, and what is told of them."""
         last = self.animals
         if last is None or last.sheet is not reading.sheet or last.read_by != reading.read_by():
             self.animals = None
-            rows, animals = reading.animals(report)
+            rows, animals = reading.animals(self.meant_of(reading, report), report)
             kept = {id: copied(animal) for id, animal in animals.items()}
             self.animals = AnimalsRead(reading.sheet, reading.read_by(), rows, kept, [*report.entries])
             return rows, animals
@@ -186,7 +215,7 @@ def read_animals(
         frozenset({*book.society_records, *parts_of(import_options.animal)}),
         {id: book.records[animal.registration_number].born for id, animal in with_day.items()}, names_of_owners(book),
     )  # fmt: skip
-    rows, animals = last.animals_of(reading, report) if last else reading.animals(report)
+    rows, animals = last.animals_of(reading, report) if last else reading.animals(reading.meant(report), report)
     formulas = sheet.formulas.told([*columns.found.values()]) if sheet.formulas else []
     faults = [*sheet.faults, *formulas, *columns.faults, *rows.faults]
     if faults:

@@ -110,6 +110,9 @@ def work_in_process(given: BinaryIO, out: BinaryIO) -> None:
         # what the work made, and isn't needed any more, goes behind its answer
         del work, values
         gc.collect()
+        if not gc.get_freeze_count():
+            # what the first work keeps isn't looked through again: the next one would wait for that
+            gc.freeze()
 
 
 def do_work(work: Work, values: tuple[object, ...], out: BinaryIO) -> None:
