@@ -3,6 +3,7 @@ from __future__ import annotations
 
 import os
 import pathlib
+import random
 from collections.abc import Iterator
 
 import pytest
@@ -11,10 +12,14 @@ from front_desk.desk import TOP, Desk
 from front_desk.society_lists import GOATS, HORSES, Style, with_planted
 from web.looks import PAIR, TITLES
 from web.site import Site, shown
+from gudokeyi.domain.changes import Option
 from gudokeyi.services.cache import StateKept
 from gudokeyi.services.sheet_reading import LastReading
 from gudokeyi.web import sheet_work, worker_processes
+from gudokeyi.web.files import Upload
+from gudokeyi.web.forms import SHEET_FIELDS
 from gudokeyi.web.sheet_work import Chosen, Look, looked_at
+from gudokeyi.web.views.findings import COLUMNS, choose, field_of, suggestions_of
 from gudokeyi.web.work_places import BREED, LOOKING
 from gudokeyi.web.worker_processes import MOST_KEPT
 from gudokeyi.web.workers import Job, Jobs, Stage
@@ -125,3 +130,49 @@ def test_same_looks(
 
     fresh = [look(options, anew=True) for options in CHOICES]
     assert [look(options, anew=False) for options in CHOICES] == fresh and len({*map(str, fresh)}) > 2
+
+
+# how many buttons are pressed one after the other
+PRESSED = 16
+
+
+def buttons_of(look: Look, style: Style) -> list[Option]:
+    """What its findings suggest, and columns and words that somebody may choose besides."""
+    _, name, sex, _, sire, _, owner, left, status = style.titles
+    titles = {"name": name, "sex": sex, "sire": sire, "owner": owner, "exit": left, "status": status}
+    more = [Option(COLUMNS, f"{field}={title}") for field, title in titles.items()]
+    more += [Option(COLUMNS, f"{field}=") for field in titles]
+    words = (style.names[0], style.castrated, "Total")
+    more += [Option(option, word) for option in ("--unknown", "--known", "--no-animal", "--animal") for word in words]
+    more += [Option("--sexes", f"{style.castrated}=f"), Option("--apart", "300"), Option("--breed", "SKU")]
+    found = suggestions_of([*look.obstacles, *(entry.finding for entry in look.entries)])
+    options = [option for one in found for option in one.options]
+    return [one for one in options if one.option == COLUMNS or field_of(one) in SHEET_FIELDS] + more
+
+
+@pytest.mark.parametrize("style", [GOATS, HORSES])
+@pytest.mark.parametrize("has_book", [False, True])
+def test_same_looks_behind_buttons(
+    desk: Desk, program: str, monkeypatch: pytest.MonkeyPatch, style: Style, has_book: bool
+) -> None:
+    """Whichever buttons are pressed one after the other, the process that looked before sees after each what one sees
+    that begins with all of them."""
+    monkeypatch.setenv("HERDBOOK", program)
+    monkeypatch.setattr(sheet_work, "bound_look", lambda: None)
+    monkeypatch.setattr(sheet_work, "STATE", StateKept())
+    monkeypatch.setattr(sheet_work, "READING", LastReading())
+    text = with_planted(style).text()
+    if has_book:
+        desk.take(text, "--anyway")
+    path = desk.room / desk.write("liste.csv", text.replace("Caduff", "Cadufff").replace("Queloz", "Quelloz"))
+    draw, upload, seen = random.Random(f"{style.seed} {has_book}"), Upload("", "", path, 0), set[str]()
+    for _ in range(PRESSED):
+        chosen = Chosen.of(upload.columns, upload.options)
+        kept = looked_at(desk.room / "book", path, chosen, (), lambda _: None)
+        with monkeypatch.context() as anew:
+            anew.setattr(sheet_work, "STATE", StateKept())
+            anew.setattr(sheet_work, "READING", LastReading())
+            assert looked_at(desk.room / "book", path, chosen, (), lambda _: None) == kept, chosen
+        seen.add(str(kept))
+        choose(upload, [draw.choice(buttons_of(kept, style))])
+    assert len(seen) > PRESSED // 2

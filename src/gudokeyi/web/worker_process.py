@@ -14,7 +14,7 @@ from gudokeyi.web.worker_processes import work_in_process
 MOST_BYTES = 3 << 30
 # what a look makes of a large sheet is needed to its end: to look for what isn't, as often as Python does by itself,
 # takes 2 of 6 seconds at 60,000 rows; it is looked for behind each work
-OBJECTS, ROUNDS = 100_000, 1000
+OBJECTS, ROUNDS = 500_000, 1000
 
 if __name__ == "__main__":
     resource.setrlimit(resource.RLIMIT_AS, (MOST_BYTES, resource.getrlimit(resource.RLIMIT_AS)[1]))
