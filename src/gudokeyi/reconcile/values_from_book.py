@@ -52,7 +52,7 @@ class Keeping:
         unread = animal.unread
         if not self.has_names or Field.NAME in unread:
             animal.name = in_book.name
-        for role in Role if unread else self.roles_not_given:
+        for role in [*Role] if unread else self.roles_not_given:
             if role not in self.given or role in unread:
                 animal.set_parent(role, self.next_book.id_of(record.parent(role)))
         is_asked = not self.has_exits or "exit" in unread
