@@ -23,7 +23,7 @@ from gudokeyi.store.accounts import Accounts
 from gudokeyi.web.access import (
     FILES, MOST_FIELDS, MOST_FORM_BYTES, MOST_LETTERS, MOST_QUERY_BYTES, MOST_QUERY_FIELDS,
 )  # fmt: skip
-from gudokeyi.web.connections import MOST_TOLD
+from gudokeyi.web.connections import MOST_TOLD, TOO_LARGE
 from serving.server import Browser, Server
 from serving.test_running import EXAMPLES
 from serving.visitor import PEOPLE, WORD, Served, Visitor, with_accounts
@@ -146,7 +146,19 @@ def test_files_not_received(society_desk: Desk, cheap: None) -> None:
         if name not in PEOPLE:
             told = first_line(server, path, "Transfer-Encoding: chunked", f"Cookie: {cookie}", body=chunk)
             assert " 413 " in told, (path, name)
+            # all of the answer comes, and what stands in the body is no request
+            within = b"GET /login HTTP/1.1\r\nHost: x\r\n\r\n" * 40_000
+            told = all_told(server, path, within)
+            assert told.count("HTTP/1.1 ") == 1 and told.endswith(TOO_LARGE.text), (path, name, told[:300])
     server.end()
+
+
+def all_told(server: Server, path: str, body: bytes) -> str:
+    """All that is answered to a stranger's body on one connection, to its end."""
+    head = f"POST {path} HTTP/1.1\r\nHost: {server.host}\r\nContent-Length: {len(body)}\r\n\r\n"
+    with socket.create_connection(("127.0.0.1", server.port), timeout=SECONDS) as connection:
+        connection.sendall(head.encode() + body)
+        return connection.makefile("rb").read().decode()
 
 
 def test_proxy_has_the_same() -> None:

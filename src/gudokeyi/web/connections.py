@@ -4,16 +4,19 @@ from __future__ import annotations
 
 import contextlib
 import copy
+import socket
 import threading
 import time
 from collections import deque
 from collections.abc import Callable
+from dataclasses import dataclass
 from typing import Any
 
 from flask import Flask, g, request
 from waitress.channel import HTTPChannel
 from waitress.parser import HTTPRequestParser
-from waitress.task import ThreadedTaskDispatcher, WSGITask
+from waitress.task import ErrorTask, ThreadedTaskDispatcher, WSGITask
+from waitress.utilities import RequestEntityTooLarge
 
 from gudokeyi.domain.messages import Mistake
 from gudokeyi.domain.waiting import SECONDS_OF_PAGE
@@ -27,6 +30,8 @@ MOST_CONNECTIONS, MANY_CONNECTIONS, MOST_HEADER_BYTES = 400, 300, 32 << 10
 SECONDS_IDLE, SECONDS_FOR_HEAD = 60, 10
 # so much longer than its bytes need at the least rate a body may take, or the taking of an answer
 SECONDS_BESIDE, LEAST_RATE = 20, 8 << 10
+# so long is thrown away what somebody still sends of a body that is refused: where it isn't received the answer is lost
+SECONDS_REFUSED = 2
 # what waitress is told of them
 SETTINGS = {
     "connection_limit": MOST_CONNECTIONS, "max_request_header_size": MOST_HEADER_BYTES, "cleanup_interval": 1,
@@ -40,11 +45,19 @@ def end_slow(channels: dict[int, Any]) -> None:
     now = time.monotonic()
     waiting = sorted((one for one in channels.values() if is_at_head(one)), key=lambda one: float(one.since))
     for one in waiting[: max(0, len(channels) - MANY_CONNECTIONS)]:
-        one.handle_close()
+        end(one)
     for one in channels.values():
         if one.connected and is_too_slow(one, now):
             # whoever takes nothing isn't told of it
-            one.handle_close()
+            end(one)
+
+
+def end(channel: Any) -> None:
+    """Has the server close a connection as it next looks at it. It is asking now for what there is of each: of one that
+    was closed meanwhile it would take what it hears for that of a new one, which has its number, and close that."""
+    channel.will_close = True
+    with contextlib.suppress(OSError):
+        channel.socket.shutdown(socket.SHUT_RDWR)
 
 
 def is_at_head(channel: Any) -> bool:
@@ -54,6 +67,8 @@ def is_at_head(channel: Any) -> bool:
 
 
 def is_too_slow(channel: Any, now: float) -> bool:
+    if channel.refused:
+        return bool(now - channel.refused > SECONDS_REFUSED)
     if channel.total_outbufs_len:
         # what is to be taken is seen by what was sent since it was seen first
         if channel.taking is None:
@@ -113,18 +128,58 @@ def bounded_channel(app: Callable[[], Flask]) -> Any:
     # waitress has no types from which a class may be made
     parser: Any = type("BoundedParser", (HTTPRequestParser,), {"parse_header": parse_header, "arrived": 0.0})
     task: Any = type("ConnectedTask", (WSGITask,), {"get_environment": get_environment})
-    return type("BoundedChannel", (HTTPChannel,), {"parser_class": parser, "task_class": task, **timed_channel()})
+    own = {"parser_class": parser, "task_class": task, "error_task_class": refusing_task()}
+    return type("BoundedChannel", (HTTPChannel,), {**own, **timed_channel(), **refusing_channel()})
 
 
-# what is told where a body can't be kept: no page can be made of it
-NO_ROOM = "There is no room on the server's disk: nothing is changed. Make room there."
+# What is told of a body that isn't taken: no page can be made of that.
 
 
-class NoRoom:
+@dataclass(frozen=True)
+class Refused:
     """An error as waitress answers it."""
 
+    status: str
+    text: str
+
     def to_response(self) -> tuple[str, list[tuple[str, str]], bytes]:
-        return "507 Insufficient Storage", [("Content-Type", "text/plain; charset=utf-8")], NO_ROOM.encode()
+        return self.status, [("Content-Type", "text/plain; charset=utf-8")], self.text.encode()
+
+
+NO_ROOM = Refused(
+    "507 Insufficient Storage", "There is no room on the server's disk: nothing is changed. Make room there."
+)
+TOO_LARGE = Refused(
+    "413 Request Entity Too Large",
+    "This is too large, or you aren't logged in any more: nothing is changed. Log in, and send a smaller file.",
+)
+
+
+def refusing_task() -> Any:
+    """The class of an answer to what isn't taken."""
+
+    def service(self: Any) -> None:
+        self.channel.refuses = True
+        if isinstance(self.request.error, RequestEntityTooLarge):
+            self.request.error = TOO_LARGE
+        ErrorTask.service(self)
+
+    return type("RefusingTask", (ErrorTask,), {"service": service})
+
+
+def refusing_channel() -> dict[str, Any]:
+    """What of a connection ends it a while behind such an answer; nothing that comes meanwhile is a request."""
+
+    def ends(self: Any) -> bool:
+        return bool(self.is_ending)
+
+    def set_ending(self: Any, is_ending: bool) -> None:
+        if is_ending and self.refuses:
+            self.refused = time.monotonic()
+        else:
+            self.is_ending = is_ending
+
+    return {"refuses": False, "refused": 0.0, "is_ending": False, "close_when_flushed": property(ends, set_ending)}
 
 
 def timed_channel() -> dict[str, Any]:
@@ -136,6 +191,8 @@ def timed_channel() -> dict[str, Any]:
         HTTPChannel.__init__(self, *given, **named)
 
     def received(self: Any, data: bytes) -> Any:
+        if self.refused:
+            return True
         if self.request is None and not self.requests:
             self.since, self.got = time.monotonic(), 0
         self.got += len(data)
@@ -144,7 +201,7 @@ def timed_channel() -> dict[str, Any]:
         except OSError:
             # what is received stands on a disk, which is full
             with self.requests_lock:
-                self.request.error, self.request.completed = NoRoom(), True
+                self.request.error, self.request.completed = NO_ROOM, True
                 self.requests.append(self.request)
                 self.request = None
                 if len(self.requests) == 1:
