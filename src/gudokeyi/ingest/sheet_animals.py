@@ -13,7 +13,7 @@ from gudokeyi.domain.findings import Report
 from gudokeyi.domain.kinds import Field, Role
 from gudokeyi.domain.requests import MOST_IN_ID
 from gudokeyi.ingest.animal_cells import AnimalCells, ErrorValues, Unread
-from gudokeyi.ingest.animals import ROLES, YEARS_LATER, SheetAnimal, tell_used_again
+from gudokeyi.ingest.animals import DAM_OF, ROLES, SIRE_OF, YEARS_LATER, SheetAnimal, tell_used_again
 from gudokeyi.ingest.day_cells import Order
 from gudokeyi.ingest.day_forms import DayForms
 from gudokeyi.ingest.days import Span, Unreadable, read_span
@@ -73,9 +73,11 @@ def tell_odd_rows(animals: dict[str, SheetAnimal], rows: list[SheetRow], report:
     # a list of ids is no sheet with odd rows
     if not alone or 2 * len(alone) > len(animals):
         return
-    parents = {nearly(parent) for animal in animals.values() for parent in animal.parent_ids()}
+    alone = [one for one in alone if one.id not in sums]
+    parents = {*map(SIRE_OF, animals.values()), *map(DAM_OF, animals.values())} if alone else set[str]()
+    nearly_parents = {*map(nearly, parents - {""})}
     for animal in alone:
-        if animal.id not in sums and nearly(animal.id) not in parents:
+        if nearly(animal.id) not in nearly_parents:
             report.add(animal.line, animal.id, IdAlone(animal.id))
 
 

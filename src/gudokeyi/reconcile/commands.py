@@ -153,7 +153,10 @@ class Filing:
             and animal.sire == ids[record.sire] and animal.dam == ids[record.dam]
             and animal.embryo == record.embryo and animal.castrated == in_book.castrated
             and animal.owner == owner and animal.id not in self.owners.other_days
-            and (animal.left is not None or animal.exit_basis.day_is_unknown == in_book.exit.day_is_unknown)
+            and (
+                animal.left is not None or animal.exit_basis is in_book.exit
+                or animal.exit_basis.day_is_unknown == in_book.exit.day_is_unknown
+            )
         )  # fmt: skip
 
     def changes(self, animal: SheetAnimal, record: RegisterRecord, in_book: SocietyRecord) -> list[ValueChanged]:

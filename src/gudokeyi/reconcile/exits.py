@@ -110,7 +110,12 @@ LOOKED_AT = ("name", "owner", "exit")
 
 def tell_withdrawn_exits(next_book: NextBook) -> None:
     book, animals = next_book.book, next_book.animals
-    gone = {id for id, in_book in book.society_records.items() if book.has_left(in_book)}
+    records, known = book.records, book.society_records
+    # the exits of most are given, or none
+    gone = {
+        id for id, in_book in known.items()
+        if records[in_book.registration_number].left or in_book.exit is not GIVEN_EXIT and in_book.exit.day_is_unknown
+    }  # fmt: skip
     before = [animals[id] for id in animals if id in gone] if gone else []
     withdrawn = [animal for animal in before if not animal.left and not animal.exit_basis.is_inferred]
     if len(withdrawn) >= SEVERAL_WITHDRAWN:

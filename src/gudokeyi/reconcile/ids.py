@@ -190,7 +190,9 @@ def give_numbers(next_book: NextBook, breed: str, country: str) -> None:
     numbers = {id: in_book.registration_number for id, in_book in book.society_records.items()}
     for id, number in (former | numbers).items():
         animal = animals.get(id)
-        if animal:
+        if animal and not breed and not country and animal.sex == number[6]:
+            animal.registration_number = number
+        elif animal:
             animal.registration_number = (breed or number[:3]) + (country or number[3:6]) + animal.sex + number[7:]
     new = [animal for animal in animals.values() if not animal.registration_number]
     begin = letters_for(book, breed, country)

@@ -132,8 +132,8 @@ def animals_named(animals: Mapping[str, SheetAnimal]) -> dict[str, str]:
 def find_sexes(next_book: NextBook) -> None:
     """An animal without a sex has that of the parent that it is, or else that of the book; else it is taken for a
     female, and stays one for that reason. One that was invented stays so where no row has the animal as a parent."""
-    rows = (animal for animal in next_book.animals.values() if animal.line)
-    parents_of_rows = {parent for row in rows for parent in row.parent_ids()}
+    rows = [animal for animal in next_book.animals.values() if animal.line]
+    parents_of_rows = {*map(SIRE_OF, rows), *map(DAM_OF, rows)}
     for id, animal in next_book.animals.items():
         if animal.sex:
             continue
