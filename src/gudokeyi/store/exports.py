@@ -16,7 +16,6 @@ from typing import NamedTuple
 
 from gudokeyi.domain.changes import Change
 from gudokeyi.domain.provenance import GIVEN_BIRTH, GIVEN_EXIT, BirthSource, ExitSource, SexSource
-from gudokeyi.process import keep
 from gudokeyi.store.animal_rows import birth_basis, exit_basis
 from gudokeyi.store.book import Book
 from gudokeyi.store.files import put, table
@@ -117,7 +116,6 @@ def ids_text(book: Book, change: Change) -> bytes:
     columns: list[tuple[str, ...]] = [*zip(*found)]
     if not columns:
         return table(ID_TITLES, [])
-    keep(columns)
     numbers, ids, names, standings, bases = columns
     words = zip(*map(words_of, bases))
     # by their digits; SQLite would put the whole rows in order
