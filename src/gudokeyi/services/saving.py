@@ -13,7 +13,7 @@ from gudokeyi.domain.commands import RegisterRecord, givers_of, lines_of, text_o
 from gudokeyi.domain.findings import What
 from gudokeyi.domain.kinds import CELL_FIELDS, ChangeKind, Field
 from gudokeyi.engine.answers import records_of
-from gudokeyi.process import keep
+from gudokeyi.process import give_back_freed, keep
 from gudokeyi.reconcile.import_options import ImportOptions
 from gudokeyi.reconcile.next_book import NextBook, known_after
 from gudokeyi.reconcile.outcome import Outcome
@@ -77,6 +77,7 @@ def saved(
     change = save(book, program, prepared)
     outcome = replace(outcome, call=replace(outcome.call, change=change.number))
     keep(prepared, outcome)
+    give_back_freed()
     return outcome, notes + export(book.folder)
 
 
