@@ -136,18 +136,19 @@ def test_same_looks(
 PRESSED = 16
 
 
-def buttons_of(look: Look, style: Style) -> list[Option]:
+def buttons_of(look: Look, style: Style) -> list[list[Option]]:
     """What its findings suggest, and columns and words that somebody may choose besides."""
     _, name, sex, _, sire, _, owner, left, status = style.titles
     titles = {"name": name, "sex": sex, "sire": sire, "owner": owner, "exit": left, "status": status}
-    more = [Option(COLUMNS, f"{field}={title}") for field, title in titles.items()]
-    more += [Option(COLUMNS, f"{field}=") for field in titles]
+    columns = [Option(COLUMNS, f"{field}={title}") for field, title in titles.items()]
+    # a column that isn't read is the one that changes most
+    columns += [Option(COLUMNS, f"{field}=") for field in ("status", "exit", "status", "owner", "sex", "name")]
     words = (style.names[0], style.castrated, "Total")
-    more += [Option(option, word) for option in ("--unknown", "--known", "--no-animal", "--animal") for word in words]
+    more = [Option(option, word) for option in ("--unknown", "--known", "--no-animal", "--animal") for word in words]
     more += [Option("--sexes", f"{style.castrated}=f"), Option("--apart", "300"), Option("--breed", "SKU")]
     found = suggestions_of([*look.obstacles, *(entry.finding for entry in look.entries)])
     options = [option for one in found for option in one.options]
-    return [one for one in options if one.option == COLUMNS or field_of(one) in SHEET_FIELDS] + more
+    return [columns, more, [one for one in options if one.option == COLUMNS or field_of(one) in SHEET_FIELDS] or more]
 
 
 @pytest.mark.parametrize("style", [GOATS, HORSES])
@@ -174,5 +175,5 @@ def test_same_looks_behind_buttons(
             anew.setattr(sheet_work, "READING", LastReading())
             assert looked_at(desk.room / "book", path, chosen, (), lambda _: None) == kept, chosen
         seen.add(str(kept))
-        choose(upload, [draw.choice(buttons_of(kept, style))])
+        choose(upload, [draw.choice(draw.choice(buttons_of(kept, style)))])
     assert len(seen) > PRESSED // 2
