@@ -11,6 +11,7 @@ from gudokeyi.domain.requests import WebFault
 from gudokeyi.web import workers
 from gudokeyi.web.verification import begin_to_see
 from gudokeyi.web.served_book import ServedBook, is_set
+from gudokeyi.web.work_places import BREED
 from gudokeyi.web.workers import TAKING, Exports, Job, Jobs, Stage
 
 
@@ -78,4 +79,15 @@ def test_no_thread(monkeypatch: pytest.MonkeyPatch) -> None:
         patched.setattr(threading.Thread, "start", refuse)
         job = found.of((TAKING, "1"), print, ())
     assert died(job, WebFault.NO_PROCESS.said(error="can't start new thread")) and not found.under_way(TAKING)
+    found.end()
+
+
+def test_states_before() -> None:
+    """Of what is said of the same animals after several changes the last is kept, and what is made meanwhile: each may
+    be long."""
+    found = Jobs()
+    keys = [(BREED, mark, whom) for mark in range(4) for whom in ("all", "an owner's")]
+    for key in keys:
+        assert found.here(key, object).is_over.wait(10)
+    assert [*found.jobs] == keys[-3:]
     found.end()
