@@ -150,12 +150,16 @@ def test_files_not_received(society_desk: Desk, cheap: None) -> None:
             within = b"GET /login HTTP/1.1\r\nHost: x\r\n\r\n" * 40_000
             told = all_told(server, path, within)
             assert told.count("HTTP/1.1 ") == 1 and told.endswith(TOO_LARGE.text), (path, name, told[:300])
+    for language, begins in zip(LANGUAGES, ("This", "Das", "C'est")):
+        told = all_told(server, "/sheet", within, f"Accept-Language: {language}-CH,en;q=0.5").rpartition("\n")[2]
+        assert told.startswith(begins) and told == TOO_LARGE.told(language).text
     server.end()
 
 
-def all_told(server: Server, path: str, body: bytes) -> str:
+def all_told(server: Server, path: str, body: bytes, *headers: str) -> str:
     """All that is answered to a stranger's body on one connection, to its end."""
-    head = f"POST {path} HTTP/1.1\r\nHost: {server.host}\r\nContent-Length: {len(body)}\r\n\r\n"
+    length = f"Content-Length: {len(body)}"
+    head = "\r\n".join([f"POST {path} HTTP/1.1", f"Host: {server.host}", length, *headers, "", ""])
     with socket.create_connection(("127.0.0.1", server.port), timeout=SECONDS) as connection:
         connection.sendall(head.encode() + body)
         return connection.makefile("rb").read().decode()

@@ -46,7 +46,7 @@ from gudokeyi.render.texts.members import NAMES
 from gudokeyi.services import lists
 from gudokeyi.store.messages import BookFault
 from gudokeyi.store.history import WHOLE_STATES
-from gudokeyi.web import app, mistakes
+from gudokeyi.web import app, connections, mistakes
 from gudokeyi.web.routes import login, restoring, settings, sheet
 from gudokeyi.web.views import animals, changes, findings
 
@@ -142,6 +142,7 @@ def in_tables() -> Iterator[str]:
     yield from (*app.MENU.values(), *page_wording.REASONS.values(), *animals.HALF_SIBS.values())
     yield from (*mistakes.REFUSED.values(), *mistakes.REFUSED_BY_STATUS.values(), *mistakes.TOO_LARGE.values())
     yield from (mistakes.OTHER, mistakes.TOO_LONG, mistakes.FAULT, login.LOGIN_OVER, settings.SET_MEANWHILE)
+    yield from (connections.NO_ROOM.text, connections.TOO_LARGE.text)
     yield from (sheet.BOOK_CHANGED, sheet.READ_OTHERWISE, login.WRONG_LOGIN, login.WRONG_PASSWORD)
     yield from (*changes.DID.values(), *changes.FIELDS.values(), *changes.DAYS.values(), changes.REFUSED)
     yield from (*findings.FOLDED.values(), findings.LIMIT, findings.LIMIT_OF_SEVERAL, findings.LEAVE_OUT_LINE)

@@ -9,7 +9,7 @@ import threading
 import time
 from collections import deque
 from collections.abc import Callable
-from dataclasses import dataclass
+from dataclasses import dataclass, replace
 from typing import Any
 
 from flask import Flask, g, request
@@ -17,11 +17,15 @@ from waitress.channel import HTTPChannel
 from waitress.parser import HTTPRequestParser
 from waitress.task import ErrorTask, ThreadedTaskDispatcher, WSGITask
 from waitress.utilities import RequestEntityTooLarge
+from werkzeug.datastructures import LanguageAccept
+from werkzeug.http import parse_accept_header
 
 from gudokeyi.domain.messages import Mistake
 from gudokeyi.domain.waiting import SECONDS_OF_PAGE
+from gudokeyi.render.page_language import PageLanguage
 from gudokeyi.web.access import MOST_FORM_BYTES, READS, WAITS_UNTIL, most_of_file, the_logins, the_person
 from gudokeyi.web.files import CONNECTION
+from gudokeyi.web.language import language_liked
 
 # How many connections there are, and how long they may take. What is idle goes first where there are many.
 
@@ -145,6 +149,11 @@ class Refused:
     def to_response(self) -> tuple[str, list[tuple[str, str]], bytes]:
         return self.status, [("Content-Type", "text/plain; charset=utf-8")], self.text.encode()
 
+    def told(self, accepted: str) -> Refused:
+        """The same in the language that a browser likes best, as its header says it."""
+        language = language_liked(parse_accept_header(accepted, LanguageAccept))
+        return replace(self, text=PageLanguage(language).gettext(self.text))
+
 
 NO_ROOM = Refused(
     "507 Insufficient Storage", "There is no room on the server's disk: nothing is changed. Make room there."
@@ -162,6 +171,8 @@ def refusing_task() -> Any:
         self.channel.refuses = True
         if isinstance(self.request.error, RequestEntityTooLarge):
             self.request.error = TOO_LARGE
+        if isinstance(self.request.error, Refused):
+            self.request.error = self.request.error.told(self.request.headers.get("ACCEPT_LANGUAGE", ""))
         ErrorTask.service(self)
 
     return type("RefusingTask", (ErrorTask,), {"service": service})

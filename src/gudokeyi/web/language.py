@@ -7,6 +7,7 @@ import enum
 from collections.abc import Iterable
 
 from flask import g, request, session
+from werkzeug.datastructures import LanguageAccept
 from werkzeug.wrappers import Response
 
 from gudokeyi.domain.kinds import CommandKind, Field
@@ -27,9 +28,14 @@ def usual_language() -> str:
     kept = ""
     with contextlib.suppress(Mistake), book_of_page() as book:
         kept = settings_of(book)[Setting.LANGUAGE] if book else ""
+    return kept or language_liked(request.accept_languages)
+
+
+def language_liked(accepted: LanguageAccept) -> str:
+    """The one that a browser likes best of those that there are."""
     # one of a country stands for the language: fr-CH is French
-    asked = (asked.partition("-")[0].lower() for asked, quality in request.accept_languages if quality > 0)
-    return kept or next((language for language in asked if language in LANGUAGES), LANGUAGES[0])
+    asked = (asked.partition("-")[0].lower() for asked, quality in accepted if quality > 0)
+    return next((language for language in asked if language in LANGUAGES), LANGUAGES[0])
 
 
 def page_language() -> PageLanguage:
