@@ -14,9 +14,14 @@ from web.screen import Screen, chromium
 from web.server import Server
 from web.site import HOST, Site, shown
 from front_desk.desk import Desk
+from gudokeyi.domain.animals import SocietyRecord
 from gudokeyi.domain.seals import CheckAdvice, SealFault
 from gudokeyi.domain.settings import LANGUAGES
 from gudokeyi.render.page_language import PageLanguage
+from gudokeyi.services.book_program import BookProgram
+from gudokeyi.services.seals import SealedCertificate, sealed_certificate
+from gudokeyi.store.book import Book
+from gudokeyi.web import certificate_work
 
 __all__ = ["chromium"]
 ANIMAL = "GK-17/472c"
@@ -91,6 +96,25 @@ def test_written_anew(society_desk: Desk, site: Site) -> None:
         told = told.format(PageLanguage(language).day(datetime.date.today()))
         assert told not in shown(before) and shown(site.page("/seals")).count(told) == 1
         assert told in shown(checked(site, certificate, seal).get_data(as_text=True))
+
+
+def test_kept(society_desk: Desk, site: Site, monkeypatch: pytest.MonkeyPatch) -> None:
+    """A certificate is made once of a state of the book, and under a seal that is published once for all of them."""
+    made = list[str]()
+
+    def count(book: Book, program: BookProgram, animal: SocietyRecord) -> SealedCertificate:
+        made.append(animal.id)
+        return sealed_certificate(book, program, animal)
+
+    monkeypatch.setattr(certificate_work, "sealed_certificate", count)
+    path = f"/animal/{society_desk.numbers()[ANIMAL]}/certificate.txt"
+    for times, do in (1, None), (2, ("birth", "new")), (3, ("seal", "--publish")), (3, ("birth", "newer")):
+        if do:
+            more = ("--sex", "f", "--day", "2024-01-01", "--owner", "Huber") if do[0] == "birth" else ()
+            society_desk.good(*do, *more)
+        for _ in range(2):
+            assert site.page(path).encode() == society_desk.good("sealed", ANIMAL).out.encode()
+        assert made == [ANIMAL] * times
 
 
 def test_refused(society_desk: Desk, site: Site) -> None:

@@ -9,10 +9,12 @@ import pytest
 from web.site import Site
 from front_desk.desk import TOP
 from gudokeyi.domain.messages import Mistake
+from gudokeyi.domain.mistakes import BookBusy
 from gudokeyi.domain.people import WORKER
 from gudokeyi.domain.requests import WebFault
+from gudokeyi.domain.waiting import waiting
 from gudokeyi.web import workers
-from gudokeyi.web.work_places import BOUNDS, BREED, LOOKING, MOST_OF_PERSON, TAKING, Bounds, Places
+from gudokeyi.web.work_places import BOUNDS, BREED, LOOKING, MOST_OF_PERSON, TAKING, Bounds, Places, Turns
 from gudokeyi.web.workers import Job, Jobs, Stage
 
 
@@ -37,6 +39,31 @@ def test_turns() -> None:
     first.set()
     places.end()
     assert order == ["c1", "i1", "i2", "i3"]
+
+
+def test_turns_at_pages() -> None:
+    """One answer is made at a time, and whoever had one waits for those that had none; a page waits for its time, and
+    for so many of one person."""
+    turns, order, done = Turns(), list[str](), threading.Event()
+
+    def ask(person: str) -> None:
+        with turns.one(person):
+            order.append(person)
+            assert done.wait(10)
+
+    threads = [threading.Thread(target=ask, args=(person,)) for person in [*["Ines"] * (1 + MOST_OF_PERSON), "Carl"]]
+    for at, thread in enumerate(threads):
+        thread.start()
+        while len(turns.waiting) < at or not order:
+            time.sleep(0.01)
+    with pytest.raises(Mistake, match="you have asked for much"), turns.one("Ines"):
+        pass
+    with waiting(time.monotonic() + 0.3), pytest.raises(BookBusy), turns.one("Clara"):
+        pass
+    done.set()
+    for thread in threads:
+        thread.join()
+    assert order == ["Ines", "Carl", *["Ines"] * MOST_OF_PERSON] and not turns.waiting
 
 
 def test_much() -> None:

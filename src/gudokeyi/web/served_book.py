@@ -18,6 +18,7 @@ from gudokeyi.services.book_session import BookSession
 from gudokeyi.services.cache import BookCache, Stamp
 from gudokeyi.services.opening import DATABASE, Book, HeldOpen, book_in
 from gudokeyi.services.overview import Overviews
+from gudokeyi.web.certificate_work import SealedCertificates
 from gudokeyi.web.files import Uploads
 from gudokeyi.web.workers import Exports, Job, Jobs
 
@@ -62,6 +63,7 @@ class ServedBook:
 
     def __post_init__(self) -> None:
         self.held = HeldOpen(self.folder)
+        self.sealed = SealedCertificates(self.program, self.opened)
 
     def has_book(self) -> bool:
         return (self.folder / DATABASE).exists()

@@ -2,13 +2,19 @@
 sheet that is taken waits for no plan, and nobody for somebody who asks for much."""
 from __future__ import annotations
 
+import contextlib
 import itertools
 import threading
 from collections import Counter
-from collections.abc import Callable
+from collections.abc import Callable, Iterator
 from concurrent.futures import ThreadPoolExecutor
 from dataclasses import dataclass, field
 from typing import Generic, TypeVar
+
+from gudokeyi.domain.messages import Mistake
+from gudokeyi.domain.requests import WebFault
+from gudokeyi.domain.waiting import seconds_left
+from gudokeyi.services.opening import busy
 
 # the kinds: what changes the book, what looks at something that was dropped, what is said of the breed, and the process
 # of a plan of matings
@@ -89,3 +95,49 @@ class Places(Generic[Work]):
 
     def end(self) -> None:
         self.executor.shutdown(wait=True)
+
+
+@dataclass(eq=False)
+class Turn:
+    """That of somebody who waits at a page."""
+
+    person: str
+
+
+class Turns:
+    """One place for answers that pages wait for: each is made by whoever waits, and nothing goes on for somebody who
+    waits no more."""
+
+    def __init__(self) -> None:
+        self.changed, self.is_taken = threading.Condition(), False
+        self.waiting = list[Turn]()
+        # when each person had a turn last, by a count of all
+        self.had, self.count = dict[str, int](), itertools.count(1)
+
+    @contextlib.contextmanager
+    def one(self, person: str) -> Iterator[None]:
+        """A turn; a mistake where it doesn't come in the time of a page, or where the person waits for many."""
+        with self.changed:
+            self.wait(Turn(person))
+            self.is_taken, self.had[person] = True, next(self.count)
+        try:
+            yield
+        finally:
+            with self.changed:
+                self.is_taken = False
+                self.changed.notify_all()
+
+    def wait(self, turn: Turn) -> None:
+        """Waits for it; the lock is held."""
+        if sum(one.person == turn.person for one in self.waiting) >= MOST_OF_PERSON:
+            raise Mistake(WebFault.MUCH_WORK.said())
+        self.waiting.append(turn)
+        try:
+            if not self.changed.wait_for(lambda: not self.is_taken and self.first() is turn, seconds_left()):
+                raise busy()
+        finally:
+            self.waiting.remove(turn)
+
+    def first(self) -> Turn:
+        """That of whoever had one longest ago."""
+        return min(self.waiting, key=lambda one: self.had.get(one.person, 0))

@@ -20,7 +20,7 @@ from gudokeyi.services.animals import (
 from gudokeyi.services.notes import notes_of
 from gudokeyi.services.opening import Book
 from gudokeyi.services.selection import Choice, chosen
-from gudokeyi.services.seals import last_sealed, sealed_certificate
+from gudokeyi.services.seals import last_sealed
 from gudokeyi.services.settings import picture_of
 from gudokeyi.web.access import printed
 from gudokeyi.web.breed_work import kinship_of
@@ -103,7 +103,7 @@ def certificates_of_many(book: Book) -> Answer:
 def sealed(book: Book, number: str) -> Answer:
     """The file of a certificate, which anyone can check who has the seal that was published last."""
     animal = animal_of(book, number)
-    made = sealed_certificate(book, served_book().program, animal)
+    made = served_book().sealed.of(book, animal)
     response = Response(made.text, mimetype="text/plain")
     response.headers["Content-Disposition"] = f"attachment; filename=certificate-{animal.registration_number}.txt"
     return response
