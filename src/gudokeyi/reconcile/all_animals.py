@@ -28,11 +28,11 @@ from gudokeyi.store.book import Book
 
 def animals_of_book(book: Book, animals: dict[str, SheetAnimal]) -> dict[str, SheetAnimal]:
     """The animals of the book that have no row, each as the book has it."""
-    ids = {in_book.registration_number: id for id, in_book in book.society_records.items()}
+    without_row = {id: in_book for id, in_book in book.society_records.items() if id not in animals}
+    known = book.society_records if without_row else {}
+    ids = {in_book.registration_number: id for id, in_book in known.items()}
     gone = {}
-    for id, in_book in book.society_records.items():
-        if id in animals:
-            continue
+    for id, in_book in without_row.items():
         record = book.records[in_book.registration_number]
         animal = SheetAnimal(id, 0, in_book.name, "" if in_book.sex.is_inferred else in_book.registration_number[6])
         animal.birth = birth_in_book(in_book, record)
@@ -77,6 +77,9 @@ def add_others(next_book: NextBook, drop_gone: bool) -> None:
     """Adds the animals of the book that have no row, and the parents that have none."""
     book, animals, report = next_book.book, next_book.animals, next_book.report
     keep_values(next_book)
+    if next_book.rows_of_book:
+        # rows that lacked something have it of the book now
+        next_book.compare(next_book.rows_of_book)
     has_sires, has_dams = Role.SIRE in next_book.given, Role.DAM in next_book.given
     next_book.texts = {id: (one.sire * has_sires, one.dam * has_dams) for id, one in animals.items()}
     gone = animals_of_book(book, animals)
@@ -118,11 +121,14 @@ def too_many(next_book: NextBook) -> Mistake:
 def complete(next_book: NextBook, columns: Columns, import_options: ImportOptions) -> None:
     """Adds what the book and the parents' cells have besides, and finds sexes and days; a mistake where the sheet
     looks like another one, and it isn't wished anyway."""
-    guards = Guards(next_book.book, dict(next_book.animals), columns)
+    guards = Guards(next_book.book, dict(next_book.animals), columns, next_book.otherwise)
     next_book.appends = import_options.append
     found = guards.of_rows(import_options.append)
     if not import_options.anyway:
-        next_book.used_again = leave_out_used_tags(next_book.animals, next_book.book, next_book.report)
+        next_book.used_again = leave_out_used_tags(
+            next_book.animals, next_book.book, next_book.report, some=next_book.otherwise
+        )
+        next_book.otherwise = {row.id: row for row in next_book.rows_otherwise()}
     add_others(next_book, import_options.drop_gone)
     found += guards.of_animals(next_book.animals)
     if found and not import_options.anyway:

@@ -128,7 +128,7 @@ class Filing:
     def tell_changes(self) -> None:
         report, society_records, records = self.next_book.report, self.book.society_records, self.book.records
         owner_names = {code: self.book.owner_of(code) for code in {record.owner_code for record in records.values()}}
-        for animal in self.next_book.animals.values() if society_records else ():
+        for animal in self.may_be_changed() if society_records else ():
             in_book = society_records.get(animal.id)
             if in_book is None:
                 if animal.line:
@@ -138,6 +138,17 @@ class Filing:
             if not self.is_same(animal, record, in_book, owner_names[record.owner_code]):
                 for found in self.changes(animal, record, in_book):
                     report.add(animal.line, animal.id, found)
+
+    def may_be_changed(self) -> list[SheetAnimal]:
+        """The animals but for those that are known to be as the book has them."""
+        animals, rows_of_book = self.next_book.animals, self.next_book.rows_of_book
+        if rows_of_book is None:
+            return [*animals.values()]
+        others, known = rows_of_book.others(animals), self.book.society_records
+        return [
+            animal for id, animal in animals.items() if id in others or id in self.owners.other_days
+            or animal.registration_number != known[id].registration_number
+        ]  # fmt: skip
 
     @functools.cached_property
     def ids(self) -> dict[str, str]:

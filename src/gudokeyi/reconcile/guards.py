@@ -4,7 +4,7 @@ from __future__ import annotations
 
 import functools
 import re
-from collections.abc import Collection
+from collections.abc import Collection, Mapping
 
 from gudokeyi.domain.animals import SocietyRecord
 from gudokeyi.domain.commands import RegisterRecord
@@ -32,8 +32,13 @@ class OtherAnimals:
     """Compares the rows of animals that a book has too with what it says of them, before anything of the book is added
     to them; `given` are the fields that the rows give."""
 
-    def __init__(self, book: Book, rows: dict[str, SheetAnimal], given: Collection[str]) -> None:
+    def __init__(
+        self, book: Book, rows: dict[str, SheetAnimal], given: Collection[str],
+        some: Mapping[str, SheetAnimal] | None = None,
+    ) -> None:  # fmt: skip
+        """`some` are the rows that may say something else than the book, where others are known not to."""
         self.book, self.rows, self.given = book, rows, given
+        self.some = rows if some is None else some
 
     def of_both(self) -> list[Guard]:
         found = [self.other_animals(), self.other_sexes(), self.other_parents()]
@@ -46,7 +51,7 @@ class OtherAnimals:
         known, records = self.book.society_records, self.book.records
         ids = {"": "", **{in_book.registration_number: id for id, in_book in known.items()}}
         return [
-            (row, in_book, record) for id, row in self.rows.items() if (in_book := known.get(id)) and not (
+            (row, in_book, record) for id, row in self.some.items() if (in_book := known.get(id)) and not (
                 row.birth.first == (record := records[in_book.registration_number]).born and row.name == in_book.name
                 and row.sex == record.registration_number[6]
                 and row.sire == ids[record.sire] and row.dam == ids[record.dam]
@@ -114,8 +119,10 @@ class OtherAnimals:
 class Guards(OtherAnimals):
     """Compares all of a sheet with a book."""
 
-    def __init__(self, book: Book, rows: dict[str, SheetAnimal], columns: Columns) -> None:
-        super().__init__(book, rows, columns.found)
+    def __init__(
+        self, book: Book, rows: dict[str, SheetAnimal], columns: Columns, some: Mapping[str, SheetAnimal] | None = None
+    ) -> None:
+        super().__init__(book, rows, columns.found, some)
         self.columns = columns
 
     def of_rows(self, appends: bool = False) -> list[Guard]:

@@ -5,6 +5,7 @@ from __future__ import annotations
 import collections
 import functools
 import operator
+from collections.abc import Mapping
 
 from gudokeyi.domain.animals import SocietyRecord
 from gudokeyi.domain.commands import RegisterRecord
@@ -94,12 +95,13 @@ def call_as_now(animals: dict[str, SheetAnimal], book: Book, report: Report) -> 
 
 def leave_out_used_tags(
     animals: dict[str, SheetAnimal], book: Book, report: Report, another: type[IdUsedAgain] = IdUsedAgain,
-    after: type[BornAfterOffspring] = BornAfterOffspring,
+    after: type[BornAfterOffspring] = BornAfterOffspring, some: Mapping[str, SheetAnimal] | None = None,
 ) -> set[str]:  # fmt: skip
     """Leaves out rows of animals that can't be those of the book which have their ids; answers these ids. It is told as
-    `another`, or as `after` of one that would be younger than its offspring."""
+    `another`, or as `after` of one that would be younger than its offspring. `some` are the rows that may say something
+    else than the book, where others are known not to."""
     found = set()
-    both = with_other_days(animals, book)
+    both = with_other_days(animals if some is None else some, book)
     apart = [(animal, in_book) for animal, in_book in both if are_years_apart(animal, in_book, book)]
     progeny = earliest_offspring(book) if apart else {}
     for animal, in_book in apart:
@@ -118,7 +120,7 @@ def leave_out_used_tags(
     return found
 
 
-def with_other_days(animals: dict[str, SheetAnimal], book: Book) -> list[tuple[SheetAnimal, SocietyRecord]]:
+def with_other_days(animals: Mapping[str, SheetAnimal], book: Book) -> list[tuple[SheetAnimal, SocietyRecord]]:
     """Those that the book has with another birth day, each with what it knows of it."""
     known, records = book.society_records, book.records
     return [

@@ -16,6 +16,7 @@ from gudokeyi.ingest.animals import SheetAnimal
 from gudokeyi.ingest.day_cells import DayCell, DayCells
 from gudokeyi.ingest.texts import clean, nearly
 from gudokeyi.ingest.words import KNOWN_CASTRATED, KNOWN_SEXES, KNOWN_YES, sex_word
+from gudokeyi.reconcile.rows_of_book import RowsOfBook
 from gudokeyi.store.book import Book
 from gudokeyi.store.state import Rows, Table
 
@@ -99,6 +100,9 @@ class NextBook:
         self.book, self.animals, self.given, self.report = book, animals, given, report
         self.meanings, self.is_pedigree = Meanings(animals, book, days), is_pedigree
         self.names = book.by_number()
+        # what the book's own rows say, of a sheet that has some, and the rows that may say something else: else all
+        self.rows_of_book: RowsOfBook | None = None
+        self.otherwise = animals
         # whether a parent is a sire or a dam, by most of its offspring
         self.roles: dict[str, Role] = {}
         # the ids of rows that are left out, since the book has them for other animals, which stay
@@ -121,6 +125,14 @@ class NextBook:
         self.exits_of_book: set[str] = set()
         # the sheet has new rows alone: the others of the book stay what they are in it
         self.appends = False
+
+    def compare(self, rows_of_book: RowsOfBook) -> None:
+        """From here on what changes something is looked for in rows that may say something else than the book."""
+        self.rows_of_book, self.otherwise = rows_of_book, rows_of_book.others(self.otherwise)
+
+    def rows_otherwise(self) -> list[SheetAnimal]:
+        """These rows, without those that are left out."""
+        return [row for id, row in self.otherwise.items() if self.animals.get(id) is row]
 
     def record(self, id: str) -> RegisterRecord | None:
         in_book = self.book.society_records.get(id)

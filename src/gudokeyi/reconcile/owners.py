@@ -33,15 +33,20 @@ def tell_respelt_owners(next_book: NextBook, owners_before: set[str]) -> None:
     nothing."""
     taken, kept = collections.defaultdict[str, collections.Counter[str]](collections.Counter), next_book.kept_owners
     book, animals = next_book.book, next_book.animals
+    if {one.owner for one in animals.values()} - {""} <= owners_before:
+        return
     numbers = {id: in_book.registration_number for id, in_book in book.society_records.items()}
-    rows = [one for id, one in animals.items() if one.line and id in numbers and id not in kept] if numbers else []
+    some = next_book.otherwise
+    rows = [one for one in next_book.rows_otherwise() if one.line and one.id in numbers and one.id not in kept]
+    # these have their owners of before
+    stay = {one.owner for id, one in animals.items() if one.line and id not in some} if some is not animals else set()
     counts = collections.Counter((book.records[numbers[one.id]].owner_code, one.owner) for one in rows)
     for (owner_code, owner), count in counts.items():
         if before := book.owner_of(owner_code):
             taken[before][owner] += count
     for before, now in taken.items():
         owner, count = now.most_common(1)[0]
-        is_new = len(now) == 1 and owner not in owners_before
+        is_new = len(now) == 1 and owner not in owners_before and before not in stay
         if is_new and difflib.SequenceMatcher(None, before.casefold(), owner.casefold()).ratio() >= ALIKE:
             next_book.report.add(0, "", OwnerRespelt(before, owner, count))
 

@@ -6,7 +6,7 @@ from __future__ import annotations
 import collections
 import datetime
 import operator
-from collections.abc import Collection, Mapping, Sequence
+from collections.abc import Collection, Iterable, Mapping, Sequence
 from typing import TYPE_CHECKING
 
 from gudokeyi.domain.findings import Report
@@ -46,12 +46,12 @@ class PlausibilityChecks:
     def is_new(self, animal: SheetAnimal) -> bool:
         return bool(animal.line) or animal.id in self.filed
 
-    def tell_births(self, book: Book) -> None:
-        """Birth days that are years from those of the book."""
+    def tell_births(self, book: Book, rows: Iterable[SheetAnimal]) -> None:
+        """Birth days of rows that are years from those of the book."""
         # of sheets alone
         from gudokeyi.reconcile.findings.rows import BirthMovedByYears
 
-        for animal in self.animals.values() if book.society_records else ():
+        for animal in rows if book.society_records else ():
             in_book = book.society_records.get(animal.id)
             before = book.records[in_book.registration_number].born if in_book else animal.born
             if in_book and before != animal.born and animal.line and animal.has_day() and not in_book.birth.is_inferred:

@@ -82,6 +82,8 @@ def contradiction(next_book: NextBook, id: str, by_role: Mapping[Role, set[str]]
 
 def may_disagree(next_book: NextBook, gone: Mapping[str, SheetAnimal]) -> bool:
     """Is any animal named as a parent of the other sex, or of another one in the book?"""
+    if next_book.rows_of_book:
+        return next_book.rows_of_book.may_disagree(next_book.otherwise.values())
     all_animals, known = [*next_book.animals.values(), *gone.values()], next_book.book.society_records
     parents = (Role.SIRE, SIRE_OF), (Role.DAM, DAM_OF)
     texts = {role.sex: {text.casefold() for text in {*map(parent_of, all_animals)}} for role, parent_of in parents}

@@ -25,7 +25,9 @@ TOO_EARLY = (DayFault.BEFORE_BIRTH, DayFault.WITHIN_BEFORE_BIRTH)
 def keep_values(next_book: NextBook) -> None:
     """Gives the animals of the rows what the book has of them and the sheet doesn't say."""
     book, keeping = next_book.book, Keeping(next_book)
-    for id, animal in next_book.animals.items():
+    if not keeping.has_exits:
+        next_book.exits_of_book |= next_book.animals.keys() & book.society_records.keys()
+    for id, animal in next_book.otherwise.items():
         in_book = book.society_records.get(id)
         if in_book is not None:
             keeping.keep(animal, in_book, book.records[in_book.registration_number])

@@ -22,6 +22,7 @@ from gudokeyi.ingest.titles import known_titles, parts_of, read_given, read_sexe
 from gudokeyi.ingest.unknown_parents import UnknownParents
 from gudokeyi.reconcile.findings.obstacles import NoRowTaken
 from gudokeyi.reconcile.import_options import ImportOptions, RememberedWords
+from gudokeyi.reconcile.rows_of_book import RowsOfBook
 from gudokeyi.store.book import Book
 from gudokeyi.store.members import members_by_code
 
@@ -123,12 +124,14 @@ def copied(animal: SheetAnimal) -> SheetAnimal:
 
 
 class LastReading:
-    """What was read of a sheet last. Each is read again where anything is different by which it was read."""
+    """What was read of a sheet last, and beside which rows of the book. Each is read again where anything is different
+    by which it was read."""
 
     def __init__(self) -> None:
         self.columns: ColumnsRead | None = None
         self.meant: RowsMeant | None = None
         self.animals: AnimalsRead | None = None
+        self.rows_of_book: RowsOfBook | None = None
 
     def columns_of(
         self, sheet: Sheet, given: Mapping[str, str], before: Mapping[str, str], unknown: UnknownParents,
@@ -160,6 +163,13 @@ class LastReading:
             return rows, animals
         report.entries = [*last.entries]
         return last.rows, {id: copied(animal) for id, animal in last.animals.items()}
+
+    def rows_of(self, book: Book) -> RowsOfBook:
+        """What the rows of the book's animals say."""
+        if self.rows_of_book is None or not self.rows_of_book.is_of(book):
+            self.rows_of_book = None
+            self.rows_of_book = RowsOfBook(book)
+        return self.rows_of_book
 
 
 # Both.
