@@ -16,8 +16,10 @@ from web.site import Site, shown
 from web.test_desk_filing import BIRTH, DAM, SIRE
 from front_desk.desk import Desk
 from gudokeyi.domain.commands import leave
+from gudokeyi.domain.mistakes import BookBusy
+from gudokeyi.domain.waiting import waiting
 from gudokeyi.engine.session import Answer, Places
-from gudokeyi.services.book_session import BookMoved, BookSession
+from gudokeyi.services.book_session import BookMoved, BookSession, SessionEnded
 from gudokeyi.services.history import last_that_changed
 from gudokeyi.store.book import Book
 
@@ -300,3 +302,28 @@ def test_session_that_waits(site: Site, monkeypatch: pytest.MonkeyPatch, is_aske
     while session.free.qsize() < Places().inspectors and time.monotonic() < until:
         time.sleep(0.02)
     assert session.free.qsize() == Places().inspectors and site.desk.program.session is session
+
+
+def test_session_ended_while_another_is_begun(site: Site, monkeypatch: pytest.MonkeyPatch) -> None:
+    """Whoever asked a session that ended waits no longer than a page does for somebody who begins another one."""
+    site.post("/file/exit", id=DAM, day="2024-05-01")
+    program, begins, is_told = site.desk.program, threading.Event(), threading.Event()
+
+    def begin() -> None:
+        with program.in_turn():
+            begins.set()
+            is_told.wait(30)
+
+    other = threading.Thread(target=begin)
+
+    def ended(*_: object) -> Answer:
+        other.start()
+        assert begins.wait(10)
+        raise SessionEnded
+
+    monkeypatch.setattr("gudokeyi.engine.session.Session.ask", ended)
+    with site.desk.opened() as book, waiting(time.monotonic() + 1), pytest.raises(BookBusy):
+        assert book
+        program.asked(["record", CALF], book)
+    is_told.set()
+    other.join()

@@ -246,8 +246,9 @@ class BookSession(BookProgram):
         raise ProgramFailed(ProgramFault.REPLY_DIFFERS.said(place=first + 1))
 
     def forget(self, session: Session | None) -> None:
-        """Ends a session, so that the next question begins a new one."""
-        with self.lock:
+        """Ends a session, so that the next question begins a new one. Whoever brings another one to the book isn't
+        waited for longer than a page does."""
+        with self.in_turn():
             if session is not None and session is self.session:
                 self.session, self.journal = None, NO_JOURNAL
                 session.end()
