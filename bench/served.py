@@ -10,7 +10,7 @@ waits of each, how often the server answered with a fault, the most memory of al
 each accepted command stands once in the book.
 
 The status is 1 where a request but the sheet's own took above 3 seconds, where there was a fault, where more than 1.5 GB
-were used, where a command doesn't stand once, or where no sheet came through. """
+were used, where a command doesn't stand once, or where no sheet came through or no plan was made. """
 from __future__ import annotations
 
 import argparse
@@ -38,6 +38,8 @@ from gudokeyi.services.accounts import Accounts  # noqa: E402
 
 WORD = "a word of the benchmark"
 MOST_SECONDS, MOST_BYTES = 3, 1_500_000_000
+# so many animals of the book live
+LIVING = 1000
 # so long a connection is kept by which nothing is asked
 SECONDS_IDLE = 4
 TOKEN = re.compile(r'name="csrf_token" value="([^"]+)"')
@@ -46,16 +48,20 @@ LOOKED = re.compile(r'name="(looked|reading)" value="([^"]+)"')
 
 
 def sheet(animals: int, rows: int) -> str:
-    """A sheet of animals, of parents that live not long before. Of the rows that a book has no animals for half are new
-    ones, and the others stand there twice: what clerks file has room in a book beside them."""
+    """A sheet of animals, of parents that live not long before. Those alone that are in a book last stayed there, one in
+    eight of which may be mated. Of the rows that a book has no animals for half are new ones, and the others stand
+    there twice: what clerks file has room in a book beside them."""
     chosen, females, males = random.Random(7), list[str](), list[str]()
-    lines = ["id,sex,birth,sire,dam,owner"]
+    lines = ["id,sex,birth,sire,dam,owner,left"]
     for at in range(rows - (rows - animals) // 2):
         year = 1985 + min(at * 39 // animals, 39)
         sex = "M" if chosen.random() < 0.12 else "F"
         older = [of[-most // 2 - 1] if len(of) > most else "" for of, most in ((males, 400), (females, 6000))]
         sire, dam = (one if one[1:5] != str(year) else "" for one in older)
-        lines.append(f"B{year}-{at},{sex},{year}-{chosen.randrange(1, 13):02}-15,{sire},{dam},Owner {at % 300}")
+        has_left = not animals - LIVING <= at < animals
+        word = "ox" if not has_left and at % 8 else sex
+        day, left = f"{year}-{chosen.randrange(1, 13):02}-15", f"{min(year + 8, 2024)}-12-31" if has_left else ""
+        lines.append(f"B{year}-{at},{word},{day},{sire},{dam},Owner {at % 300},{left}")
         (males if sex == "M" else females).append(f"B{year}-{at}")
     return "\n".join(lines + lines[1 : rows + 2 - len(lines)]) + "\n"
 
@@ -68,7 +74,7 @@ class Bench:
         self.waits: dict[str, list[float]] = defaultdict(list)
         self.faults: list[str] = []
         self.accepted: dict[int, str] = {}
-        self.taken, self.most_bytes = 0, 0
+        self.taken, self.planned, self.most_bytes = 0, 0, 0
         self.until, self.lock = 0.0, threading.Lock()
         self.port = 0
 
@@ -200,7 +206,7 @@ def file_all(bench: Bench, one: Person, at: int) -> None:
         time.sleep(chosen.uniform(1, 5))
         count += 1
         day = f"2025-{chosen.randrange(1, 10):02}-{chosen.randrange(1, 29):02}"
-        animal = chosen.randrange(bench.asked.animals)
+        animal = bench.asked.animals - 1 - chosen.randrange(LIVING)
         _, _, page = one.get(f"/animals?words=-{animal}", "reading")
         found = re.search(rf"B\d{{4}}-{animal}\b", page)
         kind, fields = "birth", {"id": f"C{at}-{count}", "sex": "F", "day": day}
@@ -262,7 +268,8 @@ def take_sheets(bench: Bench, one: Person) -> None:
 
 def ask_plans(bench: Bench, one: Person) -> None:
     while time.monotonic() < bench.until:
-        one.awaited("/matings/plan?made=1", "plan")
+        _, page = one.awaited("/matings/plan?made=1&age=", "plan")
+        bench.planned += "/matings/plan.csv" in page
         time.sleep(5)
 
 
@@ -311,12 +318,13 @@ def main() -> int:
         is_once = stands_once(bench)
     for kind, waits in sorted(bench.waits.items()):
         print(f"{kind:8} {told(waits)}")
-    print(f"sheets taken {bench.taken}; faults {len(bench.faults)}; memory {bench.most_bytes / 1e6:.0f} MB; once {is_once}")
+    done = f"sheets taken {bench.taken}; plans {bench.planned}; faults {len(bench.faults)}"
+    print(f"{done}; memory {bench.most_bytes / 1e6:.0f} MB; once {is_once}")
     for one in bench.faults[:9]:
         print(one)
     longest = max(max(waits) for kind, waits in bench.waits.items() if kind not in ("sheet", "login"))
-    is_good = longest <= MOST_SECONDS and bench.most_bytes <= MOST_BYTES and is_once and bench.taken > 0
-    return int(not is_good or bool(bench.faults))
+    is_good = longest <= MOST_SECONDS and bench.most_bytes <= MOST_BYTES and is_once and not bench.faults
+    return int(not (is_good and bench.taken and bench.planned))
 
 
 if __name__ == "__main__":
