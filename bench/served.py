@@ -4,10 +4,10 @@
     served.py PROGRAM [--animals 59000] [--rows 60000] [--clerks 8] [--readers 15] [--seconds 120] [--work FOLDER]
 
 PROGRAM is the built herdbook. A book of so many animals is made in a new folder below FOLDER, and served. Clerks file
-births, exits and transfers, each 3 seconds on average behind the one before; readers look at a page for 2; one clerk drops a sheet of
-so many rows, looks at it and takes it, and again until the time is over; one reader asks for plans. Printed are the
-waits of each, how often the server answered with a fault, the most memory of all its processes at once, and whether
-each accepted command stands once in the book.
+births, exits and transfers, each 3 seconds on average behind the one before; readers look at a page for 2; one clerk
+drops a sheet of so many rows, looks at it and takes it, and again until the time is over; one reader asks for plans.
+Printed are the waits of each, how often the server answered with a fault, the most memory of all its processes at once,
+and whether each accepted command stands once in the book.
 
 The status is 1 where a request but the sheet's own took above 3 seconds, where there was a fault, where more than 1.5 GB
 were used, where a command doesn't stand once, or where no sheet came through or no plan was made. """

@@ -5,9 +5,10 @@ from __future__ import annotations
 import itertools
 import operator
 import sqlite3
-from collections.abc import Collection, Iterable, Mapping
+import threading
+from collections.abc import Collection, Iterable, Mapping, Sequence
 from dataclasses import dataclass, field
-from typing import NamedTuple
+from typing import Any, NamedTuple
 
 from gudokeyi.domain.animals import SocietyRecord
 from gudokeyi.domain.commands import RegisterRecord
@@ -23,6 +24,8 @@ ALL_ROWS = "animal NOT INDEXED"
 # the state after a change
 THEN = "since <= :change AND (until IS NULL OR until > :change)"
 CELL_COLUMNS = "id, " + ", ".join(f"cell_{field.value}" for field in CELL_FIELDS)
+
+ONE_READS = threading.Lock()
 
 # a row of a table without the changes between which it holds; its first values are its key
 Values = tuple[object, ...]
@@ -135,10 +138,16 @@ def remembered_rows(meanings: Iterable[Meaning]) -> dict[Values, Values]:
     return keyed(REMEMBERED, rows)
 
 
+def fetched(connection: sqlite3.Connection, asked: str, values: Sequence[object] = ()) -> list[tuple[Any, ...]]:
+    """All rows of an answer. Pages read one at a time: at each row SQLite lets another thread go on, and where many
+    read at once all of them wait there for each other, and take three times as long together."""
+    with ONE_READS:
+        return connection.execute(asked, values).fetchall()
+
+
 def select_rows(connection: sqlite3.Connection, where: str, *values: object) -> list[AnimalRow]:
     """The animals of the last state for which a condition holds."""
-    found = connection.execute(f"SELECT {COLUMNS} FROM animal WHERE {NOW} AND {where}", values)
-    return [*map(AnimalRow._make, found)]
+    return [*map(AnimalRow._make, fetched(connection, f"SELECT {COLUMNS} FROM animal WHERE {NOW} AND {where}", values))]
 
 
 def rows_with_id(connection: sqlite3.Connection, id: str) -> list[AnimalRow]:
@@ -157,7 +166,7 @@ def cells_of(connection: sqlite3.Connection, id: str) -> list[Values]:
 
 def owners_came(connection: sqlite3.Connection) -> dict[str, int]:
     """The owners' herds, by the names by which they came."""
-    return dict(connection.execute("SELECT name, herd FROM owner ORDER BY herd"))
+    return {name: owner_code for name, owner_code in fetched(connection, "SELECT name, herd FROM owner ORDER BY herd")}
 
 
 def add_owner(connection: sqlite3.Connection, name: str, owner_code: int) -> None:
