@@ -58,7 +58,10 @@ class Browser:
         return answer.status, answer.headers.get("Location", ""), page
 
     def get(self, path: str) -> str:
-        status, _, page = self.ask("GET", path)
+        """A page, also where the book moved while it was made, and it is asked for again."""
+        status, to, page = self.ask("GET", path)
+        while status == 302 and "again=" in to:
+            status, to, page = self.ask("GET", to)
         assert status == 200, f"{path}: {status}"
         return page
 
