@@ -34,7 +34,6 @@ from gudokeyi.reconcile.owners import (
 from gudokeyi.reconcile.parents import may_be_unknown
 from gudokeyi.reconcile.pedigree_links import refuse_lost_links
 from gudokeyi.reconcile.plausibility import PlausibilityChecks, tell_swapped_columns
-from gudokeyi.reconcile.rows_of_book import RowsOfBook
 from gudokeyi.services.book_program import BookProgram
 from gudokeyi.services.output_files import check_place
 from gudokeyi.services.saving import Prepared, outcome_of, prepared_of
@@ -185,8 +184,8 @@ def import_sheet_into(
     keep(book, read)
     call_as_now(read.animals, book, read.report)
     next_book = NextBook(book, read.animals, set(read.columns.found), read.report, read.rows.cells.days)
-    if book.society_records:
-        next_book.compare(last.rows_of(book) if last else RowsOfBook(book))
+    if last and book.society_records:
+        next_book.compare(last.rows_of(book))
     complete(next_book, read.columns, import_options)
     own = find_own_columns(book, read.columns, import_options.own)
     understood = understood_of(path, read, again(words, import_options), titles_before(book), own)
