@@ -187,7 +187,6 @@ HOSTILE = [
     "'); DROP TABLE animal; --",
     "../../etc/passwd",
     "{{ 7 * 7 }}",
-    "\u202egnp.exe",
     "a/b?c#d&e=f",
     "%00%2f",
 ]
