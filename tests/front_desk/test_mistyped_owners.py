@@ -67,9 +67,13 @@ def test_owners_that_are_only_respelt(rows: list[str], before: set[str], found: 
     others = SheetAnimal("b", owner="Meier"), SheetAnimal("c", 99, owner="Meyer"), SheetAnimal("d", 98, owner="Maier")
     animals |= {one.id: one for one in others}
     before_it = {id: one for id, (one, _) in pairs.items()} | dict.fromkeys("bd", "Meier")
-    herds = {id: SimpleNamespace(owner_code=one) for id, one in before_it.items()}
-    book, report = SimpleNamespace(society_records=herds, owner_of=str), Report()
-    next_book = SimpleNamespace(animals=animals, book=book, record=herds.get, report=report, kept_owners={"d"})
+    records = {id: SimpleNamespace(owner_code=one) for id, one in before_it.items()}
+    numbers = {id: SimpleNamespace(registration_number=id) for id in before_it}
+    book, report = SimpleNamespace(society_records=numbers, records=records, owner_of=str), Report()
+    next_book = SimpleNamespace(
+        animals=animals, otherwise=animals, rows_otherwise=lambda: [*animals.values()], book=book, report=report,
+        kept_owners={"d"},
+    )  # fmt: skip
     tell_respelt_owners(cast(NextBook, next_book), before)
     assert [entry.finding for entry in report.entries] == found
 
