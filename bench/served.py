@@ -148,8 +148,11 @@ class Person:
         self.bench, self.name, self.cookie, self.token = bench, name, "", ""
         self.connection = http.client.HTTPConnection("127.0.0.1", bench.port, timeout=300)
         self.used = time.monotonic()
+        self.log_in()
+
+    def log_in(self) -> None:
         self.get("/login", "login")
-        self.post("/login", "login", name=name, password=WORD)
+        self.post("/login", "login", name=self.name, password=WORD)
         self.get("/password", "login")
 
     def ask(self, method: str, path: str, kind: str, body: bytes | None = None, **more: str) -> tuple[int, str, str]:

@@ -19,12 +19,20 @@ def exits(desk: Desk) -> int:
     return sum(line.startswith("exit,") for line in desk.commands())
 
 
-@pytest.mark.parametrize("title", ["Dog/Bitch", "Dog or Bitch", "Rüde / Hündin (D/B)"])
+@pytest.mark.parametrize("title", ["Dog/Bitch", "Dog or Bitch", "D/B", "B / D", "Rüde / Hündin (D/B)"])
 def test_title_with_both_sexes(desk: Desk, title: str) -> None:
     """Its column has the sexes, also by the first letters of its words."""
     rows = DOGS.format(title)
-    done = desk.take(rows if title.startswith("Dog") else rows.replace(";D;", ";R;").replace(";B;", ";H;"))
+    done = desk.take(rows if "Rüde" not in title else rows.replace(";D;", ";R;").replace(";B;", ";H;"))
     assert sexes(desk) == {"a1": "M", "b2": "F", "c3": "F"} and "sex from" in done.out
+
+
+def test_letters_of_neutered_animals(desk: Desk) -> None:
+    """As registers of dogs have them: `DN` is a neutered dog, `BS` a spayed bitch, `M(n)` a neutered male."""
+    words = ["DN", "BS", "M(n)", "FS", "FN", "MC"]
+    rows = "".join(f"x{at};X{at};{word};2014-02-03;;;Cole\n" for at, word in enumerate(words))
+    desk.take(DOGS.format("D/B") + rows)
+    assert [sexes(desk)[f"x{at}"] for at, _ in enumerate(words)] == ["M", "F", "M", "F", "F", "M"]
 
 
 def test_sexes_that_nothing_names(desk: Desk) -> None:
@@ -122,3 +130,39 @@ def test_castrated_in_brackets(desk: Desk) -> None:
     desk.take(TITLES + PAIR + "003;A;M (kastr. 2021);3.2.2013;001;002;Huber;\n")
     with book_in(desk.room / "book") as book:
         assert sexes(desk)["003"] == "M" and book.society_records["003"].castrated
+
+
+def test_parents_beside_their_ids(desk: Desk) -> None:
+    """A parent that stands by its name alone, in a column that isn't read beside that of ids, is told."""
+    titles = "Reg No;Name;Sex;DOB;Sire Name;Sire Reg No;Dam Name;Dam Reg No\n"
+    rows = "a1;Ash;m;2010-02-01;;;;\nb2;Briar;f;2010-02-03;;;unknown;\nc3;Clover;f;2013-02-03;Ash;a1;Briar;b2\n"
+    young = "d4;Dell;f;2014-02-03;Ash;;Briar;b2\n"
+    beside = "which isn't read"
+    assert beside not in desk.take(titles + rows).out
+    one = f"to look at: 1 row has nothing in 'Sire Reg No', and 'Ash' in 'Sire Name', {beside}, in line 5: this parent counts "
+    desk.take(titles + rows + young).tells(f"{one}as unknown; write it into 'Sire Reg No'")
+    done = desk.take(titles + rows + young + "e5;Elm;f;2015-02-03;Rex;;Briar;b2\nf6;Fay;f;2016-02-03;Ash;a1;Briar;b2\n")
+    assert f"2 rows have nothing in 'Sire Reg No', and a parent in 'Sire Name', {beside}, the first 'Ash' in line 5" in done.told
+
+
+def test_parents_named_otherwise(desk: Desk) -> None:
+    """A parent whose id and whose name, in a column that isn't read, are two animals of the list: the id is taken, and
+    that is told. A name of no animal is told of nowhere, nor are names of which fewer are those of the ids."""
+    titles = "Reg No;Name;Sex;DOB;Sire Name;Sire Reg No;Dam Name;Dam Reg No\n"
+    rows = "a1;Ash;m;2010-02-01;;;;\nb2;Briar;f;2010-02-03;;;;\nx9;Rex;m;2010-02-05;;;;\n"
+    rows += "c3;Clover;f;2013-02-03;ASH;a1;Briar;b2\nd4;Dell;f;2014-02-03;Old Ash;a1;Briar;b2\n"
+    told = "is taken; if another is meant, write the id of that one"
+    assert told not in desk.take(titles + rows).told
+    rows += "e5;Elm;f;2015-02-03;rex;a1;Clover;b2\n"
+    done = desk.take(titles + rows)
+    done.tells(
+        f"line 7: e5: to look at: its sire a1 is 'Ash', and 'Sire Name' has 'rex', which is x9: a1 {told}",
+        f"line 7: e5: to look at: its dam b2 is 'Briar', and 'Dam Name' has 'Clover', which is c3: b2 {told}",
+    )
+    assert desk.parents()["e5"] == ("a1", "b2")
+    rows += "f6;Rex;m;2016-02-03;Rex;a1;Briar;b2\n"
+    assert not [one for one in desk.take(titles + rows).report if told in one and "sire" in one]
+    rows += "g7;Gorse;f;2017-02-03;Ash;a1;Briar;b2\n"
+    desk.take(titles + rows).tells(
+        f"line 8: f6: to look at: its sire a1 is 'Ash', and 'Sire Name' has 'Rex', which is x9 or f6: a1 {told}",
+    )

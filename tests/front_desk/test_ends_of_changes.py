@@ -53,7 +53,7 @@ def test_what_is_told_besides(flock_desk: Desk, monkeypatch: pytest.MonkeyPatch)
     then."""
     monkeypatch.setenv("HERDBOOK", flock_desk.program)
     monkeypatch.setattr(saving, "save", lambda *_: SimpleNamespace(number=7))
-    monkeypatch.setattr(saving, "export", lambda _: ["of the exports"])
+    monkeypatch.setattr(saving, "export", lambda *_: ["of the exports"])
     folder, notes, outcome = flock_desk.room / "book", list[str](), Outcome(pathlib.Path(), Call((), pathlib.Path()))
 
     def prepare(book: Book) -> tuple[Outcome, Prepared | None]:

@@ -140,6 +140,17 @@ def test_parents_taken_away(taken: Desk, field: int) -> None:
     refused(taken, sheet([";".join(row) for row in rows]), told)
 
 
+def test_parents_with_a_new_tag(taken: Desk) -> None:
+    """The ten offspring of a parent that has another tag now keep it; with another name it would be another one."""
+    rows = [row.replace("A7;Aname7", "B7;Aname7").replace(";A2;A7", ";A2;B7") for row in flock("A")]
+    told = "10 of 59 animals have other parents, or none, than in the book, the first are A12"
+    refused(taken, sheet([row.replace("B7;Aname7", "B7;Bname7") for row in rows]), told)
+    taken.good("undo")
+    done = taken.take(sheet(rows))
+    told = "line 9: B7: to look at: it has the name, the birth day and the parents of A7"
+    assert told in done.out and done.commands()[0].endswith("--new-tag A7=B7")
+
+
 def test_other_sexes(desk: Desk) -> None:
     """Sexes that were inferred may be others; those that were said are an ordinary correction of a few alone."""
     titles = TITLES + ";Geschlecht"

@@ -232,6 +232,7 @@ def test_sexes(desk: Desk) -> None:
     assert desk.numbers()["c"] == "HOLGBRM000000000003"
     done.tells("line 6: e: its dam c (line 4) is left out: it isn't female (refusal 6)")
     done.tells(
+        "line 4: c: changed: sex: male, before female",
         "line 4: c: changed: number: HOLGBRM000000000003, before HOLGBRF000000000003",
         "line 6: e: changed: dam: none, before c",
     )

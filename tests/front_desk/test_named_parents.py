@@ -101,3 +101,23 @@ def test_named_parent_with_another_name(desk: Desk) -> None:
     desk.take(near, "--book", "near")
     told = "line 3: L1: inferred: its sire '7' is 07, whose id differs in case, blanks or zeros alone"
     assert told in desk.take(near + "007,,M,2002-01-01,,\n", "--book", "near").told
+
+
+def test_named_without_accents(desk: Desk) -> None:
+    """Capitals often lack accents. One whose name is written so, with or without, is preferred."""
+    rows = "E1;Étoile;F;2001-01-01;;\nE2;Zoe;F;2001-01-01;;\nE3;Zoé;F;2001-01-01;;\nE4;Bärbel;F;2001-01-01;;\n"
+    young = "L1;;F;2004-01-01;;ETOILE\nL2;;F;2004-01-01;;ZOE\nL3;;F;2004-01-01;;Barbel\nL4;;F;2004-01-01;;Nóra\n"
+    sheet = f"id;name;sex;born;sire;dam\n{rows}{young}"
+    told = [f"line 6: L1: inferred: its dam 'ETOILE' is E1 by its name: {MEANT}"]
+    desk.take(sheet).tells(*told)
+    found = {id: dam for id, (_, dam) in desk.parents().items() if id[0] == "L"}
+    assert found == {"L1": "E1", "L2": "E2", "L3": "E4", "L4": "Nóra"}
+    done = desk.take(sheet)
+    done.tells(*told)
+    assert " 0 changed" in done.last
+    # two that differ in accents alone are told where neither is written so
+    done = desk.take(sheet + "E5;Etoilé;F;2001-01-01;;\nL5;;F;2004-01-01;;Etoile\n", "--book", "other")
+    done.tells(
+        "line 11: Etoile: added: the dam of L5 has no row: added without parents (2 animals have this name, E1, E5: write "
+        "the id of the one that is meant)"
+    )

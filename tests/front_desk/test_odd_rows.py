@@ -56,3 +56,6 @@ def test_titles_again(desk: Desk) -> None:
     done = desk.take(f"{titles}\na;2001;;\n{titles}\nb;2003;a;\nOhrmarke;2004;a;\n")
     done.shows("line 3: the row is left out: it repeats the titles")
     assert desk.numbers().keys() == {"a", "b", "Ohrmarke"}
+    # one of which a cell is written otherwise
+    done = desk.take(f"{titles};Abgang;am\na;2001;;;;\n{titles};Exit;am\nb;2003;a;;;\n", "--book", "other")
+    done.shows("line 3: the row is left out: it repeats the titles")

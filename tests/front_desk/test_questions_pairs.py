@@ -18,7 +18,7 @@ from gudokeyi.domain.animals import SocietyRecord
 from gudokeyi.domain.messages import MOST_NAMED, Mistake
 from gudokeyi.genetics.pedigree import UNKNOWN
 from gudokeyi.services.book_program import BookProgram
-from gudokeyi.services.relationships import related, relationships
+from gudokeyi.services.relationships import coefficients_told, related, relationships
 from gudokeyi.store.book import Book
 
 TITLES = ("id", "sex", "birth", ("sire", "dam"))
@@ -213,3 +213,23 @@ def test_dams_of_whom_none_is_named(desk: Desk) -> None:
         desk.good("exit", id, "--day", "2010-01-01")
     told = "no living female that may be a dam (passed over: 2 left, 1 without a row)"
     desk.wrong(f"{told}: name some in a file, as --dams FILE", "mating", "--sires", "bull.txt")
+
+
+def test_pairs_are_asked_for_together(monkeypatch: pytest.MonkeyPatch) -> None:
+    """Of each pair half the relationship is told, and nothing of one of deep animals that the program refuses to
+    mate."""
+    asked = []
+
+    class Program(BookProgram):
+        def ask(self, words: list[str], book: Book) -> list[str]:
+            asked.append(words[0])
+            if words[0] == "mating":
+                return [f"{sire},refused,63" if sire == "s2" else f"{sire},1/8,12.50" for sire in words[3:]]
+            return [f"{one},{other},1/4" for one, other in itertools.combinations_with_replacement(words[1:], 2)]
+
+    monkeypatch.setattr("gudokeyi.services.relationships.deep_animals", lambda book: {"d1"})
+    monkeypatch.setattr("gudokeyi.services.relationships.PAIRS_AT_ONCE", 2)
+    pairs = [("d1", "s1"), ("d1", "s2"), ("d2", "s2")]
+    told = coefficients_told(Book(pathlib.Path("none"), None), Program(), pairs)
+    assert list(told) == [(pairs[0], "1/8"), (pairs[1], ""), (pairs[2], "1/8")]
+    assert asked == ["relationships", "mating", "relationships"]

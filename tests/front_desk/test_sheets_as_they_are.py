@@ -18,12 +18,19 @@ PAIR = "001;Max;m;01.02.2010;;;Huber;\n002;Eva;w;03.02.2010;;;Huber;\n"
         ("3.2.13", "2013-02-03", "two digits of the year in 1 cell of the column 'geb'"),
         ("27/2/25", "2025-02-27", "two digits of the year in 1 cell"),
         ("3. Mai '12", "2012-05-03", "two digits of the year in 1 cell"),
+        ("avr.-13", "2013-04-16", "two digits of the year in 1 cell of the column 'geb': 'avr.-13' in line 4 is read as 2013-04"),
+        ("Mrz 13", "2013-03-16", "'Mrz 13' in line 4 is read as 2013-03"),
+        ("Dec '12", "2012-12-16", "two digits of the year in 1 cell"),
         ("42109", "2015-04-15", "a spreadsheet's number for a day in 1 cell"),
         ("13.01.2019 (lt. Besitzer)", "2019-01-13", "a day and a text in 1 cell"),
         ("ca. 3/2019", "2019-03-16", "a day and a text in 1 cell"),
         ("Frühjahr 2018", "2018-04-16", "a day and a text in 1 cell"),
         ("31.02.2021", "2021-02-15", "from the month 2021-02, since there is no day 31.02.2021"),
         ("2014/3/15", "2014-03-15", ""),
+        ("30 07 2014", "2014-07-30", ""),
+        ("7-III-2019", "2019-03-07", ""),
+        ("KW 12/2016", "2016-03-24", "'KW 12/2016' in line 4 is read as 2016-03"),
+        ("31. Woche 2016", "2016-08-04", "a day and a text in 1 cell"),
     ],
 )
 def test_day_in_the_cell(desk: Desk, cell: str, born: str, told: str) -> None:
@@ -33,7 +40,7 @@ def test_day_in_the_cell(desk: Desk, cell: str, born: str, told: str) -> None:
     assert told in done.out.partition("rows below the titles")[0]
 
 
-@pytest.mark.parametrize("cell", ["14.05.1887", "12.04.2087", "vor 5.2014"])
+@pytest.mark.parametrize("cell", ["14.05.1887", "12.04.2087", "vor 5.2014", "av. 2014"])
 def test_day_that_cannot_be(desk: Desk, cell: str) -> None:
     """A day is inferred beside what the cell says, which is told by the animal's name among the first lines."""
     first = desk.take(TITLES + PAIR + f"003;A;w;{cell};001;002;Huber;\n").out.partition("rows below the titles")[0]
@@ -59,6 +66,7 @@ STATUS = TITLES.replace("\n", " am;Status\n")
         ("Huber;;geschlachtet Herbst 2021", "Huber", "the month 2021-11", "tells of an exit in 1 row"),
         ("Huber;03.04.2022;lebt", "Huber", "2022-04-03", "'Abgang am' says '03.04.2022', and 'Status' says 'lebt'"),
         ("Huber;lebt;verendet", "Huber", "day unknown: 'verendet'", "'Abgang am' says 'lebt', and 'Status' says"),
+        ("Huber;sept.-21;tot", "Huber", "the month 2021-09", "'sept.-21' in line 4 is read as 2021-09"),
         ("Huber;;verkauft an Fremd", "Huber", "day unknown: 'verkauft an Fremd'", "tells of an exit in 1 row"),
         ("Huber;;verkauft an Meier", "Meier Ida", "", "owner Meier Ida, before Huber: 'verkauft an Meier' names an owner"),
         ("Huber;01.02.2021;verkauft an Meier Ida", "Meier Ida", "", "owner Meier Ida, before Huber"),
@@ -128,6 +136,29 @@ def test_parents_with_more_than_an_id(desk: Desk) -> None:
     }  # fmt: skip
     assert "line 6: 004: its sire '001 oder 009' is left out: it may be one or the other, and counts" in done.out
     assert "line 5: 003: inferred: its sire '001 / Chäspi' is 001, whose id stands there" in done.told
+
+
+def test_two_parents_in_a_cell(desk: Desk) -> None:
+    """A pair in one cell, and one or the other by their names, are told; a name with an `x` in it is a name."""
+    rows = "003;A;w;1.2.2014;Max x Eva;;Huber;\n004;B;w;1.2.2015;001 × 002;002;Huber;\n"
+    rows += "005;C;w;1.2.2016;Max o. Moritz;002;Huber;\n006;X x Y;m;1.2.2013;;;Huber;\n007;D;w;1.2.2016;X x Y;;Huber;\n"
+    done = desk.take(TITLES + PAIR + rows)
+    pair = "is left out: it names two animals, and counts as unknown; write sire and dam each in their own column"
+    done.tells(
+        f"line 4: 003: its sire 'Max x Eva' {pair}",
+        f"line 5: 004: its sire '001 × 002' {pair}",
+        "line 6: 005: its sire 'Max o. Moritz' is left out: it may be one or the other, and counts as unknown",
+    )
+    parents = desk.parents()
+    assert [parents[id] for id in ("003", "004", "005", "007")] == [("", ""), ("", "002"), ("", "002"), ("006", "")]
+
+
+@pytest.mark.parametrize(
+    "word", ["n. bek.", "N/K", "ONC", "fremd", "Zukauf", "not yet reg.", "unbekannt (Weide 3)", "inconnu (saillie en liberté)"]
+)
+def test_words_for_an_unknown_parent(desk: Desk, word: str) -> None:
+    done = desk.take(TITLES + PAIR + f"003;A;w;1.2.2014;{word};002;Huber;\n")
+    assert desk.parents()["003"] == ("", "002") and " 0 added" in done.last
 
 
 @pytest.mark.parametrize("word", ["m", "Kastrat"])

@@ -17,6 +17,7 @@ from gudokeyi.ingest.animals import SheetAnimal
 from gudokeyi.ingest.day_cells import DayCells
 from gudokeyi.ingest.days import year_of
 from gudokeyi.ingest.unknown_parents import UnknownParents
+from gudokeyi.reconcile.animals_of_book import AnimalsOfBook
 from gudokeyi.reconcile.commands import Filing, is_corrected
 from gudokeyi.reconcile.findings.animals import KeptByHand, OwnerRenamed, SexInferred
 from gudokeyi.reconcile.findings.by_hand import CommandRefused, ValueChanged
@@ -38,7 +39,8 @@ DAYS = DayCells(UnknownParents(), month_first=False)
 def numbered(book: Book, *born: tuple[str, int], breed: str = "", country: str = "") -> dict[str, str]:
     """The numbers of animals, each with its id and its birth year, beside a book."""
     animals = {id: SheetAnimal(id, 2, sex="M", born=datetime.date(year, 1, 2)) for id, year in born}
-    give_numbers(cast(NextBook, SimpleNamespace(book=book, animals=animals)), breed, country)
+    parts = dict(book=book, animals=animals, in_book=AnimalsOfBook(book), renumbered=set())
+    give_numbers(cast(NextBook, SimpleNamespace(**parts)), breed, country)
     return {id: animal.registration_number for id, animal in animals.items()}
 
 
@@ -53,7 +55,7 @@ def test_numbers_of_a_taking() -> None:
         found = dict(
             zip(("society_records", "dropped"), parts), former_numbers=lambda: former, greatest_digits=lambda: 7
         )
-        return cast(Book, SimpleNamespace(**found, connection=empty(), first_number=lambda: first))
+        return cast(Book, SimpleNamespace(**found, records={}, connection=empty(), first_number=lambda: first))
 
     new = ("b", 2001), ("c", 2000), ("a", 2001)
     digits = {"c": 8, "a": 9, "b": 10}
@@ -188,7 +190,8 @@ def test_a_sex_that_is_inferred_tells_of_a_cell() -> None:
 
 def filing(length: int = 0) -> Filing:
     """That of an animal beside a journal of so many commands, whose owners are told by their herds."""
-    book = SimpleNamespace(journal=SimpleNamespace(length=length), owner_of=str, by_number=dict)
+    journal = SimpleNamespace(length=length)
+    book = SimpleNamespace(journal=journal, owner_of=str, by_number=dict, society_records={}, records={})
     owners = cast(OwnerDays, SimpleNamespace(other_days={}))
     return Filing(NextBook(cast(Book, book), {}, set(), Report(), DAYS), owners)
 

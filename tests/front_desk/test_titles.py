@@ -73,3 +73,18 @@ def test_obstacles_together(desk: Desk) -> None:
     assert any("line 2: a0: birth day: '03/25/2001' has the month first (3 such days)" in one for one in told)
     assert any("'2,76E+14' is a long number that the spreadsheet has cut" in one for one in told)
     assert any("3 of 4 cells that say something in the column 'sex' can't be read" in one for one in told)
+
+
+def test_titles_of_two_lines(desk: Desk) -> None:
+    """A column whose lower title says nothing is what the upper one says, as of exits, also in the next sheet."""
+    above = "Zuchtverein;;;;;;\nTier;;;Abstammung;;Abgang;Halter\n"
+    rows = "a;m;01.02.2001;;;verkauft 01.02.2011;Huber\nb;w;01.02.2001;;;;Meier\nc;w;01.02.2004;a;b;;Meier\n"
+    sheet = f"{above}Ohrmarke;Geschl.;geb.;Vater;Mutter;am/wie;{{}}\n{rows}"
+    done = desk.take(sheet.format("Hof/Ort"))
+    assert "owner from 'Hof/Ort', exit from 'am/wie'" in done.out
+    assert sum(line.startswith("exit,") for line in desk.commands()) == 1
+    assert " 0 changed" in desk.take(sheet.format("Hof/Ort")).last
+    # of two columns with one title nothing is guessed, nor where the lower title is one that is known
+    other = desk.take(sheet.format("am/wie"), "--book", "other")
+    assert "owner from" not in other.out and "exit from" not in other.out
+    assert "owner from" not in desk.take(sheet.format("Rufname"), "--book", "third").out

@@ -5,6 +5,7 @@ import datetime
 import pathlib
 
 import openpyxl
+import openpyxl.comments
 import pytest
 
 from front_desk.desk import Desk
@@ -82,3 +83,44 @@ def test_days_that_show_less(desk: Desk, workbook: openpyxl.Workbook) -> None:
     save(desk, workbook)
     desk.good("import", "sheet.xlsx")
     assert [row["birth"] for row in desk.table("book/ids.csv")] == ["from the year 2001", "from the month 2004-03"]
+
+
+def test_what_cells_show_besides(desk: Desk, workbook: openpyxl.Workbook) -> None:
+    """Notes at cells and text that is struck through are told, since neither is read."""
+    sheet = workbook["Tiere"]
+    sheet["D3"].comment = openpyxl.comments.Comment("laut Probe\nnicht der Vater", "Huber")
+    sheet["A1"].font = openpyxl.styles.Font(bold=True)
+    save(desk, workbook)
+    done = desk.good("import", "sheet.xlsx")
+    done.tells(
+        "to look at: 1 cell has a note, which isn't read: 'laut Probe nicht der Vater' at D3; write into cells what "
+        "the book is to have"
+    )
+    assert "struck through" not in done.told
+    for cell in sheet[3]:
+        cell.font = openpyxl.styles.Font(strike=True)
+    sheet["E2"].font = openpyxl.styles.Font(strike=True)
+    sheet["A2"].comment = openpyxl.comments.Comment("neu", "Huber")
+    save(desk, workbook)
+    desk.good("import", "sheet.xlsx").tells(
+        "to look at: 2 cells have a note, which isn't read, the first 'neu' at A2; write into cells what the book is to have",
+        "to look at: text is struck through in 1 row, line 3, which is taken like all others: if its animal has left, "
+        "write an exit",
+    )
+
+
+def test_names_like_truth_values(desk: Desk, workbook: openpyxl.Workbook) -> None:
+    """A name that a spreadsheet took for a truth value is kept as that shows it, and told."""
+    sheet = workbook["Tiere"]
+    for at, (name, embryo) in enumerate([("Name", "ET"), (True, True), ("True Love", False)], 1):
+        sheet.cell(at, 6, name)
+        sheet.cell(at, 7, embryo)
+    save(desk, workbook)
+    done = desk.good("import", "sheet.xlsx")
+    made = "which spreadsheets make of some words: if it is another, write it as text"
+    done.tells(f"line 2: B1: to look at: its name is TRUE, {made}")
+    assert sum(made in sentence for sentence in done.report) == 1
+    assert [row["name"] for row in desk.table("book/ids.csv")] == ["TRUE", "True Love"]
+    done = desk.take("id;name;sex;birth;sire;dam;owner\nB1;VRAI;m;2001-03-01;;;FALSCH\nC2;True;f;2004-03-02;B1;;Huber\n")
+    done.tells(f"line 2: B1: to look at: its name is VRAI, {made}", f"line 2: B1: to look at: its owner is FALSCH, {made}")
+    assert sum(made in sentence for sentence in done.report) == 2

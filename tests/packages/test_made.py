@@ -152,6 +152,34 @@ def test_scripts(name: str) -> None:
     assert not re.search(r"\brm\b|/srv|/var|/home", (TOP / "packaging" / name).read_text(encoding="utf-8"))
 
 
+def test_purge(release: Release, tmp_path: pathlib.Path) -> None:
+    """What was enabled leaves no links to units that aren't there any more."""
+    root, tools = tmp_path / "root", tmp_path / "tools"
+    tools.mkdir()
+    helper = shutil.which("deb-systemd-helper")
+    assert helper
+    (tools / "deb-systemd-helper").symlink_to(helper)
+    subprocess.run(["dpkg-deb", "-R", write_deb(release, shared(), tmp_path), root], check=True)
+
+    def call(script: str, *words: str) -> None:
+        known = {"PATH": str(tools), "DPKG_ROOT": str(root), "DPKG_MAINTSCRIPT_PACKAGE": "gudokeyi"}
+        subprocess.run(["/bin/sh", root / "DEBIAN" / script, *words], env=known, check=True)
+
+    call("postinst", "configure", "")
+    # as `systemctl enable` makes them
+    links = {"multi-user": "herdbook.service", "timers": "herdbook-backup.timer"}
+    enabled = [root / f"etc/systemd/system/{target}.target.wants/{unit}" for target, unit in links.items()]
+    for link in enabled:
+        link.parent.mkdir(parents=True)
+        link.symlink_to(f"/usr/lib/systemd/system/{link.name}")
+    call("postinst", "configure", "0.12.0")
+    call("prerm", "remove")
+    call("postrm", "remove")
+    assert all(link.is_symlink() for link in enabled)
+    call("postrm", "purge")
+    assert not any(link.is_symlink() for link in enabled)
+
+
 def test_wheel(release: Release, tmp_path: pathlib.Path) -> None:
     """The wheel has the program, which may be run, and its record tells each file's checksum."""
     with zipfile.ZipFile(write_wheel(release, shared(), tmp_path)) as wheel:

@@ -3,6 +3,7 @@ what."""
 from __future__ import annotations
 
 import contextlib
+import datetime
 import html
 import io
 import pathlib
@@ -206,7 +207,9 @@ def test_backup(served: Served, society_desk: Desk) -> None:
 CHANGED = {
     BackupFault.ACTS: ["CREATE TRIGGER own AFTER INSERT ON change BEGIN DELETE FROM animal; END"],
     BackupFault.OTHER_TABLES: ["CREATE TABLE own (one)", "CREATE INDEX own ON change (abs(time))"],
-    BackupFault.NO_TIME: ["UPDATE change SET time = 9000000000000000000", "UPDATE change SET time = 0"],
+    BackupFault.NO_TIME: [
+        "UPDATE change SET time = 9000000000000000000", "UPDATE change SET time = 7258118400000000", "UPDATE change SET time = 0",
+    ],
     BackupFault.ODD_NAMES: [
         "UPDATE change SET login = char(27) || '[2J'", "UPDATE change SET login = ' '", "UPDATE animal SET name = char(10, 0)",
         "UPDATE owner SET name = printf('%.*c', 5000, 'x') WHERE herd = (SELECT min(herd) FROM owner)",
@@ -238,3 +241,12 @@ def test_hostile_backups(served: Served, tmp_path: pathlib.Path, kind: str, told
     page = kim.page(kim.client.post("/restore", data=data, headers={"Host": HOST}).headers["Location"])
     assert SENTENCES[told][1].replace("{path}", "x.sqlite").replace("{change}", "1") in shown(page)
     assert str(served.desk.uploads.room) not in page and names(kim) == names(kim)[:1]
+
+
+@pytest.mark.parametrize("year", [1970, 1989, 2036, 2199])
+def test_backup_of_a_wrong_clock(served: Served, tmp_path: pathlib.Path, year: int) -> None:
+    """A backup is restored also where the clock was wrong as something was filed, long behind the time or before it."""
+    kim = Visitor(served, "Kim")
+    moment = int(datetime.datetime(year, 1, 2, tzinfo=datetime.timezone.utc).timestamp()) * 1_000_000
+    copy = changed(kim.get("/book.sqlite").get_data(), tmp_path, f"UPDATE change SET time = {moment}")
+    assert "is restored." in shown(kim.restore(copy)) and f"{year}-01-02" in shown(kim.page("/history"))

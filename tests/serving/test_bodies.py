@@ -131,7 +131,7 @@ def test_files_not_received(society_desk: Desk, cheap: None) -> None:
     # the last letter of a signature has bits that say nothing: another one may be the same signature
     signed = cookies["Kim"]
     guessed = signed[:-2] + ("A" if signed[-2] != "A" else "B") + signed[-1]
-    cookies |= {"": "", "guessed": guessed, "none": "herdbook=x"}
+    cookies |= {"": "", "guessed": guessed, "none": f"herdbook-{server.port}=x"}
     received = {("/sheet", "Carl"), ("/sheet", "Kim"), ("/restore", "Kim")}
     chunk = b"%x\r\n%s\r\n" % (MOST_FORM_BYTES + 1, b"x" * (MOST_FORM_BYTES + 1))
     part = b'--b\r\nContent-Disposition: form-data; name="sheet"; filename="a.csv"\r\n\r\n'

@@ -9,8 +9,8 @@ import sqlite3
 import pytest
 
 from gudokeyi.domain.messages import Mistake
-from gudokeyi.domain.people import AccountRole
-from gudokeyi.store import accounts as passwords
+from gudokeyi.domain.people import AccountRole, Person
+from gudokeyi.store import accounts as passwords, accounts_file
 from gudokeyi.store.accounts import A_DAY, Accounts
 from gudokeyi.web.logins import FREE_BY_ADDRESS, FREE_BY_NAME, MOST, SECONDS, AccessLog, Throttle
 from serving.visitor import WORD, Clock
@@ -175,6 +175,24 @@ def test_log_in_lines() -> None:
     out = io.StringIO()
     AccessLog(out).tell("one\r\nforged \x1b[2J\u202ex")
     assert out.getvalue().endswith("Z one\\x0d\\x0aforged \\x1b[2J\\u202ex\n")
+
+
+def test_full_disk(accounts: Accounts, monkeypatch: pytest.MonkeyPatch) -> None:
+    """Whoever is logged in is so still where there is no room for what SQLite has beside the file that it asks; but for
+    what isn't in the file yet, without which it would tell of an earlier state."""
+    account = accounts.fits("Carl", WORD)
+    assert account
+    token = accounts.begin_login(account)
+    accounts.path.with_name(f"{accounts.path.name}-shm").symlink_to("nowhere")
+    with pytest.raises(Mistake, match="the accounts can't be read"):
+        accounts.person_of(token)
+    monkeypatch.setattr(accounts_file, "is_full", lambda _: True)
+    assert accounts.person_of(token) == Person("Carl", CLERK) and len(accounts.all()) == 2
+    with pytest.raises(Mistake, match="there is no room"):
+        accounts.end_login(token)
+    accounts.path.with_name(f"{accounts.path.name}-wal").write_bytes(b"not in the file yet")
+    with pytest.raises(Mistake, match="there is no room"):
+        accounts.person_of(token)
 
 
 def test_log_that_is_full() -> None:

@@ -3,6 +3,7 @@ from __future__ import annotations
 
 import hashlib
 import hmac
+import pathlib
 import threading
 import time
 from email.utils import parsedate_to_datetime
@@ -10,16 +11,17 @@ from email.utils import parsedate_to_datetime
 import pytest
 
 from web.said import in_each
-from web.site import HOST, shown
+from web.site import HOST, PORT, shown
 from gudokeyi.domain.settings import LANGUAGES
 from gudokeyi.render.page_language import PageLanguage
 from gudokeyi.web.routes.login import WAIT
 from gudokeyi.store import accounts as passwords
 from gudokeyi.store.accounts import A_DAY
+from gudokeyi.web.addresses import ServerAddress
 from gudokeyi.web.forms import new_form
 from gudokeyi.web.logins import FREE_BY_ADDRESS, FREE_BY_NAME, LONGEST, SECONDS, Throttle
 from serving.test_kept_accounts import guess
-from serving.visitor import WORD, Served, Visitor
+from serving.visitor import WORD, Served, Visitor, served_of, with_accounts
 
 WRONG = "The name or the password is wrong."
 
@@ -206,8 +208,24 @@ def test_cookies(served: Served) -> None:
     cookie = Visitor(served).log_in("Carl").headers["Set-Cookie"]
     ends = parsedate_to_datetime(cookie.partition("Expires=")[2].partition(";")[0]).timestamp() - time.time()
     assert A_DAY - SECONDS < ends <= A_DAY + 1
-    assert cookie.startswith("herdbook=") and "HttpOnly" in cookie and "SameSite=Lax" in cookie and "Path=/" in cookie
+    assert cookie.startswith(f"herdbook-{PORT}=") and "HttpOnly" in cookie and "SameSite=Lax" in cookie and "Path=/" in cookie
     assert "Secure" not in cookie and "Domain" not in cookie
+
+
+def test_two_ports(served: Served, program: str, tmp_path: pathlib.Path) -> None:
+    """A browser that keeps its cookies for all ports of a host is in at two desks of it at once."""
+    folder = tmp_path / "another book"
+    folder.mkdir()
+    with_accounts(folder)
+    with served_of(folder, program, tmp_path / "other", ServerAddress((f"127.0.0.1:{PORT + 1}",))) as other:
+        visitor, there = Visitor(served, "Carl"), other.app.test_client()
+        there.cookie_jar = visitor.client.cookie_jar
+        host = {"Host": f"127.0.0.1:{PORT + 1}"}
+        page = there.get("/login", headers=host).get_data(as_text=True)
+        token = page.partition('name="csrf_token" value="')[2].partition('"')[0]
+        sent = {"csrf_token": token, "name": "Kim", "password": WORD}
+        assert there.post("/login", data=sent, headers=host).status_code == 302
+        assert visitor.is_in() and there.get("/accounts", headers=host).status_code == 200
 
 
 def test_cookies_behind_a_proxy(proxied: Served) -> None:

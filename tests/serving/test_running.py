@@ -1,6 +1,7 @@
 """The examples for whoever sets a server up: the unit for systemd, and the proxy."""
 from __future__ import annotations
 
+import itertools
 import os
 import pathlib
 import re
@@ -51,6 +52,19 @@ def test_unit(society_desk: Desk, cheap: None) -> None:
         assert connection.recv(4096).startswith(b"HTTP/1.0 403")
     assert server.end(signal.SIGTERM) == "The desk is closed.\n"
     assert "KillMode=mixed" in UNIT and "User=herdbook" in UNIT
+
+
+def test_backups_by_a_clock_that_is_behind(society_desk: Desk, cheap: None, tmp_path: pathlib.Path) -> None:
+    """What was written last stays, though the names of enough others say that they are newer."""
+    book, folder = society_desk.room / "book", tmp_path / "copies"
+    Accounts(book).add("Kim", AccountRole.KEEPER, WORD, WORD)
+    folder.mkdir()
+    for kind, at in itertools.product(("book", "accounts"), range(3)):
+        (folder / f"{kind}-2999010{at}T000000Z.sqlite").write_bytes(b"of a clock that was ahead")
+    env = {"PATH": f"{TOP}:{os.environ['PATH']}", "HERDBOOK": society_desk.program, "HOME": str(tmp_path)}
+    subprocess.run([str(TOP / "packaging/backup"), str(book), str(folder), "2"], env=env, timeout=SECONDS, check=True)
+    kept = sorted(path.name for path in folder.iterdir())
+    assert [name.partition("-")[0] for name in kept if "-2999" not in name] == ["accounts", "book"] and len(kept) == 6
 
 
 @pytest.mark.slow
@@ -140,7 +154,8 @@ def test_proxy(society_desk: Desk, cheap: None, tmp_path: pathlib.Path) -> None:
     )
     try:
         page = curl(tmp_path, port, "/login")
-        assert "__Host-herdbook=" in page and "Secure" in page
+        assert f"__Host-herdbook-{port}=" in page and "Secure" in page
+        assert "strict-transport-security: max-age=31536000" in page.lower()
         token = page.partition('name="csrf_token" value="')[2].partition('"')[0]
         origin = f"Origin: https://{NAME}:{port}"
         words = [

@@ -2,6 +2,8 @@
 wrote."""
 from __future__ import annotations
 
+import re
+
 import pytest
 
 from web.site import HOST
@@ -37,6 +39,15 @@ def test_log(served: Served) -> None:
     assert any("POST /file/<kind> 400" in line and line.endswith(" Naming.NO_ANIMAL") for line in lines)
     for secret in ("my secret", WORD, "looked-for", "forged", "no such animal", address.rpartition("/")[2], *tokens):
         assert secret == "True" or secret not in log, secret
+
+
+def test_names_in_log(served: Served) -> None:
+    """A name that looks like the rest of a line is told apart from it."""
+    served.gate.accounts.add("Kim (keeper) GET /accounts 200", AccountRole.CLERK, WORD, WORD)
+    visitor = Visitor(served, "Kim (keeper) GET /accounts 200")
+    served.log.truncate(0)
+    visitor.get("/animals")
+    assert re.search(r" 127\.0\.0\.1 [^(]* \(clerk\) GET /animals 200 \d+ms$", served.log.getvalue().rstrip("\n"))
 
 
 def test_faults(

@@ -117,16 +117,18 @@ def test_sheet_of_a_desk(folder: pathlib.Path, society_desk: Desk, monkeypatch: 
     society_desk.good("verify")
 
 
-def test_others_do_not_wait_long(folder: pathlib.Path, society_desk: Desk, monkeypatch: pytest.MonkeyPatch) -> None:
-    """Where a sheet takes longer than others wait they never wait for it: it isn't taken, and is looked at anew."""
+def test_others_wait_for_the_last_try(
+    folder: pathlib.Path, society_desk: Desk, monkeypatch: pytest.MonkeyPatch
+) -> None:
+    """Where a sheet takes longer than others wait it is tried beside them, and at last they wait: it is taken."""
     path = sheet(society_desk)
     look = looked_at(folder, path, ANYWAY, (), lambda _: None)
     free = filed_meanwhile(monkeypatch, folder, society_desk)
     monkeypatch.setattr(sheet_work, "SECONDS_OTHERS_WAIT", 0.0)
     monkeypatch.setattr(sheet_work, "MOST_TRIES", TRIES_BESIDE + 2)
     made = imported(folder, path, ANYWAY, Asked(look.seen, look.by_animal, new_form()), lambda _: None)
-    assert free == [True] * (TRIES_BESIDE + 2)
-    assert made.book_changed and not made.change and "take" not in kinds(folder)[1:]
+    assert free == [True] * (TRIES_BESIDE + 1) + [False]
+    assert made.change == TRIES_BESIDE + 3 and kinds(folder)[-1] == "take"
 
 
 def own_sheet(desk: Desk, value: str) -> pathlib.Path:

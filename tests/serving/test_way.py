@@ -7,6 +7,7 @@ from web.site import HOST, PORT, shown
 from web.test_desk_security import writing
 from gudokeyi.domain.messages import Mistake
 from gudokeyi.web.addresses import ListenAddress, ServerAddress, listen_address, server_address
+from gudokeyi.web.logins import FREE_BY_ADDRESS
 from serving.visitor import Served, Visitor
 
 PROXY = "10.0.0.2"
@@ -86,6 +87,19 @@ def test_proxy(proxied: Served) -> None:
     origin = BY_PROXY | {"Origin": "https://herd.example"}
     assert proxy.client.post("/login", headers=origin).status_code == 400
     assert proxy.client.post("/login", headers=origin | {"Origin": "http://herd.example"}).status_code == 403
+
+
+def test_guesses_by_mapped_addresses(proxied: Served) -> None:
+    """A proxy that listens for both protocols writes addresses of IPv4 as ones of IPv6: they are no one network."""
+    proxy, base = Visitor(proxied, address=PROXY), "https://herd.example"
+    page = proxy.client.get("/login", headers=BY_PROXY, base_url=base).get_data(as_text=True)
+    form = {"csrf_token": page.partition('name="csrf_token" value="')[2].partition('"')[0], "name": "nobody", "password": "x"}
+    for guess in range(FREE_BY_ADDRESS + 1):
+        proxied.gate.throttle.tried(f"name {guess}", "1.2.3.4", False)
+    for address, status in ("1.2.3.4", 429), ("::ffff:1.2.3.4", 429), ("::ffff:1.2.3.5", 401):
+        headers = BY_PROXY | {"X-Forwarded-For": address}
+        assert proxy.client.post("/login", data=form, headers=headers, base_url=base).status_code == status
+    assert " 1.2.3.5 - POST /login 401 " in proxied.log.getvalue()
 
 
 def test_without_proxy(served: Served) -> None:

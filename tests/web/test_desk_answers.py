@@ -4,6 +4,8 @@ from __future__ import annotations
 
 import contextlib
 import dataclasses
+import itertools
+import re
 import threading
 from collections.abc import Iterator
 
@@ -72,16 +74,19 @@ def test_all_coefficients(site: Site, society_desk: Desk, monkeypatch: pytest.Mo
 
 
 def test_plan_by_the_session(site: Site, asked: list[list[str]]) -> None:
-    """The session is asked for each mating of a plan before it is shown."""
+    """The session is asked for the matings of a plan before it is shown, for many of them at once."""
     page = site.page("/matings/plan?made=1")
-    assert page.count('scope="row"') == len([one for one in asked if one[0] == "mating"]) > 100
+    dams = re.findall(r'scope="row"><a href="/animal/(\w+)"', page)
+    questions = [one[1:] for one in asked if one[0] == "relationships"]
+    assert len(dams) > 100 and {*dams} <= {number for numbers in questions for number in numbers}
+    assert 1 < len(questions) < 5
 
 
 def test_plan_differs(site: Site, monkeypatch: pytest.MonkeyPatch) -> None:
     """Where the session says something else of a mating, no plan is shown."""
 
     def other(office: BookSession, words: list[str], book: Book) -> list[str]:
-        return [f"{words[-1]},1/2,50.00"]
+        return [f"{one},{another},1" for one, another in itertools.combinations(words[1:], 2)]
 
     monkeypatch.setattr(BookSession, "ask", other)
     page = site.page("/matings/plan?made=1")

@@ -32,8 +32,8 @@ EMBRYO = AnimalRow(
     1, 5, "2003-04-05", None, "2009-07-01", None,
 )  # fmt: skip
 FACTS = {
-    "id": "E-7", "standing": "hat keine Zeile mehr", "number": EMBRYO.registration_number, "name": "Else",
-    "birth day": "15.02.2001 (erschlossen)", "sire": "V-1", "dam": "HOLGBRF000000000002", "owner": "Huber",
+    "id": "E-7", "standing": "hat keine Zeile mehr", "sex": "weiblich", "number": EMBRYO.registration_number,
+    "name": "Else", "birth day": "15.02.2001 (erschlossen)", "sire": "V-1", "dam": "HOLGBRF000000000002", "owner": "Huber",
     "owner since": "05.04.2003", "exit": "01.07.2009 (erschlossen)", "exit reason": "", "stored embryo": "ja", "castrated": "",
     "basis of the birth day": "aus Monat oder Jahr: 2001-02", "basis of the sex": "da es Mutter ist",
     "sire in the sheet": "Leihbock", "dam in the sheet": "Oma", "filed by hand": "Name, Abgang",

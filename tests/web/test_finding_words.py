@@ -30,6 +30,7 @@ def findings_with_words() -> Iterator[Any]:
     """Findings whose values are words of the book, or names of fields."""
     for fact in ("exit", "stored embryo", "castrated"):
         yield from (ValueChanged(fact, after, before) for after in OF_BOOK for before in OF_BOOK)
+    yield ValueChanged("sex", "male", "female")
     for name in ("birth day", "owner since", "sire", "dam", "number", "name"):
         yield ValueChanged(name, "2001-02-03", "")
     for field in Field:

@@ -73,25 +73,25 @@ def test_parents_that_are_no_misspelt_ones(empty_site: Site) -> None:
     assert "meant?" not in page
 
 
-FREMD = calves(3, "fremd", "fremd") + calves(3, "fremd").replace("10", "20")
+ANDERS = calves(3, "anders", "anders") + calves(3, "anders").replace("10", "20")
 
 
 @pytest.mark.parametrize(("language", "told"), [
-    ("en", "'fremd' has no row, and stands with several animals, as the sire of 6: is an unknown animal meant?"),
-    ("de", "„fremd“ hat keine Zeile und steht bei mehreren Tieren, als Vater 6-mal: ist ein unbekanntes Tier gemeint?"),
-    ("fr", "« fremd » n'a pas de ligne et figure chez plusieurs animaux, comme père 6 fois : est-ce un parent inconnu ?"),
+    ("en", "'anders' has no row, and stands with several animals, as the sire of 6: is an unknown animal meant?"),
+    ("de", "„anders“ hat keine Zeile und steht bei mehreren Tieren, als Vater 6-mal: ist ein unbekanntes Tier gemeint?"),
+    ("fr", "« anders » n'a pas de ligne et figure chez plusieurs animaux, comme père 6 fois : est-ce un parent inconnu ?"),
 ])  # fmt: skip
 def test_word_for_unknown_parents(empty_site: Site, language: str, told: str) -> None:
     """It is told alike in each language and without a count of none; what drops animals is another decision."""
     site = empty_site
-    rows = FREMD.replace("fremd;fremd", "fremd;002")
+    rows = ANDERS.replace("anders;anders", "anders;002")
     address, page = look_at(site, TITLES + PAIR + rows)
     site.take(address)
     site.get(f"/language/{language}")
     address, page = look_at(site, TITLES + PAIR + rows)
     words = Says(language)
     assert told in re.sub(r"\s", " ", shown(page)) and " 0 " not in told
-    unknown = words("'{}' means: {}", "fremd", words("unknown parent"))
+    unknown = words("'{}' means: {}", "anders", words("unknown parent"))
     assert unknown in buttons_of(page) and words(
         "Drop these from the book, but for ancestors of others"
     ) not in buttons_of(page)

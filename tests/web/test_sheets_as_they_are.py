@@ -92,3 +92,21 @@ def test_file_of_animals(empty_site: Site, language: str, titles: str, castrated
     site.get("/language/en")
     page = site.page(site.drop("again.csv", text.encode()))
     assert "of these in the book already 2" in shown(page) and "Changed" not in shown(page)
+
+
+@pytest.mark.parametrize("language", LANGUAGES)
+def test_id_unlike_others(empty_site: Site, language: str) -> None:
+    """A row whose id is unlike the others is left out by one click; one without its zeros is told."""
+    words = PageLanguage(language)
+    empty_site.get(f"/language/{language}")
+    rows = "".join(f"00410{at:03};;w;01.02.2010;;;Huber Hans;;\n" for at in range(1, 30))
+    address, page = look_at(empty_site, f"{TITLES}{rows}gez. Huber;;;03.01.2024;;;;;\n410777;;w;01.02.2010;;;;;\n")
+    told = shown(part(page, "May be wrong", language))
+    fewer = "its id has fewer digits than nearly all others, such as {usual}: did a spreadsheet take its zeros?"
+    said = words.gettext(fewer).format(usual="00410001").replace("\u00a0", " ")
+    assert said in told and told.count("00410001") == 2
+    page = press(empty_site, address, page, words.gettext("Leave out line {}", "31"))
+    assert shown(part(page, "May be wrong", language)).count("00410001") == 1
+    empty_site.take(address)
+    with empty_site.desk.opened() as book:
+        assert book and "gez. Huber" not in book.society_records and "410777" in book.society_records

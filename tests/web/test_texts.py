@@ -37,7 +37,9 @@ from gudokeyi.reconcile.findings.by_hand import CommandRefused, ValueChanged
 from gudokeyi.reconcile.findings.plausibility import ExitsWithdrawn
 from gudokeyi.reconcile.messages import ImportFault
 from gudokeyi.reconcile.stored_findings import kind_named, kinds_of, modules_of_findings
-from gudokeyi.render import certificates, csv_files, languages, page_wording, pedigree_pictures, trend_pictures
+from gudokeyi.render import (
+    certificates, change_messages, csv_files, languages, page_wording, pedigree_pictures, trend_pictures,
+)  # fmt: skip
 from gudokeyi.render.page_language import PageLanguage, name_of
 from gudokeyi.render.pedigree_boxes import COMMON_NOTE
 from gudokeyi.render.page_wording import VALUE, MessageView, PageWording, sentence_in, sentence_of
@@ -144,7 +146,8 @@ def in_tables() -> Iterator[str]:
     yield from (mistakes.OTHER, mistakes.TOO_LONG, mistakes.FAULT, login.LOGIN_OVER, settings.SET_MEANWHILE)
     yield from (connections.NO_ROOM.text, connections.TOO_LARGE.text)
     yield from (sheet.BOOK_CHANGED, sheet.READ_OTHERWISE, login.WRONG_LOGIN, login.WRONG_PASSWORD)
-    yield from (*changes.DID.values(), *changes.FIELDS.values(), *changes.DAYS.values(), changes.REFUSED)
+    yield from (*change_messages.DID.values(), change_messages.EMPTY_AGAIN)
+    yield from (*changes.FIELDS.values(), *changes.DAYS.values(), changes.REFUSED)
     yield from (*findings.FOLDED.values(), findings.LIMIT, findings.LIMIT_OF_SEVERAL, findings.LEAVE_OUT_LINE)
     yield from (findings.TAKE_LINE, *settings.LABELS.values())
     yield from (
@@ -266,7 +269,7 @@ def test_members(language: str) -> None:
     for member in members():
         if member in (*WHOLE_STATES, ChangeKind.FOLDER, ChangeKind.TAKEN_BACK):
             # no command
-            assert member in changes.DID
+            assert member in change_messages.DID
         else:
             assert name_of(member, PageLanguage(language))
 

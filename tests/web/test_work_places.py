@@ -41,6 +41,26 @@ def test_turns() -> None:
     assert order == ["c1", "i1", "i2", "i3"]
 
 
+def test_place_left_to_others() -> None:
+    """Of two places one person has one alone, whatever that person asks for; and each work is done."""
+    places, order, first, others = Places[str](Bounds(2, 60, 0)), list[str](), threading.Event(), threading.Event()
+
+    def do(work: str) -> None:
+        order.append(work)
+        if work == "c1":
+            others.set()
+        elif work == "i1":
+            assert first.wait(10)
+            raise ValueError(work)
+
+    for work in "i1", "i2", "c1", "i3":
+        places.add("Ines" if work[0] == "i" else "Carl", work, do)
+    assert others.wait(10) and sorted(order) == ["c1", "i1"] and places.asked_by("Ines") == 3
+    first.set()
+    places.end()
+    assert order[2:] == ["i2", "i3"] and not places.waiting and not places.asked_by("Ines")
+
+
 def test_turns_at_pages() -> None:
     """One answer is made at a time, and whoever had one waits for those that had none; a page waits for its time, and
     for so many of one person."""

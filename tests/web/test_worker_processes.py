@@ -132,6 +132,25 @@ def test_same_looks(
     assert [look(options, anew=False) for options in CHOICES] == fresh and len({*map(str, fresh)}) > 2
 
 
+def test_same_looks_at_a_sheet_without_ids(desk: Desk, program: str, monkeypatch: pytest.MonkeyPatch) -> None:
+    """One without a column of ids is told as such each time, until somebody names the column."""
+    monkeypatch.setenv("HERDBOOK", program)
+    monkeypatch.setattr(sheet_work, "bound_look", lambda: None)
+    path = desk.room / desk.write("liste.csv", (TITLES + PAIR).replace("Ohrmarke", "Zeichen"))
+
+    def look(columns: dict[str, str], options: dict[str, str], anew: bool) -> Look:
+        if anew:
+            monkeypatch.setattr(sheet_work, "STATE", StateKept())
+            monkeypatch.setattr(sheet_work, "READING", LastReading())
+        return looked_at(desk.room / "book", path, Chosen.of(columns, options), (), lambda _: None)
+
+    titles = "", "", "Zeichen", ""
+    chosen = [({"id": title}, {"unknown": f"Max {at}"}) for at, title in enumerate(titles)]
+    fresh = [look(*one, anew=True) for one in chosen]
+    assert [look(*one, anew=False) for one in chosen] == fresh
+    assert [bool(one.obstacles) for one in fresh] == [True, True, False, True]
+
+
 # how many buttons are pressed one after the other
 PRESSED = 16
 

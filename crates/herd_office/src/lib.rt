@@ -34,14 +34,17 @@
 //! with it. A copy has the records of a journal that begins with that history. Where the history has as many steps as
 //! the copy has taken over it is that journal; an inspector reads no other copy.
 //! The rule of the copies ties each seat to the office. An inspector reads twice: for the number of records, by
-//! which it makes room while it reads nothing, and then to copy them out. It leaves, and sorts its own copy.
+//! which it makes room while it reads nothing, and then to copy them out. It leaves, and sorts its own copy. Of some
+//! animals it looks for their numbers among the records, the last first, and goes from each to its parents' places,
+//! which the copy has beside it.
 //!
 //! # Who waits for whom
 //!
 //! - A desk waits for the desks that have the lock.
 //! - The desk that publishes waits for those inspectors that still read the copy from before the last step: for one
-//!   copying of the records, never for a sort.
-//! - An inspector waits for nobody. `freeze`, `learn`, `steps_seen` and `steps` take no handle by which they could.
+//!   copying of the records, or one search among them for each number asked for, never for a sort.
+//! - An inspector waits for nobody. `freeze`, `freeze_ancestors`, `learn`, `steps_seen` and `steps` take no handle by
+//!   which they could.
 //! - `close`, and a drop of parts, of an office or of what wasn't closed, wait for inspectors that are reading, and
 //!   free both copies. For the drop the office keeps a handle of its own.
 //! - `open` takes no handle. Where it fails it drops the parts, and waits by the handle that they keep: for nobody,
@@ -64,7 +67,7 @@
 //! | a desk's call, its slip | `Filing`, `Histories`, `Standing` | `desk`, `filing` | `Stored` |
 //! | the history: its rule, claims, beginnings of it | `Keeping` | `history`, `keeper` | `Claiming`, `Fronts` |
 //! | the readers' copies, what is sent to them | `Copies`, `Shelves` | `copies`, `shown` | `Sides`, `ToldFacts` |
-//! | reading a copy with no lock | `Copies`, `Keeping` | `inspector` | `Sides` |
+//! | reading a copy with no lock | `Copies`, `Keeping` | `inspector`, `linked` | `Sides`, `LinkedFacts` |
 //! | why an office isn't opened or closed, or a copy not frozen; the limits | | `faults`, `limits` | |
 #![tactic(auto)]
 
@@ -78,6 +81,7 @@ mod inside;
 mod inspector;
 mod keeper;
 mod limits;
+mod linked;
 mod name;
 mod office;
 mod parts;

@@ -3,7 +3,8 @@
 //! `Pedigree` is the book, and always lawful. A birth and a correction of parents are checked and made by one call,
 //! which tells the first fault of the parents, if they have one; an owner and an exit are set by calls of their own.
 //! Who asks for more than one thing of an animal finds it once, by `Pedigree::find`, and passes on what was `Found`.
-//! The last change can be taken back. `Pedigree::freeze` gives the book in age order, as `herd_frozen` has it.
+//! The last change can be taken back. `Pedigree::freeze` gives the book in age order, as `herd_frozen` has it, and
+//! `freeze_ancestors` some animals with all known ancestors, which `Ancestors` finds in any book that is `Searched`.
 //!
 //!     let mut pedigree = Pedigree::new(alloc);
 //!     let outcome = pedigree.add_if_new(number, newborn)?;
@@ -24,6 +25,8 @@ mod store;
 pub use found::Found;
 pub use pedigree::Pedigree;
 pub use registration::{Newborn, Registration};
+pub use store::ancestors::Ancestors;
+pub use store::searched::Searched;
 // A crate can name a pedigree in a contract only if the types of its fields are exported.
 #[doc(hidden)]
 pub use store::progeny::{ChainNode, Progeny};

@@ -499,8 +499,8 @@ impl<A: Allocator> Pedigree<A> {
 
     /// The book of some animals and of all their known ancestors, in age order: all that is asked for a certificate, a
     /// coefficient or a relationship of these animals. A number that isn't in the book is passed over. It goes through
-    /// these animals alone, and takes a byte for each animal of the book. The only error is a growth of memory that is
-    /// refused.
+    /// these animals alone, and takes nine bytes for each animal of the book. The only error is a growth of memory
+    /// that is refused.
     pub fn freeze_ancestors<B: Allocator + Clone>(
         &self,
         alloc: B,
@@ -508,8 +508,9 @@ impl<A: Allocator> Pedigree<A> {
     ) -> Result<Frozen<B>, AllocError>
         ensures { IfOk result (IsFrozenPart DEPTH_LIMIT MOST_ANIMALS self.now.book numbers.now) }
     {
-        let found = Ancestors::of(alloc.clone()?, &self.records, numbers)?;
-        let part = found.records(alloc.clone()?, &self.records)?;
+        let room = Ancestors::none(alloc.clone()?, self.records.len())?;
+        let found = room.search(&self.records, numbers)?;
+        let part = found.records(Vec::new(alloc.clone()?), &self.records)?;
         freeze_list(alloc, &part)
     }
 }

@@ -5,4 +5,5 @@ pub(crate) mod correction;
 pub(crate) mod depth;
 pub(crate) mod progeny;
 pub(crate) mod records;
+pub(crate) mod searched;
 pub(crate) mod undo;

@@ -5,3 +5,4 @@ pub mod FieldFacts
 pub mod FiledFacts
 pub mod IntakeFacts
 pub mod PieceFacts
+pub mod ScopeFacts

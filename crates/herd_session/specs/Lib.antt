@@ -7,4 +7,5 @@ pub mod Output
 pub mod Questions
 pub mod Queues
 pub mod Requests
+pub mod Scopes
 pub mod Tag

@@ -29,6 +29,7 @@
 //! | requests | `Requests`, `Addressees`, `Tag` | `request`, `tag` | |
 //! | questions | `Questions` | `question`, `word` | `FieldFacts` |
 //! | the texts that answer them | `Questions` | `reading`, `report_text` | |
+//! | which animals they are made of | `Scopes` | `scope`, `reading` | `ScopeFacts` |
 //! | faults | `Faults` | `fault`, `fault_work`, `session_fault`, `stop` | |
 //! | reading requests | `Requests` | `intake`, `bounded_reader` | `IntakeFacts` |
 //! | queues of requests | `Requests`, `Queues` | `backlog`, `queue`, `tasks`, `staff` | |
@@ -58,6 +59,7 @@ mod report_text;
 mod reporting_inspector;
 mod request;
 mod running;
+mod scope;
 mod session_fault;
 mod shared;
 mod staff;

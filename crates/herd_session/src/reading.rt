@@ -1,18 +1,20 @@
-//! A frozen book that is kept for the questions to come.
+//! A frozen book, or a part of one, that is kept for the questions to come.
 ghost use Rattle.std.specs.Prelude.{◌≡◌, ◌↔◌, IfErr, IfOk, IsSome, IsTrue, OnOk, length};
 ghost use Rattle.std.specs.Option.{ForSome};
 ghost use Rattle.std.specs.Io.KnownBytes.{Appends};
 ghost use mathlib.Core.List.{IsPrefix};
-ghost use Rattle.herd_frozen.specs.freezing.Frozen.{IsFrozenFrom};
-ghost use Rattle.herd_frozen.specs.declared.TheConstants.{DEPTH_LIMIT, MOST_ANIMALS};
+ghost use Rattle.herd_frozen.specs.declared.TheConstants.{DEPTH_LIMIT};
 ghost use Rattle.herd_advice.specs.BookCoefficients.{AreBookCoefficients};
 ghost use Rattle.herd_register.specs.Run.{commands_of, run_book};
 ghost use Rattle.herd_session.specs.Questions.{CanBeUnanswered, EndsText, IsReadyFor, text_of};
+ghost use Rattle.herd_session.specs.Scopes.{IsReadIn, SufficesFor};
 
 use crate::fault::Fault;
 use crate::question::Question;
 use crate::report_text::ReportText;
+use crate::scope::{Scope, scope_of};
 use herd_advice::{Coefficients, coefficients_of, coefficients_plain};
+use herd_animal::AnimalNumber;
 use herd_frozen::Frozen;
 use herd_office::{Inspector, OfficeName, Slip};
 use herd_report::{
@@ -22,15 +24,16 @@ use herd_report::{
 use std::alloc::Global;
 use std::io::Write;
 
-/// A frozen book, and the history that it was made of.
+/// A frozen book, or the part of one that a question asked for, and the history that it was made of.
 #[derive(Drop)]
 pub(crate) struct Reading<N: OfficeName> {
     pub(crate) of: Slip<N>,
+    /// Which animals it has.
+    pub(crate) scope: Scope,
     frozen: Frozen<Global>,
     /// The coefficients of all animals, once a question wants them. One that names animals has theirs alone computed.
     pub(crate) all: Option<Coefficients<Global>>,
-    pub ghost book: { ∥ IsFrozenFrom DEPTH_LIMIT MOST_ANIMALS (run_book N.limits (commands_of of.history))
-        frozen ∥₁ },
+    pub ghost book: { ∥ IsReadIn scope (run_book N.limits (commands_of of.history)) frozen ∥₁ },
     pub ghost known: { ForSome all (AreBookCoefficients DEPTH_LIMIT frozen) },
 }
 
@@ -38,6 +41,7 @@ impl<N: OfficeName> Reading<N> {
     /// With the coefficients of all animals, where a question wants them.
     pub(crate) fn ready_for(self, alloc: Global, question: &Question) -> Result<Reading<N>, Fault>
         ensures of { IfOk result (λ reading. reading.of.history ≡ self.of.history) }
+        ensures scope { IfOk result (λ reading. reading.scope ≡ self.scope) }
         ensures frozen { IfOk result (λ reading. reading.frozen ≡ self.frozen) }
         ensures ready { IfOk result (λ reading. IsReadyFor question.now reading.all) }
     {
@@ -50,6 +54,7 @@ impl<N: OfficeName> Reading<N> {
     // With the coefficients of all animals.
     fn with_all(self, alloc: Global) -> Result<Reading<N>, Fault>
         ensures of { IfOk result (λ reading. reading.of.history ≡ self.of.history) }
+        ensures scope { IfOk result (λ reading. reading.scope ≡ self.scope) }
         ensures frozen { IfOk result (λ reading. reading.frozen ≡ self.frozen) }
         ensures all { IfOk result (λ reading. IsSome reading.all) }
     {
@@ -59,6 +64,7 @@ impl<N: OfficeName> Reading<N> {
         let all = coefficients_plain(alloc, &self.frozen)?;
         Ok(Reading {
             of: self.of,
+            scope: self.scope,
             frozen: self.frozen,
             all: Some(all),
         })
@@ -151,34 +157,63 @@ impl<N: OfficeName> Reading<N> {
     }
 }
 
-/// A reading of all that an inspector has seen: the one that was kept, or where that is older a new one.
+/// A reading of all that an inspector has seen, which has the animals that a question is answered from: the one that is
+/// kept, or a new one. Where the one that was kept is of the same history, and has others, the new one has all of
+/// them, for the questions to come.
 pub(crate) fn current<N: OfficeName>(
     alloc: Global,
     inspector: &mut Inspector<N>,
     kept: Option<Reading<N>>,
+    question: &Question,
 ) -> Result<Reading<N>, Fault>
     ensures of { IfOk result (λ reading. reading.of.history ≡ inspector.new.history) }
     ensures seen { IsPrefix inspector.old.history inspector.new.history }
+    ensures scope { IfOk result (λ reading. SufficesFor question.now reading.scope) }
 {
+    let scope = scope_of(alloc, question)?;
     if let Some(reading) = kept {
         if reading.is_of(inspector) {
-            return Ok(reading);
+            if reading.scope.has(&scope) {
+                return Ok(reading);
+            }
+            return whole(alloc, inspector);
         }
     }
-    frozen_by(alloc, inspector)
+    match scope {
+        Scope::All => whole(alloc, inspector),
+        Scope::Named(numbers) => part(alloc, inspector, numbers),
+    }
 }
 
-// Freezes the book.
-fn frozen_by<N: OfficeName>(
-    alloc: Global,
-    inspector: &mut Inspector<N>,
-) -> Result<Reading<N>, Fault>
+// A reading of all animals.
+fn whole<N: OfficeName>(alloc: Global, inspector: &mut Inspector<N>) -> Result<Reading<N>, Fault>
     ensures of { IfOk result (λ reading. reading.of.history ≡ inspector.new.history) }
     ensures seen { IsPrefix inspector.old.history inspector.new.history }
+    ensures scope { IfOk result (λ reading. reading.scope ≡ Scope.All) }
 {
     let frozen = inspector.freeze(alloc)?;
     Ok(Reading {
         of: inspector.slip(),
+        scope: Scope::All,
+        frozen,
+        all: None,
+    })
+}
+
+// A reading of the animals of these numbers and of all their known ancestors.
+fn part<N: OfficeName>(
+    alloc: Global,
+    inspector: &mut Inspector<N>,
+    numbers: Vec<AnimalNumber>,
+) -> Result<Reading<N>, Fault>
+    ensures of { IfOk result (λ reading. reading.of.history ≡ inspector.new.history) }
+    ensures seen { IsPrefix inspector.old.history inspector.new.history }
+    ensures scope { IfOk result (λ reading. reading.scope ≡ Scope.Named numbers) }
+{
+    let frozen = inspector.freeze_ancestors(alloc, numbers.as_slice())?;
+    Ok(Reading {
+        of: inspector.slip(),
+        scope: Scope::Named(numbers),
         frozen,
         all: None,
     })

@@ -1,8 +1,9 @@
 //! An inspector who reports.
-ghost use Rattle.std.specs.Prelude.{◌≡◌, ◌≢◌, IfOk, Ok, length};
+ghost use Rattle.std.specs.Prelude.{◌≡◌, ◌≢◌, IfErr, IfOk, Ok, length};
 ghost use mathlib.Core.List.{IsPrefix};
 ghost use Rattle.herd_session.specs.Answers.{IsAnswer, IsAnswered, IsReport, end_line};
-ghost use Rattle.herd_session.specs.Questions.{IsReadyFor};
+ghost use Rattle.herd_session.specs.Questions.{CanBeUnanswered, IsReadyFor};
+ghost use Rattle.herd_session.specs.Scopes.{SufficesFor};
 
 use crate::answers::{push_behind, push_end};
 use crate::fault::Fault;
@@ -13,7 +14,7 @@ use crate::tasks::Task;
 use herd_office::{Inspector, Slip};
 use std::alloc::Global;
 
-/// An inspector, and the book that was frozen last.
+/// An inspector, and what was frozen last.
 #[derive(Drop)]
 pub(crate) struct ReportingInspector<N: SessionName> {
     pub(crate) inspector: Inspector<N>,
@@ -68,7 +69,8 @@ impl<N: SessionName> ReportingInspector<N> {
             (λ answer. ∥ IsReport N.limits answer.of.history task.now.tag question.now answer.text.items ∥₁) }
     {
         let kept = self.kept.take();
-        let reading = current(alloc, &mut self.inspector, kept)?.ready_for(alloc, question)?;
+        let reading = current(alloc, &mut self.inspector, kept, question)?;
+        let reading = reading.ready_for(alloc, question)?;
         let answer = report_answer(alloc, &reading, task, question);
         self.kept = Some(reading);
         answer
@@ -99,10 +101,13 @@ fn report_answer<N: SessionName>(
 ) -> Result<Answer<N>, Fault>
     requires wanted { task.now.wanted ≡ Ok question.now }
     requires other { question.now ≢ Question.Seen }
+    requires suffices { SufficesFor question.now reading.now.scope }
     requires ready { IsReadyFor question.now reading.now.all }
     ensures of { IfOk result (λ answer. answer.of.history ≡ reading.now.of.history) }
     ensures answer { IfOk result
         (λ answer. ∥ IsReport N.limits answer.of.history task.now.tag question.now answer.text.items ∥₁) }
+    ensures fault { IfErr result
+        (CanBeUnanswered question.now (length reading.now.of.history) reading.now.frozen) }
 {
     let report = reading.report(alloc, question)?;
     let mut text = Vec::new(alloc);

@@ -169,15 +169,16 @@ class Wording:
         return part.one if is_one else part.text
 
     def filled(self, template: str, told: Told) -> str:
+        """A template with what stands at its places: parts, and values in words."""
         text, places = parsed(template)
-        values = told.values()
-        return text.format(*(self.place(told, name, values, form) for name, form in places))
-
-    def place(self, told: Told, name: str, values: Mapping[str, object], form: str) -> str:
-        """What stands at a place: a part, or a value in words."""
-        if name in told.parts:
-            return self.part(told, told.parts[name], values)
-        return str(self.shown(name, value_named(told, name, values), form))
+        values, parts = told.values(), told.parts
+        return text.format(
+            *[
+                self.part(told, parts[name], values) if name in parts
+                else self.shown(name, value_named(told, name, values), form)
+                for name, form in places
+            ]
+        )  # fmt: skip
 
     def part(self, told: Told, part: OptionalPart, values: Mapping[str, object]) -> str:
         """A part in words, empty where it is left out."""

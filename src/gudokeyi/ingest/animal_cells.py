@@ -3,7 +3,7 @@ sheet's cells can't be read."""
 from __future__ import annotations
 
 import collections
-from collections.abc import Callable
+from collections.abc import Callable, Collection
 
 from gudokeyi.domain.findings import Finding, Report
 from gudokeyi.domain.kinds import CELL_FIELDS, Field
@@ -11,12 +11,13 @@ from gudokeyi.domain.messages import MOST_NAMED
 from gudokeyi.domain.provenance import ExitBasis, ExitSource
 from gudokeyi.domain.requests import MOST_IN_NAME, MOST_IN_OWNER
 from gudokeyi.ingest.animals import SheetAnimal
-from gudokeyi.ingest.day_cells import DayCell, DayCells, ExitCell
+from gudokeyi.ingest.day_cells import DayCell, DayCells, ExitCell, usual_cell
 from gudokeyi.ingest.day_forms import DayForms, Readings
 from gudokeyi.ingest.days import ANY_DAY, DayFault, Span
 from gudokeyi.ingest.encodings import Letters
 from gudokeyi.ingest.findings.cells import (
-    DayLeftOut, EmbryoUnread, ErrorValue, ExitInferred, ExitsInOtherWords, ExitsWithoutDay, SexUnread, TextTooLong,
+    DAYS, DayLeftOut, EmbryoUnread, ErrorValue, ExitInferred, ExitsInOtherWords, ExitsWithoutDay, SexUnread,
+    TextTooLong,
 )  # fmt: skip
 from gudokeyi.ingest.findings.columns import SheetFinding
 from gudokeyi.ingest.findings.rows import SoldWithin, TakerUnclear
@@ -149,6 +150,18 @@ class AnimalCells:
         self.unknown, self.sexes, self.unread, self.report = unknown, sexes, unread, report
         self.days, self.letters = DayCells(unknown, month_first, forms), Letters()
         self.readings, self.takers = Readings(unread.titles), Takers({})
+
+    def read_otherwise(self, others: AnimalCells, field: Field, texts: Collection[str]) -> set[str]:
+        """The texts of a column that may be read otherwise by others."""
+        words = self.unknown.words_apart(others.unknown)
+        found = set[str]()
+        if words and not words.isdisjoint(map(str.casefold, texts)):
+            found |= {text for text in texts if text.casefold() in words}
+        if field is Field.SEX:
+            found |= {text for text in texts if self.sexes.meaning(text) != others.sexes.meaning(text)}
+        if field in DAYS and self.days.month_first != others.days.month_first:
+            found |= {text for text in texts if not usual_cell(text, self.days.today)}
+        return found
 
     def animal(self, line: int, id: str, cells: dict[str, str]) -> SheetAnimal:
         """The animal of a row, by the cells of its other columns."""

@@ -2,8 +2,9 @@
 from __future__ import annotations
 
 import datetime
+import itertools
 import operator
-from collections.abc import Collection
+from collections.abc import Collection, Iterable
 from dataclasses import dataclass, field
 
 from gudokeyi.domain.animals import SocietyRecord
@@ -82,7 +83,21 @@ class SheetAnimal:
         return Where.LINE.said(line=self.line, id=self.id) if self.line else Where.ANIMAL.said(id=self.id)
 
 
-SIRE_OF, DAM_OF = operator.attrgetter("sire"), operator.attrgetter("dam")
+# what many animals say is asked of all of them at once
+ID_OF, LINE_OF, NAME_OF = operator.attrgetter("id"), operator.attrgetter("line"), operator.attrgetter("name")
+SEX_OF, SIRE_OF, DAM_OF = operator.attrgetter("sex"), operator.attrgetter("sire"), operator.attrgetter("dam")
+OWNER_OF, UNREAD_OF, CASTRATED_OF = (operator.attrgetter(name) for name in ("owner", "unread", "castrated"))
+BORN_OF, NUMBER_OF = operator.attrgetter("born"), operator.attrgetter("registration_number")
+FIRST_OF, LAST_OF = operator.attrgetter("birth.first"), operator.attrgetter("birth.last")
+
+
+def by_age(animals: Iterable[SheetAnimal]) -> list[SheetAnimal]:
+    """The oldest first; those of a day in the order in which they come."""
+    those = [*animals]
+    days = [*map(datetime.date.toordinal, map(BORN_OF, those))]
+    return [those[at] for at in sorted(range(len(those)), key=days.__getitem__)]
+
+
 # an offspring, the role of a parent of its, and that parent
 Link = tuple[SheetAnimal, Role, str]
 
@@ -90,7 +105,7 @@ Link = tuple[SheetAnimal, Role, str]
 def links_outside(progeny: Collection[SheetAnimal], ids: Collection[str]) -> list[Link]:
     """The known parents that aren't among some ids. Few are outside of most sheets."""
     parents = {*map(SIRE_OF, progeny), *map(DAM_OF, progeny)} - {""}
-    outside = {parent for parent in parents if parent not in ids}
+    outside = {*itertools.filterfalse(ids.__contains__, parents)}
     found: list[Link] = []
     for offspring in progeny if outside else ():
         if offspring.sire in outside:

@@ -13,13 +13,13 @@ from gudokeyi.ingest.column_detection import MOST_COMPARED, IdColumn, LikelyColu
 from gudokeyi.ingest.days import is_span
 from gudokeyi.ingest.encodings import Letters, decoded_twice
 from gudokeyi.ingest.findings.columns import (
-    ColumnLost, ColumnsLack, LikelierColumn, NamedColumnLacks, SheetFinding, TellsNoExits, TitleTwice,
+    ColumnLost, ColumnsLack, LikelierColumn, NamedColumnLacks, ParentsBeside, SheetFinding, TellsNoExits, TitleTwice,
 )  # fmt: skip
 from gudokeyi.ingest.findings.rows import ExitsInRemarks, FieldUnread, StatusUnread
 from gudokeyi.ingest.findings.sheets import MOST_SHOWN
 from gudokeyi.ingest.sheets import Sheet
 from gudokeyi.ingest.titles import (
-    KNOWN_DOUBTFUL, KNOWN_PAIRS, KNOWN_TITLES, NEEDED, TITLES, names_both_sexes, names_exits_alone,
+    KNOWN_DOUBTFUL, KNOWN_PAIRS, KNOWN_TITLES, NEEDED, TITLES, known_titles, names_both_sexes, names_exits_alone,
 )  # fmt: skip
 from gudokeyi.ingest.texts import plain
 from gudokeyi.ingest.words import (
@@ -98,10 +98,14 @@ def find_columns(
     for name, tells in ((Field.SEX, names_both_sexes), (Field.EXIT, names_exits_alone)):
         if name not in named and name not in columns.found:
             column_of_words(columns, name, tells)
+    for name in BELOW:
+        if name not in named and name not in columns.found:
+            column_below(columns, name)
     parents = [name for name in PARENTS if name not in named and name not in columns.found]
     IdColumn(columns, parents, unknown, ids, before.get(Field.ID, "")).find()
     if Field.STATUS in columns.found and Field.EXIT not in columns.found and named.get(Field.EXIT) != "":
         columns.found[Field.EXIT] = columns.found.pop(Field.STATUS)
+    tell_parents_beside(columns, unknown)
     tell_unread_statuses(columns, named)
     tell_unread_fields(columns, named)
     tell_likelier(columns, given, before)
@@ -143,6 +147,23 @@ def column_of_words(columns: Columns, name: Field, tells: Callable[[str], bool])
     titled = [at for at, title in enumerate(columns.sheet.titles) if title and columns.is_free(at) and tells(title)]
     if len(titled) == 1:
         columns.found[name] = titled[0]
+
+
+# the fields whose title may stand above that of a column
+BELOW = Field.SEX, Field.BIRTH, Field.OWNER, Field.SINCE, Field.EXIT
+
+
+def column_below(columns: Columns, name: Field) -> None:
+    """The only column above whose title stands one for the field, in a sheet with two lines of titles. The lower one is
+    none that is known, and no other column has it, by which the book remembers it."""
+    if columns.titled(KNOWN_TITLES[name]):
+        return
+    titles = [plain(title) for title in columns.sheet.titles]
+    above = [(at, plain(title)) for at, title in enumerate(columns.sheet.above[: len(titles)])]
+    likely = [at for at, title in above if title in KNOWN_TITLES[name] and columns.is_free(at)]
+    found = [at for at in likely if titles[at] and titles.count(titles[at]) == 1 and not known_titles([titles[at]])]
+    if len(found) == 1:
+        columns.found[name] = found[0]
 
 
 def tells_exits(columns: Columns, at: int, is_told: bool = True) -> bool:
@@ -187,6 +208,17 @@ def tell_remarks(columns: Columns, at: int, texts: set[str]) -> None:
     cells = ((row.line, row.cells[at]) for row in columns.sheet.rows if at < len(row.cells))
     line, text = next((line, cell) for line, cell in cells if cell in texts)
     columns.notes.append(ExitsInRemarks(columns.title(at), count, line, text))
+
+
+def tell_parents_beside(columns: Columns, unknown: Container[str]) -> None:
+    """Parents whose names stand in a column of their own, where those of others have their ids."""
+    for name in (one for one in PARENTS if one in columns.found):
+        for at in columns.titled(KNOWN_TITLES[name]):
+            both = zip(columns.sheet.rows, columns.cells(columns.found[name]), columns.cells(at))
+            lacking = [(row.line, beside) for row, id, beside in both if id in unknown and beside not in unknown]
+            if lacking and 2 * len(lacking) <= len(columns.sheet.rows):
+                title, beside = columns.title(columns.found[name]), columns.title(at)
+                columns.notes.append(ParentsBeside(title, beside, len(lacking), *lacking[0]))
 
 
 # the different words that a column of sexes may have

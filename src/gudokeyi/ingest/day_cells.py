@@ -4,7 +4,7 @@ from __future__ import annotations
 import datetime
 import functools
 import re
-from collections.abc import Iterable
+from collections.abc import Collection, Iterable
 from dataclasses import replace
 from typing import Container, NamedTuple
 
@@ -79,6 +79,15 @@ class DayCell(NamedTuple):
 SAYS_NOTHING = DayCell(says_something=False)
 
 
+@functools.lru_cache(50_000)
+def usual_cell(text: str, today: datetime.date) -> DayCell | None:
+    """What a day says that is written in the usual way, and isn't after today."""
+    day = usual_day(text)
+    if day is None or day > today:
+        return None
+    return made(DayCell, (made(Span, (day, day, "", "", Precision.DAY)), True, None, False, None))
+
+
 class ExitCell(NamedTuple):
     """A text in the column of exits: its day, whether it is nothing but a day, a month or a year, and whether one that
     isn't taken is after today."""
@@ -105,6 +114,13 @@ class DayCells:
         self.day = functools.cache(self.read_day)
         # nothing for an animal that lives
         self.exit = functools.cache(self.read_exit)
+
+    def of_all(self, field: Field, texts: Collection[str], unknown: Container[str]) -> dict[str, DayCell]:
+        """What many texts of a column say, of which some stand for what isn't known."""
+        today = self.today
+        return {
+            text: (None if text in unknown else usual_cell(text, today)) or self.day(field, text) for text in texts
+        }
 
     def read_exit(self, text: str) -> ExitCell | None:
         is_day = usual_day(text) is not None

@@ -26,6 +26,8 @@ TWO = re.compile(
     rf"(?P<day>\d{{1,2}})(?P<sign>[ ./-]+)(?:(?P<month>\d{{1,2}})|(?P<name>{NAME}))[ ./-]+'?(?P<year>\d{{2}})(?!\d)",
     re.IGNORECASE,
 )
+# a month with such a year, as spreadsheets show a day by it: `avr.-07` and `Apr 07`
+MONTH = re.compile(rf"(?P<name>{NAME})[ ./-]+'?(?P<year>\d{{2}})", re.IGNORECASE)
 # a list marks days that were inferred for the book
 MARKED = re.compile(r".*\((?:inferred|invented)\)")
 # the first and the last month of a season; a winter has months of two years
@@ -40,6 +42,13 @@ SEASONS = {
 SEASON_WORDS = {word: months for words, months in SEASONS.items() for word in words.split()}
 SEASON = re.compile(
     rf"\b({'|'.join(SEASON_WORDS)})\b[ -]*(?:of |de |d'|du )?((?:19|20|21)\d{{2}})(?!\d)", re.IGNORECASE
+)
+# a week of a year, as `KW 12/2010` and `12. Woche 2010`
+WEEK = re.compile(
+    r"(?:\b(?:KW|Kalenderwoche|Woche|week|wk|semaine|sem)\.? ?(?P<week>\d{1,2})|"
+    r"(?<!\d)(?P<counted>\d{1,2})(?:\.|th|e|ème)? ?(?:KW|Kalenderwoche|Woche|week|semaine))"
+    r"[ .,/-]*(?:of |in |de )?(?P<year>(?:19|20)\d{2})(?!\d)",
+    re.IGNORECASE,
 )
 # two days, or a week, of which the text has one
 BETWEEN = re.compile(r"\b(?:zw|zwischen|between|entre|nuit|night|Nacht|week|Woche|semaine|w/c)\b", re.IGNORECASE)
@@ -66,6 +75,9 @@ class DayForms:
         """The days of a text, and how it is read; nothing where it is read otherwise or not at all."""
         if is_span(text) or MARKED.match(text):
             return None
+        if month := MONTH.fullmatch(text):
+            span = month_of(self.year_near(month["year"]), MONTHS[compared(month["name"])])
+            return span, DayReading.TWO_DIGITS
         if (serial := self.serial(text)) or (two := TWO.fullmatch(text)) is None:
             return (serial, DayReading.SERIAL) if serial else self.within(text)
         day = self.two_digits(two)
@@ -81,20 +93,23 @@ class DayForms:
         day, month = int(found["day"]), MONTHS[compared(found["name"])] if found["name"] else int(found["month"])
         if self.month_first and found["sign"].strip() in ("/", "-") and not found["name"]:
             day, month = month, day
-        years = [century + int(found["year"]) for century in (1900, 2000)]
-        years = [year for year in years if year <= self.today.year]
-        year = min(years, key=lambda one: abs(one - self.usual_year))
         if not 1 <= month <= 12:
             return None
+        year = self.year_near(found["year"])
         try:
             whole = datetime.date(year, month, day)
         except ValueError:
             return month_of(year, month, found[0])
         return Span(whole, whole)
 
+    def year_near(self, digits: str) -> int:
+        """That of the century that is nearest to the other days."""
+        years = [year for year in (1900 + int(digits), 2000 + int(digits)) if year <= self.today.year]
+        return min(years, key=lambda one: abs(one - self.usual_year))
+
     def within(self, text: str) -> tuple[Span, DayReading] | None:
-        """The only day, month or season within a text; none where the text says that it isn't that one."""
-        if season := season_of(text):
+        """The only day, week, month or season within a text; none where the text says that it isn't that one."""
+        if season := week_of(text) or season_of(text):
             return season, DayReading.WITHIN
         if NOT_THAT_YEAR.search(text):
             return None
@@ -131,6 +146,20 @@ def season_of(text: str) -> Span | None:
     (first, last), year = SEASON_WORDS[found[1].casefold()], int(found[2])
     begin, end = month_of(year, first).first, month_of(year, last).last
     return year_of(year, text=text)._replace(first=begin, last=end)
+
+
+def week_of(text: str) -> Span | None:
+    """The days of a week of a year that are in the month of its middle."""
+    found = WEEK.search(text)
+    if found is None or len(YEAR.findall(text)) > 1 or not_that(text[: found.start()]):
+        return None
+    try:
+        monday = datetime.date.fromisocalendar(int(found["year"]), int(found["week"] or found["counted"]), 1)
+    except ValueError:
+        return None
+    days = [monday + datetime.timedelta(at) for at in range(7)]
+    days = [day for day in days if day.month == days[3].month]
+    return month_of(days[3].year, days[3].month)._replace(first=days[0], last=days[-1], text=text)
 
 
 def last_month(span: Span) -> Span:

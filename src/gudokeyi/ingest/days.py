@@ -61,9 +61,10 @@ FORMS = (
     r"(?P<year>\d{4})/(?P<month>\d{1,2})/(?P<day>\d{1,2})" + TIME,
     # `3. April 2010`, `08 January 2005`, `03-Mar-2005`, `1er mars 2005`, `2nd of May 2004`
     DAY + r"(?:\.|er|st|nd|rd|th)?[ ./-]*(?:of |de |d')?" + NAMED + "[ ./,-]*" + YEAR + TIME,
-    # `12,04,2019`, and `7. III. 2019`
+    # `12,04,2019`, `12 04 2019`, `7. III. 2019` and `7-III-2019`
     r"(?P<day>\d{1,2}),(?P<month>\d{1,2}),(?P<year>\d{4})",
-    r"(?P<day>\d{1,2})\. ?(?P<roman>[IVX]+)\.? ?(?P<year>\d{4})",
+    r"(?P<day>\d{1,2})\.? (?P<month>\d{1,2})\.? (?P<year>\d{4})",
+    r"(?P<day>\d{1,2})[ ./-]+(?P<roman>[IVX]+)[ ./-]*(?P<year>\d{4})",
     # `January 8, 2005`, `2005-Mar-03`
     NAMED + "[ ./-]*" + DAY + "(?:st|nd|rd|th)?(?:, ?| )" + YEAR + TIME,
     YEAR + "[ ./-]" + NAMED + "[ ./-]" + DAY,
@@ -79,7 +80,8 @@ TWO_DIGITS = rf"\d{{1,2}}[ ./-]+(?:\d{{1,2}}|{NAME})[ ./-]+'?\d{{2}}"
 SOME_YEAR = re.compile(r"(?<!\d)(?:19|20|21)\d{2}(?!\d)")
 # a year that isn't the one that is meant
 NOT_THAT_YEAR = re.compile(
-    r"\b(before|after|since|until|till|to|from|vor|nach|seit|bis|ab|avant|après|depuis|jusqu\w*|dès)\b|[<>≤≥]|"
+    r"\b(before|after|since|until|till|to|from|vor|nach|seit|bis|ab|spätestens|frühestens|avant|avt?|après|ap|depuis|"
+    r"jusqu\w*|dès)\b|[<>≤≥]|"
     r"\b(adult\w*|erwachsen\w*|import\w*|bought|gekauft|achet\w*)(?!\w)",
     re.IGNORECASE,
 )

@@ -4,7 +4,7 @@ from __future__ import annotations
 
 import collections
 import datetime
-import operator
+import functools
 import re
 from collections.abc import Callable, Iterable, Iterator, Mapping, Sequence
 from typing import Container
@@ -18,15 +18,18 @@ from gudokeyi.ingest.day_cells import Order
 from gudokeyi.ingest.day_forms import DayForms
 from gudokeyi.ingest.days import Span, Unreadable, read_span
 from gudokeyi.ingest.findings.cells import (
-    DAYS, IdAgain, IdAlone, IdTooLong, LikeASum, NoAnimal, NoId, TitlesAgain, TooManyCells,
+    DAYS, IdAgain, IdAlone, IdOfOtherAlphabet, IdTooLong, IdUnlikeOthers, IdWithFewerDigits, LikeASum, NoAnimal, NoId,
+    TitlesAgain, TooManyCells, TruthValue,
 )  # fmt: skip
 from gudokeyi.ingest.findings.columns import SheetFinding
 from gudokeyi.ingest.findings.sheets import CutNumber, FormulaCell, Place
+from gudokeyi.ingest.odd_ids import Oddity, odd_ids
+from gudokeyi.ingest.plain_rows import CELLS_OF, SIGNS, PlainRows, chooser, first_sum
 from gudokeyi.ingest.rows_as_meant import Takers
 from gudokeyi.ingest.sexes import Sexes
 from gudokeyi.ingest.sheets import Sheet, SheetRow
 from gudokeyi.ingest.spellings import CUT
-from gudokeyi.ingest.titles import BETWEEN_WORDS, names_both_sexes, parts_of
+from gudokeyi.ingest.titles import parts_of, words_of_sexes
 from gudokeyi.ingest.unknown_parents import UnknownParents
 from gudokeyi.ingest.texts import nearly, plain
 from gudokeyi.ingest.words import KNOWN_SUMS, is_error_value
@@ -36,8 +39,6 @@ from gudokeyi.ingest.words import KNOWN_SUMS, is_error_value
 
 # what a row says of an animal; an owner's cell may have a word of a row that sums up
 SAYS = (Field.NAME, Field.SEX, Field.BIRTH, Field.SIRE, Field.DAM, Field.EXIT)
-# what stands around a word that sums up
-SIGNS = ":;.,=–-"
 
 
 class NoAnimals:
@@ -62,40 +63,52 @@ class NoAnimals:
         return next((cell for cell in cells if plain(cell) in self.words), "")
 
 
-def tell_odd_rows(animals: dict[str, SheetAnimal], rows: list[SheetRow], report: Report) -> None:
-    without_day = {animal.line: animal for animal in animals.values() if not animal.cells.get(Field.BIRTH)}
+def tell_odd_rows(animals: dict[str, SheetAnimal], rows: list[SheetRow], report: Report) -> set[str]:
+    """Answers the ids of those that are told."""
+    birth = Field.BIRTH
+    without_day = {animal.line: animal for animal in animals.values() if not animal.cells.get(birth)}
     cells = {row.line: row.cells for row in rows if row.line in without_day} if without_day else {}
-    likely = [one for one in animals.values() if may_be_sum(one.id) or one.line in cells]
+    likely = [one for id, one in animals.items() if not id[-1].isdigit() or " " in id or one.line in cells]
     sums = {one.id: word for one in likely if (word := sum_of(one, cells.get(one.line, [])))}
     for id, word in sums.items():
         report.add(animals[id].line, id, LikeASum(word))
     alone = [one for one in without_day.values() if not any(map(one.cells.get, SAYS))]
     # a list of ids is no sheet with odd rows
     if not alone or 2 * len(alone) > len(animals):
-        return
+        return {*sums}
     alone = [one for one in alone if one.id not in sums]
     parents = {*map(SIRE_OF, animals.values()), *map(DAM_OF, animals.values())} if alone else set[str]()
     nearly_parents = {*map(nearly, parents - {""})}
+    alone = [one for one in alone if nearly(one.id) not in nearly_parents]
     for animal in alone:
-        if nearly(animal.id) not in nearly_parents:
-            report.add(animal.line, animal.id, IdAlone(animal.id))
+        report.add(animal.line, animal.id, IdAlone(animal.id))
+    return {*sums, *(one.id for one in alone)}
 
 
-def may_be_sum(id: str) -> bool:
-    """Can it begin with a word that sums up? None ends with a digit, as most ids of one word do."""
-    return not id[-1].isdigit() or " " in id
+def tell_odd_ids(animals: dict[str, SheetAnimal], known: Container[str], report: Report) -> None:
+    """Those that the book hasn't, at which somebody looked, and of rows of which nothing else is told."""
+    for id, usual, oddity in odd_ids([*animals], known):
+        if oddity is Oddity.UNLIKE:
+            report.add(animals[id].line, id, IdUnlikeOthers(id, usual))
+        else:
+            found = IdWithFewerDigits if oddity is Oddity.FEWER_DIGITS else IdOfOtherAlphabet
+            report.add(animals[id].line, id, found(usual))
+
+
+# how spreadsheets show truth values
+TRUTHS = {"TRUE", "FALSE", "WAHR", "FALSCH", "VRAI", "FAUX"}
+
+
+def tell_truths(animals: dict[str, SheetAnimal], field: Field, report: Report) -> None:
+    """Names that a spreadsheet may have taken for truth values."""
+    for animal in animals.values():
+        if (text := animal.cells.get(field, "")) in TRUTHS:
+            report.add(animal.line, animal.id, TruthValue(field, text))
 
 
 def sum_of(animal: SheetAnimal, cells: list[str]) -> str:
     """The word such as `Summe` with which its id begins, or which is a cell of a row without a birth day."""
     return first_sum(animal.id) or next((cell.strip(SIGNS) for cell in cells if plain(cell) in KNOWN_SUMS), "")
-
-
-def first_sum(id: str) -> str:
-    """The first word of an id, where it sums up."""
-    word = id.split()[0]
-    # no word that sums up ends with a digit, as most ids do
-    return word.strip(SIGNS) if not word[-1].isdigit() and plain(word) in KNOWN_SUMS else ""
 
 
 # Rows that have one id: which of them is taken, and what the others say otherwise.
@@ -149,14 +162,12 @@ PLUS = "+"
 # a name may begin with the sign; a formula names a cell or a function, or computes
 FORMULA, EQUALS = re.compile(r"=.*(?:\(|\$?[A-Za-z]{1,3}\$?\d|\d\s*[-+*/&]|[-+*/&]\s*\d).*", re.DOTALL), "="
 
-CELLS_OF = operator.attrgetter("cells")
 
-
-def chooser(places: list[int]) -> Callable[[list[str]], Sequence[str]]:
-    """What chooses the cells at some places of a row."""
-    if len(places) > 1:
-        return operator.itemgetter(*places)
-    return lambda cells: [cells[at] for at in places]
+def are_titles(cells: list[str], titles: list[str]) -> bool:
+    """Are nearly all cells the titles again? Those of several lines may be written otherwise at another page's head."""
+    named = [at for at, title in enumerate(titles) if title]
+    again = sum(cells[at] == titles[at] for at in named if at < len(cells))
+    return 4 * again >= 3 * len(named)
 
 
 class Rows:
@@ -174,7 +185,9 @@ class Rows:
         born: Mapping[str, datetime.date] | None = None,
         no_animals: Sequence[str] = (),
         owners: Mapping[str, str] | None = None,
+        before: PlainRows | None = None,
     ) -> None:
+        """`before` are the plain rows as they were read before, where they are read again."""
         self.sheet, self.columns, self.unknown, self.report = sheet, columns, unknown, report
         self.no_animals = NoAnimals(no_animals)
         self.month_first = month_first
@@ -182,20 +195,18 @@ class Rows:
         self.width = 1 + max(columns.values(), default=0)
         self.chosen = chooser([*columns.values()])
         self.errors = ErrorValues(sheet, columns)
-        self.sexes = Sexes([*self.texts(Field.SEX), *self.words_of_sexes()], sexes)
+        # of words of a title such as `Dog/Bitch` cells have the first letters
+        named = words_of_sexes(sheet.titles[columns[Field.SEX]]) if Field.SEX in columns else []
+        self.sexes = Sexes([*self.texts(Field.SEX), *named], sexes)
         self.unread = Unread({name: sheet.titles[at] for name, at in columns.items()})
         self.forms = DayForms(self.texts(Field.BIRTH), (born or {}).values(), month_first)
         self.cells = AnimalCells(unknown, self.sexes, self.unread, report, month_first, self.forms)
         self.cells.takers = Takers({one: one for one in self.texts(Field.OWNER)} | dict(owners or {}))
         self.same_ids = SameIds(unknown, month_first, born or {})
+        self.before = before
         # what keeps the sheet from being taken, and what may be wrong
         self.faults: list[SheetFinding] = []
         self.notes: list[SheetFinding] = []
-
-    def words_of_sexes(self) -> list[str]:
-        """Those of a title such as `Dog/Bitch`, of which cells have the first letters."""
-        title = self.sheet.titles[self.columns[Field.SEX]] if Field.SEX in self.columns else ""
-        return BETWEEN_WORDS.split(title) if names_both_sexes(title) else []
 
     def texts(self, name: str) -> list[str]:
         """A column, in which error values are empty."""
@@ -215,23 +226,28 @@ class Rows:
         texts = self.chosen(cells)
         return dict(zip(self.columns, map(self.value, texts) if self.errors.found else texts))
 
-    def said_of(self) -> Callable[[list[str]], dict[str, str]]:
-        """What answers the same, quicker where no row has an error value or ends before a column."""
-        if self.errors.found or min(map(len, map(CELLS_OF, self.sheet.rows)), default=0) < self.width:
-            return self.said
-        columns, chosen = self.columns, self.chosen
-        return lambda cells: dict(zip(columns, chosen(cells)))
+    @functools.cached_property
+    def plain(self) -> PlainRows:
+        """The rows that are read together."""
+        words = self.no_animals.words
+        again = self.before.again(self.cells, words) if self.before else None
+        lines = {line for line, *_ in self.errors.found}
+        return again or PlainRows(self.sheet, self.columns, self.cells, words, lines)
 
     def animals(self) -> dict[str, SheetAnimal]:
         """The animals by id, in the order of the rows."""
+        self.plain.count()
         found: dict[str, SheetAnimal] = {}
         # animals of other years that have the id of another one
         others: list[SheetAnimal] = []
         titles, usual = len(self.sheet.titles), self.usual_length()
-        may_be_none, said_of = bool(self.no_animals), self.said_of()
+        plain, odd, may_be_none = self.plain.animals, self.plain.odd, bool(self.no_animals)
         id_title = self.sheet.titles[self.columns[Field.ID]]
-        for line, cells in self.sheet.rows:
-            said = said_of(cells)
+        for at, (line, cells) in enumerate(self.sheet.rows):
+            if at not in odd:
+                found[plain[at].id] = plain[at]
+                continue
+            said = self.said(cells)
             id = said.pop(Field.ID)
             if len(id) > MOST_IN_ID:
                 self.report.add(line, "", IdTooLong(len(id), MOST_IN_ID))
@@ -239,7 +255,7 @@ class Rows:
                 self.report.add(line, id, TooManyCells(len(cells), titles))
             elif self.unknown.is_one(id):
                 self.report.add(line, id, NoId(id))
-            elif id == id_title and cells[:titles] == self.sheet.titles:
+            elif id == id_title and are_titles(cells, self.sheet.titles):
                 self.report.add(line, "", TitlesAgain())
             elif may_be_none and (word := self.no_animal(id, cells, said)):
                 self.report.add(line, id, NoAnimal(word))
@@ -287,11 +303,15 @@ class Rows:
     def look_at_all(self, animals: dict[str, SheetAnimal]) -> None:
         """What is told of the sheet as a whole, and of rows that seem to count or to sum up."""
         self.errors.leave_out(animals, self.report)
-        tell_odd_rows(animals, self.sheet.rows, self.report)
+        told = tell_odd_rows(animals, self.sheet.rows, self.report)
+        tell_odd_ids(animals, told | self.same_ids.born.keys(), self.report)
+        for field in (Field.NAME, Field.OWNER):
+            if not TRUTHS.isdisjoint(self.plain.different.get(field, ())):
+                tell_truths(animals, field, self.report)
         order = Order(self.slashed_days())
         fault, note = order.fault(self.month_first), order.note(self.month_first)
         self.faults += [*([fault] if fault else []), *self.cut_numbers(), *self.unread.mostly(), *self.errors.mostly()]
-        self.notes += [*self.cells.letters.told(), *self.errors.told(), *([note] if note else [])]
+        self.notes += [*self.sheet.unread, *self.cells.letters.told(), *self.errors.told(), *([note] if note else [])]
         self.notes += [*self.cells.readings.told(), *self.unread.found(), *self.sexes.told()]
 
     def slashed_days(self) -> Iterator[Place]:

@@ -57,6 +57,10 @@ class Sheet:
     unseen: Unseen = field(default_factory=dict)
     # its formulas without a value; none where the file doesn't say whether a cell is a text or a formula
     formulas: Formulas | None = None
+    # what cells of a workbook show besides their text
+    unread: list[SheetFinding] = field(default_factory=list)
+    # the row above the titles, which may be the first of two lines of these
+    above: list[str] = field(default_factory=list)
 
     def column(self, at: int) -> list[str]:
         """The cells of a column; a row that ends before it has an empty one."""
@@ -84,12 +88,13 @@ def read_sheet(file: GivenFile, score: Score, worksheet: str = "") -> Sheet:
     path, data = file.path, file.data
     faults: list[SheetFinding]
     formulas: Formulas | None = None
+    unread = list[SheetFinding]()
     if file.is_zipped() and not file.is_workbook():
         raise Mistake(SheetFault.ODS.said(path=path))
     if file.is_workbook():
         found = read_workbook(path, data, score, BEGINNING, worksheet)
         rows, how, faults = [SheetRow(*one) for one in found.rows], found.how, found.faults
-        formulas = found.formulas
+        formulas, unread = found.formulas, found.unread
     else:
         if worksheet:
             raise Mistake(SheetFault.NO_WORKSHEETS.said(path=path))
@@ -103,7 +108,8 @@ def read_sheet(file: GivenFile, score: Score, worksheet: str = "") -> Sheet:
     at = title_row([row.cells for row in rows[:BEGINNING]], score)
     line, titles = rows[at]
     check_bounds(path, rows, at + 1)
-    return Sheet(line, titles, rows[at + 1 :], how, faults, unseen=unseen, formulas=formulas)
+    below, above = rows[at + 1 :], rows[at - 1].cells if at else []
+    return Sheet(line, titles, below, how, faults, {}, unseen, formulas, unread, above)
 
 
 def without_unseen(rows: list[SheetRow]) -> tuple[list[SheetRow], Unseen]:

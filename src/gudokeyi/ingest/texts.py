@@ -4,7 +4,7 @@ from __future__ import annotations
 import functools
 import re
 import unicodedata
-from collections.abc import Container
+from collections.abc import Container, Sequence
 
 # How texts are compared, and kept.
 
@@ -35,6 +35,12 @@ def plain(text: str) -> str:
     return "".join(one for one in apart if one.isalnum() or one in "♂♀")
 
 
+def without_accents(text: str) -> str:
+    if text.isascii():
+        return text
+    return "".join(one for one in unicodedata.normalize("NFKD", text) if not unicodedata.combining(one))
+
+
 def listed(text: str) -> list[str]:
     return [one.strip() for one in composed(text).split(",")]
 
@@ -53,7 +59,7 @@ def nearly(id: str) -> str:
     return ZEROS.sub("", "".join(id.casefold().split()))
 
 
-def nearly_all(ids: list[str]) -> list[str]:
+def nearly_all(ids: Sequence[str]) -> list[str]:
     """The same of many, which are looked at as one text."""
     together = BETWEEN.join(ids)
     if together.count(BETWEEN) != len(ids) - 1:

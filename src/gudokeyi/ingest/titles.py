@@ -161,8 +161,23 @@ BETWEEN_WORDS = re.compile(r"[^\w♂♀]+")
 BESIDE_EXITS = {plain(word) for word in "am, im, den, und, oder, on, or, and, date, of, le, la, et, ou, Datum, du, de".split(", ")}
 
 
+# words of which titles have the first letters alone, as `D/B`
+PAIRS_OF_LETTERS = {
+    frozenset(word[0].casefold() for word in pair): pair
+    for pair in (["Dog", "Bitch"], ["Rüde", "Hündin"], ["Hengst", "Stute"], ["Bock", "Ziege"])
+}
+
+
+def words_of_sexes(title: str) -> list[str]:
+    """The words of a title such as `Dog/Bitch`, or of which it has the letters; none where it doesn't name both."""
+    words = BETWEEN_WORDS.split(title)
+    if {KNOWN_SEXES.get(sex_word(word), "") for word in words} >= {"M", "F"}:
+        return words
+    return PAIRS_OF_LETTERS.get(frozenset(word.casefold() for word in words if len(word) == 1), [])
+
+
 def names_both_sexes(title: str) -> bool:
-    return {KNOWN_SEXES.get(sex_word(word), "") for word in BETWEEN_WORDS.split(title)} >= {"M", "F"}
+    return bool(words_of_sexes(title))
 
 
 def names_exits_alone(title: str) -> bool:

@@ -33,6 +33,14 @@ BEGINNINGS = BEGIN_OF_SIGNS | {word[0] for word in KNOWN_UNKNOWN} | {"#", "e"}
 FIRST_LETTERS = {"", *BEGINNINGS, *(letter.upper() for letter in BEGINNINGS)}
 # a text with a number, but for the error values of spreadsheets and numbers below 0, is none of them
 NUMBERED = re.compile(r"(?![-+#Ee–—])[^1-9]*[1-9]")
+# a word before a remark has more letters
+SHORTEST = 4
+
+
+def is_explained(text: str) -> bool:
+    """Is it one of these words with a remark in brackets, as `unbekannt (Weide)`? Few letters may be a name's."""
+    word, bracket, _ = text.partition("(")
+    return bool(bracket) and len(word) > SHORTEST and compared(word).strip() in KNOWN_UNKNOWN
 
 
 def unknown_words(more: list[str]) -> set[str]:
@@ -66,13 +74,17 @@ class UnknownParents:
         named = {text for text in texts if text.casefold() in self.more} if self.more else set[str]()
         return named.union(filter(self.is_unknown, {*likely}))
 
+    def words_apart(self, others: UnknownParents) -> set[str]:
+        """The words, in small letters, that may mean something else for others."""
+        return (self.more ^ others.more) | (self.known ^ others.known)
+
     def is_unknown(self, text: str) -> bool:
         folded = text.casefold()
         if not folded or folded in self.known:
             return not folded
         if folded in self.more or folded[0] not in BEGINNINGS:
             return folded in self.more
-        if compared(text) in KNOWN_UNKNOWN or is_error_value(text):
+        if compared(text) in KNOWN_UNKNOWN or is_error_value(text) or is_explained(text):
             return True
         return text[0] in BEGIN_OF_SIGNS and SIGNS.fullmatch(text) is not None
 

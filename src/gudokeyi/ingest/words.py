@@ -13,7 +13,9 @@ from gudokeyi.ingest.texts import listed, plain
 UNKNOWN = (
     "na, <na>, nan, n/a, nn, none, null, unknown, unk, not known, not recorded, not available, unknown sire, unknown "
     "dam, unbekannt, unbek, nicht bekannt, nb, ka, keine angabe, keine angaben, fehlt, inconnu, inconnue, non connu, "
-    "non connue, pas connu, non renseigné, non renseignée, nc, nr, -1, -9, -99, -999, -9999"
+    "non connue, pas connu, non renseigné, non renseignée, nc, nr, n/k, nbek, fremd, Zukauf, zugekauft, unregistered, "
+    "not registered, not yet registered, not yet reg, Vater unbekannt, Mutter unbekannt, père inconnu, mère inconnue, "
+    "onc, origine non constatée, origine inconnue, -1, -9, -99, -999, -9999"
 )
 # `M` is male in all three languages, and `W` is weiblich; single letters that mean two things aren't here.
 SEXES = {
@@ -22,8 +24,8 @@ SEXES = {
     "Schafbock, Ziegenbock, Zuchtbock, Jungbock, Altbock, Bocklamm, Widder, Hengst, Junghengst, Eber, Rüde, Kater, "
     "Bullenkalb, Stierkalb, Hengstfohlen, mâle, taureau, taurillon, bélier, bouc, étalon, poulain, chien, "
     "agneau mâle, verrat, masculin, masc",
-    "F": "f, female, fem, cow, heifer, ewe, gimmer, doe, nanny, mare, filly, sow, gilt, bitch, brood bitch, queen, "
-    "jenny, ♀, w, weiblich, weibl, "
+    "F": "f, fs, fn, bs, female, fem, cow, heifer, ewe, gimmer, doe, nanny, mare, filly, sow, gilt, bitch, brood bitch, "
+    "queen, jenny, ♀, w, weiblich, weibl, "
     "weibliche, Kuh, Jungkuh, Mutterkuh, Färse, Kalbin, Kalbe, Sterke, Starke, Kuhkalb, Aue, Au, Jungaue, Altaue, "
     "Aulamm, Auenlamm, Mutter, Muttertier, Mutterschaf, Zibbe, Zibbenlamm, Ziege, Geiß, Geiss, Mutterziege, "
     "Jungziege, Stute, Jungstute, Zuchtstute, Stutfohlen, Sau, Hündin, Kätzin, Katze, femelle, vache, génisse, brebis, "
@@ -33,7 +35,7 @@ SEXES = {
 CASTRATED = (
     "ox, steer, bullock, wether, gelding, barrow, neutered male, castrated, castrate, male castrated, kastr, Ochse, Hammel, "
     "Schöps, Wallach, Kastrat, kastriert, männlich kastriert, Rüde kastriert, Borg, Kapaun, hongre, boeuf, bœuf, "
-    "mouton castré, castré, mâle castré"
+    "mouton castré, castré, mâle castré, mn, mc, dn"
 )
 # a word for a grown male that isn't castrated tells behind one of these that it was castrated since
 FORMER = "ex, former, formerly, was, früher, früherer, ehemals, ehemaliger, ehem, war, ancien, anciennement"

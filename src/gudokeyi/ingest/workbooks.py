@@ -21,7 +21,9 @@ from gudokeyi.domain.findings import ImportRefused
 from gudokeyi.domain.messages import Mistake
 from gudokeyi.ingest.files import MOST_CELLS, MOST_ROWS
 from gudokeyi.ingest.findings.columns import SheetFinding
-from gudokeyi.ingest.findings.files import DigitsLost, FormulasWithoutValue, WorksheetLacks, WorksheetUnclear
+from gudokeyi.ingest.findings.files import (
+    DigitsLost, FormulasWithoutValue, NotesAtCells, StruckThrough, WorksheetLacks, WorksheetUnclear,
+)  # fmt: skip
 from gudokeyi.ingest.messages import SheetFault
 from gudokeyi.ingest.texts import clean
 
@@ -157,6 +159,8 @@ class Worksheet(NamedTuple):
     how: str
     faults: list[SheetFinding]
     formulas: Formulas
+    # what its cells show besides their text
+    unread: list[SheetFinding]
 
 
 def read_workbook(path: pathlib.Path, data: bytes, score: Score, most: int, named: str) -> Worksheet:
@@ -170,7 +174,7 @@ def read_workbook(path: pathlib.Path, data: bytes, score: Score, most: int, name
     rows = as_texts(path, values)
     others = [f"'{title}'" for title in titles if title != titles[at]]
     how = f"the worksheet '{titles[at]}' of an .xlsx file" + (f"; not read: {', '.join(others)}" if others else "")
-    return Worksheet(rows, how if others else "an .xlsx file", faults(texts), formulas(values, texts))
+    return Worksheet(rows, how if others else "an .xlsx file", faults(texts), formulas(values, texts), unread(values))
 
 
 def opened(path: pathlib.Path, data: bytes, values: bool) -> Any:
@@ -272,6 +276,19 @@ def formulas(values: Any, texts: Any) -> Formulas:
     return Formulas(texts.title, found)
 
 
+def unread(sheet: Any) -> list[SheetFinding]:
+    """Notes at cells, and texts that are struck through: neither says anything of an animal here."""
+    cells = [cell for _, cell in sorted(sheet._cells.items())]
+    noted = [cell for cell in cells if cell.comment]
+    found: list[SheetFinding] = []
+    if noted:
+        found.append(NotesAtCells(len(noted), noted[0].coordinate, clean(noted[0].comment.text or "")))
+    if any(font.strike for font in sheet.parent._fonts):
+        lines = dict.fromkeys(cell.row for cell in cells if cell.value is not None and cell.font.strike)
+        found += [StruckThrough(len(lines), next(iter(lines)))] if lines else []
+    return found
+
+
 def cell_text(cell: Any) -> str:
     """A cell's value as the spreadsheet shows it, but for days, which are written as 2001-03-01."""
     value = cell.value
@@ -280,7 +297,7 @@ def cell_text(cell: Any) -> str:
     if isinstance(value, (datetime.datetime, datetime.date)):
         return day_text(value, str(cell.number_format or ""))
     if isinstance(value, bool):
-        return str(value)
+        return str(value).upper()
     if isinstance(value, float) and value.is_integer():
         value = int(value)
     if isinstance(value, int):

@@ -2,11 +2,13 @@
 parents without one."""
 from __future__ import annotations
 
+import itertools
+
 from gudokeyi.domain.findings import ImportRefused, Report
 from gudokeyi.domain.kinds import Role, Standing
 from gudokeyi.domain.messages import Mistake
 from gudokeyi.domain.pedigree_order import ancestors
-from gudokeyi.ingest.animals import SheetAnimal, birth_in_book
+from gudokeyi.ingest.animals import SheetAnimal, birth_in_book, links_outside
 from gudokeyi.ingest.columns import Columns
 from gudokeyi.reconcile.birth_days import find_days
 from gudokeyi.reconcile.exits import exit_in_book
@@ -26,13 +28,13 @@ from gudokeyi.store.book import Book
 # Animals of the book that have no row in the sheet: they stay, or are dropped.
 
 
-def animals_of_book(book: Book, animals: dict[str, SheetAnimal]) -> dict[str, SheetAnimal]:
+def animals_of_book(next_book: NextBook) -> dict[str, SheetAnimal]:
     """The animals of the book that have no row, each as the book has it."""
-    without_row = {id: in_book for id, in_book in book.society_records.items() if id not in animals}
-    known = book.society_records if without_row else {}
-    ids = {in_book.registration_number: id for id, in_book in known.items()}
+    book, animals = next_book.book, next_book.animals
+    known, ids = book.society_records, next_book.in_book.ids
     gone = {}
-    for id, in_book in without_row.items():
+    for id in itertools.filterfalse(animals.__contains__, known):
+        in_book = known[id]
         record = book.records[in_book.registration_number]
         animal = SheetAnimal(id, 0, in_book.name, "" if in_book.sex.is_inferred else in_book.registration_number[6])
         animal.birth = birth_in_book(in_book, record)
@@ -82,18 +84,24 @@ def add_others(next_book: NextBook, drop_gone: bool) -> None:
         next_book.compare(next_book.rows_of_book)
     has_sires, has_dams = Role.SIRE in next_book.given, Role.DAM in next_book.given
     next_book.texts = {id: (one.sire * has_sires, one.dam * has_dams) for id, one in animals.items()}
-    gone = animals_of_book(book, animals)
+    gone = animals_of_book(next_book)
     next_book.exits_of_book |= gone.keys()
     all_animals = animals | gone
-    keep_parents_named(next_book, all_animals)
+    # in most sheets each parent has a row, and all of the book do
+    have_rows, has_gone = not links_outside(animals.values(), animals), bool(gone)
+    with_id = animals.keys() | next_book.in_book.given
+    if not have_rows:
+        keep_parents_named(next_book, all_animals)
     if not next_book.is_pedigree:
         mend_sexes(next_book, gone)
-        ParentsInTexts(animals, all_animals, book).find(report)
-        near = NearIds(animals, all_animals, book)
-        near.find_parents(report)
+        near = NearIds(animals, all_animals, with_id)
+        if not have_rows:
+            ParentsInTexts(animals, all_animals, with_id).find(report)
+            near.find_parents(report)
         near.tell_alike(report)
     before = Names(all_animals, report)
-    before.find_parents(animals, book)
+    if not have_rows:
+        before.find_parents(animals, next_book, with_id)
     try_parents_again(next_book, gone, all_animals)
     if not next_book.is_pedigree:
         tell_new_tags(next_book, gone)
@@ -102,10 +110,11 @@ def add_others(next_book: NextBook, drop_gone: bool) -> None:
         animals |= gone
     else:
         add_gone(animals, gone, book, drop_gone, report)
-    leave_out_unread_sexes(next_book)
-    names = Names(animals, report, before)
-    names.advise_unknown(next_book.is_pedigree)
-    names.add_parents()
+    leave_out_unread_sexes(next_book, are_all_there=have_rows and not has_gone)
+    if has_gone or not have_rows:
+        names = Names(animals, report, before)
+        names.advise_unknown(next_book.is_pedigree)
+        names.add_parents()
     if len(animals) > MOST_ANIMALS:
         raise too_many(next_book)
 
@@ -121,14 +130,15 @@ def too_many(next_book: NextBook) -> Mistake:
 def complete(next_book: NextBook, columns: Columns, import_options: ImportOptions) -> None:
     """Adds what the book and the parents' cells have besides, and finds sexes and days; a mistake where the sheet
     looks like another one, and it isn't wished anyway."""
-    guards = Guards(next_book.book, dict(next_book.animals), columns, next_book.otherwise)
+    guards = Guards(next_book.book, dict(next_book.animals), columns, next_book.otherwise, next_book.in_book)
     next_book.appends = import_options.append
     found = guards.of_rows(import_options.append)
     if not import_options.anyway:
         next_book.used_again = leave_out_used_tags(
             next_book.animals, next_book.book, next_book.report, some=next_book.otherwise
         )
-        next_book.otherwise = {row.id: row for row in next_book.rows_otherwise()}
+        if next_book.otherwise is not next_book.animals:
+            next_book.otherwise = {row.id: row for row in next_book.rows_otherwise()}
     add_others(next_book, import_options.drop_gone)
     found += guards.of_animals(next_book.animals)
     if found and not import_options.anyway:

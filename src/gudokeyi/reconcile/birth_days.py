@@ -11,7 +11,7 @@ from gudokeyi.domain.kinds import Field
 from gudokeyi.domain.pedigree_order import Waiting, offspring_by_parent
 from gudokeyi.domain.provenance import GIVEN_BIRTH, BirthBasis, BirthSource
 from gudokeyi.ingest.animals import SheetAnimal, parents_of_all
-from gudokeyi.ingest.days import ANY_DAY, FIRST_DAY, Span
+from gudokeyi.ingest.days import ANY_DAY, FIRST_DAY, Precision, Span
 from gudokeyi.reconcile.findings.animals import BirthDayInferred
 from gudokeyi.reconcile.impossible_parents import cut_cycles
 from gudokeyi.reconcile.next_book import NextBook
@@ -36,11 +36,9 @@ def unread_cell(animal: SheetAnimal) -> str:
 
 def find_days(next_book: NextBook) -> None:
     """Birth days of all animals, of which none is its own ancestor any more."""
-    book, animals, report = next_book.book, next_book.animals, next_book.report
+    animals, report = next_book.animals, next_book.report
     undated = cut_cycles(animals, report, next_book.has_in_book)
-    inferred = [(id, in_book) for id, in_book in book.society_records.items() if in_book.birth.is_inferred]
-    kept = {id: (book.records[in_book.registration_number].born.toordinal(), in_book.birth) for id, in_book in inferred}
-    Days(animals, undated, kept).infer(report)
+    Days(animals, undated, next_book.in_book.inferred).infer(report)
 
 
 class Days:
@@ -66,8 +64,9 @@ class Days:
     def infer(self, report: Report) -> None:
         """Sets `born` of all animals, which have no cycle, and tells each day that was inferred."""
         for animal in self.animals.values():
-            if animal.has_day():
-                animal.born = animal.birth.first
+            birth = animal.birth
+            if birth.precision is Precision.DAY:
+                animal.born = birth.first
         for id in self.undated:
             self.set_low(id)
         for id in reversed(self.undated):

@@ -3,6 +3,8 @@ from __future__ import annotations
 
 import datetime
 import functools
+import itertools
+from collections.abc import Collection
 
 from gudokeyi.domain.animals import SocietyRecord
 from gudokeyi.domain.collections import made
@@ -11,6 +13,7 @@ from gudokeyi.domain.kinds import CommandKind
 from gudokeyi.domain.messages import Mistake, why
 from gudokeyi.domain.provenance import NO_DAY, ExitBasis
 from gudokeyi.domain.refusals import Refusal
+from gudokeyi.domain.wording import SEXES
 from gudokeyi.engine.program import Herdbook
 from gudokeyi.ingest.animals import SheetAnimal
 from gudokeyi.reconcile.exits import leave_out_exit
@@ -30,34 +33,54 @@ class Filing:
 
     def __init__(self, next_book: NextBook, owners: OwnerDays) -> None:
         self.next_book, self.book, self.owners = next_book, next_book.book, owners
-        # was a birth refused with its parents, when the commands were asked about last?
-        self.refuses_births = False
+        # was any command refused when they were asked about last, and a birth with its parents?
+        self.is_refused = self.refuses_births = False
+        # the ids of animals that may be otherwise than in the book, where it is known of others that they aren't
+        self.others: set[str] | None = None
 
     def filed(self, program: Herdbook, is_preview: bool = False) -> Filed:
         """The commands, none of which is refused: an exit or a transfer that is refused is left out before, and told;
-        a mistake where a birth is. Of a preview those that write the book anew aren't kept."""
+        a mistake where a birth is."""
         while True:
             if appended := self.appended(program):
                 return appended
-            commands = self.anew()
-            refused = program.file(commands)
-            if not refused and is_preview:
-                return Filed([], 0)
-            if not refused:
-                steps = accepted(commands)
-                keeps = alike(self.book.steps, steps)
-                return Filed(steps[keeps:], keeps)
-            self.leave_out(commands, refused)
+            found = self.written_anew(program, is_preview)
+            if isinstance(found, Filed):
+                return found
+            self.leave_out(*found)
+
+    def filed_at_once(self, program: Herdbook, is_preview: bool) -> Filed | None:
+        """The same where nothing is refused: then no animal has a parent that can't be."""
+        if appended := self.appended(program):
+            return appended
+        found = None if self.is_refused else self.written_anew(program, is_preview)
+        return found if isinstance(found, Filed) else None
 
     def appended(self, program: Herdbook) -> Filed | None:
         """The commands that the book lacks, where that is enough and none is refused."""
+        self.is_refused = self.refuses_births = False
         more = self.more()
         if more is None:
             return None
         text = self.text_behind(more)
         refused = self.refused_behind(program, text, len(more))
-        self.refuses_births = any(more[place].kind == "birth" for place in refused)
+        self.see_refused(more, refused)
         return None if refused else Filed(accepted(more), text=text)
+
+    def written_anew(self, program: Herdbook, is_preview: bool) -> Filed | tuple[list[Command], dict[int, Refusal]]:
+        """The whole book, or what is refused of its commands. Those of a preview aren't kept."""
+        commands = self.anew()
+        refused = program.file(commands)
+        self.see_refused(commands, refused)
+        if refused:
+            return commands, refused
+        steps = [] if is_preview else accepted(commands)
+        keeps = alike(self.book.steps, steps) if steps else 0
+        return Filed(steps[keeps:], keeps)
+
+    def see_refused(self, commands: list[Command], refused: Collection[int]) -> None:
+        self.is_refused = bool(refused)
+        self.refuses_births = any(commands[place].kind == "birth" for place in refused)
 
     def leave_out(self, commands: list[Command], refused: dict[int, Refusal]) -> None:
         by_number = {animal.registration_number: animal for animal in self.next_book.animals.values()}
@@ -91,12 +114,14 @@ class Filing:
             return self.anew()
         if self.book.society_records.keys() - self.next_book.animals.keys():
             return None
-        births, corrections, transfers, exits = [], [], [], []
+        new, first_herds = list[SheetAnimal](), list[int]()
+        corrections, transfers, exits = list[Command](), list[Command](), list[Command]()
         numbers = self.next_book.numbers()
-        for animal in self.next_book.by_birth:
+        for animal in self.may_be_filed():
             record, owners = self.next_book.record(animal.id), self.owners.of(animal)
             if record is None:
-                births.append(self.next_book.birth_of(animal, owners.first_herd, numbers))
+                new.append(animal)
+                first_herds.append(owners.first_herd)
                 transfers += owners.transfers
                 exits += [leave(animal.registration_number, animal.left)] if animal.left else []
                 continue
@@ -108,20 +133,15 @@ class Filing:
             transfers += owners.new
             if animal.left and not record.left:
                 exits.append(leave(animal.registration_number, animal.left))
+        births = self.next_book.births_of(new, first_herds) if new else []
         return births + corrections + transfers + exits
 
     def anew(self) -> list[Command]:
         """The whole book: each birth with the parents of today, then the transfers, and then the exits."""
-        births: list[Command] = []
-        transfers: list[Command] = []
-        exits: list[Command] = []
-        numbers = self.next_book.numbers()
-        for animal in self.next_book.by_birth:
-            owners = self.owners.of(animal)
-            births.append(self.next_book.birth_of(animal, owners.first_herd, numbers))
-            transfers += owners.transfers
-            exits += [leave(animal.registration_number, animal.left)] if animal.left else []
-        return births + transfers + exits
+        animals, owners = self.next_book.by_birth, self.owners.of_all(self.next_book.by_birth)
+        births = self.next_book.births_of(animals, [one.first_herd for one in owners])
+        transfers = [*itertools.chain.from_iterable(one.transfers for one in owners)]
+        return births + transfers + [leave(one.registration_number, one.left) for one in animals if one.left]
 
     # -- what is told
 
@@ -141,14 +161,24 @@ class Filing:
 
     def may_be_changed(self) -> list[SheetAnimal]:
         """The animals but for those that are known to be as the book has them."""
-        animals, rows_of_book = self.next_book.animals, self.next_book.rows_of_book
-        if rows_of_book is None:
+        animals, others = self.next_book.animals, self.others
+        if others is None:
             return [*animals.values()]
-        others, known = rows_of_book.others(animals), self.book.society_records
-        return [
-            animal for id, animal in animals.items() if id in others or id in self.owners.other_days
-            or animal.registration_number != known[id].registration_number
-        ]  # fmt: skip
+        return [animal for id, animal in animals.items() if id in others or id in self.owners.other_days]
+
+    def may_be_filed(self) -> list[SheetAnimal]:
+        """Those of which the book may lack a command: of the others it has one owner, on a day that it was given."""
+        self.others, by_birth = self.found_otherwise(), self.next_book.by_birth
+        others = self.others
+        if others is None:
+            return by_birth
+        likely = {animal.id for animal in by_birth if animal.since} | self.next_book.in_book.sold | others
+        return [animal for animal in by_birth if animal.id in likely]
+
+    def found_otherwise(self) -> set[str] | None:
+        """The ids of animals that may be otherwise than in the book, where it is known of others that they aren't."""
+        rows_of_book = self.next_book.rows_of_book
+        return {*rows_of_book.others(self.next_book.animals), *self.next_book.renumbered} if rows_of_book else None
 
     @functools.cached_property
     def ids(self) -> dict[str, str]:
@@ -176,6 +206,7 @@ class Filing:
         pairs: list[tuple[str, object, object]] = [
             ("name", in_book.name, animal.name),
             ("birth day", record.born, animal.born),
+            ("sex", SEXES[record.registration_number[6]].value, SEXES[animal.registration_number[6]].value),
             ("number", record.registration_number, animal.registration_number),
             ("sire", sire, animal.sire),
             ("dam", dam, animal.dam),

@@ -11,6 +11,7 @@ from gudokeyi.domain.commands import RegisterRecord, birth, day_text, leave, tra
 from gudokeyi.domain.findings import Entry, Finding, Report
 from gudokeyi.domain.kinds import ExitReason, Field, Role
 from gudokeyi.domain.provenance import GIVEN_BIRTH, GIVEN_EXIT, BirthBasis, ExitBasis, ExitSource, OwnerDay, SexSource
+from gudokeyi.domain.wording import SEXES
 from gudokeyi.ingest.animals import SheetAnimal
 from gudokeyi.ingest.days import Span
 from gudokeyi.reconcile.birth_days import Days
@@ -216,6 +217,7 @@ class Correcting:
         pairs: list[tuple[str, object, object]] = [
             ("id", before.id, known.id),
             ("name", before.name, known.name),
+            ("sex", SEXES[before.registration_number[6]].value, SEXES[known.registration_number[6]].value),
             ("number", before.registration_number, known.registration_number),
             ("birth day", day_text(was.born), day_text(record.born)),
             ("sire", self.id_of(was.sire), self.id_of(record.sire)),

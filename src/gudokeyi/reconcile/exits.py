@@ -3,6 +3,7 @@ from __future__ import annotations
 
 import collections
 import datetime
+import itertools
 from typing import NamedTuple
 
 from gudokeyi.domain.animals import SocietyRecord
@@ -11,7 +12,7 @@ from gudokeyi.domain.findings import Entry
 from gudokeyi.domain.kinds import CommandKind, Field
 from gudokeyi.domain.provenance import GIVEN_EXIT, ExitBasis, ExitSource
 from gudokeyi.domain.refusals import Refusal
-from gudokeyi.ingest.animals import SheetAnimal
+from gudokeyi.ingest.animals import LINE_OF, SheetAnimal
 from gudokeyi.reconcile.findings.animals import KeptByHand, KeptFromBook
 from gudokeyi.reconcile.findings.by_hand import ValueChanged
 from gudokeyi.reconcile.findings.plausibility import ExitsWithdrawn, MostChanged, RowOf
@@ -50,7 +51,7 @@ def given_day(basis: ExitBasis) -> datetime.date | None:
 
 
 def leave_out_early_exits(next_book: NextBook) -> None:
-    left = {id: animal for id, animal in next_book.animals.items() if animal.left}
+    left = {id: animal for id, animal in next_book.animals.items() if animal.left is not None}
     progeny = collections.defaultdict[str, list[SheetAnimal]](list)
     for animal in next_book.animals.values() if left else ():
         if animal.dam in left and not animal.embryo:
@@ -109,13 +110,7 @@ LOOKED_AT = ("name", "owner", "exit")
 
 
 def tell_withdrawn_exits(next_book: NextBook) -> None:
-    book, animals = next_book.book, next_book.animals
-    records, known = book.records, book.society_records
-    # the exits of most are given, or none
-    gone = {
-        id for id, in_book in known.items()
-        if records[in_book.registration_number].left or in_book.exit is not GIVEN_EXIT and in_book.exit.day_is_unknown
-    }  # fmt: skip
+    animals, gone = next_book.animals, next_book.in_book.left
     before = [animals[id] for id in animals if id in gone] if gone else []
     withdrawn = [animal for animal in before if not animal.left and not animal.exit_basis.is_inferred]
     if len(withdrawn) >= SEVERAL_WITHDRAWN:
@@ -128,9 +123,11 @@ def tell_most_changed(next_book: NextBook) -> None:
     report, before = next_book.report, next_book.book.society_records
     if not before:
         return
-    both = sum(animal.line > 0 and animal.id in before for animal in next_book.animals.values())
     changed = [one.finding for one in report.entries if one.line and isinstance(one.finding, ValueChanged)]
     counts = collections.Counter(one.name for one in changed if one.name != "exit" or one.after)
-    for name in LOOKED_AT:
-        if counts[name] > FEW_CHANGED and 2 * counts[name] > both:
+    many, animals = [name for name in LOOKED_AT if counts[name] > FEW_CHANGED], next_book.animals
+    with_row = itertools.compress(animals, map(LINE_OF, animals.values())) if many else ()
+    both = sum(map(before.__contains__, with_row))
+    for name in many:
+        if 2 * counts[name] > both:
             report.add(0, "", MostChanged(name, counts[name], both))

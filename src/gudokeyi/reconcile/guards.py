@@ -3,15 +3,17 @@ book's. Guards are found here; `complete` in `all_animals.py`, and `services/ped
 from __future__ import annotations
 
 import functools
+import itertools
 import re
-from collections.abc import Collection, Mapping
+from collections.abc import Collection, Mapping, Sized
 
 from gudokeyi.domain.animals import SocietyRecord
 from gudokeyi.domain.commands import RegisterRecord
-from gudokeyi.domain.kinds import Role, Standing
+from gudokeyi.domain.kinds import Role
 from gudokeyi.ingest.animals import SheetAnimal, links_outside
 from gudokeyi.ingest.columns import Columns
 from gudokeyi.ingest.texts import nearly
+from gudokeyi.reconcile.animals_of_book import AnimalsOfBook
 from gudokeyi.reconcile.findings.obstacles import (
     Changed, Guard, IdsLack, LooksLike, ManyDropped, ManyGone, ManyOthers, ParentsLack,
 )  # fmt: skip
@@ -34,10 +36,12 @@ class OtherAnimals:
 
     def __init__(
         self, book: Book, rows: dict[str, SheetAnimal], given: Collection[str],
-        some: Mapping[str, SheetAnimal] | None = None,
+        some: Mapping[str, SheetAnimal] | None = None, in_book: AnimalsOfBook | None = None,
     ) -> None:  # fmt: skip
-        """`some` are the rows that may say something else than the book, where others are known not to."""
+        """`some` are the rows that may say something else than the book, where others are known not to; `in_book` are
+        its animals, where they were looked at before."""
         self.book, self.rows, self.given = book, rows, given
+        self.in_book = in_book or AnimalsOfBook(book)
         self.some = rows if some is None else some
 
     def of_both(self) -> list[Guard]:
@@ -48,8 +52,7 @@ class OtherAnimals:
     def otherwise(self) -> list[tuple[SheetAnimal, SocietyRecord, RegisterRecord]]:
         """The rows that say something else than the book of their animals' birth days, names, sexes or parents: most
         say the same, and all is asked of each at once."""
-        known, records = self.book.society_records, self.book.records
-        ids = {"": "", **{in_book.registration_number: id for id, in_book in known.items()}}
+        known, records, ids = self.book.society_records, self.book.records, self.in_book.ids
         return [
             (row, in_book, record) for id, row in self.some.items() if (in_book := known.get(id)) and not (
                 row.birth.first == (record := records[in_book.registration_number]).born and row.name == in_book.name
@@ -95,18 +98,29 @@ class OtherAnimals:
 
     def other_parents(self) -> Guard | None:
         """Animals that have another animal with a row as a parent than in the book, or none. A parent that is added or
-        that had no row, and one whose cell can't be read, are ordinary."""
+        that had no row, one whose cell can't be read, and one that has a new tag itself, are ordinary."""
         known = self.book.society_records.values() if self.otherwise else ()
         had_row = {in_book.registration_number: in_book.id for in_book in known if in_book.standing.had_row()}
-        changed = []
+        changed: list[tuple[SheetAnimal, list[tuple[str, str]]]] = []
         for row, _, record in self.otherwise:
             read = [role for role in Role if role in self.given and role not in row.unread]
             pairs = [(had_row.get(record.parent(role)), row.parent(role)) for role in read]
             if any(before and before != now and (not now or now in self.rows) for before, now in pairs):
-                changed.append(row)
-        return self.of_many(Changed.PARENTS, changed) if self.are_many(changed) else None
+                changed.append((row, [(str(before), now) for before, now in pairs if before and before != now]))
+        if self.are_many(changed):
+            changed = [(row, pairs) for row, pairs in changed if not all(map(self.is_same_anew, pairs))]
+        return self.of_many(Changed.PARENTS, [row for row, _ in changed]) if self.are_many(changed) else None
 
-    def are_many(self, changed: list[SheetAnimal]) -> bool:
+    def is_same_anew(self, pair: tuple[str, str]) -> bool:
+        """Has an animal that has no row any more a row with another id, and its name and birth day?"""
+        before, now = pair
+        if before in self.rows or now in self.book.society_records or now not in self.rows:
+            return False
+        in_book, row = self.book.society_records[before], self.rows[now]
+        born = self.book.records[in_book.registration_number].born
+        return bool(row.name) and row.name.casefold() == in_book.name.casefold() and row.birth.first == born
+
+    def are_many(self, changed: Sized) -> bool:
         return len(changed) > MOST_OTHERS and len(changed) * 100 > PER_HUNDRED * self.count_of_both
 
     def of_many(self, what: Changed, changed: list[SheetAnimal]) -> ManyOthers:
@@ -120,9 +134,10 @@ class Guards(OtherAnimals):
     """Compares all of a sheet with a book."""
 
     def __init__(
-        self, book: Book, rows: dict[str, SheetAnimal], columns: Columns, some: Mapping[str, SheetAnimal] | None = None
-    ) -> None:
-        super().__init__(book, rows, columns.found, some)
+        self, book: Book, rows: dict[str, SheetAnimal], columns: Columns,
+        some: Mapping[str, SheetAnimal] | None = None, in_book: AnimalsOfBook | None = None,
+    ) -> None:  # fmt: skip
+        super().__init__(book, rows, columns.found, some, in_book)
         self.columns = columns
 
     def of_rows(self, appends: bool = False) -> list[Guard]:
@@ -134,16 +149,13 @@ class Guards(OtherAnimals):
         lacks = self.columns.lacks_ids
         return IdsLack(lacks, self.like()) if lacks else None
 
-    def had_row(self) -> list[str]:
-        """The animals that had a row in the last sheet."""
-        return [id for id, in_book in self.book.society_records.items() if in_book.standing is Standing.ROW]
+    def lacking(self) -> list[str]:
+        """The animals that had a row in the last sheet, and have none."""
+        return [*itertools.filterfalse(self.rows.__contains__, self.in_book.with_row)]
 
     def gone(self) -> Guard | None:
-        had_row = self.had_row()
-        gone = [id for id in had_row if id not in self.rows]
-        if not are_too_many(len(gone), len(had_row)):
-            return None
-        return ManyGone(len(gone), len(had_row), self.like())
+        gone, had_row = self.lacking(), len(self.in_book.with_row)
+        return ManyGone(len(gone), had_row, self.like()) if are_too_many(len(gone), had_row) else None
 
     def like(self) -> LooksLike:
         in_book = [id for id in self.rows if id in self.book.society_records]
@@ -158,14 +170,14 @@ class Guards(OtherAnimals):
     def are_written_otherwise(self) -> bool:
         """Have most animals that lack a row one whose id differs in case, blanks or zeros alone?"""
         rows = {nearly(id) for id in self.rows if id not in self.book.society_records}
-        lacking = [id for id in self.had_row() if id not in self.rows]
+        lacking = self.lacking()
         return 2 * sum(nearly(id) in rows for id in lacking) > len(lacking)
 
     def is_older(self) -> bool:
         """Are the animals that lack younger than those of the sheet?"""
         born = self.book.records
-        numbers = {id: one.registration_number for id, one in self.book.society_records.items()}
-        lacking = [born[numbers[id]].born for id in self.had_row() if id not in self.rows]
+        numbers = self.in_book.numbers
+        lacking = [born[numbers[id]].born for id in self.lacking()]
         here = [born[numbers[id]].born for id in self.rows]
         return bool(lacking) and max(here) <= max(lacking)
 
@@ -184,8 +196,8 @@ class Guards(OtherAnimals):
 
     def dropped(self, animals: dict[str, SheetAnimal]) -> Guard | None:
         """More animals are dropped than may be gone, though not all at once."""
-        had_row = [id for id, in_book in self.book.society_records.items() if in_book.standing.had_row()]
-        dropped = [id for id in had_row if id not in animals]
+        had_row = self.in_book.had_row
+        dropped = [*itertools.filterfalse(animals.__contains__, had_row)]
         if not are_too_many(len(dropped), len(had_row)) or self.gone():
             return None
         return ManyDropped(len(dropped), len(had_row), self.like())

@@ -4,15 +4,14 @@ from __future__ import annotations
 
 import collections
 import functools
-import operator
-from collections.abc import Mapping
+from collections.abc import Mapping, Set
 
 from gudokeyi.domain.animals import SocietyRecord
 from gudokeyi.domain.commands import RegisterRecord
 from gudokeyi.domain.findings import Report
 from gudokeyi.domain.kinds import CELL_FIELDS, Field
 from gudokeyi.domain.settings import Setting
-from gudokeyi.ingest.animals import YEARS_LATER, SheetAnimal, lines_that_name, links_outside
+from gudokeyi.ingest.animals import ID_OF, YEARS_LATER, SheetAnimal, by_age, lines_that_name, links_outside
 from gudokeyi.ingest.findings.cells import IdUsedAgain
 from gudokeyi.ingest.texts import nearly, nearly_all
 from gudokeyi.reconcile.findings.animals import FormerId
@@ -21,7 +20,7 @@ from gudokeyi.reconcile.findings.parents import FoundByNearId
 from gudokeyi.reconcile.findings.by_hand import IdsAlike
 from gudokeyi.reconcile.findings.rows import BornAfterOffspring
 from gudokeyi.reconcile.next_book import NextBook
-from gudokeyi.reconcile.parents import can_be, ids_given
+from gudokeyi.reconcile.parents import can_be
 from gudokeyi.store.book import Book
 from gudokeyi.store.former_ids import ids_now
 from gudokeyi.store.settings import letters_for, letters_said, settings_of
@@ -29,15 +28,20 @@ from gudokeyi.store.settings import letters_for, letters_said, settings_of
 # Ids that differ in case, blanks or leading zeros alone: of a parent's cell, and of two rows.
 
 
+@functools.lru_cache(1)
+def nearly_of_sheet(ids: tuple[str, ...]) -> list[str]:
+    """What ids have but for these. A sheet that is looked at again has the same."""
+    return nearly_all(ids)
+
+
 class NearIds:
     """The animals that have a row, had one, or were filed by hand, by what their ids have but for case, blanks and
     zeros. `animals` are those of the sheet and of the book."""
 
-    def __init__(self, rows: dict[str, SheetAnimal], animals: dict[str, SheetAnimal], book: Book) -> None:
-        self.rows, self.animals = rows, animals
-        self.with_id = rows.keys() | ids_given(book)
-        self.ids = [*self.with_id & animals.keys()]
-        self.nearly = nearly_all(self.ids)
+    def __init__(self, rows: dict[str, SheetAnimal], animals: dict[str, SheetAnimal], with_id: Set[str]) -> None:
+        self.rows, self.animals, self.with_id = rows, animals, with_id
+        self.ids = tuple(filter(with_id.__contains__, animals))
+        self.nearly = nearly_of_sheet(self.ids)
 
     @functools.cached_property
     def near(self) -> dict[str, list[str]]:
@@ -73,9 +77,9 @@ class NearIds:
 # Ids that animals had before theirs were corrected.
 
 
-def call_as_now(animals: dict[str, SheetAnimal], book: Book, report: Report) -> None:
+def call_as_now(animals: dict[str, SheetAnimal], book: Book, report: Report) -> bool:
     """Rows with ids that animals of the book had before theirs were corrected are these animals, unless the sheet has a
-    row with the id of now too; so are parents with such ids that no row has."""
+    row with the id of now too; so are parents with such ids that no row has. Answers whether there may be any."""
     now = (ids_now(book) if book.society_records else {}) | book.new_tags
     now = {former: id for former, id in now.items() if former not in animals or id not in animals}
     for former, id in now.items():
@@ -88,6 +92,7 @@ def call_as_now(animals: dict[str, SheetAnimal], book: Book, report: Report) -> 
         for role, parent in offspring.parents():
             if parent in now:
                 offspring.set_parent(role, now[parent])
+    return bool(now)
 
 
 # Ids that are used again for other animals, born years apart: the row is left out, and the animal of the book stays.
@@ -189,15 +194,16 @@ def give_numbers(next_book: NextBook, breed: str, country: str) -> None:
     become those that are given; new ones have those that are set else, or those of the book."""
     book, animals = next_book.book, next_book.animals
     former = book.former_numbers() | {id: in_book.registration_number for id, in_book in book.dropped.items()}
-    numbers = {id: in_book.registration_number for id, in_book in book.society_records.items()}
-    for id, number in (former | numbers).items():
-        animal = animals.get(id)
-        if animal and not breed and not country and animal.sex == number[6]:
+    numbers, are_kept = former | next_book.in_book.numbers, not breed and not country
+    for animal, number in zip(map(animals.get, numbers), numbers.values()):
+        if animal is None:
+            continue
+        if are_kept and animal.sex == number[6]:
             animal.registration_number = number
-        elif animal:
+        else:
+            next_book.renumbered.add(animal.id)
             animal.registration_number = (breed or number[:3]) + (country or number[3:6]) + animal.sex + number[7:]
     new = [animal for animal in animals.values() if not animal.registration_number]
     begin = letters_for(book, breed, country)
-    new.sort(key=operator.attrgetter("born", "id"))
-    for digits, animal in enumerate(new, book.greatest_digits() + 1):
+    for digits, animal in enumerate(by_age(sorted(new, key=ID_OF)), book.greatest_digits() + 1):
         animal.registration_number = f"{begin}{animal.sex}{digits:012}"

@@ -2,6 +2,7 @@
 from __future__ import annotations
 
 import datetime
+import operator
 from collections.abc import Callable, Sequence
 
 from gudokeyi.domain.animals import SocietyRecord
@@ -12,7 +13,8 @@ from gudokeyi.domain.messages import MessageText, Mistake, Some, why
 from gudokeyi.domain.pedigree_order import in_order, longest_paths, offspring_by_parent, round_from
 from gudokeyi.domain.refusals import Refusal
 from gudokeyi.engine.program import Herdbook
-from gudokeyi.ingest.animals import SheetAnimal, parents_of_all
+from gudokeyi.ingest.animals import DAM_OF, FIRST_OF, LAST_OF, SIRE_OF, SheetAnimal, parents_of_all
+from gudokeyi.ingest.days import Precision
 from gudokeyi.ingest.messages import Where
 from gudokeyi.reconcile.findings.parents import DayFact, OwnAncestor, ParentRefused
 from gudokeyi.reconcile.messages import ImportFault
@@ -35,7 +37,7 @@ def cut_cycles(animals: dict[str, SheetAnimal], report: Report, in_book: InBook 
     """Leaves out one parent of each animal that would be its own ancestor: of a cycle a link that the book doesn't
     have, one whose days can't be, or else that of the latest row. Answers the animals without a day, parents before
     their offspring."""
-    undated = {id: animal for id, animal in animals.items() if not animal.has_day()}
+    undated = {id: animal for id, animal in animals.items() if animal.birth.precision is not Precision.DAY}
     if are_older(animals):
         return by_age(undated)
     order = in_order(parents_of_all(animals))
@@ -59,17 +61,17 @@ def cut_all(animals: dict[str, SheetAnimal], left: set[str], report: Report, in_
 
 def are_older(animals: dict[str, SheetAnimal]) -> bool:
     """Is each parent older than its offspring by the days of both? Then none is its own ancestor."""
-    last = {id: animal.birth.last for id, animal in animals.items()}
+    last = dict(zip(animals, map(LAST_OF, animals.values())))
     last[""] = datetime.date.min
-    for offspring in animals.values():
-        first = offspring.birth.first
-        if last[offspring.sire] >= first or last[offspring.dam] >= first:
-            return False
-    return True
+    first = [*map(FIRST_OF, animals.values())]
+    parents = (map(last.__getitem__, map(of, animals.values())) for of in (SIRE_OF, DAM_OF))
+    return not any(any(map(operator.ge, its, first)) for its in parents)
 
 
 def by_age(animals: dict[str, SheetAnimal]) -> list[str]:
     """Animals whose parents are older: the founders in their order, and behind them the others by age."""
+    if not animals:
+        return []
     founders = [id for id, animal in animals.items() if not animal.sire and not animal.dam]
     born = {id: animal.birth.first for id, animal in animals.items() if animal.sire or animal.dam}
     return founders + sorted(born, key=born.__getitem__)

@@ -4,18 +4,20 @@ from __future__ import annotations
 
 import collections
 import functools
+import itertools
 import operator
-from collections.abc import Mapping
+from collections.abc import Iterable, Mapping, Sequence, Set
 
 from gudokeyi.domain.animals import NO_FIELDS, SocietyRecord
 from gudokeyi.domain.collections import made
-from gudokeyi.domain.commands import Command, RegisterRecord, birth, day_text, parents
+from gudokeyi.domain.commands import Command, RegisterRecord, day_text, lines_of, parents
 from gudokeyi.domain.findings import Finding, Report
 from gudokeyi.domain.kinds import Field, Role, Standing
-from gudokeyi.ingest.animals import SheetAnimal
+from gudokeyi.ingest.animals import BORN_OF, DAM_OF, NUMBER_OF, SIRE_OF, SheetAnimal, by_age
 from gudokeyi.ingest.day_cells import DayCell, DayCells
 from gudokeyi.ingest.texts import clean, nearly
 from gudokeyi.ingest.words import KNOWN_CASTRATED, KNOWN_SEXES, KNOWN_YES, sex_word
+from gudokeyi.reconcile.animals_of_book import AnimalsOfBook
 from gudokeyi.reconcile.rows_of_book import RowsOfBook
 from gudokeyi.store.book import Book
 from gudokeyi.store.state import Rows, Table
@@ -88,15 +90,19 @@ def days_of(cell: DayCell, text: str) -> object:
 
 # The book that is to be: what the sheet says of its animals, and what the book has besides.
 
+EMBRYO_OF, EMBRYO_TEXTS = operator.attrgetter("embryo"), {False: "", True: "1"}
+
 
 class NextBook:
     """The animals that are to stand in the book, by id, beside the book as it is."""
 
     def __init__(
         self, book: Book, animals: dict[str, SheetAnimal], given: set[str], report: Report, days: DayCells,
-        is_pedigree: bool = False,
+        is_pedigree: bool = False, in_book: AnimalsOfBook | None = None,
     ) -> None:  # fmt: skip
-        """`days` is how days are read, and which words are unknown parents."""
+        """`days` is how days are read, and which words are unknown parents; `in_book` are the animals of the book,
+        where they were looked at before."""
+        self.in_book = in_book or AnimalsOfBook(book)
         self.book, self.animals, self.given, self.report = book, animals, given, report
         self.meanings, self.is_pedigree = Meanings(animals, book, days), is_pedigree
         self.names = book.by_number()
@@ -123,15 +129,21 @@ class NextBook:
         self.kept_owners: set[str] = set()
         # the ids of animals whose exits are those of the book, or were left out there
         self.exits_of_book: set[str] = set()
+        # the ids of animals that have another number than before
+        self.renumbered: set[str] = set()
         # the sheet has new rows alone: the others of the book stay what they are in it
         self.appends = False
 
-    def compare(self, rows_of_book: RowsOfBook) -> None:
-        """From here on what changes something is looked for in rows that may say something else than the book."""
-        self.rows_of_book, self.otherwise = rows_of_book, rows_of_book.others(self.otherwise)
+    def compare(self, rows_of_book: RowsOfBook, same: Set[str] = frozenset()) -> None:
+        """From here on what changes something is looked for in rows that may say something else than the book; the
+        `same` are known to say what it has."""
+        rows = {id: row for id, row in self.otherwise.items() if id not in same} if same else self.otherwise
+        self.rows_of_book, self.otherwise = rows_of_book, rows_of_book.others(rows)
 
     def rows_otherwise(self) -> list[SheetAnimal]:
         """These rows, without those that are left out."""
+        if self.otherwise is self.animals:
+            return [*self.animals.values()]
         return [row for id, row in self.otherwise.items() if self.animals.get(id) is row]
 
     def record(self, id: str) -> RegisterRecord | None:
@@ -148,25 +160,24 @@ class NextBook:
 
     # -- what commands name
 
-    def birth_of(self, animal: SheetAnimal, owner_code: int, numbers: Mapping[str, str]) -> Command:
-        """The birth in a herd, with the parents of today; `numbers` are those of all."""
-        sire, dam = numbers[animal.sire], numbers[animal.dam]
-        return birth(animal.registration_number, animal.born, sire, dam, owner_code, animal.embryo)
+    def births_of(self, animals: Sequence[SheetAnimal], owner_codes: Iterable[int]) -> list[Command]:
+        """The births of animals with the parents of today, each in a herd."""
+        number_of = self.numbers().__getitem__
+        sires, dams = map(number_of, map(SIRE_OF, animals)), map(number_of, map(DAM_OF, animals))
+        values = zip(
+            itertools.repeat("birth"), map(NUMBER_OF, animals), map(day_text, map(BORN_OF, animals)), sires, dams,
+            itertools.repeat(""), map(str, owner_codes), map(EMBRYO_TEXTS.__getitem__, map(EMBRYO_OF, animals)),
+        )  # fmt: skip
+        return [made(Command, one) for one in values]
 
     def births_text(self, animals: list[SheetAnimal]) -> bytes:
         """The births of animals in the first herd, as records of a command file."""
-        numbers = self.numbers()
-        births = [
-            f"birth,{one.registration_number},{day_text(one.born)},{numbers[one.sire]},{numbers[one.dam]},,1,"
-            f"{'1' * one.embryo}\n"
-            for one in animals
-        ]
-        return "".join(births).encode()
+        return lines_of(self.births_of(animals, itertools.repeat(1)))
 
     def numbers(self) -> dict[str, str]:
         """The numbers of all animals by their ids, once they have them, and that of an unknown parent: made where they
         are needed, and not kept, as much as they take."""
-        return {"": "0", **{id: animal.registration_number for id, animal in self.animals.items()}}
+        return {"": "0", **dict(zip(self.animals, map(NUMBER_OF, self.animals.values())))}
 
     def parents_of(self, animal: SheetAnimal, numbers: Mapping[str, str]) -> Command:
         return parents(animal.registration_number, numbers[animal.sire], numbers[animal.dam])
@@ -174,7 +185,7 @@ class NextBook:
     @functools.cached_property
     def by_birth(self) -> list[SheetAnimal]:
         """All animals, once they have their numbers: from then on neither these nor birth days change."""
-        return sorted(self.animals.values(), key=operator.attrgetter("born", "registration_number"))
+        return by_age(sorted(self.animals.values(), key=NUMBER_OF))
 
 
 # What is known of each animal after an import.

@@ -3,7 +3,7 @@ from __future__ import annotations
 
 import datetime
 import functools
-from collections.abc import Iterator, Sequence
+from collections.abc import Iterable, Iterator, Sequence
 from typing import NamedTuple
 
 from gudokeyi.domain.animals import NO_OWNER
@@ -223,6 +223,19 @@ class OwnerDays:
                 self.other_days[animal.id] = transfers[-1].day
         is_kept = [one[1:] for one in transfers[: len(before)]] == [one[1:] for one in before]
         return Owners(first_herd, transfers, len(before), not is_kept or first_herd != first)
+
+    def of_all(self, animals: Iterable[SheetAnimal]) -> list[Owners]:
+        """The same of many animals. Most new ones have one owner from their birth on."""
+        known, from_birth, found = self.book.society_records, dict[str, Owners](), list[Owners]()
+        for animal in animals:
+            if animal.since is not None or animal.owner_before or animal.id in known:
+                found.append(self.of(animal))
+                continue
+            owners = from_birth.get(animal.owner)
+            if owners is None:
+                owners = from_birth[animal.owner] = self.of(animal)
+            found.append(owners)
+        return found
 
     def as_given(
         self, animal: SheetAnimal, record: RegisterRecord, before: list[Command], stays: bool

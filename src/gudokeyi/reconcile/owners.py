@@ -3,9 +3,10 @@ from __future__ import annotations
 
 import collections
 import difflib
+import itertools
 import re
 
-from gudokeyi.ingest.animals import SheetAnimal
+from gudokeyi.ingest.animals import LINE_OF, NAME_OF, OWNER_OF
 from gudokeyi.ingest.texts import plain
 from gudokeyi.ingest.words import BEGINS_BORN_DEAD, KNOWN_BORN_DEAD, TELLING_EXITS, has_word
 from gudokeyi.reconcile.findings.animals import (
@@ -33,7 +34,7 @@ def tell_respelt_owners(next_book: NextBook, owners_before: set[str]) -> None:
     nothing."""
     taken, kept = collections.defaultdict[str, collections.Counter[str]](collections.Counter), next_book.kept_owners
     book, animals = next_book.book, next_book.animals
-    if {one.owner for one in animals.values()} - {""} <= owners_before:
+    if not book.society_records or {*map(OWNER_OF, animals.values())} - {""} <= owners_before:
         return
     numbers = {id: in_book.registration_number for id, in_book in book.society_records.items()}
     some = next_book.otherwise
@@ -49,6 +50,14 @@ def tell_respelt_owners(next_book: NextBook, owners_before: set[str]) -> None:
         is_new = len(now) == 1 and owner not in owners_before and before not in stay
         if is_new and difflib.SequenceMatcher(None, before.casefold(), owner.casefold()).ratio() >= ALIKE:
             next_book.report.add(0, "", OwnerRespelt(before, owner, count))
+
+
+def owners_of_rows(next_book: NextBook) -> collections.Counter[str]:
+    """How many rows have each owner, in the order in which they come."""
+    animals = next_book.animals.values()
+    counts = collections.Counter(itertools.compress(map(OWNER_OF, animals), map(LINE_OF, animals)))
+    del counts[""]
+    return counts
 
 
 def tell_renamed_owners(next_book: NextBook) -> None:
@@ -67,7 +76,7 @@ def tell_renamed_owners(next_book: NextBook) -> None:
 
 def tell_owners_alike(next_book: NextBook) -> None:
     """Names of the sheet's rows that differ in case, accents, umlauts, blanks or signs alone."""
-    animals = collections.Counter(one.owner for one in next_book.animals.values() if one.line and one.owner)
+    animals = owners_of_rows(next_book)
     alike = collections.defaultdict[str, list[Spelling]](list)
     for owner, count in sorted(animals.items()):
         for name in {plain(owner), plain(owner.casefold().translate(UMLAUTS))}:
@@ -92,7 +101,7 @@ MOST_WITHIN = 5
 
 def tell_doubtful_owners(next_book: NextBook, owners_before: set[str]) -> None:
     """New owners whose name reads like an exit or a day, or has the names of others in it."""
-    rows = collections.Counter(one.owner for one in next_book.animals.values() if one.line and one.owner)
+    rows = owners_of_rows(next_book)
     words = {owner: f" {' '.join(WORD.findall(owner.casefold()))} " for owner in {*rows, *owners_before}}
     for owner, count in rows.items():
         if owner in owners_before:
@@ -107,10 +116,11 @@ def tell_doubtful_owners(next_book: NextBook, owners_before: set[str]) -> None:
 
 def tell_born_dead(next_book: NextBook) -> None:
     """New animals whose name says that they never lived."""
-    named = [one for one in next_book.animals.values() if one.line and one.name and not one.left]
-    together = "\n".join({one.name for one in named}).casefold()
+    animals = next_book.animals.values()
+    together = "\n".join({*itertools.compress(map(NAME_OF, animals), map(LINE_OF, animals))}).casefold()
     if not any(begin in together for begin in BEGINS_BORN_DEAD):
         return
+    named = [one for one in animals if one.line and one.name and not one.left]
     likely = {name for name in {one.name for one in named} if has_word(name, KNOWN_BORN_DEAD)}
     for animal in named:
         if animal.name in likely and animal.id not in next_book.book.society_records:
@@ -128,25 +138,23 @@ def is_no_name(owner: str) -> bool:
 def tell_mistyped_owners(next_book: NextBook, owners_before: set[str]) -> None:
     """Names of few rows that are those of many but for one letter, or for two that are swapped. One that the book had
     before was told when it came."""
-    rows = collections.defaultdict[str, list[SheetAnimal]](list)
-    for animal in next_book.animals.values():
-        if animal.line and animal.owner:
-            rows[animal.owner].append(animal)
+    rows = owners_of_rows(next_book)
     # of two names that differ by a letter each has one without one of its letters
     pieces = collections.defaultdict[str, list[str]](list)
-    for owner, its in rows.items():
-        if len(its) >= TIMES and len(owner) >= SHORT:
+    for owner, count in rows.items():
+        if count >= TIMES and len(owner) >= SHORT:
             for piece in without_a_letter(owner):
                 pieces[piece].append(owner)
-    for owner, its in rows.items():
-        if len(its) > FEW or len(owner) < SHORT or owner in owners_before:
+    for owner, count in rows.items():
+        if count > FEW or len(owner) < SHORT or owner in owners_before:
             continue
         likely = dict.fromkeys(one for piece in without_a_letter(owner) for one in pieces.get(piece, ()))
-        near = [one for one in likely if len(rows[one]) >= TIMES * len(its) and differ_by_one(owner, one)]
+        near = [one for one in likely if rows[one] >= TIMES * count and differ_by_one(owner, one)]
         if near:
-            meant = max(near, key=lambda one: len(rows[one]))
-            found = OwnerMistyped(Spelling(owner, len(its)), Spelling(meant, len(rows[meant])))
-            next_book.report.add(its[0].line, its[0].id, found)
+            meant = max(near, key=lambda one: rows[one])
+            first = next(one for one in next_book.animals.values() if one.line and one.owner == owner)
+            found = OwnerMistyped(Spelling(owner, count), Spelling(meant, rows[meant]))
+            next_book.report.add(first.line, first.id, found)
 
 
 def without_a_letter(text: str) -> list[str]:

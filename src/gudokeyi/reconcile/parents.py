@@ -4,16 +4,17 @@ from __future__ import annotations
 
 import collections
 import functools
-from collections.abc import Mapping
+import itertools
+from collections.abc import Collection, Mapping
 
 from gudokeyi.domain.findings import Finding, Report
 from gudokeyi.domain.kinds import Field, Role, Standing
 from gudokeyi.domain.pedigree_order import ancestors
 from gudokeyi.domain.requests import MOST_IN_ID
 from gudokeyi.domain.spelling import SameLetters
-from gudokeyi.ingest.animals import Link, SheetAnimal, links_outside
+from gudokeyi.ingest.animals import LINE_OF, Link, SheetAnimal, links_outside
 from gudokeyi.ingest.findings.cells import TextTooLong
-from gudokeyi.ingest.texts import nearly
+from gudokeyi.ingest.texts import nearly, without_accents
 from gudokeyi.reconcile.findings.parents import AddedAsParent, FoundByName, FoundByNearId, FoundInBook, FoundWithin
 from gudokeyi.reconcile.findings.plausibility import LikeNoId, MayBeUnknown, MoreMayBeUnknown
 from gudokeyi.reconcile.near_names import NearNames, have_digits, is_like_word
@@ -30,7 +31,6 @@ SEVERAL, MOST_WORDS = 2, 9
 FEW = 5
 # and so few may be names with more or less than these
 FEW_NAMED = 50
-WITHOUT_ROW = Standing.PARENT
 FIELDS = {Role.SIRE: Field.SIRE, Role.DAM: Field.DAM}
 
 
@@ -52,13 +52,27 @@ class Names:
                 named[animal.name.casefold()].append(animal)
         return named
 
-    def find_parents(self, rows: dict[str, SheetAnimal], book: Book) -> None:
-        """A parent that is no animal's id, but the name of one alone, is taken for that one where it can be it. What is
-        the parent in the book stays it, whatever other animals have its name."""
-        with_id = rows.keys() | ids_given(book)
-        ids = {in_book.registration_number: id for id, in_book in book.society_records.items()}
+    @functools.cached_property
+    def unaccented(self) -> dict[str, list[SheetAnimal]]:
+        """The same without accents, which capitals often lack."""
+        if self.before:
+            return self.before.unaccented
+        found: collections.defaultdict[str, list[SheetAnimal]] = collections.defaultdict(list)
+        for name, animals in self.named.items():
+            found[without_accents(name)] += animals
+        return found
+
+    def same(self, name: str) -> list[SheetAnimal]:
+        """The animals of a name, or else those that have it with other accents."""
+        key = name.casefold()
+        return self.named.get(key) or self.unaccented.get(without_accents(key)) or []
+
+    def find_parents(self, rows: dict[str, SheetAnimal], next_book: NextBook, with_id: Collection[str]) -> None:
+        """A parent that is none of the ids that were given, but the name of one animal alone, is taken for that one
+        where it can be it. What is the parent in the book stays it, whatever other animals have its name."""
+        book, ids = next_book.book, next_book.in_book.ids
         links = links_outside(rows.values(), with_id)
-        links = [(offspring, role, text) for offspring, role, text in links if text.casefold() in self.named]
+        links = [(offspring, role, text) for offspring, role, text in links if self.same(text)]
         others = {
             (role, text.casefold()) for offspring, role, text in links if not self.possible(offspring, role, text)
         }
@@ -80,8 +94,7 @@ class Names:
 
     def others(self, offspring: SheetAnimal, name: str) -> list[SheetAnimal]:
         """The animals of a name, but for the offspring itself."""
-        same = self.named.get(name.casefold(), ())
-        return [one for one in same if one is not offspring and self.animals.get(one.id) is one]
+        return [one for one in self.same(name) if one is not offspring and self.animals.get(one.id) is one]
 
     def add_parents(self) -> None:
         """A founder for each parent without a row."""
@@ -103,7 +116,7 @@ class Names:
     @functools.cached_property
     def without_row(self) -> list[Link]:
         """The parents without a row, each with its offspring."""
-        with_row = {id for id, animal in self.animals.items() if animal.line}
+        with_row = {*itertools.compress(self.animals, map(LINE_OF, self.animals.values()))}
         return links_outside(self.animals.values(), with_row)
 
     @functools.cached_property
@@ -178,12 +191,6 @@ def may_be_unknown(report: Report) -> list[Finding]:
     return [one for one in findings if isinstance(one, (MayBeUnknown, MoreMayBeUnknown))]
 
 
-def ids_given(book: Book) -> set[str]:
-    """The ids that animals of the book were given, by a row or by hand; that of a parent without one is the text of a
-    cell."""
-    return {id for id, in_book in book.society_records.items() if in_book.standing is not WITHOUT_ROW}
-
-
 def can_be(parent: SheetAnimal, role: Role, offspring: SheetAnimal) -> bool:
     """Do its sex and its birth leave open that it is an offspring's parent?"""
     return parent.sex in ("", role.sex) and parent.birth.first < offspring.birth.last
@@ -217,7 +224,7 @@ def found(parent: SheetAnimal, role: Role, text: str) -> Finding:
         return FoundByNearId(role, text, parent.id)
     if nearly(parent.id) in nearly(text):
         return FoundWithin(role, text, parent.id)
-    is_name = parent.name.casefold() == text.casefold()
+    is_name = without_accents(parent.name.casefold()) == without_accents(text.casefold())
     return FoundByName(role, text, parent.id) if is_name else FoundInBook(role, text, parent.id)
 
 

@@ -2,17 +2,18 @@
 from __future__ import annotations
 
 import re
-from collections.abc import Iterator, Mapping
+from collections.abc import Iterator, Mapping, Set
 
 from gudokeyi.domain.findings import Report
 from gudokeyi.ingest.animals import SheetAnimal, links_outside
 from gudokeyi.ingest.texts import nearly
-from gudokeyi.reconcile.findings.parents import EitherParent, FoundWithin, NamedByRelation
-from gudokeyi.reconcile.parents import can_be, ids_given
-from gudokeyi.store.book import Book
+from gudokeyi.reconcile.findings.parents import BothParents, EitherParent, FoundWithin, NamedByRelation
+from gudokeyi.reconcile.parents import can_be
 
 # what stands between two animals of which one is the parent, and between an id and a name
-EITHER = re.compile(r"\s+(?:oder|od\.?|or|ou|bzw\.?|resp\.?)\s+|\s*/\s*oder\s*|\s+\?\s+", re.IGNORECASE)
+EITHER = re.compile(r"\s+(?:oder|od\.?|o\.|or|ou|bzw\.?|resp\.?)\s+|\s*/\s*oder\s*|\s+\?\s+", re.IGNORECASE)
+# what stands between a sire and a dam
+WITH = re.compile(r"\s+[x×]\s+", re.IGNORECASE)
 # so many words of a text are looked at
 MOST_WORDS = 12
 # what says that another animal is named
@@ -28,16 +29,18 @@ BETWEEN = re.compile(r"\s*[/;,()\[\]|]\s*|\s+[-–—]\s+")
 class ParentsInTexts:
     """`animals` are those of the sheet and of the book."""
 
-    def __init__(self, rows: dict[str, SheetAnimal], animals: Mapping[str, SheetAnimal], book: Book) -> None:
-        self.rows, self.animals, self.book = rows, animals, book
+    def __init__(
+        self, rows: dict[str, SheetAnimal], animals: Mapping[str, SheetAnimal], with_id: Set[str]
+    ) -> None:  # fmt: skip
+        """`with_id` are the ids that were given."""
+        self.rows, self.animals, self.with_id = rows, animals, with_id
 
     def find(self, report: Report) -> None:
-        with_id = self.rows.keys() | ids_given(self.book)
-        links = links_outside(self.rows.values(), with_id)
+        links = links_outside(self.rows.values(), self.with_id)
         links = [link for link in links if " " in link[2] or BETWEEN.search(link[2])]
         if not links:
             return
-        self.ids = {nearly(id): id for id in with_id & self.animals.keys()}
+        self.ids = {nearly(id): id for id in self.with_id & self.animals.keys()}
         self.names = {animal.name.casefold() for animal in self.animals.values() if animal.name}
         for offspring, role, text in links:
             if nearly(text) in self.ids or text.casefold() in self.names:
@@ -45,6 +48,10 @@ class ParentsInTexts:
             if RELATED.search(text) and [*self.named(text)]:
                 offspring.set_parent(role, "")
                 report.add(offspring.line, offspring.id, NamedByRelation(role, text))
+                continue
+            if self.are_pair(text):
+                offspring.set_parent(role, "")
+                report.add(offspring.line, offspring.id, BothParents(role, text))
                 continue
             if len([part for part in EITHER.split(text) if part.strip()]) > 1:
                 offspring.set_parent(role, "")
@@ -57,6 +64,11 @@ class ParentsInTexts:
             elif found and (id := found.pop()) != offspring.id and can_be(self.animals[id], role, offspring):
                 offspring.set_parent(role, id)
                 report.add(offspring.line, offspring.id, FoundWithin(role, text, id))
+
+    def are_pair(self, text: str) -> bool:
+        """Does it name two animals that are known, as `Max x Rosi`?"""
+        parts = WITH.split(text)
+        return len(parts) == 2 and all(nearly(one) in self.ids or one.casefold() in self.names for one in parts)
 
     def named(self, text: str) -> Iterator[str]:
         """The animals whose ids are parts of a text, or stand before or behind some of its words: there an id has

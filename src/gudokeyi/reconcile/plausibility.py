@@ -5,13 +5,17 @@ from __future__ import annotations
 
 import collections
 import datetime
+import itertools
 import operator
 from collections.abc import Collection, Iterable, Mapping, Sequence
 from typing import TYPE_CHECKING
 
 from gudokeyi.domain.findings import Report
 from gudokeyi.domain.kinds import Field, Role
-from gudokeyi.ingest.animals import DAM, SIRE, YEARS_LATER, SheetAnimal
+from gudokeyi.ingest.animals import (
+    BORN_OF, CASTRATED_OF, DAM, DAM_OF, ID_OF, NAME_OF, SIRE, SIRE_OF, YEARS_LATER, SheetAnimal,
+)  # fmt: skip
+from gudokeyi.ingest.days import Precision
 from gudokeyi.reconcile.findings.by_hand import YoungParent
 from gudokeyi.reconcile.findings.plausibility import (
     BirthsTooNear, CastratedSire, ColumnsSwapped, ManyOldAsLiving, NameAndDayTwice, OldAsLiving, SireLeftLongBefore,
@@ -26,6 +30,8 @@ if TYPE_CHECKING:
 # births of one litter or of twins may be so many days from one another
 LITTER = 3
 YEAR = 365
+# the day of birth of a parent that isn't known is long before all others
+NEVER = -(10**9)
 # an animal that is so many years older than half of the living ones has probably left
 DECADES = 20
 # more than so many, and than one of fifty, are no odd ones
@@ -65,15 +71,26 @@ class PlausibilityChecks:
 
     def tell_families(self) -> None:
         """What is told of parents, offspring, and animals that are there twice."""
-        dated = [animal for animal in self.animals.values() if animal.has_day()]
-        days = {id: animal.born.toordinal() for id, animal in self.animals.items()}
+        dated = [animal for animal in self.animals.values() if animal.birth.precision is Precision.DAY]
+        days = dict(zip(self.animals, map(datetime.date.toordinal, map(BORN_OF, self.animals.values()))))
         left = {id: animal.left for id, animal in self.animals.items() if animal.left}
-        for animal in dated:
+        for animal in self.likely_too_young(dated, days, left):
             if animal.line or animal.id in self.filed:
                 self.look_at_parents(animal, days, left)
         self.look_at_dams(dated, days)
         self.look_at_castrated()
         self.look_at_names(dated)
+
+    def likely_too_young(
+        self, dated: Sequence[SheetAnimal], days: Mapping[str, int], left: Collection[str]
+    ) -> list[SheetAnimal]:
+        """Those with a parent that was young at the birth, or not older, or with a sire that left."""
+        never, youngest = itertools.repeat(NEVER), self.limits.youngest
+        ages = zip(dated, *(map(days.get, map(of, dated), never) for of in (ID_OF, SIRE_OF, DAM_OF)))
+        return [
+            animal for animal, day, of_sire, of_dam in ages
+            if day - of_sire < youngest or day - of_dam < youngest or animal.sire in left
+        ]  # fmt: skip
 
     def look_at_parents(
         self, offspring: SheetAnimal, days: Mapping[str, int], left: Mapping[str, datetime.date]
@@ -95,22 +112,30 @@ class PlausibilityChecks:
             self.report.add(offspring.line, offspring.id, found)
 
     def look_at_dams(self, dated: Sequence[SheetAnimal], born: Mapping[str, int]) -> None:
+        borne = [animal for animal in dated if animal.dam and not animal.embryo]
+        births = collections.defaultdict[str, list[int]](list)
+        for dam, day in zip(map(DAM_OF, borne), map(born.__getitem__, map(ID_OF, borne))):
+            births[dam].append(day)
+        likely = {dam for dam, its in births.items() if len(its) > 1 and self.are_near(sorted(its))}
         progeny = collections.defaultdict(list)
-        for animal in dated:
-            if animal.dam and not animal.embryo:
-                progeny[animal.dam].append(animal)
+        for animal in itertools.compress(borne, map(likely.__contains__, map(DAM_OF, borne))):
+            progeny[animal.dam].append(animal)
         by_age = operator.attrgetter("born", "line")
         for dam, its in progeny.items():
-            if len(its) > 1:
-                its.sort(key=by_age)
+            its.sort(key=by_age)
             for before, offspring in zip(its, its[1:]):
                 days = born[offspring.id] - born[before.id]
                 if LITTER < days < self.limits.apart and (self.is_new(offspring) or self.is_new(before)):
                     found = BirthsTooNear(dam, before.id, before.line, days, self.limits.apart)
                     self.report.add(offspring.line, offspring.id, found)
 
+    def are_near(self, days: Sequence[int]) -> bool:
+        """Are any two births that follow one another too near for two litters?"""
+        apart = self.limits.apart
+        return bool([1 for before, after in zip(days, days[1:]) if LITTER < after - before < apart])
+
     def look_at_castrated(self) -> None:
-        castrated = {id for id, animal in self.animals.items() if animal.castrated}
+        castrated = {*itertools.compress(self.animals, map(CASTRATED_OF, self.animals.values()))}
         progeny = collections.defaultdict(list)
         for animal in self.animals.values() if castrated else ():
             if animal.sire in castrated:
@@ -123,9 +148,11 @@ class PlausibilityChecks:
     def look_at_names(self, dated: Sequence[SheetAnimal]) -> None:
         """Animals with one name and birth day. Many sheets have names that stand for none, as `Lamm`, at each."""
         alike = collections.defaultdict[tuple[str, datetime.date], list[SheetAnimal]](list)
-        for animal in dated:
-            if animal.name:
-                alike[animal.name.casefold(), animal.born].append(animal)
+        names = [*map(str.casefold, map(NAME_OF, dated))]
+        counts = collections.Counter(names)
+        for animal, name in zip(dated, names):
+            if name and counts[name] > 1:
+                alike[name, animal.born].append(animal)
         for pair in alike.values():
             if len(pair) == 2 and any(map(self.is_new, pair)):
                 first, second = sorted(pair, key=self.is_new)

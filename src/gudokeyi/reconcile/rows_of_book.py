@@ -3,6 +3,7 @@ and by themselves they change nothing: what changes something is looked for in t
 from __future__ import annotations
 
 import functools
+import itertools
 import operator
 from collections.abc import Iterable, Mapping
 from dataclasses import dataclass
@@ -13,6 +14,7 @@ from gudokeyi.domain.kinds import Role, Standing
 from gudokeyi.domain.provenance import GIVEN_BIRTH, GIVEN_EXIT, SexSource
 from gudokeyi.ingest.animals import SheetAnimal
 from gudokeyi.ingest.days import Span
+from gudokeyi.reconcile.animals_of_book import AnimalsOfBook
 from gudokeyi.store.book import Book
 
 # what a row says of its animal, and what was found in place of what it doesn't say
@@ -20,6 +22,7 @@ VALUES = operator.attrgetter(
     "name", "sex", "birth", "sire", "dam", "owner", "left", "embryo", "castrated", "owner_before", "unread",
     "birth_basis", "exit_basis", "sex_source",
 )  # fmt: skip
+SINCE_OF = operator.attrgetter("since")
 # of a row that has all in its cells
 ALL_GIVEN: tuple[object, ...] = ("", [], GIVEN_BIRTH, GIVEN_EXIT, SexSource.GIVEN)
 
@@ -43,10 +46,10 @@ class RowsOfBook:
     """What the rows of a book's animals say where they say nothing new. Animals of which something was inferred or
     filed by hand have no such row."""
 
-    def __init__(self, book: Book) -> None:
-        self.society_records, self.records, self.owners = book.society_records, book.records, {**book.owners}
+    def __init__(self, book: Book, in_book: AnimalsOfBook) -> None:
+        self.in_book, self.owners = in_book, {**book.owners}
+        self.society_records, self.records, self.ids = in_book.society_records, in_book.records, in_book.ids
         self.names = {NO_OWNER: "", **{code: owner for owner, code in self.owners.items()}}
-        self.ids = {"": "", **{in_book.registration_number: id for id, in_book in self.society_records.items()}}
         pairs = ((in_book, self.records[in_book.registration_number]) for in_book in self.society_records.values())
         self.values = {
             in_book.id: self.values_of(in_book, record) for in_book, record in pairs
@@ -55,8 +58,7 @@ class RowsOfBook:
 
     def is_of(self, book: Book) -> bool:
         """Are these still the rows of a book, whose animals were read once for both?"""
-        is_read_once = self.society_records is book.society_records and self.records is book.records
-        return is_read_once and self.owners == book.owners
+        return self.in_book.is_of(book) and self.owners == book.owners
 
     def values_of(self, in_book: SocietyRecord, record: RegisterRecord) -> tuple[object, ...]:
         return (
@@ -67,11 +69,11 @@ class RowsOfBook:
 
     def others(self, rows: Mapping[str, SheetAnimal]) -> dict[str, SheetAnimal]:
         """The rows that may say something else."""
-        said = self.values.get
-        return {
-            id: row for id, row in rows.items()
-            if said(id) != VALUES(row) or row.since is not None and not self.has_since(row.since, id)
-        }  # fmt: skip
+        are_others = map(operator.ne, map(self.values.get, rows), map(VALUES, rows.values()))
+        others = {*itertools.compress(rows, are_others)}
+        with_day = [(id, since) for id, since in zip(rows, map(SINCE_OF, rows.values())) if since and id not in others]
+        others.update(id for id, since in with_day if not self.has_since(since, id))
+        return {id: row for id, row in rows.items() if id in others} if others else {}
 
     def has_since(self, since: Span, id: str) -> bool:
         return since.has(self.records[self.society_records[id].registration_number].since)
@@ -107,7 +109,8 @@ class RowsOfBook:
 def is_given(in_book: SocietyRecord) -> bool:
     """Has a row all that the book has of it?"""
     return (
-        in_book.standing is Standing.ROW and not in_book.by_hand and not in_book.birth.is_inferred
-        and in_book.birth == GIVEN_BIRTH and in_book.exit == GIVEN_EXIT and in_book.sex is SexSource.GIVEN
+        in_book.standing is Standing.ROW and not in_book.by_hand and in_book.sex is SexSource.GIVEN
+        and (in_book.birth is GIVEN_BIRTH or in_book.birth == GIVEN_BIRTH)
+        and (in_book.exit is GIVEN_EXIT or in_book.exit == GIVEN_EXIT)
         and not in_book.written_sire and not in_book.written_dam
     )  # fmt: skip

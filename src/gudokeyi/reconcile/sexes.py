@@ -3,13 +3,14 @@ are invented so that nothing is refused for them."""
 from __future__ import annotations
 
 import collections
+import itertools
 from collections.abc import Mapping
 from typing import NamedTuple
 
 from gudokeyi.domain.findings import Report
 from gudokeyi.domain.kinds import Field, Role
 from gudokeyi.domain.provenance import SexSource
-from gudokeyi.ingest.animals import DAM_OF, SIRE_OF, Link, SheetAnimal
+from gudokeyi.ingest.animals import DAM_OF, ID_OF, NAME_OF, SEX_OF, SIRE_OF, UNREAD_OF, Link, SheetAnimal
 from gudokeyi.reconcile.findings.animals import SexInferred, SexNotKnown
 from gudokeyi.reconcile.findings.parents import Couple, NoSexesFit, ParentsSwapped
 from gudokeyi.reconcile.findings.same_animals import SexAgainstOffspring
@@ -19,17 +20,21 @@ from gudokeyi.reconcile.plausibility import FEW_REFUSED
 # Sexes of animals whose rows don't say them: as parents they are, or as in the book.
 
 
-def leave_out_unread_sexes(next_book: NextBook) -> None:
-    """The row of an animal whose sex can't be read is left out, where neither the book nor any offspring says it."""
+def leave_out_unread_sexes(next_book: NextBook, are_all_there: bool) -> None:
+    """The row of an animal whose sex can't be read is left out, where neither the book nor any offspring says it; where
+    all parents are there, and each animal has a sex, nobody is asked for one."""
     animals, roles = next_book.animals, next_book.roles
+    unread = [*itertools.compress(animals, map(UNREAD_OF, animals.values()))]
+    if are_all_there and not unread and all(map(SEX_OF, animals.values())):
+        return
     sires, dams = (collections.Counter(map(parent_of, animals.values())) for parent_of in (SIRE_OF, DAM_OF))
     del sires[""], dams[""]
     roles |= dict.fromkeys(sires, Role.SIRE) | dict.fromkeys(dams, Role.DAM)
     for parent in sires.keys() & dams.keys():
         roles[parent] = role_of_both(next_book, parent, sires[parent], dams[parent])
-    for id, animal in list(animals.items()):
-        if "sex" in animal.unread and not roles.get(id) and not next_book.book.society_records.get(id):
-            next_book.report.add(animal.line, id, SexNotKnown())
+    for id in unread:
+        if "sex" in animals[id].unread and not roles.get(id) and not next_book.book.society_records.get(id):
+            next_book.report.add(animals[id].line, id, SexNotKnown())
             del animals[id]
 
 
@@ -87,13 +92,14 @@ def may_disagree(next_book: NextBook, gone: Mapping[str, SheetAnimal]) -> bool:
     all_animals, known = [*next_book.animals.values(), *gone.values()], next_book.book.society_records
     parents = (Role.SIRE, SIRE_OF), (Role.DAM, DAM_OF)
     texts = {role.sex: {text.casefold() for text in {*map(parent_of, all_animals)}} for role, parent_of in parents}
-    for animal in next_book.animals.values():
-        if animal.sex:
-            others = texts["F" if animal.sex == "M" else "M"]
-            if animal.id.casefold() in others or (animal.name and animal.name.casefold() in others):
-                return True
-            if animal.id in known and known[animal.id].registration_number[6] != animal.sex:
-                return True
+    animals = next_book.animals.values()
+    for sex, other in ("M", "F"), ("F", "M"):
+        those = [animal for animal in animals if animal.sex == sex]
+        own = {*map(str.casefold, map(ID_OF, those)), *map(str.casefold, map(NAME_OF, those))} - {""}
+        if not own.isdisjoint(texts[other]):
+            return True
+        if known and any(one.id in known and known[one.id].registration_number[6] != sex for one in those):
+            return True
     return False
 
 
@@ -134,11 +140,10 @@ def animals_named(animals: Mapping[str, SheetAnimal]) -> dict[str, str]:
 def find_sexes(next_book: NextBook) -> None:
     """An animal without a sex has that of the parent that it is, or else that of the book; else it is taken for a
     female, and stays one for that reason. One that was invented stays so where no row has the animal as a parent."""
-    rows = [animal for animal in next_book.animals.values() if animal.line]
+    without = [(id, animal) for id, animal in next_book.animals.items() if not animal.sex]
+    rows = [animal for animal in next_book.animals.values() if animal.line] if without else []
     parents_of_rows = {*map(SIRE_OF, rows), *map(DAM_OF, rows)}
-    for id, animal in next_book.animals.items():
-        if animal.sex:
-            continue
+    for id, animal in without:
         role, in_book = next_book.roles.get(id), next_book.book.society_records.get(id)
         if role:
             animal.sex, animal.sex_source = role.sex, SexSource(role.value)

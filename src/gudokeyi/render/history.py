@@ -5,9 +5,9 @@ from collections.abc import Iterator
 
 from gudokeyi.domain.cells import in_a_line
 from gudokeyi.domain.changes import Change
-from gudokeyi.domain.kinds import ChangeKind
 from gudokeyi.domain.messages import counted
 from gudokeyi.domain.wording import ENGLISH
+from gudokeyi.render.change_messages import message_of
 from gudokeyi.services.facts import Fact, Facts
 from gudokeyi.services.history import (
     AnimalChange,
@@ -15,41 +15,15 @@ from gudokeyi.services.history import (
     edition_after,
     entries_of,
     history_of,
-    numbers_taken_back,
     taken_back_by,
 )
 from gudokeyi.store.book import Book
 
-KINDS = {
-    ChangeKind.TAKE: "took the sheet {file}",
-    ChangeKind.PEDIGREE: "took the pedigree {file}",
-    ChangeKind.BIRTH: "filed a birth",
-    ChangeKind.PARENTS: "filed parents",
-    ChangeKind.TRANSFER: "filed a transfer",
-    ChangeKind.EXIT: "filed an exit",
-    ChangeKind.UNDO: "brought back the state after change {undone_to}",
-    ChangeKind.RESTORE: "restored the backup {file}",
-    ChangeKind.FOLDER: "took over the folder of version 0.11",
-    ChangeKind.CORRECTION: "corrected an animal",
-    ChangeKind.BATCH: "filed commands of another program",
-    ChangeKind.NOTE: "wrote a note",
-    ChangeKind.OWN_VALUES: "wrote own columns",
-    ChangeKind.OWN_COLUMNS: "set up own columns",
-    ChangeKind.MEMBER: "changed an owner's record",
-    ChangeKind.MERGE: "made one owner of two",
-    ChangeKind.ERASURE: "erased what was personal of an owner",
-    ChangeKind.LITTER: "filed a litter",
-    ChangeKind.TAKEN_BACK: "took back change {taken_back}",
-}
-
 
 def heading(change: Change) -> str:
     """A change in a line: its number and time, who made it, what it did, and how much of each it told."""
-    file = in_a_line(change.source.name) if change.source else ""
-    taken_back = ", ".join(numbers_taken_back(change))
-    what = KINDS[change.kind].format(file=file, undone_to=change.undone_to, taken_back=taken_back)
-    if change.kind is ChangeKind.UNDO and not change.undone_to:
-        what = "brought back the empty book"
+    text, named = message_of(change)
+    what = text.format(in_a_line(str(named)))
     counts = ", ".join(f"{count} {what}" for what, count in change.counts.items() if count)
     time = change.time.astimezone().strftime("%Y-%m-%d %H:%M:%S")
     return f"{change.number}  {time}  {change.login}: {what}" + (f" ({counts})" if counts else "")
@@ -81,7 +55,8 @@ def difference(one: AnimalChange) -> str:
         return "isn't in the book any more"
     others = [f"{said.title or 'note'} {in_a_line(said.after) or 'none'}" for said in one.others]
     if one.before is None:
-        said = ((fact, value_said(one.after, fact)) for fact in one.changed())
+        # its number says its sex
+        said = ((fact, value_said(one.after, fact)) for fact in one.changed() if fact is not Fact.SEX)
         return "new: " + "; ".join([*(f"{fact} {value}" for fact, value in said if value), *others])
     before, after = one.before, one.after
     others = [f"{told}, before {in_a_line(said.before) or 'none'}" for told, said in zip(others, one.others)]

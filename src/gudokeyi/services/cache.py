@@ -99,17 +99,27 @@ class StateKept:
 
     def __init__(self) -> None:
         self.kept: tuple[pathlib.Path, Stamp, BookState] | None = None
+        # the journal of that book, once it was read
+        self.journal_text: bytes | None = None
 
     def give(self, book: Book) -> None:
-        """The book has all animals."""
+        """The book has all animals, and the journal where it was kept."""
         if not book.is_there:
             return
         stamp = stamp_of(book)
         if self.kept and self.kept[:2] == (book.path, stamp):
             book.begin_with(self.kept[2])
+            if self.journal_text is not None:
+                book.journal_text = self.journal_text
         else:
-            self.kept = None
+            self.kept = self.journal_text = None
             self.kept = book.path, stamp, book.state()
+
+
+    def keep_journal(self, book: Book) -> None:
+        """That of the book to which all animals were given."""
+        if book.is_there and book.has_journal_text:
+            self.journal_text = book.journal_text
 
 
 # Files in the caches of who asks: nothing is lost where they go, and where none can be written there are none.

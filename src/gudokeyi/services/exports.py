@@ -158,6 +158,8 @@ def summed(book: Book, program: BookProgram) -> tuple[list[str], dict[int, int]]
     return order, elements
 
 
+# an animal's elements follow one another, and several of them are the same
+@functools.lru_cache(maxsize=64)
 def scaled(value: str) -> int:
     numerator, _, denominator = value.partition("/")
     below = int(denominator or 1)

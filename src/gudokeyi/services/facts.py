@@ -8,7 +8,7 @@ from dataclasses import dataclass
 from gudokeyi.domain.animals import NO_OWNER
 from gudokeyi.domain.kinds import ExitReason, Field
 from gudokeyi.domain.provenance import MarkedDay, UnknownExitDay
-from gudokeyi.domain.wording import Joined, Text, Told, Word
+from gudokeyi.domain.wording import SEXES, Joined, Text, Told, Word
 from gudokeyi.reconcile.owner_day_known import owner_day_known
 from gudokeyi.store.animal_rows import AnimalRow, birth_basis, exit_basis, society_record_of
 from gudokeyi.store.book import Book
@@ -19,6 +19,7 @@ class Fact(enum.StrEnum):
 
     ID = "id"
     STANDING = "standing"
+    SEX = "sex"
     NUMBER = "number"
     NAME = "name"
     BIRTH_DAY = "birth day"
@@ -60,6 +61,7 @@ def facts_of(row: AnimalRow, ids: Mapping[str, str], owners: Mapping[int, str]) 
     return {
         Fact.ID: row.id,
         Fact.STANDING: animal.standing,
+        Fact.SEX: SEXES[row.registration_number[6]],
         Fact.NUMBER: row.registration_number,
         Fact.NAME: row.name,
         Fact.BIRTH_DAY: birth_of(row),

@@ -5,6 +5,8 @@ from __future__ import annotations
 import contextlib
 import pathlib
 import sqlite3
+from collections.abc import Sequence
+from typing import NamedTuple
 
 from gudokeyi.domain.changes import Change
 from gudokeyi.domain.findings import Entry
@@ -19,7 +21,14 @@ from gudokeyi.store.legacy.files import keep_old_files
 from gudokeyi.store.transactions import begin_to_read
 
 
-def refresh(folder: pathlib.Path, seconds: float) -> str:
+class EntriesOfChange(NamedTuple):
+    """What a change told, as who made it has it still: so it isn't read again."""
+
+    change: Change
+    entries: Sequence[Entry]
+
+
+def refresh(folder: pathlib.Path, seconds: float, known: EntriesOfChange | None = None) -> str:
     """Writes them anew where they aren't fresh, of the book as it is now, whoever changes it meanwhile. Others who
     write them are waited for so long. Answers why it couldn't, in words."""
     path = path_of(folder)
@@ -27,7 +36,7 @@ def refresh(folder: pathlib.Path, seconds: float) -> str:
         # behind those that somebody else writes, so that they are never of an earlier change than what is there
         with turn(folder, seconds), contextlib.closing(connect(path, "rw")) as connection:
             begin_to_read(connection)
-            write_exports(Book(folder, connection))
+            write_exports(Book(folder, connection), known)
     except sqlite3.Error as error:
         return f"{', '.join(NAMES)} in {folder} couldn't be written ({error})"
     except OSError as error:
@@ -35,7 +44,7 @@ def refresh(folder: pathlib.Path, seconds: float) -> str:
     return ""
 
 
-def write_exports(book: Book) -> None:
+def write_exports(book: Book, known: EntriesOfChange | None) -> None:
     change = book.change
     if change is None or are_fresh(book.folder, change):
         return
@@ -44,14 +53,14 @@ def write_exports(book: Book) -> None:
     take_away_left(book.folder, NAMES, (DATABASE, LAST_BACKUP))
     with book.journal_read_beside():
         put(book.folder / IDS, ids_text(book, change), change.moment)
-        put(book.folder / REPORT, report_text(book, change), change.moment)
+        put(book.folder / REPORT, report_text(book, change, known), change.moment)
         put(book.folder / COMMANDS, book.command_file(), change.moment)
 
 
-def report_text(book: Book, change: Change) -> bytes:
+def report_text(book: Book, change: Change, known: EntriesOfChange | None = None) -> bytes:
     """What the change told."""
     semicolons = any(option.option == SEMICOLONS for option in change.options)
-    entries = entries_of(book, change)
+    entries = known.entries if known and known.change == change else entries_of(book, change)
     rows = [(entry.line or "", entry.id, entry.what, entry.why, change.number) for entry in entries]
     return table(REPORT_TITLES, zip(*rows), semicolons)
 

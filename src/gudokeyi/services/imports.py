@@ -17,7 +17,6 @@ from gudokeyi.reconcile.findings.plausibility import BirthsTooNear as BirthsTooN
 from gudokeyi.reconcile.import_options import ImportOptions as ImportOptions, rename_owners as rename_owners
 from gudokeyi.reconcile.outcome import BookAfter as BookAfter, Outcome as Outcome
 from gudokeyi.services.book_program import BookProgram
-from gudokeyi.services.pedigree_imports import call_for, import_pedigree
 from gudokeyi.services.sheet_imports import Bounds as Bounds, import_sheet
 from gudokeyi.store.transactions import anew_where_a_book_came
 
@@ -41,10 +40,13 @@ class Import:
 
     def call(self) -> Call:
         """How it is called in a terminal."""
-        return call_for(self.file, self.options) if self.is_pedigree else self.options.call(str(self.file.path))
+        return self.options.call(*["--pedigree"] * self.is_pedigree, str(self.file.path))
 
     def made(self, program: BookProgram, bounds: Bounds = contextlib.nullcontext) -> tuple[Outcome, list[str]]:
         """What it makes of the book, or for a preview would make; and what is to be told besides. The file is read
         within bounds. An `ImportRefused` says why nothing is taken."""
-        importing = import_pedigree if self.is_pedigree else import_sheet
+        importing = import_sheet
+        if self.is_pedigree:
+            # an import of a sheet would wait for it
+            from gudokeyi.services.pedigree_imports import import_pedigree as importing
         return anew_where_a_book_came(lambda: importing(self.file, self.options, program, bounds))

@@ -5,6 +5,7 @@ from __future__ import annotations
 import contextlib
 import pathlib
 from collections.abc import Iterator
+from typing import TYPE_CHECKING
 
 from gudokeyi.domain.changes import Change
 from gudokeyi.services.book_program import BookProgram
@@ -13,8 +14,12 @@ from gudokeyi.store.database import DATABASE as DATABASE, busy as busy
 from gudokeyi.store.legacy.files import is_old
 from gudokeyi.store.messages import BookFault as BookFault
 from gudokeyi.store.transactions import (
-    HeldOpen as HeldOpen, Overtaken as Overtaken, changing, no_book as no_book, reading, up_to_date as up_to_date,
+    HeldOpen as HeldOpen, Overtaken as Overtaken, changing, no_book as no_book, reading,
+    reading_up_to_date, up_to_date as up_to_date,
 )  # fmt: skip
+
+if TYPE_CHECKING:
+    from gudokeyi.services.folder_files import EntriesOfChange
 
 # so long exports wait for somebody who writes them, after a change of one's own
 SECONDS_FOR_EXPORTS = 600
@@ -37,8 +42,10 @@ def has_book(folder: pathlib.Path) -> bool:
 def opened(folder: pathlib.Path, program: BookProgram) -> Iterator[Book]:
     """The book as it is now, whoever changes it meanwhile; it has to be there."""
     take_over(folder, program)
-    up_to_date(folder)
-    with only_read(folder) as book:
+    with reading_up_to_date(folder) as connection:
+        if connection is None:
+            raise no_book(folder)
+        book = Book(folder, connection)
         yield book
     # whoever asks waits for less before the answer
     from gudokeyi.store.exports import are_fresh
@@ -102,8 +109,7 @@ def to_prepare(folder: pathlib.Path, program: BookProgram) -> Iterator[Book]:
     from gudokeyi.services.verification import verify
 
     take_over(folder, program)
-    up_to_date(folder)
-    with reading(folder) as connection:
+    with reading_up_to_date(folder) as connection:
         book = Book(folder, connection)
         verify(book, program, quickly=True)
         yield book
@@ -128,9 +134,9 @@ def there_to_change(folder: pathlib.Path, program: BookProgram) -> Iterator[Book
         yield book
 
 
-def export(folder: pathlib.Path) -> list[str]:
+def export(folder: pathlib.Path, known: EntriesOfChange | None = None) -> list[str]:
     """Writes the exports after a change; answers why it couldn't, in a sentence."""
     from gudokeyi.services.folder_files import refresh
 
-    told = refresh(folder, SECONDS_FOR_EXPORTS)
+    told = refresh(folder, SECONDS_FOR_EXPORTS, known)
     return [f"the change is made, but {told}: a later call writes them"] if told else []

@@ -3,7 +3,7 @@ from __future__ import annotations
 
 import contextlib
 
-from gudokeyi.domain.findings import Call, ImportRefused, Obstacle, Report
+from gudokeyi.domain.findings import ImportRefused, Obstacle, Report
 from gudokeyi.domain.kinds import Field
 from gudokeyi.domain.messages import Mistake, counted
 from gudokeyi.ingest.day_cells import DayCells
@@ -44,16 +44,11 @@ def import_pedigree(
     return outcome_of(import_options, program, prepare)
 
 
-def call_for(file: GivenFile, import_options: ImportOptions) -> Call:
-    """How a pedigree is imported in a terminal."""
-    return import_options.call("--pedigree", str(file.path))
-
-
 def import_pedigree_into(
     book: Book, file: GivenFile, import_options: ImportOptions, program: BookProgram, bounds: Bounds
 ) -> tuple[Outcome, Prepared | None]:
     """What a pedigree makes of a book, and the change that is to be made, none for a preview."""
-    call = call_for(file, import_options)
+    call = import_options.call("--pedigree", str(file.path))
     check_place(book, file.path)
     book.read_all()
     report = Report()

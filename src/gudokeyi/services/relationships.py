@@ -28,6 +28,8 @@ if TYPE_CHECKING:
 
 # so many pairs are asked for
 MOST_PAIRS = 2_000_000
+# of so many pairs the program is asked at once for what is told of a few
+PAIRS_AT_ONCE = 100
 
 
 @dataclass(frozen=True)
@@ -78,8 +80,12 @@ def relationships(book: Book, program: BookProgram, some: Sequence[str], others:
 
 def too_deep(book: Book, dams: Sequence[str], sires: Sequence[str]) -> list[Pair]:
     """The pairs whose offspring may have a path of parents that is too long: the program decides."""
-    deep = {number for number, steps in depths(book).items() if steps >= MOST_STEPS}
+    deep = deep_animals(book)
     return [(dam, sire) for dam in dams for sire in sires if dam in deep or sire in deep] if deep else []
+
+
+def deep_animals(book: Book) -> set[str]:
+    return {number for number, steps in depths(book).items() if steps >= MOST_STEPS}
 
 
 def depths(book: Book) -> dict[str, int]:
@@ -98,10 +104,18 @@ def refused_pairs(book: Book, program: BookProgram, pairs: Sequence[Pair]) -> It
         yield from ((dam, one.sire) for one in mating_answers(program.ask(words, book)) if one.is_refused)
 
 
-def coefficient_told(book: Book, program: BookProgram, dam: str, sire: str) -> str:
-    """What the program says that the offspring of a pair would have, as a fraction; nothing where it refuses them."""
-    told = {one.sire: one.fraction for one in mating_answers(program.ask(["mating", "--dam", dam, sire], book))}
-    return told.get(sire, "")
+def coefficients_told(book: Book, program: BookProgram, pairs: Sequence[Pair]) -> Iterator[tuple[Pair, str]]:
+    """The pairs, each with what the program says that their offspring would have, as a fraction; nothing where it
+    refuses them. It is asked for many at once, and answers for all pairs of the animals that are named."""
+    deep = deep_animals(book)
+    for first in range(0, len(pairs), PAIRS_AT_ONCE):
+        some = pairs[first : first + PAIRS_AT_ONCE]
+        named = dict.fromkeys(itertools.chain.from_iterable(some))
+        told = relationships_told(program.ask(["relationships", *named], book))
+        found = {frozenset((one, other)): relationship for one, other, relationship in told}
+        refused = {*refused_pairs(book, program, [pair for pair in some if not deep.isdisjoint(pair)])}
+        for pair in some:
+            yield pair, "" if pair in refused else of_offspring(found[frozenset(pair)]).fraction
 
 
 # Relationships and kinships of named animals, which the program computes.

@@ -3,13 +3,15 @@ nothing is refused, and told."""
 from __future__ import annotations
 
 import contextlib
+import itertools
 import pathlib
 from collections.abc import Callable
 from dataclasses import dataclass
 
 from gudokeyi.domain.changes import Option, Source
-from gudokeyi.domain.findings import Call, ImportRefused, StrictlyRefused, What
+from gudokeyi.domain.findings import Call, Entry, ImportRefused, Report, StrictlyRefused, What
 from gudokeyi.domain.kinds import Field, Remembered
+from gudokeyi.ingest.animals import LINE_OF
 from gudokeyi.ingest.files import GivenFile
 from gudokeyi.process import keep
 from gudokeyi.reconcile.all_animals import complete
@@ -83,8 +85,9 @@ def file(
     leave_out_early_exits(next_book)
     filing = Filing(next_book, OwnerDays(book, report, import_options.day))
     owners_before = set(book.owners)
-    # a new book of which nothing is refused has no faulty parents
-    filed = None if book.journal.length else filing.appended(program)
+    told_before = len(report.entries)
+    filed = filing.filed_at_once(program, import_options.preview)
+    told = cut_off(report, told_before) if book.journal.length else []
     if filed is None:
         leave_out_faulty_parents(next_book, program, filing.refuses_births)
     if next_book.is_pedigree and not import_options.leave_out:
@@ -95,6 +98,8 @@ def file(
         checks = PlausibilityChecks(next_book.animals, about.limits, report)
         checks.tell_births(book, next_book.rows_otherwise())
         checks.tell("exit" in next_book.given)
+    # what is told of owners' days comes behind what may be wrong
+    report.entries += told
     filed = filed or filing.filed(program, import_options.preview)
     tell_respelt_owners(next_book, owners_before)
     tell_owners_alike(next_book)
@@ -114,6 +119,13 @@ def file(
     )  # fmt: skip
 
 
+def cut_off(report: Report, at: int) -> list[Entry]:
+    """Takes away what was told from a place on, and answers it."""
+    told = report.entries[at:]
+    del report.entries[at:]
+    return told
+
+
 def refuse_unsaid_letters(next_book: NextBook, import_options: ImportOptions) -> None:
     """No book begins with letters that nobody said."""
     unsaid = letters_unsaid(next_book, import_options.breed, import_options.country)
@@ -125,10 +137,10 @@ def refuse_unsaid_letters(next_book: NextBook, import_options: ImportOptions) ->
 
 
 def book_after(next_book: NextBook, filed: Filed, import_options: ImportOptions, about: About) -> BookAfter:
-    book, animals = next_book.book, next_book.animals.values()
-    with_row = [animal for animal in animals if animal.line]
-    new = sum(animal.id not in book.society_records for animal in with_row)
-    added = sum(not animal.line and animal.id not in book.society_records for animal in animals)
+    book, animals = next_book.book, next_book.animals
+    with_row = [*itertools.compress(animals, map(LINE_OF, animals.values()))]
+    new = len([*itertools.filterfalse(book.society_records.__contains__, with_row)])
+    added = len([*itertools.filterfalse(book.society_records.__contains__, animals)]) - new
     return BookAfter(
         len(animals), new, about.invented, bool(book.records) and filed.keeps is not None,
         numbers_begin(next_book, import_options.breed, import_options.country), import_options.drop_gone, len(
@@ -182,10 +194,12 @@ def import_sheet_into(
     with bounds():
         read = read_animals(file, import_options, book, words, last)
     keep(book, read)
-    call_as_now(read.animals, book, read.report)
-    next_book = NextBook(book, read.animals, set(read.columns.found), read.report, read.rows.cells.days)
+    are_renamed = call_as_now(read.animals, book, read.report)
+    next_book = NextBook(
+        book, read.animals, set(read.columns.found), read.report, read.rows.cells.days, in_book=read.in_book
+    )
     if last and book.society_records:
-        next_book.compare(last.rows_of(book))
+        next_book.compare(last.rows_of(book), frozenset() if are_renamed else last.same_rows(book))
     complete(next_book, read.columns, import_options)
     own = find_own_columns(book, read.columns, import_options.own)
     understood = understood_of(path, read, again(words, import_options), titles_before(book), own)

@@ -1,25 +1,33 @@
-"""What is read of a sheet: its columns, and the animals of its rows. A process that looks at one sheet again and again
-keeps both, as long as nothing is different by which they were read."""
+"""What is read of a sheet, step by step: its columns, its rows as they are meant, their animals, and which of these say
+what the book has.
+
+A process that looks at one sheet again and again keeps what came of each step with all by which it was found, in
+`LastReading`. A step is made again where any of that is another now, and so are those that stand on it. Of rows that
+are read together (`ingest/plain_rows.py`) those alone are read again that have a text which may mean something else
+now. What an import finds of the animals is found anew by each look: its passes ask all of them at once."""
 from __future__ import annotations
 
 import datetime
 import functools
+import itertools
 import operator
-from collections.abc import Collection, Mapping
+from collections.abc import Collection, Iterable, Mapping
 from dataclasses import dataclass, field, fields
 
 from gudokeyi.domain.animals import NO_OWNER
 from gudokeyi.domain.findings import Entry, ImportRefused, Report
 from gudokeyi.domain.kinds import Field, Remembered
 from gudokeyi.domain.messages import MOST_NAMED
-from gudokeyi.ingest.animals import SheetAnimal
+from gudokeyi.ingest.animals import UNREAD_OF, SheetAnimal
 from gudokeyi.ingest.columns import Columns, find_columns
 from gudokeyi.ingest.files import GivenFile
+from gudokeyi.ingest.parents_beside import tell_parents_named_otherwise
 from gudokeyi.ingest.rows_as_meant import as_meant, member_numbered
 from gudokeyi.ingest.sheet_animals import Rows
 from gudokeyi.ingest.sheets import Sheet, read_sheet
 from gudokeyi.ingest.titles import known_titles, parts_of, read_given, read_sexes
 from gudokeyi.ingest.unknown_parents import UnknownParents
+from gudokeyi.reconcile.animals_of_book import AnimalsOfBook
 from gudokeyi.reconcile.findings.obstacles import NoRowTaken
 from gudokeyi.reconcile.import_options import ImportOptions, RememberedWords
 from gudokeyi.reconcile.rows_of_book import RowsOfBook
@@ -83,11 +91,17 @@ class Reading:
             return self.sheet
         return as_meant(self.sheet, self.columns, self.unknown, self.sure, report)
 
-    def animals(self, meant: Sheet, report: Report) -> tuple[Rows, dict[str, SheetAnimal]]:
-        rows = Rows(
-            meant, {name: at for name, at in self.columns.items() if name != Field.STATUS}, self.unknown, self.sexes,
-            report, self.month_first, self.born, self.no_animals, self.owners,
+    def rows(self, meant: Sheet, report: Report, before: Rows | None = None) -> Rows:
+        """The rows as they are meant; `before` are the last ones, where they may be of the same sheet."""
+        columns = {name: at for name, at in self.columns.items() if name != Field.STATUS}
+        is_same = before is not None and before.sheet is meant and before.columns == columns and Field.ID in columns
+        return Rows(
+            meant, columns, self.unknown, self.sexes, report, self.month_first, self.born, self.no_animals, self.owners,
+            before.plain if before and is_same else None,
         )  # fmt: skip
+
+    def animals(self, report: Report) -> tuple[Rows, dict[str, SheetAnimal]]:
+        rows = self.rows(self.meant(report), report)
         return rows, rows.animals() if Field.ID in self.columns else {}
 
 
@@ -115,29 +129,39 @@ class AnimalsRead:
 VALUES_OF = operator.attrgetter(*(one.name for one in fields(SheetAnimal)))
 
 
-def copied(animal: SheetAnimal) -> SheetAnimal:
-    """The same, of which something may be found; its cells stay as they are."""
-    copy = SheetAnimal(*VALUES_OF(animal))
-    if animal.unread:
-        copy.unread = [*animal.unread]
-    return copy
+def copied(animals: Iterable[SheetAnimal]) -> list[SheetAnimal]:
+    """The same, of which something may be found; their cells stay as they are."""
+    copies = [*itertools.starmap(SheetAnimal, map(VALUES_OF, animals))]
+    for animal in itertools.compress(copies, map(UNREAD_OF, copies)):
+        animal.unread = [*animal.unread]
+    return copies
+
+
+@dataclass
+class SameRows:
+    """Which of the plain rows, as they were read, say what the book has of their animals."""
+
+    animals: list[SheetAnimal]
+    rows_of_book: RowsOfBook
+    ids: set[str]
 
 
 class LastReading:
-    """What was read of a sheet last, and beside which rows of the book. Each is read again where anything is different
-    by which it was read."""
+    """What came of each step last, and beside which animals of the book."""
 
     def __init__(self) -> None:
         self.columns: ColumnsRead | None = None
         self.meant: RowsMeant | None = None
         self.animals: AnimalsRead | None = None
+        self.in_book: AnimalsOfBook | None = None
         self.rows_of_book: RowsOfBook | None = None
+        self.same: SameRows | None = None
 
     def columns_of(
         self, sheet: Sheet, given: Mapping[str, str], before: Mapping[str, str], unknown: UnknownParents,
         ids: Collection[str],
     ) -> Columns:  # fmt: skip
-        read_by = (dict(given), dict(before), unknown.more, unknown.known, [*ids])
+        read_by = (dict(given), dict(before), unknown.more, unknown.known, ids)
         last = self.columns
         if last is None or last.columns.sheet is not sheet or last.read_by != read_by:
             self.columns = last = ColumnsRead(read_by, find_columns(sheet, given, before, unknown, ids))
@@ -156,20 +180,36 @@ class LastReading:
         """The animals, and what is told of them."""
         last = self.animals
         if last is None or last.sheet is not reading.sheet or last.read_by != reading.read_by():
-            self.animals = None
-            rows, animals = reading.animals(self.meant_of(reading, report), report)
-            kept = {id: copied(animal) for id, animal in animals.items()}
-            self.animals = AnimalsRead(reading.sheet, reading.read_by(), rows, kept, [*report.entries])
-            return rows, animals
+            meant = self.meant_of(reading, report)
+            rows = reading.rows(meant, report, last.rows if last else None)
+            animals = rows.animals() if Field.ID in reading.columns else {}
+            self.animals = last = AnimalsRead(reading.sheet, reading.read_by(), rows, animals, [*report.entries])
         report.entries = [*last.entries]
-        return last.rows, {id: copied(animal) for id, animal in last.animals.items()}
+        return last.rows, dict(zip(last.animals, copied(last.animals.values())))
+
+    def animals_of_book(self, book: Book) -> AnimalsOfBook:
+        if self.in_book is None or not self.in_book.is_of(book):
+            self.in_book = AnimalsOfBook(book)
+        return self.in_book
 
     def rows_of(self, book: Book) -> RowsOfBook:
         """What the rows of the book's animals say."""
         if self.rows_of_book is None or not self.rows_of_book.is_of(book):
             self.rows_of_book = None
-            self.rows_of_book = RowsOfBook(book)
+            self.rows_of_book = RowsOfBook(book, self.animals_of_book(book))
         return self.rows_of_book
+
+
+    def same_rows(self, book: Book) -> set[str]:
+        """The ids of plain rows that say what the book has of their animals."""
+        if self.animals is None or Field.ID not in self.animals.rows.columns:
+            return set()
+        plain, rows_of_book = self.animals.rows.plain, self.rows_of(book)
+        last = self.same
+        if last is None or last.animals is not plain.animals or last.rows_of_book is not rows_of_book:
+            rows = plain.by_id()
+            self.same = last = SameRows(plain.animals, rows_of_book, rows.keys() - rows_of_book.others(rows).keys())
+        return last.ids - plain.odd_ids()
 
 
 # Both.
@@ -184,6 +224,7 @@ class ReadSheet:
     rows: Rows
     animals: dict[str, SheetAnimal]
     report: Report
+    in_book: AnimalsOfBook
 
 
 def read_columns(
@@ -194,7 +235,7 @@ def read_columns(
     before = titles_before(book) | read_given(words[Remembered.COLUMNS])
     sheet = sheet_of(file, frozenset({*before.values(), *now.values()}), import_options.worksheet)
     unknown = UnknownParents(words[Remembered.UNKNOWN], words[Remembered.KNOWN])
-    ids = [animal.id for animal in book.society_records.values() if animal.standing.had_row()]
+    ids = (last.animals_of_book(book) if last else AnimalsOfBook(book)).had_row
     before = {name: title for name, title in before.items() if name not in now}
     if last:
         return last.columns_of(sheet, now, before, unknown, ids)
@@ -218,20 +259,20 @@ def read_animals(
     """The animals of a sheet; else a mistake with all that keeps it from being read."""
     columns, report = read_columns(file, import_options, book, words, last), Report()
     sheet = columns.sheet
-    with_day = {id: animal for id, animal in book.society_records.items() if not animal.birth.is_inferred}
+    in_book = last.animals_of_book(book) if last else AnimalsOfBook(book)
     reading = Reading(
         sheet, columns.found, UnknownParents(words[Remembered.UNKNOWN], words[Remembered.KNOWN]),
         read_sexes(words[Remembered.SEXES]), bool(words[Remembered.MONTH_FIRST]), words[Remembered.TOLD],
-        frozenset({*book.society_records, *parts_of(import_options.animal)}),
-        {id: book.records[animal.registration_number].born for id, animal in with_day.items()}, names_of_owners(book),
+        frozenset({*book.society_records, *parts_of(import_options.animal)}), in_book.born, names_of_owners(book),
     )  # fmt: skip
-    rows, animals = last.animals_of(reading, report) if last else reading.animals(reading.meant(report), report)
+    rows, animals = last.animals_of(reading, report) if last else reading.animals(report)
     formulas = sheet.formulas.told([*columns.found.values()]) if sheet.formulas else []
     faults = [*sheet.faults, *formulas, *columns.faults, *rows.faults]
     if faults:
         raise ImportRefused(*faults)
+    tell_parents_named_otherwise(columns, animals, report)
     for finding in [*columns.notes, *rows.notes]:
         report.add(0, "", finding)
     if not animals:
         raise ImportRefused(NoRowTaken(str(file.path)), entries=report.entries[:MOST_NAMED])
-    return ReadSheet(sheet, columns, rows, animals, report)
+    return ReadSheet(sheet, columns, rows, animals, report, in_book)

@@ -3,7 +3,8 @@ from __future__ import annotations
 
 import datetime
 from collections.abc import Iterator
-from dataclasses import dataclass, replace
+from dataclasses import dataclass
+from typing import NamedTuple
 
 from gudokeyi.domain.animals import NO_OWNER
 from gudokeyi.domain.kinds import CommandKind
@@ -49,45 +50,55 @@ class Event:
         )  # fmt: skip
 
 
+class Happened(NamedTuple):
+    """The same before it is known what the parents are called."""
+
+    kind: CommandKind
+    day: str
+    row: AnimalRow
+    owner: str
+    from_owner: str = ""
+
+
 def events_of(book: Book, year: int) -> list[Event]:
     """In the order of their days; births of animals that have no row of their own are none of the society's."""
     if not FIRST <= year <= LAST:
         raise InvalidValue(NotSuch.YEAR.said(text=year, first=FIRST, last=LAST))
     first, last = datetime.date(year, 1, 1), datetime.date(year, 12, 31)
     found = [*born_in(book, first, last), *left_in(book, first, last), *given_in(book, first, last)]
+    found.sort(key=lambda one: (one.day, one.kind.value, one.row.id))
     parents = {number for one in found for number in (one.row.sire, one.row.dam) if number}
     ids = dict(book.numbers_and_ids(among([*parents])))
-    named = (replace(one, sire=ids.get(one.row.sire or "", ""), dam=ids.get(one.row.dam or "", "")) for one in found)
-    return sorted(named, key=lambda one: (one.day, one.kind.value, one.row.id))
+    return [Event(*one, ids.get(one.row.sire or "", ""), ids.get(one.row.dam or "", "")) for one in found]
 
 
-def born_in(book: Book, first: datetime.date, last: datetime.date) -> Iterator[Event]:
+def born_in(book: Book, first: datetime.date, last: datetime.date) -> Iterator[Happened]:
     """With their owners at birth."""
     born = commands_between(book.connection, book.journal, CommandKind.BIRTH, first.isoformat(), last.isoformat())
     owner_codes = {one.animal: int(one.to_owner) for one in born}
     for row in book.rows(own() & born_between(first, last)):
-        yield event(book, CommandKind.BIRTH, row.born or "", row, owner_codes.get(row.registration_number))
+        yield happened(book, CommandKind.BIRTH, row.born or "", row, owner_codes.get(row.registration_number))
 
 
-def left_in(book: Book, first: datetime.date, last: datetime.date) -> Iterator[Event]:
+def left_in(book: Book, first: datetime.date, last: datetime.date) -> Iterator[Happened]:
     for row in book.rows(own() & left_between(first, last)):
-        yield event(book, CommandKind.EXIT, row.departed or "", row, row.owner_code)
+        yield happened(book, CommandKind.EXIT, row.departed or "", row, row.owner_code)
 
 
-def given_in(book: Book, first: datetime.date, last: datetime.date) -> Iterator[Event]:
+def given_in(book: Book, first: datetime.date, last: datetime.date) -> Iterator[Happened]:
     days = first.isoformat(), last.isoformat()
     given = list(commands_between(book.connection, book.journal, CommandKind.TRANSFER, *days))
     rows = {row.registration_number: row for row in book.rows(among([one.animal for one in given]))}
     for one in given:
         if one.animal in rows:
             giver = book.owner_of(int(one.from_owner))
-            yield event(book, CommandKind.TRANSFER, one.day, rows[one.animal], int(one.to_owner), giver)
+            yield happened(book, CommandKind.TRANSFER, one.day, rows[one.animal], int(one.to_owner), giver)
 
 
-def event(
+def happened(
     book: Book, kind: CommandKind, day: str, row: AnimalRow, owner_code: int | None, giver: str = ""
-) -> Event:
-    return Event(kind, day, row, book.owner_of(NO_OWNER if owner_code is None else owner_code), giver)
+) -> Happened:
+    return Happened(kind, day, row, book.owner_of(NO_OWNER if owner_code is None else owner_code), giver)
 
 
 def table_of(book: Book, year: int) -> Table:

@@ -100,7 +100,7 @@ class Accounts:
     def all(self) -> list[Account]:
         if not self.are_there:
             return []
-        with accounts_file.opened(self.path) as connection:
+        with accounts_file.opened(self.path, reads=True) as connection:
             rows = connection.execute("SELECT name, role FROM account ORDER BY folded")
             return [Account(name, AccountRole(role)) for name, role in rows]
 
@@ -187,7 +187,7 @@ class Accounts:
     def person_of(self, token: str) -> Person | None:
         """Who is logged in by a token."""
         chosen = "SELECT name, role, for_one_login FROM login JOIN account USING (folded) WHERE login.digest = ? AND began > ?"
-        with accounts_file.opened(self.path) as connection:
+        with accounts_file.opened(self.path, reads=True) as connection:
             row = connection.execute(chosen, (token_digest(token), int(self.clock()) - A_DAY)).fetchone()
         return Person(row[0], AccountRole(row[1]), bool(row[2])) if row else None
 

@@ -12,7 +12,7 @@ from collections.abc import Iterator
 
 from gudokeyi.domain.messages import Mistake
 from gudokeyi.domain.people import AccountRole
-from gudokeyi.store.database import connect, is_full, primary, statements
+from gudokeyi.store.database import connect, connect_to_whole, is_full, primary, statements, with_unfinished
 from gudokeyi.store.files import name_once
 from gudokeyi.store.messages import AccountFault, BookFault
 
@@ -51,10 +51,10 @@ CREATE TABLE signing (key BLOB NOT NULL) STRICT;
 
 
 @contextlib.contextmanager
-def opened(path: pathlib.Path) -> Iterator[sqlite3.Connection]:
-    """A connection for one question or change."""
+def opened(path: pathlib.Path, reads: bool = False) -> Iterator[sqlite3.Connection]:
+    """A connection for one question or change. One that only reads is there on a full disk too."""
     try:
-        with contextlib.closing(connect(path, "rw")) as connection:
+        with contextlib.closing(reader(path) if reads else connect(path, "rw")) as connection:
             yield connection
     except sqlite3.Error as error:
         if primary(error) == sqlite3.SQLITE_BUSY:
@@ -62,6 +62,19 @@ def opened(path: pathlib.Path) -> Iterator[sqlite3.Connection]:
         if is_full(path):
             raise Mistake(BookFault.NO_ROOM.said(path=path)) from None
         raise Mistake(AccountFault.CANT_BE_USED.said(error=str(error))) from None
+
+
+def reader(path: pathlib.Path) -> sqlite3.Connection:
+    """Where there is no room for what stands beside a file that is asked, and nothing is missing in that, it alone."""
+    connection = connect(path, "rw")
+    try:
+        connection.execute("SELECT count(*) FROM sqlite_schema").fetchone()
+        return connection
+    except sqlite3.Error:
+        connection.close()
+        if not is_full(path) or any(one.exists() and one.stat().st_size for one in with_unfinished(path)[1:]):
+            raise
+        return connect_to_whole(path)
 
 
 def make(path: pathlib.Path) -> None:

@@ -68,6 +68,12 @@ def connect(path: pathlib.Path, mode: str, check_same_thread: bool = True) -> sq
     return connection
 
 
+def connect_to_whole(path: pathlib.Path) -> sqlite3.Connection:
+    """One that reads a file alone, and writes nothing beside it."""
+    address = f"file:{urllib.parse.quote(os.fsencode(path.absolute()))}?mode=ro&immutable=1"
+    return sqlite3.connect(address, uri=True, isolation_level=None)
+
+
 def connect_to_hold(path: pathlib.Path) -> sqlite3.Connection:
     """One that any thread may close."""
     return connect(path, "ro", check_same_thread=False)

@@ -21,7 +21,7 @@ from gudokeyi.store.book import Book
 from gudokeyi.store.files import put, table
 from gudokeyi.store.history import change_numbered
 from gudokeyi.store.legacy.files import STANDINGS
-from gudokeyi.store.state import ALL_ROWS, NOW
+from gudokeyi.store.state import columns_of
 
 # When the last backup of a book was made. It is kept beside the database, since no backup has its own.
 
@@ -78,7 +78,7 @@ BASES = f"""
         json_array(
             birth_source, birth_period, birth_no_such_day, sex_source, exit_source, exit_period, exit_no_such_day,
             exit_text
-        )
+        ) || ''
     )
 """
 
@@ -112,11 +112,10 @@ def turn(folder: pathlib.Path, seconds: float) -> Iterator[None]:
 
 def ids_text(book: Book, change: Change) -> bytes:
     """Which number stands for which id, and what was inferred."""
-    found = book.connection.execute(f"SELECT number, id, name, standing, {BASES} FROM {ALL_ROWS} WHERE {NOW}")
-    columns: list[tuple[str, ...]] = [*zip(*found)]
-    if not columns:
-        return table(ID_TITLES, [])
+    columns = columns_of(book.connection, ("number", "id", "name", "standing", BASES))
     numbers, ids, names, standings, bases = columns
+    if not numbers:
+        return table(ID_TITLES, [])
     words = zip(*map(words_of, bases))
     # by their digits; SQLite would put the whole rows in order
     digits = [number[7:] + number for number in numbers]

@@ -6,7 +6,6 @@ import contextlib
 import pathlib
 import re
 import sqlite3
-import time
 from collections.abc import Iterator
 
 from gudokeyi.domain.messages import Mistake
@@ -17,8 +16,9 @@ COMMENT = re.compile(r"--[^\n]*")
 CONTROL = re.compile(r"[\x00-\x08\x0b-\x1f\x7f-\x9f\u2028\u2029]")
 # so long names and actors are at most: books of earlier versions have longer ones than are filed now
 MOST_LETTERS = 2_000
-# in microseconds since 1970 began: no change was made before 1990, and none later than tomorrow
-FIRST_TIME, A_DAY = 631_152_000_000_000, 86_400_000_000
+# in microseconds since 1970 began: the times that a clock tells, which may have been wrong as a book was changed, up to
+# the last day that a book has, in 2199
+FIRST_TIME, LAST_TIME = 1, 7_258_118_399_999_999
 # what is shown of a book, by its tables and columns
 TEXTS = {
     "change": ("login", "file", "path", "form"), "animal": ("id", "name", "exit_text", "written_sire", "written_dam"),
@@ -33,7 +33,7 @@ def refuse_foreign(connection: sqlite3.Connection, path: pathlib.Path) -> None:
         if tables_of(connection) != tables_of(own):
             raise Mistake(BackupFault.OTHER_TABLES.said(path=path))
     number = connection.execute(
-        "SELECT change FROM change WHERE time NOT BETWEEN ? AND ? LIMIT 1", (FIRST_TIME, time.time_ns() // 1000 + A_DAY)
+        "SELECT change FROM change WHERE time NOT BETWEEN ? AND ? LIMIT 1", (FIRST_TIME, LAST_TIME)
     ).fetchone()
     if number:
         raise Mistake(BackupFault.NO_TIME.said(path=path, change=number[0]))

@@ -1,6 +1,5 @@
-"""Who may be mated, as the book has them: one rule for advice on a dam, tables of pairs and plans. They are read in
-columns, each as one text, which takes half the time of rows. The living ones that have a row and aren't castrated may
-be mated, or those that left too."""
+"""Who may be mated, as the book has them: one rule for advice on a dam, tables of pairs and plans. The living ones that
+have a row and aren't castrated may be mated, or those that left too."""
 from __future__ import annotations
 
 import enum
@@ -13,7 +12,7 @@ from gudokeyi.domain.kinds import Role
 from gudokeyi.domain.provenance import BirthSource
 from gudokeyi.store.book import Book
 from gudokeyi.store.conditions import HAS_LEFT, IN_BOOK, LISTED, WITH_YEAR
-from gudokeyi.store.state import ALL_ROWS, NOW
+from gudokeyi.store.state import ALL_ROWS, NOW, columns_of
 
 # a birth day, or a list with all that it comes from where the sheet doesn't give it
 BIRTH = f"""
@@ -61,10 +60,7 @@ class MatesRead:
 
     def read(self, *columns: str) -> list[Any]:
         """Columns of all of the sex. Those of one state are always in the same order."""
-        asked = ", ".join(f"json_group_array({one})" for one in columns)
-        where = f"{NOW} AND {IN_BOOK} AND substr(number, 7, 1) = ?"
-        found = self.book.connection.execute(f"SELECT {asked} FROM {ALL_ROWS} WHERE {where}", (self.role.sex,))
-        return [json.loads(text) for text in found.fetchone()]
+        return columns_of(self.book.connection, columns, f"{IN_BOOK} AND substr(number, 7, 1) = ?", (self.role.sex,))
 
     @functools.cached_property
     def others(self) -> tuple[list[str], list[str], list[str]]:

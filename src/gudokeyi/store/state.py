@@ -3,6 +3,7 @@ owners are written."""
 from __future__ import annotations
 
 import itertools
+import json
 import operator
 import sqlite3
 import threading
@@ -143,6 +144,16 @@ def fetched(connection: sqlite3.Connection, asked: str, values: Sequence[object]
     read at once all of them wait there for each other, and take three times as long together."""
     with ONE_READS:
         return connection.execute(asked, values).fetchall()
+
+
+def columns_of(
+    connection: sqlite3.Connection, columns: Iterable[str], where: str = "true", values: Sequence[object] = ()
+) -> list[list[Any]]:
+    """Columns of all animals of the last state for which a condition holds, in one order. The database puts each
+    together as one text, which takes half the time of rows."""
+    asked = ", ".join(f"json_group_array({one})" for one in columns)
+    found = connection.execute(f"SELECT {asked} FROM {ALL_ROWS} WHERE {NOW} AND {where}", values).fetchone()
+    return [json.loads(text) for text in found]
 
 
 def select_rows(connection: sqlite3.Connection, where: str, *values: object) -> list[AnimalRow]:

@@ -45,6 +45,18 @@ def reading(folder: pathlib.Path) -> Iterator[sqlite3.Connection | None]:
             raise told(error, path) from None
 
 
+@contextlib.contextmanager
+def reading_up_to_date(folder: pathlib.Path) -> Iterator[sqlite3.Connection | None]:
+    """The same, of this version: a book of an earlier one is made one before."""
+    with contextlib.ExitStack() as stack:
+        connection = stack.enter_context(reading(folder))
+        if connection is not None and version_of(connection, path_of(folder)) != VERSION:
+            stack.close()
+            up_to_date(folder)
+            connection = stack.enter_context(reading(folder))
+        yield connection
+
+
 def no_book(folder: pathlib.Path) -> NoBook:
     """With the command that takes the only sheet that is here, if there is one."""
     from gudokeyi.domain.findings import Call, Suggestion

@@ -62,6 +62,13 @@ class ServerAddress:
     def scheme(self) -> str:
         return "https" if self.proxy else "http"
 
+    @property
+    def cookie(self) -> str:
+        """The name of its cookies, which browsers keep for all ports of a host together. Where a proxy has a
+        certificate they take one of this name only from this server, and only in secret."""
+        port = re.search(r":(\d+)$", self.hosts[0])
+        return ("__Host-" if self.proxy else "") + "herdbook" + (f"-{port[1]}" if port else "")
+
     def client(self) -> str:
         """The address of who asks. What a proxy says of it is believed of the proxy alone, and of what it says only
         what it wrote itself, which stands last."""
@@ -72,7 +79,7 @@ class ServerAddress:
             abort(403, "not by proxy")
         told = ",".join(request.headers.getlist(FOR)).rpartition(",")[2].strip()
         try:
-            return str(ipaddress.ip_address(told))
+            return plain_address(str(ipaddress.ip_address(told)))
         except ValueError:
             return abort(403, "not by proxy")
 

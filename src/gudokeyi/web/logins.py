@@ -121,7 +121,8 @@ class AccessLog:
     def tell_answer(self, response: Response) -> Response:
         """Who asked for which kind of page, and how that ended. A page's own address may have a token in it."""
         person = the_person()
-        who = f"{person.name} ({person.role})" if person else "-"
+        # a name ends where its role begins
+        who = f"{person.name.replace('(', escape('('))} ({person.role})" if person else "-"
         if request.endpoint == "static":
             return response
         rule = CONVERTER.sub("<", request.url_rule.rule) if request.url_rule else "-"
@@ -161,14 +162,12 @@ class AccountLogins:
     def set_up(self, app: Flask) -> None:
         from gudokeyi.web.routes import accounts, login
 
-        is_secret = bool(self.address.proxy)
         app.config.update(
             SECRET_KEY=self.accounts.key(),
             # a link in a letter leads in
             SESSION_COOKIE_SAMESITE="Lax",
-            SESSION_COOKIE_SECURE=is_secret,
-            # a cookie of this name is taken only from this server, and only in secret
-            SESSION_COOKIE_NAME="__Host-herdbook" if is_secret else "herdbook",
+            SESSION_COOKIE_SECURE=bool(self.address.proxy),
+            SESSION_COOKIE_NAME=self.address.cookie,
             PERMANENT_SESSION_LIFETIME=datetime.timedelta(seconds=A_DAY),
         )
         self.log.set_up(app)

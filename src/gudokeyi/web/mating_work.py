@@ -6,7 +6,6 @@ import contextlib
 import functools
 import pathlib
 import time
-from collections import deque
 from dataclasses import dataclass
 from fractions import Fraction
 
@@ -22,7 +21,7 @@ from gudokeyi.services.history import change_numbered
 from gudokeyi.services.matings import Advice, advice_of, all_candidates, by_mating
 from gudokeyi.services.opening import Book, BookFault, only_read
 from gudokeyi.services.plans import PlanRules, Planned, Prepared, Unmated, best_plan, plan_table, prepared, usual_bounds
-from gudokeyi.services.relationships import coefficient_told
+from gudokeyi.services.relationships import coefficients_told
 from gudokeyi.services.tables import Table
 from gudokeyi.web.served_book import ServedBook
 from gudokeyi.web.work_places import PLANNING
@@ -139,33 +138,34 @@ class PlanOutdated(Exception):
 
 
 def compare(served: ServedBook, plan: PlanMade) -> None:
-    """Asks the session for each mating of a plan, also where somebody changes the book meanwhile; a mistake where it
+    """Asks the session for the matings of a plan, also where somebody changes the book meanwhile; a mistake where it
     says something else of the book of the plan."""
-    left = deque(plan.pairs)
+    # those of a sire are asked for together
+    in_order = sorted(plan.pairs, key=lambda one: one.sire.registration_number)
+    left = {(one.dam.registration_number, one.sire.registration_number): one for one in in_order}
     for _ in range(TRIES_TO_COMPARE):
         with served.opened() as book:
             if book is None or not has_had(book, plan.mark):
                 raise BookMoved
             with contextlib.suppress(BookMoved):
-                while left:
-                    compare_pair(served, book, plan, left[0])
-                    left.popleft()
+                compare_pairs(served, book, plan, left)
                 return
     raise BookMoved
 
 
-def compare_pair(served: ServedBook, book: Book, plan: PlanMade, pair: Pair) -> None:
+def compare_pairs(served: ServedBook, book: Book, plan: PlanMade, left: dict[tuple[str, str], Pair]) -> None:
+    """Compares those that are left, and takes away each that is the same."""
+    is_of_plan = mark_of(book) == plan.mark
     try:
-        told = coefficient_told(book, served.program, pair.dam.registration_number, pair.sire.registration_number)
+        for numbers, told in coefficients_told(book, served.program, [*left]):
+            pair = left[numbers]
+            if told != pair.fraction:
+                raise Mistake(WebFault.PLAN_DIFFERS.said(dam=pair.dam.id, sire=pair.sire.id))
+            del left[numbers]
     except Mistake:
-        if mark_of(book) == plan.mark:
+        if is_of_plan:
             raise
         raise PlanOutdated from None
-    if told == pair.fraction:
-        return
-    if mark_of(book) != plan.mark:
-        raise PlanOutdated
-    raise Mistake(WebFault.PLAN_DIFFERS.said(dam=pair.dam.id, sire=pair.sire.id))
 
 
 def planned(folder: pathlib.Path, asked: PlanRules, tell: Tell) -> PlanMade:

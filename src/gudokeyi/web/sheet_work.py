@@ -156,6 +156,7 @@ def looked_at(folder: pathlib.Path, path: pathlib.Path, chosen: Chosen, again: C
             )
         except Mistake as mistake:
             return look_of(seen, columns, mistake)
+        STATE.keep_journal(book)
     entries, understood = sorted(outcome.report.in_order(), key=severity_of), outcome.understood
     asked = tuple(entry for entry in entries if entry.id in again)
     shown = tuple(first_of_each(entries))
@@ -223,11 +224,12 @@ def imported(folder: pathlib.Path, path: pathlib.Path, chosen: Chosen, asked: As
 
 def tries() -> Iterator[bool]:
     """For each try whether others are to wait for it. They are once several were overtaken, if the last one was ready
-    before others would give up who wait; else it is tried beside them further."""
+    before others would give up who wait; else it is tried beside them further. At the last one they always are, so that
+    nobody who files keeps a sheet from being taken."""
     took = 0.0
     for at in range(MOST_TRIES):
-        may_wait, begun = at >= TRIES_BESIDE and took <= SECONDS_OTHERS_WAIT, time.monotonic()
-        yield may_wait
+        is_short, begun = took <= SECONDS_OTHERS_WAIT, time.monotonic()
+        yield at >= TRIES_BESIDE and is_short or at == MOST_TRIES - 1
         took = time.monotonic() - begun
 
 

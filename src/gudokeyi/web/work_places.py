@@ -79,19 +79,26 @@ class Places(Generic[Work]):
             return self.at_work[person] + sum(one.person == person for one in self.waiting)
 
     def do_next(self) -> None:
-        """Does the work of whoever has fewest places and had one longest ago."""
+        """Does the work of whoever has fewest places and had one longest ago. One place is left to others: whoever has
+        all but that goes on behind what they have at work."""
+        while one := self.begun():
+            # what came of it is told where it was asked for
+            with contextlib.suppress(Exception):
+                one.do(one.work)
+            with self.lock:
+                self.at_work[one.person] -= 1
+
+    def begun(self) -> Waiting[Work] | None:
+        most = max(1, self.bounds.places - 1)
         with self.lock:
-            if not self.waiting:
-                return
-            one = min(self.waiting, key=lambda one: (self.at_work[one.person], self.had.get(one.person, 0)))
+            may = [one for one in self.waiting if self.at_work[one.person] < most]
+            if not may:
+                return None
+            one = min(may, key=lambda one: (self.at_work[one.person], self.had.get(one.person, 0)))
             self.waiting.remove(one)
             self.at_work[one.person] += 1
             self.had[one.person] = next(self.count)
-        try:
-            one.do(one.work)
-        finally:
-            with self.lock:
-                self.at_work[one.person] -= 1
+            return one
 
     def end(self) -> None:
         self.executor.shutdown(wait=True)

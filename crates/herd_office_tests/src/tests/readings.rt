@@ -1,9 +1,9 @@
 //! What inspectors see.
 ghost use Rattle.herd_office.specs.Parts.{AreNamed};
 
-use super::filing::{closed, file_accepted, file_one, founder, frozen_length, limits};
-use herd_fixtures::Name;
-use herd_fixtures::Name::Bull;
+use super::filing::{birth, closed, file_accepted, file_one, founder, frozen_length, limits};
+use herd_fixtures::Name::{Bull, Cow};
+use herd_fixtures::{Birth, Name, Pair};
 use herd_frozen::Frozen;
 use herd_office::*;
 use herd_register::{Refusal, Reply};
@@ -130,6 +130,47 @@ fn see_refused<N: OfficeName, R: Wait + Abort>(
     assert_eq!(rt; (filed.serial, filed.reply), (3, there));
     let frozen = inspector.freeze(alloc).expect(rt, "frozen");
     assert_eq!(rt; (frozen.len(), inspector.steps_seen()), (2, 3));
+}
+
+#[test]
+fn ancestors_alone_are_frozen(rt: HostRuntime) -> Result<(), Fail> {
+    let parts = OfficeParts::new(&rt, rt.alloc(), limits(4), 1, 1)?;
+    inspect_family::<Brand, _>(&rt, rt.alloc(), parts)
+}
+
+fn inspect_family<N: OfficeName + Send + Sync, R: Threads + Wait + Abort + Sync>(
+    rt: &R,
+    alloc: Global,
+    parts: OfficeParts<&R>,
+) -> Result<(), Fail>
+    requires { AreNamed N.OfficeName parts }
+{
+    let (office, mut desks, mut inspectors) = Office::<N, &R>::open(alloc, parts)?;
+    let mut desk = desks.pop().expect(rt, "a desk");
+    let mut inspector = inspectors.pop().expect(rt, "an inspector");
+    file_family(rt, &office, &mut desk);
+    see_family(rt, alloc, &mut inspector);
+    Ok(())
+}
+
+// A bull and a cow, their calf, and a bull that is no kin of theirs.
+fn file_family<N: OfficeName, R: Wait + Abort>(rt: &R, office: &Office<N, &R>, desk: &mut Desk<N>) {
+    file_accepted(rt, office, desk, Bull(1));
+    file_accepted(rt, office, desk, Cow(2));
+    let calf = Birth(Bull(3), *b"2002-01-01", Pair::of(Bull(1), Cow(2)));
+    let filed = desk.file(rt, office, birth(rt, calf)).expect(rt, "filed");
+    assert_eq!(rt; filed.reply, Reply::Accepted);
+    file_accepted(rt, office, desk, Bull(4));
+}
+
+// The calf comes with its parents. A number that isn't in the book is passed over.
+fn see_family<N: OfficeName>(rt: &impl Abort, alloc: Global, inspector: &mut Inspector<N>) {
+    let numbers = [Bull(3).number(), Bull(9).number()];
+    let frozen = inspector
+        .freeze_ancestors(alloc, &numbers)
+        .expect(rt, "frozen");
+    assert!(rt; has_all(&frozen, &[Bull(1), Cow(2), Bull(3)]));
+    assert_eq!(rt; (frozen.len(), inspector.steps_seen()), (3, 4));
 }
 
 #[test]

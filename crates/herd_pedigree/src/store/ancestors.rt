@@ -1,13 +1,13 @@
 //! Some animals of a book and all their known ancestors, by places.
-ghost use Rattle.std.specs.Prelude.{◌≡◌, ◌<◌, Contains, IfOk, IfSome, OnOk, length};
+ghost use Rattle.std.specs.Prelude.{◌≡◌, ◌<◌, [], Contains, IfOk, IfSome, OnOk, length};
 ghost use Rattle.std.specs.List.{IsDistinct};
 ghost use Rattle.std.specs.Map.{keys_of};
 ghost use Rattle.std.specs.Str.{bytes_eq};
 ghost use Rattle.herd_pedigree.specs.store.Ancestors.{BeginsWith, HasAncestors, HasNamed, HasParents, records_at};
 
-use crate::store::records::Records;
+use crate::store::searched::Searched;
 use herd_animal::AnimalNumber;
-use herd_frozen::{Animal, Registered};
+use herd_frozen::Animal;
 use std::alloc::{AllocError, Allocator};
 use std::marker::Model;
 
@@ -32,45 +32,61 @@ impl<A: Allocator> Model for Ancestors<A> {
 }
 
 impl<A: Allocator + Clone> Ancestors<A> {
-    /// The animals of these numbers that are in the book, and all their known ancestors. The only error is a growth of
-    /// memory that is refused.
-    pub(crate) fn of<B: Allocator>(
-        alloc: A,
-        records: &Records<B>,
-        numbers: &[AnimalNumber],
-    ) -> Result<Ancestors<A>, AllocError>
-        requires { IsDistinct bytes_eq (keys_of records.now.book) }
-        ensures animals { IfOk result (λ found. found.animals ≡ length records.now.book) }
-        ensures found { IfOk result (λ found. HasAncestors records.now.book numbers.now found.places) }
-    {
-        let mut found = Ancestors::none(alloc, records.len())?;
-        found.add_named(records, numbers)?;
-        found.add_ancestors(records)?;
-        Ok(found)
-    }
-
-    // None yet, of so many animals.
-    fn none(alloc: A, animals: usize) -> Result<Ancestors<A>, AllocError>
+    /// None yet, with room for a search among so many animals.
+    pub fn none(alloc: A, animals: usize) -> Result<Ancestors<A>, AllocError>
         ensures { IfOk result (λ found. found.animals ≡ animals) }
     {
         Ok(Ancestors {
-            places: Vec::new(alloc.clone()?),
+            places: Vec::with_capacity(alloc.clone()?, animals)?,
             marks: vec![in alloc; false; animals]?,
         })
     }
 }
 
 impl<A: Allocator> Ancestors<A> {
+    /// The animals of these numbers that are in the book, and all their known ancestors, in the place of those that
+    /// were found before. It takes memory only where there was room for fewer animals than the book has. The only error
+    /// is a growth of memory that is refused.
+    pub fn search<S: Searched>(
+        self,
+        records: &S,
+        numbers: &[AnimalNumber],
+    ) -> Result<Ancestors<A>, AllocError>
+        requires once { IsDistinct bytes_eq (keys_of (S.book records.now)) }
+        requires parents { S.knows_parents records.now }
+        ensures animals { IfOk result (λ found. found.animals ≡ length (S.book records.now)) }
+        ensures found { IfOk result (λ found. HasAncestors (S.book records.now) numbers.now found.places) }
+    {
+        let mut found = self.emptied(records.count())?;
+        found.add_named(records, numbers)?;
+        found.add_ancestors(records)?;
+        Ok(found)
+    }
+
+    // None of so many animals, in the room that was there.
+    fn emptied(self, animals: usize) -> Result<Ancestors<A>, AllocError>
+        ensures { IfOk result (λ found. found.animals ≡ animals) }
+    {
+        let Ancestors {
+            mut places,
+            mut marks,
+        } = self;
+        places.clear();
+        marks.clear();
+        marks.resize(animals, false)?;
+        Ok(Ancestors { places, marks })
+    }
+
     // Adds the animals of these numbers that are in the book.
-    fn add_named<B: Allocator>(
+    fn add_named<S: Searched>(
         &mut self,
-        records: &Records<B>,
+        records: &S,
         numbers: &[AnimalNumber],
     ) -> Result<(), AllocError>
-        requires once { IsDistinct bytes_eq (keys_of records.now.book) }
-        requires animals { self.old.animals ≡ length records.now.book }
+        requires once { IsDistinct bytes_eq (keys_of (S.book records.now)) }
+        requires animals { self.old.animals ≡ length (S.book records.now) }
         ensures animals { OnOk result (self.new.animals ≡ self.old.animals) }
-        ensures named { OnOk result (HasNamed records.now.book numbers.now self.new.places) }
+        ensures named { OnOk result (HasNamed (S.book records.now) numbers.now self.new.places) }
     {
         for number in numbers {
             if let Some(place) = records.place_of(number) {
@@ -81,12 +97,13 @@ impl<A: Allocator> Ancestors<A> {
     }
 
     // Adds the known ancestors of those that were found, parents first found first.
-    fn add_ancestors<B: Allocator>(&mut self, records: &Records<B>) -> Result<(), AllocError>
-        requires once { IsDistinct bytes_eq (keys_of records.now.book) }
-        requires animals { self.old.animals ≡ length records.now.book }
+    fn add_ancestors<S: Searched>(&mut self, records: &S) -> Result<(), AllocError>
+        requires once { IsDistinct bytes_eq (keys_of (S.book records.now)) }
+        requires parents { S.knows_parents records.now }
+        requires animals { self.old.animals ≡ length (S.book records.now) }
         ensures animals { OnOk result (self.new.animals ≡ self.old.animals) }
         ensures kept { OnOk result (BeginsWith self.old.places self.new.places) }
-        ensures parents { OnOk result (HasParents records.now.book self.new.places) }
+        ensures closed { OnOk result (HasParents (S.book records.now) self.new.places) }
     {
         let mut next = 0;
         while next < self.places.len() {
@@ -125,16 +142,18 @@ impl<A: Allocator> Ancestors<A> {
         Ok(())
     }
 
-    /// Their records, in the order in which they were found. The only error is a growth of memory that is refused.
-    pub(crate) fn records<B: Allocator, C: Allocator>(
+    /// Adds their records to an empty list, in the order in which they were found. It takes memory only where the list
+    /// has room for fewer. The only error is a growth of memory that is refused.
+    pub fn records<S: Searched, C: Allocator>(
         &self,
-        alloc: C,
-        records: &Records<B>,
+        mut list: Vec<(AnimalNumber, Animal), C>,
+        records: &S,
     ) -> Result<Vec<(AnimalNumber, Animal), C>, AllocError>
-        requires { self.now.animals ≡ length records.now.book }
-        ensures { IfOk result (λ list. list.items ≡ records_at records.now.book self.now.places) }
+        requires animals { self.now.animals ≡ length (S.book records.now) }
+        requires empty { list.items ≡ [] }
+        ensures { IfOk result (λ list. list.items ≡ records_at (S.book records.now) self.now.places) }
     {
-        let mut list = Vec::with_capacity(alloc, self.places.len())?;
+        list.reserve(self.places.len())?;
         for place in &self.places {
             list.push_reserved(records.entry_at(*place));
         }

@@ -12,6 +12,7 @@ ghost use Rattle.herd_pedigree.specs.store.Records.{IsStoredAt, NamesItsOwn, ani
 ghost use Rattle.herd_pedigree.specs.store.Undo.{without_last};
 
 use crate::registration::Newborn;
+use crate::store::searched::Searched;
 use herd_animal::{AnimalNumber, Day, Herd};
 use herd_frozen::{Animal, Link, PackedIndex, Registered, RowRecord};
 use indexmap::IndexMap;
@@ -157,14 +158,6 @@ impl<A: Allocator> Records<A> {
         self.animal_of(&self.entries[place])
     }
 
-    /// The number and the record at a place.
-    pub(crate) fn entry_at(&self, place: usize) -> (AnimalNumber, Animal)
-        requires { place < length self.now.book }
-        ensures { slice_get self.now.book place ≡ Some result }
-    {
-        (self.entries.keys()[place], self.animal_at(place))
-    }
-
     /// The record of an animal.
     #[inline(always)]
     pub fn get(&self, number: &AnimalNumber) -> Option<Animal>
@@ -282,5 +275,28 @@ impl<A: Allocator> Registered for Records<A> {
     #[inline(always)]
     fn link_at(&self, place: usize) -> Link {
         self.entries[place].parents()
+    }
+}
+
+// The records as a search for ancestors reads them.
+impl<A: Allocator> Searched for Records<A> {
+    ghost book = { λ records. records.book };
+
+    ghost knows_parents = { λ _. Unit {0} };
+
+    fn count(&self) -> usize {
+        self.len()
+    }
+
+    fn place_of(&self, number: &AnimalNumber) -> Option<usize> {
+        self.place_of(number)
+    }
+
+    fn link_at(&self, place: usize) -> Link {
+        Registered::link_at(self, place)
+    }
+
+    fn entry_at(&self, place: usize) -> (AnimalNumber, Animal) {
+        (self.entries.keys()[place], self.animal_at(place))
     }
 }

@@ -1,27 +1,39 @@
--- Certificates ask for no animal but those that are named and their ancestors.
-use Rattle.std.proofs.Common.{ap₂, ◌&&◌, ◌≡◌, ◌++◌, ◌∙◌, ℕ, zero, suc, arith, inl, inr, ⊎_elim, List, [], ◌∷◌, Option, Some, None, Contains, ap, map, refl, sym}
+-- Certificates, coefficients, records and matings of named animals ask for no others but their ancestors.
+use Rattle.std.proofs.Common.{ap₂, ◌&&◌, ◌||◌, ◌≡◌, ◌++◌, ◌∙◌, ◌*◌, ◌-◌, ℕ, zero, suc, arith, false, not, inl, inr, ⊎_elim, List, [], ◌∷◌, Option, Some, None, Contains, ap, map, refl, sym}
 use Rattle.std.specs.Prelude.{is_some}
 use Rattle.std.specs.List.{flat_map}
 use Rattle.std.specs.Map.{keys_of}
 use Rattle.std.specs.Option.{option_and_then, option_map, option_map_or}
+use Rattle.herd_frozen.specs.declared.rules.animal.Animal.{Animal}
 use Rattle.herd_frozen.specs.declared.freezing.frozen.Row.{Row}
 use Rattle.herd_frozen.specs.declared.TheConstants.{DEPTH_LIMIT, MOST_ANIMALS}
 use Rattle.herd_frozen.specs.freezing.Frozen.{IsFrozenFrom, book_of}
-use Rattle.herd_frozen.specs.rules.Book.{Book, dam_of, is_there, record_of, sire_of}
+use Rattle.herd_animal.specs.Sex.{is_male}
+use Rattle.herd_frozen.specs.rules.Book.{Book, dam_of, is_there, parentage_of, record_of, sire_of}
+use Rattle.herd_frozen.specs.rules.ParentFault.{first_that_holds}
+use Rattle.herd_frozen.specs.rules.Paths.{has_path}
 use Rattle.herd_frozen.proofs.lemmas.ListFacts.{option_cases}
 use Rattle.herd_frozen.proofs.lemmas.rules.PermutedFacts.{record_of-permuted}
-use Rattle.herd_kinship.specs.Table.{coefficient}
+use Rattle.herd_kinship.specs.Table.{coefficient, entry}
 use Rattle.herd_kinship.proofs.lemmas.ancestry.LawfulAncestry.{IsIncluded, IsLawful}
-use Rattle.herd_kinship.proofs.lemmas.ancestry.Renamed.{coefficient-included}
+use Rattle.herd_kinship.proofs.lemmas.ancestry.Depth.{known_some}
+use Rattle.herd_kinship.proofs.lemmas.ancestry.Renamed.{coefficient-included, entry-included}
+use Rattle.herd_kinship.proofs.lemmas.ancestry.Table.{entry-none_left}
 use Rattle.herd_advice.specs.FrozenAncestry.{ancestry_of}
+use Rattle.herd_advice.specs.Mating.{mating_fault}
+use Rattle.herd_advice.specs.declared.mating_advice.MatingFault.{MatingFault}
+use Rattle.herd_advice.specs.declared.mating_advice.MatingFault.TheVariants.{SireMissing, DamMissing, SireNotMale, DamNotFemale, TooDeep}
 use Rattle.herd_advice.proofs.lemmas.BookFacts.{number_there, record_there}
 use Rattle.herd_advice.proofs.lemmas.FrozenFacts.{frozen-lawful}
 use Rattle.herd_pedigree.specs.Part.{IsFrozenPart}
-use Rattle.herd_record_line.specs.RecordLine.{known_text}
+use Rattle.herd_record_line.specs.RecordLine.{known_text, record_line}
 use Rattle.herd_report.specs.declared.writing.ancestors.Parent.{Parent}
 use Rattle.herd_report.specs.declared.writing.ancestors.Parent.TheVariants.{Sire, Dam}
 use Rattle.herd_report.specs.writing.Ancestors.{ancestor_of, letter_of, three_generations}
 use Rattle.herd_report.specs.writing.Certificate.{ancestors_text, animal_text, certificate_of, certificates_of, labelled_line}
+use Rattle.herd_report.specs.writing.CoefficientLine.{coefficient_line}
+use Rattle.herd_report.specs.writing.MatingList.{mating_line, mating_text, refused_line}
+use Rattle.herd_report.specs.writing.RecordList.{records_text}
 use Rattle.herd_report.specs.writing.Registered.{are_there}
 
 map-itself : (o : Option (List ℕ)) → option_map (λ x. x) o ≡ o
@@ -106,3 +118,114 @@ module _ (book : Book) (numbers : List (List ℕ)) (rows whole : List Row) (part
   -- the certificates of the whole book are those of the part
   pub certificates-part : certificates_of whole numbers ≡ certificates_of rows numbers
   certificates-part = each-same numbers (λ x has. has)
+
+  -- a named animal has its record, if there is one
+  record-part : (x : List ℕ) → Contains numbers x → record_of (book_of whole) x ≡ record_of (book_of rows) x
+  record-part x named = in-whole x ∙ sym (part.named x named)
+
+  pub records-part : (x : List ℕ) → Contains numbers x → records_text whole (x ∷ []) ≡ records_text rows (x ∷ [])
+  records-part x named = ap (λ found. option_map_or (record_line x) found [] ++ []) (record-part x named)
+
+  -- an animal that isn't there has no parents
+  coefficient-absent : (list : List Row) (x : List ℕ) → record_of (book_of list) x ≡ None → coefficient (ancestry_of list) DEPTH_LIMIT x ≡ 0
+  unfolding coefficient
+  coefficient-absent list x none =
+      ap (λ found. entry (ancestry_of list) (2 * DEPTH_LIMIT - 1) (option_and_then (λ animal. animal.sire) found) (dam_of (book_of list) x)) none
+      ∙ entry-none_left (ancestry_of list) (2 * DEPTH_LIMIT - 1) (dam_of (book_of list) x)
+
+  -- and its coefficient
+  pub coefficient-part : (x : List ℕ) → Contains numbers x → coefficient (ancestry_of whole) DEPTH_LIMIT x ≡ coefficient (ancestry_of rows) DEPTH_LIMIT x
+  coefficient-part x named =
+      ⊎_elim
+      (λ (none : record_of (book_of rows) x ≡ None). coefficient-absent whole x (record-part x named ∙ none) ∙ sym (coefficient-absent rows x none))
+      (λ some. coefficient-same x (number_there (book_of rows) x some.0 some.1))
+      (option_cases (record_of (book_of rows) x))
+
+  -- paths of known parents are the same from an animal of the part
+  path-through : (n : ℕ) (parent : Option (List ℕ)) → ((p : List ℕ) → Contains (keys_of (book_of rows)) p → has_path (parentage_of (book_of whole)) n p ≡ has_path (parentage_of (book_of rows)) n p)
+      → ((p : List ℕ) → parent ≡ Some p → Contains (keys_of (book_of rows)) p)
+      → option_map_or (has_path (parentage_of (book_of whole)) n) parent false ≡ option_map_or (has_path (parentage_of (book_of rows)) n) parent false
+  path-through n None rest there = refl
+  path-through n (Some p) rest there = rest p (there p refl)
+
+  path-same : (n : ℕ) (x : List ℕ) → Contains (keys_of (book_of rows)) x → has_path (parentage_of (book_of whole)) n x ≡ has_path (parentage_of (book_of rows)) n x
+  unfolding has_path
+  path-same zero x has = ap is_some (record-same x has)
+  path-same (suc n) x has =
+      let here = ap is_some (record-same x has) in
+      let sires = ap (λ parent. option_map_or (has_path (parentage_of (book_of whole)) n) parent false) (sire-same x has)
+      ∙ path-through n (sire_of (book_of rows) x) (path-same n) (λ p is. (lawful.parents p x has (inl is)).0) in
+      let dams = ap (λ parent. option_map_or (has_path (parentage_of (book_of whole)) n) parent false) (dam-same x has)
+      ∙ path-through n (dam_of (book_of rows) x) (path-same n) (λ p is. (lawful.parents p x has (inr is)).0) in
+      λ i. here i && (sires i || dams i)
+
+  path-absent : (list : List Row) (n : ℕ) (x : List ℕ) → record_of (book_of list) x ≡ None → has_path (parentage_of (book_of list)) n x ≡ false
+  unfolding has_path
+  path-absent list zero x none = ap is_some none
+  path-absent list (suc n) x none =
+      ap (λ found. is_some found && (option_map_or (has_path (parentage_of (book_of list)) n) (sire_of (book_of list) x) false || option_map_or (has_path (parentage_of (book_of list)) n) (dam_of (book_of list) x) false)) none
+
+  path-part : (n : ℕ) (x : List ℕ) → Contains numbers x → has_path (parentage_of (book_of whole)) n x ≡ has_path (parentage_of (book_of rows)) n x
+  path-part n x named =
+      ⊎_elim
+      (λ (none : record_of (book_of rows) x ≡ None). path-absent whole n x (record-part x named ∙ none) ∙ sym (path-absent rows n x none))
+      (λ some. path-same n x (number_there (book_of rows) x some.0 some.1))
+      (option_cases (record_of (book_of rows) x))
+
+  -- so is the fault of a mating of two named animals
+  fault-same : (sire dam : List ℕ) → Contains numbers sire → Contains numbers dam → mating_fault DEPTH_LIMIT (book_of whole) sire dam ≡ mating_fault DEPTH_LIMIT (book_of rows) sire dam
+  unfolding mating_fault
+  fault-same sire dam sired dammed =
+      let s = ap is_some (record-part sire sired) in
+      let d = ap is_some (record-part dam dammed) in
+      let ps = path-part DEPTH_LIMIT sire sired in
+      let pd = path-part DEPTH_LIMIT dam dammed in
+      λ i. first_that_holds
+      ((not (s i), SireMissing) ∷ (not (d i), DamMissing) ∷ (not (is_male sire), SireNotMale) ∷ (is_male dam, DamNotFemale) ∷ (ps i || pd i, TooDeep) ∷ [])
+
+  -- which there is where one isn't in the book
+  sire-missing : (sire dam : List ℕ) → record_of (book_of rows) sire ≡ None → mating_fault DEPTH_LIMIT (book_of rows) sire dam ≡ Some SireMissing
+  unfolding mating_fault
+  sire-missing sire dam none =
+      ap (λ found. first_that_holds
+      ((not (is_some found), SireMissing) ∷ (not (is_there (book_of rows) dam), DamMissing) ∷ (not (is_male sire), SireNotMale) ∷ (is_male dam, DamNotFemale)
+      ∷ (has_path (parentage_of (book_of rows)) DEPTH_LIMIT sire || has_path (parentage_of (book_of rows)) DEPTH_LIMIT dam, TooDeep) ∷ [])) none
+
+  dam-missing : (sire dam : List ℕ) (animal : Animal) → record_of (book_of rows) sire ≡ Some animal → record_of (book_of rows) dam ≡ None → mating_fault DEPTH_LIMIT (book_of rows) sire dam ≡ Some DamMissing
+  unfolding mating_fault
+  dam-missing sire dam animal some none = λ i.
+      first_that_holds
+      ((not (is_some (some i)), SireMissing) ∷ (not (is_some (none i)), DamMissing) ∷ (not (is_male sire), SireNotMale) ∷ (is_male dam, DamNotFemale)
+      ∷ (has_path (parentage_of (book_of rows)) DEPTH_LIMIT sire || has_path (parentage_of (book_of rows)) DEPTH_LIMIT dam, TooDeep) ∷ [])
+
+  -- and where there is none, their entry is the same
+  entry-part : (sire dam : List ℕ) (k : ℕ) → mating_fault DEPTH_LIMIT (book_of rows) sire dam ≡ None → entry (ancestry_of whole) k (Some sire) (Some dam) ≡ entry (ancestry_of rows) k (Some sire) (Some dam)
+  entry-part sire dam k faultless =
+      ⊎_elim
+      (λ (none : record_of (book_of rows) sire ≡ None). let missing = sire-missing sire dam none in absurd (cc))
+      (λ some.
+      ⊎_elim
+      (λ (none : record_of (book_of rows) dam ≡ None). let missing = dam-missing sire dam some.0 some.1 none in absurd (cc))
+      (λ (other : (animal : Animal) × (record_of (book_of rows) dam ≡ Some animal)).
+      entry-included (ancestry_of rows) (ancestry_of whole) (λ x. x) lawful included k (Some sire) (Some dam)
+      (known_some (ancestry_of rows) sire (number_there (book_of rows) sire some.0 some.1))
+      (known_some (ancestry_of rows) dam (number_there (book_of rows) dam other.0 other.1)))
+      (option_cases (record_of (book_of rows) dam)))
+      (option_cases (record_of (book_of rows) sire))
+
+  by-fault : (sire dam : List ℕ) (fault : Option MatingFault) → mating_fault DEPTH_LIMIT (book_of rows) sire dam ≡ fault
+      → option_map_or (refused_line sire) fault (coefficient_line sire (entry (ancestry_of whole) (2 * DEPTH_LIMIT - 1) (Some sire) (Some dam)))
+      ≡ option_map_or (refused_line sire) fault (coefficient_line sire (entry (ancestry_of rows) (2 * DEPTH_LIMIT - 1) (Some sire) (Some dam)))
+  by-fault sire dam None is = ap (coefficient_line sire) (entry-part sire dam (2 * DEPTH_LIMIT - 1) is)
+  by-fault sire dam (Some fault) is = refl
+
+  line-same : (dam sire : List ℕ) → Contains numbers dam → Contains numbers sire → mating_line (book_of whole) dam sire ≡ mating_line (book_of rows) dam sire
+  line-same dam sire dammed sired =
+      ap (λ fault. option_map_or (refused_line sire) fault (coefficient_line sire (entry (ancestry_of whole) (2 * DEPTH_LIMIT - 1) (Some sire) (Some dam)))) (fault-same sire dam sired dammed)
+      ∙ by-fault sire dam (mating_fault DEPTH_LIMIT (book_of rows) sire dam) refl
+
+  -- so are the lines of matings of a named dam with named sires
+  pub matings-part : (dam : List ℕ) (sires : List (List ℕ)) → Contains numbers dam → ((x : List ℕ) → Contains sires x → Contains numbers x) → mating_text (book_of whole) dam sires ≡ mating_text (book_of rows) dam sires
+  matings-part dam [] dammed named = refl
+  matings-part dam (x ∷ sires) dammed named =
+      ap₂ (λ a b. a ++ b) (line-same dam x dammed (named x (zero, omega arith, refl))) (matings-part dam sires dammed (λ y has. named y (further x y sires has)))

@@ -111,7 +111,6 @@ def letters_typed(question: str) -> str:
 def imported(wished: Import, as_json: bool) -> list[str]:
     """Imports, and prints what that made; answers what is to be told behind it."""
     from gudokeyi.render.import_reports import lines_of, told_with
-    from gudokeyi.services.library_answers import imported_value
 
     # the whole of a preview is bounded already
     bounds: Bounds = contextlib.nullcontext
@@ -121,6 +120,8 @@ def imported(wished: Import, as_json: bool) -> list[str]:
     with told_with(wished.call()):
         outcome, notes = wished.made(program, bounds)
         if as_json:
+            from gudokeyi.services.library_answers import imported_value
+
             give_json(imported_value(outcome, notes))
             return []
         print("\n".join(lines_of(outcome)))

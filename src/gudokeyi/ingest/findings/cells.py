@@ -202,6 +202,64 @@ class IdAlone(OddRow):
         return (Suggestion("if it is none", (is_no_animal(self.word),)),) if self.word else ()
 
 
+@dataclass(frozen=True, slots=True)
+class IdUnlikeOthers(OddRow):
+    """A row whose id is written unlike nearly all others, as `usual`: it may be no animal, or two."""
+
+    word: str = ""
+    usual: str = ""
+
+    code = "id unlike others"
+    message = Text(
+        "is this row one animal? Its id is written unlike nearly all others, such as {usual}. It is taken as one"
+    )
+
+    def suggestions(self) -> tuple[Suggestion, ...]:
+        return (Suggestion("if it is none", (is_no_animal(self.word),)),)
+
+
+class OddId(Finding):
+    """An id that is taken as it stands, and may be written wrongly."""
+
+    what = What.WARNING
+    severity = Severity.ANIMALS
+
+
+@dataclass(frozen=True, slots=True)
+class IdWithFewerDigits(OddId):
+    """An id whose number may have lost its zeros."""
+
+    usual: str
+
+    code = "id with fewer digits"
+    message = Text("its id has fewer digits than nearly all others, such as {usual}: did a spreadsheet take its zeros?")
+
+
+@dataclass(frozen=True, slots=True)
+class IdOfOtherAlphabet(OddId):
+    """An id with letters that look like those of the others, and are none of them."""
+
+    usual: str
+
+    code = "id of another alphabet"
+    message = Text(
+        "its id has a letter of another alphabet that looks like one of nearly all others, such as {usual}: write it anew"
+    )
+
+
+@dataclass(frozen=True, slots=True)
+class TruthValue(Finding):
+    """A name as a spreadsheet shows a truth value."""
+
+    field: Field
+    text: str
+
+    what = What.WARNING
+    severity = Severity.FACTS
+    code = "truth value"
+    message = Text("its {field} is {text}, which spreadsheets make of some words: if it is another, write it as text")
+
+
 class CellLeftOut(LeftOut):
     part = Part.CELL
 

@@ -8,7 +8,7 @@ from gudokeyi.domain.changes import Option
 from gudokeyi.domain.findings import Finding, Severity, Suggestion, What, columns
 from gudokeyi.domain.kinds import Field
 from gudokeyi.domain.messages import AnyOf
-from gudokeyi.domain.wording import AllOf, Joined, OptionalPart, Text
+from gudokeyi.domain.wording import AllOf, Counted, Joined, OptionalPart, Text
 from gudokeyi.ingest.titles import title_list
 
 # a sheet that lacks so many of its columns may have its titles elsewhere
@@ -247,9 +247,31 @@ class IdsCountRows(SheetFinding):
     severity = Severity.ANIMALS
     code = "ids count rows"
     message = Text(
-        "the ids are read from '{title}', which only counts the rows: in a list that is sorted otherwise each number would "
-        "be another animal's"
+        "the ids are read from '{title}', which only counts the rows: in a list that is sorted otherwise each number "
+        "would be another animal's"
     )
 
     def suggestions(self) -> tuple[Suggestion, ...]:
         return (Suggestion(f"if '{self.other}' has the ids", (column(Field.ID, self.other),)),)
+
+
+@dataclass(frozen=True, slots=True)
+class ParentsBeside(SheetFinding):
+    """Rows that have nothing in the column of a parent, and something in another with a title for that: how many, and
+    the first of them."""
+
+    title: str
+    beside: str
+    count: int
+    line: int
+    text: str
+
+    severity = Severity.PARENTS
+    code = "parents beside"
+    message = Counted(
+        "{count} row has nothing in '{title}', and '{text}' in '{beside}', which isn't read, in line {line}: this "
+        "parent counts as unknown; write it into '{title}'",
+        "{count} rows have nothing in '{title}', and a parent in '{beside}', which isn't read, the first '{text}' in "
+        "line {line}: these parents count as unknown; write them into '{title}'",
+        "count",
+    )

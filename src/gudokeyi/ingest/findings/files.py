@@ -128,6 +128,41 @@ class DigitsLost(SheetFinding):
 
 
 @dataclass(frozen=True, slots=True)
+class NotesAtCells(SheetFinding):
+    """Cells of a worksheet that have a note of their own: how many, and the first of them with its text."""
+
+    count: int
+    cell: str
+    text: str
+
+    code = "notes at cells"
+    message = Counted(
+        "{count} cell has a note, which isn't read: '{text}' at {cell}; write into cells what the book is to have",
+        "{count} cells have a note, which isn't read, the first '{text}' at {cell}; write into cells what the book is "
+        "to have",
+        "count",
+    )
+
+
+@dataclass(frozen=True, slots=True)
+class StruckThrough(SheetFinding):
+    """Rows of a worksheet with text that is struck through: how many, and the first of them."""
+
+    count: int
+    line: int
+
+    severity = Severity.ANIMALS
+    code = "struck through"
+    message = Counted(
+        "text is struck through in {count} row, line {line}, which is taken like all others: if its animal has left, "
+        "write an exit",
+        "text is struck through in {count} rows, the first is line {line}, which are taken like all others: if their "
+        "animals have left, write an exit",
+        "count",
+    )
+
+
+@dataclass(frozen=True, slots=True)
 class WorksheetUnclear(SheetFinding):
     """Several worksheets have titles that fit, or none has."""
 

@@ -5,7 +5,7 @@ from collections.abc import Mapping
 from dataclasses import dataclass
 
 from gudokeyi.domain.findings import Finding, Severity, Suggestion, What, is_animal
-from gudokeyi.domain.kinds import Field
+from gudokeyi.domain.kinds import Field, Role
 from gudokeyi.domain.messages import AnyOf
 from gudokeyi.domain.wording import Counted, OptionalPart, Text
 from gudokeyi.ingest.findings.cells import RowLeftOut
@@ -188,3 +188,26 @@ class SoldWithin(Finding):
     parts = {
         "maybe_before": OptionalPart(", before {before}"),
     }
+
+
+@dataclass(frozen=True, slots=True)
+class ParentNamedOtherwise(Finding):
+    """A parent whose id is taken, beside which another column has the name of one or several others."""
+
+    role: Role
+    parent: str
+    name: str
+    title: str
+    text: str
+    others: tuple[str, ...]
+
+    what = What.WARNING
+    severity = Severity.PARENTS
+    code = "parent named otherwise"
+    message = Text(
+        "its {role} {parent} is '{name}', and '{title}' has '{text}', which is {which}: {parent} is taken; if another is "
+        "meant, write the id of that one"
+    )
+
+    def values(self) -> Mapping[str, object]:
+        return {"which": AnyOf(self.others)}

@@ -8,13 +8,14 @@ from dataclasses import dataclass
 
 from gudokeyi.domain.changes import Option
 from gudokeyi.domain.findings import Finding, PlausibilityWarning, Severity, Suggestion, What
-from gudokeyi.domain.kinds import ChangeKind, Role
+from gudokeyi.domain.kinds import ChangeKind, Field, Role
 from gudokeyi.domain.refusals import Refusal
-from gudokeyi.domain.wording import Counted, OptionalPart, Text, Told, Word
+from gudokeyi.domain.wording import SEXES, Counted, OptionalPart, Text, Told, Word
 
 # what a book writes for what isn't a text of a sheet, and the facts that it writes so, where a name may be any word
-WORDS_OF_BOOK = {Word.NO_DAY.value: Word.NO_DAY, Word.YES.value: Word.YES}
+WORDS_OF_BOOK: dict[str, Word] = {Word.NO_DAY.value: Word.NO_DAY, Word.YES.value: Word.YES}
 OF_BOOK = ("exit", "stored embryo", "castrated")
+WORDS_OF_SEX: dict[str, Word] = {word.value: word for word in SEXES.values()}
 
 
 @dataclass(frozen=True, slots=True)
@@ -39,7 +40,7 @@ class ValueChanged(Finding):
     message = Text("{name}: {now}, before {former}")
 
     def values(self) -> Mapping[str, object]:
-        said = WORDS_OF_BOOK if self.name in OF_BOOK else {}
+        said = WORDS_OF_SEX if self.name == Field.SEX else WORDS_OF_BOOK if self.name in OF_BOOK else {}
         return {
             "now": self.after or Word.NONE,
             "former": self.before or Word.NONE,

@@ -133,6 +133,20 @@ class EitherParent(ParentLeftOut):
 
 
 @dataclass(frozen=True, slots=True)
+class BothParents(ParentLeftOut):
+    """A cell that names a sire and a dam."""
+
+    role: Role
+    written: str
+
+    code = "both parents"
+    message = Text(
+        "its {role} '{written}' is left out: it names two animals, and counts as unknown; write sire and dam each in "
+        "their own column"
+    )
+
+
+@dataclass(frozen=True, slots=True)
 class NamedByRelation(ParentLeftOut):
     """A cell that names another animal, and says how the parent is related to it."""
 

@@ -125,6 +125,7 @@ FIELDS = {
 FACTS = {
     Fact.ID: "id",
     Fact.STANDING: "in the book",
+    Fact.SEX: "sex",
     Fact.NUMBER: "number",
     Fact.NAME: "name",
     Fact.BIRTH_DAY: "birth day",

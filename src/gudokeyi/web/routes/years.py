@@ -5,11 +5,11 @@ import datetime
 
 from flask import Blueprint, redirect, render_template, request, url_for
 
-from gudokeyi.domain.kinds import ExitReason
+from gudokeyi.domain.kinds import CommandKind, ExitReason
 from gudokeyi.render.csv_files import in_language
 from gudokeyi.render.page_language import name_of
 from gudokeyi.services.opening import Book
-from gudokeyi.services.years import events_of, table_of
+from gudokeyi.services.years import Event, events_of, table_of
 from gudokeyi.web.language import csv_file, page_language
 from gudokeyi.web.served_book import Answer, with_book
 
@@ -28,7 +28,10 @@ def this_year() -> Answer:
 def of_year(book: Book, year: int) -> Answer:
     words = page_language()
     reasons = {one.value: name_of(one, words) for one in ExitReason}
-    return render_template("year.html", year=year, events=events_of(book, year), reasons=reasons)
+    events: dict[str, list[Event]] = {kind.value: [] for kind in CommandKind}
+    for one in events_of(book, year):
+        events[one.kind.value].append(one)
+    return render_template("year.html", year=year, events=events, reasons=reasons)
 
 
 @page.get("/year/<int:year>.csv")

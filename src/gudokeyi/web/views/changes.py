@@ -12,11 +12,12 @@ from gudokeyi.domain.kinds import ChangeKind, ExitReason, Field
 from gudokeyi.domain.messages import Mistake
 from gudokeyi.domain.options import IMPORT
 from gudokeyi.domain.own_columns import OwnKind
+from gudokeyi.render.change_messages import message_of
 from gudokeyi.render.page_language import PageLanguage, name_of
 from gudokeyi.render.page_wording import MessageView, PageWording, sentence_of, word_of
 from gudokeyi.services.facts import Fact, Facts
 from gudokeyi.services.history import (
-    FILED_BY_HAND, AnimalChange, Filed, animals_changed, filed_by, first_entries, history_of, numbers_taken_back,
+    FILED_BY_HAND, AnimalChange, Filed, animals_changed, filed_by, first_entries, history_of,
 )  # fmt: skip
 from gudokeyi.services.imports import is_unknown, read_given
 from gudokeyi.services.opening import Book
@@ -36,28 +37,6 @@ COUNTED = {
     "refused": ("{} refused", "{} refused"),
 }
 REFUSED = "The register refused it, and nothing changed: {}."
-# what a change did, with a place for its sheet, its backup, or the state that it brought back
-DID = {
-    ChangeKind.TAKE: "took the sheet {}",
-    ChangeKind.PEDIGREE: "took the pedigree {}",
-    ChangeKind.BIRTH: "filed a birth",
-    ChangeKind.PARENTS: "filed parents",
-    ChangeKind.TRANSFER: "filed a transfer",
-    ChangeKind.EXIT: "filed an exit",
-    ChangeKind.UNDO: "brought back the state after change {}",
-    ChangeKind.RESTORE: "restored the backup {}",
-    ChangeKind.FOLDER: "took over the folder of version 0.11",
-    ChangeKind.CORRECTION: "corrected an animal",
-    ChangeKind.BATCH: "filed commands of another program",
-    ChangeKind.NOTE: "wrote a note",
-    ChangeKind.OWN_VALUES: "wrote own columns",
-    ChangeKind.OWN_COLUMNS: "set up own columns",
-    ChangeKind.MEMBER: "changed an owner's record",
-    ChangeKind.MERGE: "made one owner of two",
-    ChangeKind.ERASURE: "erased what was personal of an owner",
-    ChangeKind.LITTER: "filed a litter",
-    ChangeKind.TAKEN_BACK: "took back change {}",
-}
 
 
 @dataclass(frozen=True, slots=True)
@@ -97,10 +76,8 @@ def counts_of(change: Change, words: PageLanguage) -> str:
 
 
 def what_of(change: Change, words: PageLanguage) -> str:
-    if change.kind is ChangeKind.UNDO and not change.undone_to:
-        return words.gettext("brought back the empty book")
-    named = change.source.name if change.source else change.undone_to or ", ".join(numbers_taken_back(change))
-    return words.gettext(DID[change.kind], named)
+    text, named = message_of(change)
+    return words.gettext(text, named)
 
 
 # The options with which a change was made, in words: the history has them as a terminal would.

@@ -1,5 +1,5 @@
 -- Animals that are found one after the other, and the part of the book that they are.
-use Rattle.std.proofs.Common.{ℕ, zero, suc, ◌+◌, ◌<◌, ◌≤◌, ◌≡◌, ◌⊎◌, inl, inr, ⊎_elim, Bool, true, false, List, [], ◌∷◌, ◌++◌, length, replicate, set, get_or, position, slice_get, take, Option, Some, None, IfSome, Contains, IsTrue, arith, refl, sym, ap, subst, ◌∙◌, eqb, append_assoc}
+use Rattle.std.proofs.Common.{ℕ, zero, suc, ◌+◌, ◌-◌, ◌<◌, ◌≤◌, ◌≡◌, ◌⊎◌, inl, inr, ⊎_elim, Bool, true, false, List, [], ◌∷◌, ◌++◌, length, replicate, set, get_or, position, slice_get, take, Option, Some, None, IfNone, IfSome, is_some, Contains, IsTrue, arith, refl, sym, ap, ap₂, subst, ◌∙◌, eqb, append_assoc}
 use Rattle.std.specs.List.{AllByRecursion, IsDistinct}
 use Rattle.std.specs.Map.{keys_of}
 use Rattle.std.specs.Str.{bytes_eq}
@@ -38,6 +38,16 @@ marked-none n = record {
   themselves = λ place has. absurd (let low = has.1 in omega (arith, low));
   others = λ place is. absurd (never_marked n place is);
 }
+
+take_none : (n : ℕ) → take {A = Bool} n [] ≡ []
+take_none zero = refl
+take_none (suc n) = refl
+
+-- marks that are written anew where there were none
+pub marks-anew : (n k : ℕ) (marks : List Bool) → marks ≡ [] → k ≡ 0 → take n marks ++ replicate (n - k) false ≡ replicate n false
+marks-anew n k marks empty none =
+    let all : n - k ≡ n = omega (arith, none) in
+    ap₂ (λ ms j. take n ms ++ replicate j false) empty all ∙ ap (λ ms. ms ++ replicate n false) (take_none n)
 
 set_it : (marks : List Bool) (i : ℕ) → i < length marks → slice_get (set marks i true) i ≡ Some true
 set_it [] i within = absurd (omega arith)
@@ -195,12 +205,20 @@ first-more book numbers old new i number first within item begins its k place x 
     its place (at ∙ ap Some one))
     (cases_lt k i)
 
--- the animal of a number stands where it is looked up
-pub its-place : (book : Book) → IsDistinct bytes_eq (keys_of book) → (number : List ℕ) (p : ℕ) (places : List ℕ) → position (bytes_eq number) (keys_of book) ≡ Some p → Contains places p
+-- the place at which a number is looked up
+pub place-there : (book : Book) (number : List ℕ) (o : Option ℕ) → o ≡ position (bytes_eq number) (keys_of book) → IfSome o (λ place. slice_get (keys_of book) place ≡ Some number)
+place-there book number None is = tt
+place-there book number (Some place) is = at_position book number place (sym is)
+
+pub place-absent : (book : Book) (number : List ℕ) (o : Option ℕ) → is_some o ≡ is_there book number → IfNone o (is_there book number ≡ false)
+place-absent book number None is = sym is
+place-absent book number (Some place) is = tt
+
+-- an animal stands at one place alone
+pub its-place : (book : Book) → IsDistinct bytes_eq (keys_of book) → (number : List ℕ) (p : ℕ) (places : List ℕ) → slice_get (keys_of book) p ≡ Some number → Contains places p
     → (place : ℕ) → slice_get (keys_of book) place ≡ Some number → Contains places place
-its-place book once number p places found has place at =
-    let same : p ≡ place = stands_once (keys_of book) once p place number (at_position book number p found) at in
-    subst (λ q. Contains places q) same has
+its-place book once number p places here has place at =
+    subst (λ q. Contains places q) (stands_once (keys_of book) once p place number here at) has
 
 pub no-place : (book : Book) → IsDistinct bytes_eq (keys_of book) → (number : List ℕ) → is_there book number ≡ false → (place : ℕ) → slice_get (keys_of book) place ≡ Some number → ⊥
 no-place book once number absent place at =

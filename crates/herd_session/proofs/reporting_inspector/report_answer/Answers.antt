@@ -1,7 +1,10 @@
 -- A report from the frozen book answers its question.
 use Rattle.std.proofs.Common.{◌≡◌, ◌∙◌, ◌++◌, [], List, ℕ, ap, length, subst, sym}
 use Rattle.std.proofs.Math.Logic.{∥∥₁_elim, ∥∥₁_map, ∥∥₁_prop}
+use Rattle.herd_register.specs.Run.{commands_of, run_book}
 use Rattle.herd_register.specs.declared.step.Step.{Step}
+use Rattle.herd_frozen.specs.declared.freezing.frozen.Row.{Row}
+use Rattle.herd_session.proofs.ScopeFacts.{whole_of}
 use Rattle.herd_session.proofs.AskedFacts.{answered_by_report, report_answers}
 use Rattle.herd_session.specs.Answers.{IsAnswer, IsReport, end_line, lines_behind, report_text}
 use Rattle.herd_session.specs.Questions.{text_of}
@@ -24,6 +27,13 @@ written g c =
     c.in_ok-push_end.ensures ∙ ap (λ (l : List ℕ). l ++ end_line tag c.steps.result) lines
     ∙ ap (λ (n : ℕ). lines_behind tag text ++ end_line tag n) c.steps.ensures.steps
 
+-- and of the whole book
+told : (g : Over) (c : After-again g) (whole : List Row)
+    → text_of c.args.question.now (length c.args.reading.now.of.history) c.args.reading.now.frozen ≡ text_of c.args.question.now (length c.args.reading.now.of.history) whole
+    → c.push_end.new.out.items
+    ≡ report_text c.args.task.now.tag (text_of c.args.question.now (length c.args.reading.now.of.history) whole) (length c.args.reading.now.of.history)
+told g c whole same = written g c ∙ ap (λ (text : List ℕ). report_text c.args.task.now.tag text (length c.args.reading.now.of.history)) same
+
 pub invariant_of-result : goal.invariant_of-result
 invariant_of-result g c =
     let limits = g.N.OfficeName.limits in
@@ -38,17 +48,20 @@ invariant_of-result g c =
           (∥∥₁_elim task.asked ∥∥₁_prop
           (λ asked.
           ∥∥₁_map reading.book
-          (λ frozen.
+          (λ read.
+          let all = whole_of question reading.scope (run_book limits (commands_of reading.of.history)) reading.frozen c.requires.suffices read in
           report_answers limits records task.before task.number task.tag task.wanted question reading.of.history text asked
           c.requires.wanted c.steps.ensures.legal
           (answered_by_report limits reading.of.history task.tag question text c.requires.other
-          (record { rows = reading.frozen; frozen = frozen; told = written g c })))));
+          (record { rows = all.whole; frozen = all.frozen; told = told g c all.whole (all.same (length reading.of.history)) })))));
     }
 
 pub returns-clause-answer : goal.returns-clause-answer
 returns-clause-answer g c =
     let reading = c.args.reading.now in
-    let told = written g (goal.at.returns-clause-answer g c).After-again in
     subst (λ (h : List Step). ∥ IsReport g.N.OfficeName.limits h c.args.task.now.tag c.args.question.now c.push_end.new.out.items ∥₁)
     (sym c.again.ensures)
-    (∥∥₁_map reading.book (λ frozen. record { rows = reading.frozen; frozen = frozen; told = told }))
+    (∥∥₁_map reading.book
+    (λ read.
+    let all = whole_of c.args.question.now reading.scope (run_book g.N.OfficeName.limits (commands_of reading.of.history)) reading.frozen c.requires.suffices read in
+    record { rows = all.whole; frozen = all.frozen; told = told g (goal.at.returns-clause-answer g c).After-again all.whole (all.same (length reading.of.history)) }))

@@ -1,4 +1,4 @@
--- `Ancestors::add_ancestors`: its loop and its clause `parents`.
+-- `Ancestors::add_ancestors`: its loop and its clause `closed`.
 use Rattle.std.proofs.Common.{◌≡◌, ◌<◌, ◌≤◌, ◌∙◌, arith, ap, sym, subst, Some, length, slice_get}
 use Rattle.std.proofs.lemmas.Option.{slice_get-get_or}
 use Rattle.herd_pedigree.specs.store.Ancestors.{BeginsWith, Found}
@@ -21,7 +21,7 @@ add_known-requires g c =
     let v = ap (λ (f : Found). f.animals) c.self.view_is in
     let a = c.loop-next.invariant.animals in
     let r = c.requires.animals in
-    sire-within c.args.records.now.book c.index.result.now c.loop-next.self.animals c.link_at-link.result c.link_at-link.ensures (omega (arith, w, v, a, r)) (omega (arith, a, r))
+    sire-within (g.S.Searched.book c.args.records.now) c.index.result.now c.loop-next.self.animals c.link_at-link.result c.link_at-link.ensures (omega (arith, w, v, a, r)) (omega (arith, a, r))
 
 pub add_known-requires-in-loop-next : goal.add_known-requires-in-loop-next
 add_known-requires-in-loop-next g c =
@@ -31,7 +31,7 @@ add_known-requires-in-loop-next g c =
     let a = c.loop-next.invariant.animals in
     let b = c.in_ok-add_known.ensures.animals in
     let r = c.requires.animals in
-    dam-within c.args.records.now.book c.index.result.now c.add_known.new.self.animals c.link_at-link.result c.link_at-link.ensures (omega (arith, w, v, a, r)) (omega (arith, a, b, r))
+    dam-within (g.S.Searched.book c.args.records.now) c.index.result.now c.add_known.new.self.animals c.link_at-link.result c.link_at-link.ensures (omega (arith, w, v, a, r)) (omega (arith, a, b, r))
 
 pub loop-next-smaller : goal.loop-next-smaller
 loop-next-smaller g c =
@@ -44,7 +44,7 @@ loop-next-smaller g c =
 
 pub loop-next-preserved : goal.loop-next-preserved
 loop-next-preserved g c =
-    let book = c.args.records.now.book in
+    let book = g.S.Searched.book c.args.records.now in
     let low : c.loop-next.next < length c.self.inside.places.items = let t = c.loop-next-test.true in let n = c.len.ensures in omega (arith, t, n) in
     let here : slice_get c.self.inside.places.items c.loop-next.next ≡ Some c.index.result.now = slice_get-get_or c.self.inside.places.items c.loop-next.next c.index.result.now low ∙ ap Some (sym c.index.ensures) in
     let at : slice_get c.loop-next.self.places c.loop-next.next ≡ Some c.index.result.now = subst (λ (f : Found). slice_get f.places c.loop-next.next ≡ Some c.index.result.now) c.self.view_is here in
@@ -61,7 +61,7 @@ loop-next-preserved g c =
           (if-further c.link_at-link.result.sire mid new two c.in_ok-add_known.ensures.added) c.in_ok-add_known-2.ensures.added;
     }
 
-pub returns-clause-parents : goal.returns-clause-parents
-returns-clause-parents g c =
+pub returns-clause-closed : goal.returns-clause-closed
+returns-clause-closed g c =
     let past : length c.loop-next.self.places ≤ c.loop-next.next = let t = c.loop-next-test.false in let n = c.len.ensures in let v = ap (λ (f : Found). length f.places) c.self.view_is in omega (arith, t, n, v) in
-    closed-all c.args.records.now.book c.loop-next.self.places c.loop-next.next c.loop-next.invariant.closed past
+    closed-all (g.S.Searched.book c.args.records.now) c.loop-next.self.places c.loop-next.next c.loop-next.invariant.closed past

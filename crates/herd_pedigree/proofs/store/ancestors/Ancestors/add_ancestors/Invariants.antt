@@ -8,7 +8,7 @@ abbrev pub invariant-loop-next : goal.invariant-loop-next
 invariant-loop-next g l = record {
   animals : l.self.animals ≡ l.fn.self.animals;
   kept : BeginsWith l.fn.self.places l.self.places;
-  closed : IsClosedTo l.records.book l.self.places l.next;
+  closed : IsClosedTo (g.S.Searched.book l.records) l.self.places l.next;
 }
 
 abbrev pub decreases-loop-next : goal.decreases-loop-next

@@ -1,8 +1,6 @@
 -- `Ancestors::add_named`: its loop.
-use Rattle.std.proofs.Common.{◌≡◌, ◌+◌, ◌∙◌, ap, sym, subst, ℕ, Option, Some, position, false}
-use Rattle.std.specs.Prelude.{is_some}
+use Rattle.std.proofs.Common.{◌≡◌, ◌+◌, ◌∙◌, ap, sym, subst, ℕ, Option, Some, IfNone, IfSome, false, slice_get}
 use Rattle.std.specs.Map.{keys_of}
-use Rattle.std.specs.Str.{bytes_eq}
 use Rattle.herd_frozen.specs.rules.Book.{is_there}
 use Rattle.herd_pedigree.specs.store.Ancestors.{Found}
 use Rattle.herd_pedigree.proofs.lemmas.store.AncestorFacts.{HasFirst, begins-itself, first-more, its-place, no-place}
@@ -11,14 +9,15 @@ use Rattle.herd_pedigree.proofs.store.ancestors.Ancestors.add_named.Goals as goa
 
 pub loop-number-preserved : goal.loop-number-preserved
 loop-number-preserved g c =
-    let book = c.args.records.now.book in
+    let book = g.S.Searched.book c.args.records.now in
     let numbers = c.args.numbers.now in
     let i : ℕ = c.loop-number.number-index in
     let old : Found = c.loop-number.self in
     elim c.match-place_of.branch [
       | in-Some+in_ok-add w ↦
           (let new : Found = w.add.new.self in
-          let here : position (bytes_eq c.number-item.result) (keys_of book) ≡ Some w.in-Some.place = sym c.place_of.ensures.index ∙ w.in-Some.is in
+          let here : slice_get (keys_of book) w.in-Some.place ≡ Some c.number-item.result =
+          subst (λ (o : Option ℕ). IfSome o (λ place. slice_get (keys_of book) place ≡ Some c.number-item.result)) w.in-Some.is c.place_of.ensures.place in
           let first : HasFirst book numbers (i + 1) new.places =
           first-more book numbers old.places new.places i c.number-item.result c.loop-number.invariant.named c.loop-number-test.true c.number-item.is w.in_ok-add.ensures.kept
           (its-place book c.requires.once c.number-item.result w.in-Some.place new.places here w.in_ok-add.ensures.added) in
@@ -27,7 +26,7 @@ loop-number-preserved g c =
             named = subst (λ (f : Found). HasFirst book numbers (i + 1) f.places) (sym w.self-is) first;
           })
       | in_default w ↦
-          (let absent : is_there book c.number-item.result ≡ false = sym c.place_of.ensures.found ∙ ap (λ (o : Option ℕ). is_some o) w.in_default.is in
+          (let absent : is_there book c.number-item.result ≡ false = subst (λ (o : Option ℕ). IfNone o (is_there book c.number-item.result ≡ false)) w.in_default.is c.place_of.ensures.absent in
           let first : HasFirst book numbers (i + 1) old.places =
           first-more book numbers old.places old.places i c.number-item.result c.loop-number.invariant.named c.loop-number-test.true c.number-item.is (begins-itself old.places)
           (λ place at. absurd (no-place book c.requires.once c.number-item.result absent place at)) in

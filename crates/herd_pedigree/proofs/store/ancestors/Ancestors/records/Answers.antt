@@ -20,7 +20,7 @@ entry_at-requires g c =
 pub loop-place-preserved : goal.loop-place-preserved
 loop-place-preserved g c =
     record {
-      list = records-more c.args.records.now.book c.deref-place-items.result.now c.loop-place.place-index c.entry_at.result c.loop-place.list.items c.push_reserved.new.self.items c.loop-place-test.true c.entry_at.ensures c.loop-place.invariant.list c.push_reserved.ensures.items;
+      list = records-more (g.S.Searched.book c.args.records.now) c.deref-place-items.result.now c.loop-place.place-index c.entry_at.result c.loop-place.list.items c.push_reserved.new.self.items c.loop-place-test.true c.entry_at.ensures c.loop-place.invariant.list c.push_reserved.ensures.items;
       count = search rules;
       room = search rules;
     }

@@ -1,10 +1,10 @@
--- `Records::entry_at`: its result.
+-- `RecordsSearched::entry_at`: its result.
 use Rattle.std.proofs.Common.{◌≡◌, ◌∙◌, sym, ap, ℕ, List, Some, slice_get}
 use Rattle.std.specs.Map.{keys_of}
 use Rattle.herd_frozen.proofs.lemmas.ListFacts.{entry_from_both}
 use Rattle.herd_pedigree.specs.declared.store.records.StoredRecord.{StoredRecord}
 use Rattle.herd_pedigree.proofs.lemmas.store.RecordsFacts.{keys-stored_book}
-use Rattle.herd_pedigree.proofs.store.records.Records.entry_at.Goals as goal
+use Rattle.herd_pedigree.proofs.store.records.RecordsSearched.entry_at.Goals as goal
 
 pub returns : goal.returns
 returns g c =

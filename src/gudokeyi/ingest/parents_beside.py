@@ -1,0 +1,61 @@
+"""Parents of whom a row has an id and, in a column that isn't read, a name that are two different animals of the
+list."""
+from __future__ import annotations
+
+import collections
+from collections.abc import Collection, Mapping
+from typing import NamedTuple
+
+from gudokeyi.domain.findings import Report
+from gudokeyi.domain.kinds import Field, Role
+from gudokeyi.domain.messages import MOST_NAMED
+from gudokeyi.ingest.animals import SheetAnimal
+from gudokeyi.ingest.columns import Columns
+from gudokeyi.ingest.findings.rows import ParentNamedOtherwise
+from gudokeyi.ingest.titles import KNOWN_TITLES
+
+
+class NamedOtherwise(NamedTuple):
+    """The id of a parent in a line, and a name beside it that others have: the ids of the first of them."""
+
+    line: int
+    parent: str
+    text: str
+    others: tuple[str, ...]
+
+
+def tell_parents_named_otherwise(columns: Columns, animals: Mapping[str, SheetAnimal], report: Report) -> None:
+    beside = [(role, at) for role in Role if role in columns.found for at in columns.titled(KNOWN_TITLES[role])]
+    if not beside or Field.NAME not in columns.found:
+        return
+    names = {id: animal.name for id, animal in animals.items() if animal.name}
+    for role, at in beside:
+        found = named_otherwise(columns, columns.found[role], at, names)
+        by_line = {animal.line: animal.id for animal in animals.values()} if found else {}
+        for line, parent, text, others in found:
+            if line in by_line:
+                told = ParentNamedOtherwise(role, parent, names[parent], columns.title(at), text, others)
+                report.add(line, by_line[line], told)
+
+
+def named_otherwise(columns: Columns, of_ids: int, of_names: int, names: Mapping[str, str]) -> list[NamedOtherwise]:
+    """Those of a column of ids and one of names; none where fewer names are those of the ids."""
+    ids, texts = columns.cells(of_ids), columns.cells(of_names)
+    both = [at for at, (id, text) in enumerate(zip(ids, texts)) if text and id in names]
+    unlike = [at for at in both if texts[at] != names[ids[at]]]
+    unlike = [at for at in unlike if texts[at].casefold() != names[ids[at]].casefold()]
+    by_name = ids_by_name(names, {texts[at].casefold() for at in unlike})
+    found = [at for at in unlike if texts[at].casefold() in by_name]
+    if len(found) > len(both) - len(unlike):
+        return []
+    rows, others = columns.sheet.rows, {name: tuple(those[:MOST_NAMED]) for name, those in by_name.items()}
+    return [NamedOtherwise(rows[at].line, ids[at], texts[at], others[texts[at].casefold()]) for at in found]
+
+
+def ids_by_name(names: Mapping[str, str], wanted: Collection[str]) -> dict[str, list[str]]:
+    """The ids of the animals that have one of these names, which are in small letters."""
+    found = collections.defaultdict[str, list[str]](list)
+    for id, name in zip(names, map(str.casefold, names.values())) if wanted else ():
+        if name in wanted:
+            found[name].append(id)
+    return found

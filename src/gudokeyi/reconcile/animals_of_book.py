@@ -1,0 +1,84 @@
+"""What is asked of all animals of a book at once: each is found once for an import, and once for all looks at a sheet
+while the book stays as it is."""
+from __future__ import annotations
+
+import datetime
+import functools
+import itertools
+
+from gudokeyi.domain.kinds import Standing
+from gudokeyi.domain.provenance import GIVEN_BIRTH, GIVEN_EXIT, BirthBasis, OwnerDay
+from gudokeyi.store.book import Book
+
+
+class AnimalsOfBook:
+    """The animals of a book by what is asked of them."""
+
+    def __init__(self, book: Book) -> None:
+        self.society_records, self.records = book.society_records, book.records
+
+    def is_of(self, book: Book) -> bool:
+        """Are these still the animals of a book, which were read once for both?"""
+        return self.society_records is book.society_records and self.records is book.records
+
+    @functools.cached_property
+    def numbers(self) -> dict[str, str]:
+        """Their numbers by their ids."""
+        return {id: in_book.registration_number for id, in_book in self.society_records.items()}
+
+    @functools.cached_property
+    def ids(self) -> dict[str, str]:
+        """Their ids by their numbers, and that of an unknown one."""
+        return {"": "", **{number: id for id, number in self.numbers.items()}}
+
+    @functools.cached_property
+    def had_row(self) -> dict[str, None]:
+        """The ids of those that had a row in some sheet, in their order."""
+        standings = {standing for standing in Standing if standing.had_row()}
+        return dict.fromkeys(id for id, in_book in self.society_records.items() if in_book.standing in standings)
+
+    @functools.cached_property
+    def with_row(self) -> dict[str, None]:
+        """Of those that had one in the last sheet."""
+        return dict.fromkeys(id for id, in_book in self.society_records.items() if in_book.standing is Standing.ROW)
+
+    @functools.cached_property
+    def given(self) -> frozenset[str]:
+        """The ids that were given, by a row or by hand; that of a parent without one is the text of a cell."""
+        records = self.society_records.items()
+        return frozenset(id for id, in_book in records if in_book.standing is not Standing.PARENT)
+
+    @functools.cached_property
+    def born(self) -> dict[str, datetime.date]:
+        """The birth days that were given, by the ids."""
+        records = self.records
+        return {
+            id: records[in_book.registration_number].born for id, in_book in self.society_records.items()
+            if in_book.birth is GIVEN_BIRTH or not in_book.birth.is_inferred
+        }  # fmt: skip
+
+    @functools.cached_property
+    def inferred(self) -> dict[str, tuple[int, BirthBasis]]:
+        """The birth days that were inferred, as `date.toordinal` counts them, and from what."""
+        without = itertools.filterfalse(self.born.__contains__, self.society_records)
+        found = ((id, self.society_records[id]) for id in without)
+        return {id: (self.records[one.registration_number].born.toordinal(), one.birth) for id, one in found}
+
+    @functools.cached_property
+    def left(self) -> frozenset[str]:
+        """The ids of those that have left, also on a day that isn't known."""
+        records = self.records
+        return frozenset(
+            id for id, in_book in self.society_records.items()
+            if records[in_book.registration_number].left
+            or in_book.exit is not GIVEN_EXIT and in_book.exit.day_is_unknown
+        )  # fmt: skip
+
+    @functools.cached_property
+    def sold(self) -> frozenset[str]:
+        """The ids of those that had another owner before, or whose owner's day is inferred."""
+        records = self.records
+        return frozenset(
+            id for id, in_book in self.society_records.items()
+            if records[in_book.registration_number].from_owner or in_book.owner_day is not OwnerDay.GIVEN
+        )  # fmt: skip
