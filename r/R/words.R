@@ -22,7 +22,9 @@ unknown_words <- c(
   "", "na", "<na>", "nan", "n/a", "nn", "none", "null", "unknown", "unk", "not known", "not recorded",
   "not available", "unknown sire", "unknown dam", "unbekannt", "unbek", "nicht bekannt", "nb", "ka", "keine angabe",
   "keine angaben", "fehlt", "inconnu", "inconnue", "non connu", "non connue", "pas connu", "non renseign\u00e9",
-  "non renseign\u00e9e", "nc", "nr", "-1", "-9", "-99", "-999", "-9999"
+  "non renseign\u00e9e", "nc", "nr", "n/k", "nbek", "fremd", "zukauf", "zugekauft", "unregistered", "not registered",
+  "not yet registered", "not yet reg", "vater unbekannt", "mutter unbekannt", "p\u00e8re inconnu", "m\u00e8re inconnue",
+  "onc", "origine non constat\u00e9e", "origine inconnue", "-1", "-9", "-99", "-999", "-9999"
 )
 # signs alone, zeros alone, and the usual numbers as other programs write them
 unknown_signs <- "^([-\u2013\u2014?.*/_~+]+|[-+]?0[0.,]*|-(1|9{1,4})[.,]0+)$"
@@ -34,8 +36,8 @@ error_values <- paste0(
 # Which texts stand for an unknown parent: `unknown` adds words, `known` takes some back.
 is_unknown <- function(texts, unknown = character(), known = character()) {
   distinct <- unique(texts)
-  # few have no digit but zeros, or begin as numbers below 0 and error values do
-  likely <- !grepl("[1-9]", distinct) | grepl("^([-#]|Err:)", distinct, ignore.case = TRUE)
+  # few have no digit but zeros before a remark in brackets, or begin as numbers below 0 and error values do
+  likely <- !grepl("^[^1-9(]*[1-9]", distinct) | grepl("^([-#]|Err:)", distinct, ignore.case = TRUE)
   found <- logical(length(distinct))
   found[likely] <- is_usual_unknown(distinct[likely])
   if (length(known)) found <- found & !tolower(distinct) %in% tolower(known)
@@ -46,8 +48,17 @@ is_unknown <- function(texts, unknown = character(), known = character()) {
 
 is_usual_unknown <- function(texts) {
   folded <- tolower(texts)
-  gsub("\\.\\s*", "", folded) %in% unknown_words | folded %in% unknown_words |
+  without_points(folded) %in% unknown_words | folded %in% unknown_words | is_explained(folded) |
     grepl(unknown_signs, texts, perl = TRUE) | grepl(error_values, texts, ignore.case = TRUE, perl = TRUE)
+}
+
+# Abbreviations without their points and the blanks behind them.
+without_points <- function(folded) gsub("\\.\\s*", "", folded)
+
+# A word for unknown with a remark in brackets, as `unbekannt (Weide)`: few letters may be a name's.
+is_explained <- function(folded) {
+  words <- sub("\\(.*", "", folded)
+  words != folded & nchar(words) > 4 & trimws(without_points(words)) %in% unknown_words
 }
 
 # A title in small letters, without accents, blanks and signs.

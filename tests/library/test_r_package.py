@@ -69,6 +69,7 @@ def by_r(checked: pathlib.Path, program: str, script: str) -> str:
 def test_words(checked: pathlib.Path, program: str) -> None:
     """What R takes for an unknown parent, or for a title, Python takes for the same."""
     others = ["N.A.", "-", "--", "?", "*", "0.0", "00", "-9.0", "#N/A", "#REF!", "Err:502", "x", "-2", "E1", "NA12"]
+    others += ["unbekannt (Weide)", "Unbek. (Stall 3)", "nn (x)", "Bella (unbekannt)", "fremd", "Zukauf 2019"]
     words = [*KNOWN_UNKNOWN, *others]
     (checked / "words.txt").write_text("".join(f"{word}\n" for word in words), encoding="utf-8")
     script = """
@@ -79,6 +80,7 @@ def test_words(checked: pathlib.Path, program: str) -> None:
     lines = by_r(checked, program, script).splitlines()
     unknown = UnknownParents()
     assert lines[: len(words)] == [str(word in unknown).upper() for word in words]
+    assert unknown.among(words) == {word for word in words if word in unknown}
     for line in lines[len(words) :]:
         _, field, *titles = line.split()
         assert {*titles} <= {*OF_FIELD[Field(field)], *SHORT_OF_FIELD.get(Field(field), ())}

@@ -31,8 +31,9 @@ KNOWN_UNKNOWN = {compared(word) for word in listed(UNKNOWN)}
 # how texts begin, in small letters, that may stand for an unknown parent: these words, signs and error values
 BEGINNINGS = BEGIN_OF_SIGNS | {word[0] for word in KNOWN_UNKNOWN} | {"#", "e"}
 FIRST_LETTERS = {"", *BEGINNINGS, *(letter.upper() for letter in BEGINNINGS)}
-# a text with a number, but for the error values of spreadsheets and numbers below 0, is none of them
-NUMBERED = re.compile(r"(?![-+#Ee–—])[^1-9]*[1-9]")
+# a text with a number before any remark in brackets, but for the error values of spreadsheets and numbers below 0, is
+# none of them
+NUMBERED = re.compile(r"(?![-+#Ee–—])[^1-9(]*[1-9]")
 # a word before a remark has more letters
 SHORTEST = 4
 
