@@ -23,32 +23,31 @@ BELOW = {name: named(LINES[name]) & CRATES for name in CRATES}
 SECONDS = 180
 
 # What stands in for rt. The file NAME.seconds says how long a crate takes, and with NAME.fails it isn't proved.
-STAND_IN = """#!/usr/bin/env python3
-import os, pathlib, sys, time
-if sys.argv[1] == "version":
-    sys.exit(print("a kit"))
-notes, name = pathlib.Path(os.environ["NOTES"]), pathlib.Path.cwd().name
-def note(what):
-    with open(notes / "log", "a", encoding="utf-8") as log:
-        log.write(f"{what} {name}\\n")
-note("begin")
-(notes / f"{os.getpid()}.run").touch()
-for line in pathlib.Path("../../crates.txt").read_text(encoding="utf-8").splitlines():
-    other = line.split(":")[0].split()[0]
-    if other != name and not (pathlib.Path("..") / other / "out/rlib" / f"{other}.rlib").exists():
-        note(f"lacks {other}")
-seconds = notes / f"{name}.seconds"
-time.sleep(float(seconds.read_text(encoding="utf-8")) if seconds.exists() else 0.05)
-if (notes / f"{name}.fails").exists():
-    sys.exit("a contract isn't met")
-if sys.argv[1] == "run":
-    pathlib.Path("out").mkdir(exist_ok=True)
-    pathlib.Path("out", name).write_text('#!/bin/sh\\necho "$@"\\n', encoding="utf-8")
-    pathlib.Path("out", name).chmod(0o755)
-else:
-    pathlib.Path("out/rlib", f"{name}.rlib").mkdir(parents=True, exist_ok=True)
-note("end")
-print("logic=proved functions=7 sum=1")
+STAND_IN = """#!/bin/sh
+[ "$1" = version ] && echo "a kit" && exit
+name=${PWD##*/}
+note() {
+    echo "$1 $name" >>"$NOTES/log"
+}
+note begin
+: >"$NOTES/$$.run"
+for other in $(sed 's/[: ].*//' ../../crates.txt); do
+    [ "$other" = "$name" ] || [ -e "../$other/out/rlib/$other.rlib" ] || note "lacks $other"
+done
+[ -e "$NOTES/$name.seconds" ] && read seconds <"$NOTES/$name.seconds"
+trap 'kill $!; exit 1' INT TERM
+sleep "${seconds:-0.05}" >/dev/null 2>&1 &
+wait $!
+[ -e "$NOTES/$name.fails" ] && echo "a contract isn't met" && exit 1
+if [ "$1" = run ]; then
+    mkdir -p out
+    printf '#!/bin/sh\\necho "$@"\\n' >"out/$name"
+    chmod 755 "out/$name"
+else
+    mkdir -p "out/rlib/$name.rlib"
+fi
+note end
+echo "logic=proved functions=7 sum=1"
 """
 
 
@@ -146,6 +145,11 @@ class Repository:
         lines = log.read_text(encoding="utf-8").splitlines() if log.exists() else []
         log.unlink(missing_ok=True)
         return [(what, name) for what, _, name in (line.rpartition(" ") for line in lines)]
+
+    def has_begun(self, name: str) -> bool:
+        """Whether the stand-in noted since the last look that a crate begins."""
+        log = self.notes / "log"
+        return log.exists() and f"begin {name}\n" in log.read_text(encoding="utf-8")
 
     def kept(self) -> set[str]:
         """The crates whose libraries are kept."""

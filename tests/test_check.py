@@ -1,6 +1,7 @@
 """The test command `check`, in a folder where rt, the tests and the packages are stand-ins."""
 from __future__ import annotations
 
+import os
 import pathlib
 import shutil
 import subprocess
@@ -35,8 +36,10 @@ class Folder:
     """A folder with `check`, one test, and stand-ins for rt, the building and a system's installer."""
 
     def __init__(
-        self, room: pathlib.Path, status_of_rt: int = 0, commands: tuple[str, ...] = ("cc", "chromedriver", "Rscript")
-    ) -> None:
+        self, room: pathlib.Path, status_of_rt: int = 0, commands: tuple[str, ...] = ("cc", "chromedriver", "Rscript"),
+        types: str | None = "",
+    ) -> None:  # fmt: skip
+        """`types` is what stands in for mypy, if anything does."""
         self.top, self.bin, self.notes = room / "repository", room / "bin", room / "notes"
         for folder in (self.top / "building", self.top / "tests", self.bin):
             folder.mkdir(parents=True)
@@ -48,6 +51,8 @@ class Folder:
         self.write("building/lacking.py", "")
         self.write("build.py", "print('what it is built of')\n")
         self.write("pyproject.toml", PROJECT)
+        if types is not None:
+            self.write("mypy.py", types)
         for name in COMMANDS:
             (self.bin / name).symlink_to(shutil.which(name) or name)
         self.add_command("rt", RT.format(status=status_of_rt))
@@ -67,8 +72,15 @@ class Folder:
 
     def call(self) -> tuple[int, list[str], str]:
         """The status of a call, the lines that it wrote, and what it told on standard error."""
-        ended = subprocess.run([self.top / "check"], env=self.env, capture_output=True, text=True, timeout=120)
+        ended = subprocess.run(
+            [self.top / "check"], env=self.env, capture_output=True, text=True, timeout=120, preexec_fn=with_one_processor
+        )
         return ended.returncode, ended.stdout.splitlines(), ended.stderr
+
+
+def with_one_processor() -> None:
+    """So one test isn't given to as many processes as there are processors."""
+    os.sched_setaffinity(0, {min(os.sched_getaffinity(0))})
 
 
 @pytest.mark.parametrize("status", [1, 137])
@@ -98,7 +110,7 @@ def test_what_is_missing_of_r_is_told(tmp_path: pathlib.Path) -> None:
 
 
 def test_all_that_is_well_counts(tmp_path: pathlib.Path) -> None:
-    ended, lines, told = Folder(tmp_path).call()
+    ended, lines, told = Folder(tmp_path, types=None).call()
     # seven of the gate, one test, and the types
     assert (ended, lines[-1], told) == (0, "9 passed, 0 failed", "")
 

@@ -176,7 +176,7 @@ class TestFirstCall:
             slow.write_text(f"{10 * SECONDS}", encoding="utf-8")
             is_key = number == signal.SIGINT
             call = here.begin_program() if is_key else here.begin(sys.executable, str(here.top / "build.py"), PROGRAM)
-            wait_until(lambda: {"herd_animal", "herd_frozen", "herd_kinship"} <= here.kept())
+            wait_until(lambda: here.has_begun("herd_pedigree"))
             os.killpg(call.pid, number) if is_key else call.send_signal(number)
             status, _, err = ended(call)
             self.count(status if is_key else status == 1, f"{number.name}: status {status}")

@@ -6,6 +6,7 @@ import pathlib
 
 import openpyxl
 import openpyxl.comments
+import openpyxl.styles
 import pytest
 
 from front_desk.desk import Desk
