@@ -21,8 +21,8 @@ NOT_TEXT = {
 }
 # a letter of UTF-8 in several bytes
 SEVERAL_BYTES = re.compile(rb"[\xc2-\xdf][\x80-\xbf]|[\xe0-\xef][\x80-\xbf]{2}|[\xf0-\xf4][\x80-\xbf]{3}")
-# letters outside of ASCII that follow one another
-FOREIGN = re.compile(r"[^\x00-\x7f]+")
+# letters outside of ASCII that follow one another, of which one that was decoded twice has two at least
+FOREIGN, TWO_FOREIGN = re.compile(r"[^\x00-\x7f]+"), re.compile(r"[^\x00-\x7f]{2}")
 LOST = "\ufffd"
 
 
@@ -97,7 +97,7 @@ def stray_bytes(path: pathlib.Path, data: bytes, error: UnicodeDecodeError) -> S
 @functools.lru_cache(maxsize=50_000)
 def decoded_twice(text: str) -> str:
     """The text as it was before its letters were decoded twice, as `Müller` of `MÃ¼ller`; empty where they weren't."""
-    if text.isascii():
+    if text.isascii() or not TWO_FOREIGN.search(text):
         return ""
     mended = FOREIGN.sub(lambda found: mended_letters(found.group()), text)
     return mended if mended != text else ""

@@ -168,9 +168,7 @@ class PlainRows:
         """Texts whose letters may have been decoded wrongly, and rows whose texts are too long together."""
         there = [field for field in TEXTS if field in self.texts]
         for field in there:
-            texts = self.different[field]
-            if not "".join(texts).isascii():
-                self.leave(field, {*filter(is_doubtful, texts)})
+            self.leave(field, {*filter(is_doubtful, itertools.filterfalse(str.isascii, self.different[field]))})
         if sum(max(map(len, self.different[field]), default=0) for field in there) > MOST_IN_NAME:
             lengths = map(sum, zip(*(map(len, self.texts[field]) for field in there)))
             self.odd |= {at for at, length in enumerate(lengths) if length > MOST_IN_NAME}

@@ -3,6 +3,7 @@ cell above in place of a mark that repeats it, and with what a column of words s
 from __future__ import annotations
 
 import collections
+import operator
 import re
 from collections.abc import Mapping
 from dataclasses import replace
@@ -70,6 +71,9 @@ class Notes:
 
     def found(self) -> dict[int, str]:
         """The texts of such rows by their lines."""
+        # most sheets have a column with a cell in each row
+        if any(all(self.sheet.column(at)) for at in self.columns.values() if at != self.id):
+            return {}
         likely = [row for row in self.sheet.rows if self.says_an_id_alone(row)]
         if not likely or 2 * len(likely) > len(self.sheet.rows):
             return {}
@@ -106,6 +110,8 @@ DITTO = {
     "s.o.", "s. o.", "siehe oben", "wie oben", "as above", "same as above", "same", "ci-dessus", "voir ci-dessus",
     "comme ci-dessus", "le même", "la même", "the same", "derselbe", "dieselbe", "der gleiche", "die gleiche",
 }  # fmt: skip
+# how they end, as no day and few ids do
+ENDS, LAST_LETTER = frozenset(mark[-1] for mark in DITTO), operator.itemgetter(slice(-1, None))
 # the columns in which they stand for something
 REPEATED = (
     Field.OWNER, Field.BIRTH, Field.SIRE, Field.DAM, Field.SEX, Field.SINCE, Field.EXIT, Field.STATUS,
@@ -116,13 +122,21 @@ def repeat(rows: list[SheetRow], sheet: Sheet, columns: Mapping[str, int], repor
     """The rows with the cells above in place of such marks; each column with some is told."""
     for field in REPEATED:
         at = columns.get(field)
-        if at is None or not any(text.casefold() in DITTO for text in set(sheet.column(at))):
+        if at is None or not has_marks(sheet.column(at)):
             continue
         rows, told = repeated(rows, at)
         if told:
             line, text, above = told[0]
             report.add(0, "", CellsRepeated(sheet.titles[at], len(told), line, text, above))
     return rows
+
+
+def has_marks(texts: list[str]) -> bool:
+    """Is any text such a mark?"""
+    ends = {*map(LAST_LETTER, texts)}
+    if ENDS.isdisjoint(end.casefold()[-1:] for end in ends):
+        return False
+    return not DITTO.isdisjoint(map(str.casefold, {*texts}))
 
 
 def repeated(rows: list[SheetRow], at: int) -> tuple[list[SheetRow], list[tuple[int, str, str]]]:

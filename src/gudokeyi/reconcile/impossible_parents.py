@@ -13,7 +13,7 @@ from gudokeyi.domain.messages import MessageText, Mistake, Some, why
 from gudokeyi.domain.pedigree_order import in_order, longest_paths, offspring_by_parent, round_from
 from gudokeyi.domain.refusals import Refusal
 from gudokeyi.engine.program import Herdbook
-from gudokeyi.ingest.animals import DAM_OF, FIRST_OF, LAST_OF, SIRE_OF, SheetAnimal, parents_of_all
+from gudokeyi.ingest.animals import LAST_OF, SheetAnimal, parents_of_all
 from gudokeyi.ingest.days import Precision
 from gudokeyi.ingest.messages import Where
 from gudokeyi.reconcile.findings.parents import DayFact, OwnAncestor, ParentRefused
@@ -63,9 +63,8 @@ def are_older(animals: dict[str, SheetAnimal]) -> bool:
     """Is each parent older than its offspring by the days of both? Then none is its own ancestor."""
     last = dict(zip(animals, map(LAST_OF, animals.values())))
     last[""] = datetime.date.min
-    first = [*map(FIRST_OF, animals.values())]
-    parents = (map(last.__getitem__, map(of, animals.values())) for of in (SIRE_OF, DAM_OF))
-    return not any(any(map(operator.ge, its, first)) for its in parents)
+    births = map(operator.attrgetter("birth.first", "sire", "dam"), animals.values())
+    return all(last[sire] < first and last[dam] < first for first, sire, dam in births)
 
 
 def by_age(animals: dict[str, SheetAnimal]) -> list[str]:

@@ -117,7 +117,7 @@ def tell_doubtful_owners(next_book: NextBook, owners_before: set[str]) -> None:
 def tell_born_dead(next_book: NextBook) -> None:
     """New animals whose name says that they never lived."""
     animals = next_book.animals.values()
-    together = "\n".join({*itertools.compress(map(NAME_OF, animals), map(LINE_OF, animals))}).casefold()
+    together = "\n".join(itertools.compress(map(NAME_OF, animals), map(LINE_OF, animals))).casefold()
     if not any(begin in together for begin in BEGINS_BORN_DEAD):
         return
     named = [one for one in animals if one.line and one.name and not one.left]

@@ -112,16 +112,14 @@ class PlausibilityChecks:
             self.report.add(offspring.line, offspring.id, found)
 
     def look_at_dams(self, dated: Sequence[SheetAnimal], born: Mapping[str, int]) -> None:
-        borne = [animal for animal in dated if animal.dam and not animal.embryo]
-        births = collections.defaultdict[str, list[int]](list)
-        for dam, day in zip(map(DAM_OF, borne), map(born.__getitem__, map(ID_OF, borne))):
-            births[dam].append(day)
-        likely = {dam for dam, its in births.items() if len(its) > 1 and self.are_near(sorted(its))}
-        progeny = collections.defaultdict(list)
-        for animal in itertools.compress(borne, map(likely.__contains__, map(DAM_OF, borne))):
-            progeny[animal.dam].append(animal)
+        progeny = collections.defaultdict[str, list[SheetAnimal]](list)
+        for animal in dated:
+            if animal.dam and not animal.embryo:
+                progeny[animal.dam].append(animal)
         by_age = operator.attrgetter("born", "line")
         for dam, its in progeny.items():
+            if len(its) == 1 or not self.are_near(sorted([born[animal.id] for animal in its])):
+                continue
             its.sort(key=by_age)
             for before, offspring in zip(its, its[1:]):
                 days = born[offspring.id] - born[before.id]

@@ -21,14 +21,16 @@ from gudokeyi.store.legacy.files import keep_old_files
 from gudokeyi.store.transactions import begin_to_read
 
 
-class EntriesOfChange(NamedTuple):
-    """What a change told, as who made it has it still: so it isn't read again."""
+class ChangeJustMade(NamedTuple):
+    """What a change told, and the journal after it if that is known, as who made it has them still: so they aren't read
+    again."""
 
     change: Change
     entries: Sequence[Entry]
+    journal: bytes = b""
 
 
-def refresh(folder: pathlib.Path, seconds: float, known: EntriesOfChange | None = None) -> str:
+def refresh(folder: pathlib.Path, seconds: float, made: ChangeJustMade | None = None) -> str:
     """Writes them anew where they aren't fresh, of the book as it is now, whoever changes it meanwhile. Others who
     write them are waited for so long. Answers why it couldn't, in words."""
     path = path_of(folder)
@@ -36,7 +38,7 @@ def refresh(folder: pathlib.Path, seconds: float, known: EntriesOfChange | None 
         # behind those that somebody else writes, so that they are never of an earlier change than what is there
         with turn(folder, seconds), contextlib.closing(connect(path, "rw")) as connection:
             begin_to_read(connection)
-            write_exports(Book(folder, connection), known)
+            write_exports(Book(folder, connection), made)
     except sqlite3.Error as error:
         return f"{', '.join(NAMES)} in {folder} couldn't be written ({error})"
     except OSError as error:
@@ -44,23 +46,25 @@ def refresh(folder: pathlib.Path, seconds: float, known: EntriesOfChange | None 
     return ""
 
 
-def write_exports(book: Book, known: EntriesOfChange | None) -> None:
+def write_exports(book: Book, made: ChangeJustMade | None) -> None:
     change = book.change
     if change is None or are_fresh(book.folder, change):
         return
     keep_old_files(book.folder)
     # nobody else writes exports now
     take_away_left(book.folder, NAMES, (DATABASE, LAST_BACKUP))
+    if made and made.change == change and made.journal:
+        book.journal_text = made.journal
     with book.journal_read_beside():
         put(book.folder / IDS, ids_text(book, change), change.moment)
-        put(book.folder / REPORT, report_text(book, change, known), change.moment)
+        put(book.folder / REPORT, report_text(book, change, made), change.moment)
         put(book.folder / COMMANDS, book.command_file(), change.moment)
 
 
-def report_text(book: Book, change: Change, known: EntriesOfChange | None = None) -> bytes:
+def report_text(book: Book, change: Change, made: ChangeJustMade | None = None) -> bytes:
     """What the change told."""
     semicolons = any(option.option == SEMICOLONS for option in change.options)
-    entries = known.entries if known and known.change == change else entries_of(book, change)
+    entries = made.entries if made and made.change == change else entries_of(book, change)
     rows = [(entry.line or "", entry.id, entry.what, entry.why, change.number) for entry in entries]
     return table(REPORT_TITLES, zip(*rows), semicolons)
 

@@ -19,7 +19,7 @@ from gudokeyi.store.transactions import (
 )  # fmt: skip
 
 if TYPE_CHECKING:
-    from gudokeyi.services.folder_files import EntriesOfChange
+    from gudokeyi.services.folder_files import ChangeJustMade
 
 # so long exports wait for somebody who writes them, after a change of one's own
 SECONDS_FOR_EXPORTS = 600
@@ -134,9 +134,9 @@ def there_to_change(folder: pathlib.Path, program: BookProgram) -> Iterator[Book
         yield book
 
 
-def export(folder: pathlib.Path, known: EntriesOfChange | None = None) -> list[str]:
+def export(folder: pathlib.Path, made: ChangeJustMade | None = None) -> list[str]:
     """Writes the exports after a change; answers why it couldn't, in a sentence."""
     from gudokeyi.services.folder_files import refresh
 
-    told = refresh(folder, SECONDS_FOR_EXPORTS, known)
+    told = refresh(folder, SECONDS_FOR_EXPORTS, made)
     return [f"the change is made, but {told}: a later call writes them"] if told else []

@@ -19,7 +19,7 @@ from gudokeyi.reconcile.next_book import NextBook, known_after
 from gudokeyi.reconcile.outcome import Outcome
 from gudokeyi.reconcile.stored_findings import told_of
 from gudokeyi.services.book_program import BookProgram
-from gudokeyi.services.folder_files import EntriesOfChange
+from gudokeyi.services.folder_files import ChangeJustMade
 from gudokeyi.services.opening import export, still_to_change, to_change, to_look_at, to_prepare
 from gudokeyi.services.writing import FindState, write
 from gudokeyi.store.book import Book
@@ -79,7 +79,8 @@ def saved(
     outcome = replace(outcome, call=replace(outcome.call, change=change.number))
     keep(prepared, outcome)
     give_back_freed()
-    return outcome, notes + export(book.folder, EntriesOfChange(change, outcome.report.in_order()))
+    made = ChangeJustMade(change, outcome.report.in_order(), prepared.filed.text)
+    return outcome, notes + export(book.folder, made)
 
 
 def save(book: Book, program: BookProgram, prepared: Prepared) -> Change:
