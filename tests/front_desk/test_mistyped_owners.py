@@ -1,17 +1,24 @@
 """Owners whose names are much alike: of a few rows, where one of many is meant, or written otherwise."""
 from __future__ import annotations
 
-from collections.abc import Mapping
+import collections
+import random
+import re
+from collections.abc import Callable, Mapping
 from types import SimpleNamespace
 from typing import cast
 
 import pytest
 
-from gudokeyi.domain.findings import Report
+from gudokeyi.domain.findings import Finding, Report
 from gudokeyi.ingest.animals import SheetAnimal
+from gudokeyi.ingest.texts import plain
 from gudokeyi.reconcile.findings.animals import OwnerMistyped, OwnerRespelt, OwnersAlike, Spelling
+from gudokeyi.reconcile.findings.plausibility import OwnerOfSeveral
 from gudokeyi.reconcile.next_book import NextBook
-from gudokeyi.reconcile.owners import differ_by_one, tell_mistyped_owners, tell_owners_alike, tell_respelt_owners
+from gudokeyi.reconcile.owners import (
+    MORE, differ_by_one, is_no_name, tell_doubtful_owners, tell_mistyped_owners, tell_owners_alike, tell_respelt_owners,
+)  # fmt: skip
 
 
 @pytest.mark.parametrize(("one", "other", "is_alike"), [
@@ -97,3 +104,56 @@ def test_owners_alike_have_rows() -> None:
     report = Report()
     tell_owners_alike(cast(NextBook, SimpleNamespace(animals=animals, report=report)))
     assert [entry.finding for entry in report.entries] == [OwnersAlike((Spelling("Groß A", 1), Spelling("gross a", 2)))]
+# Few names are compared of many that are nearly alike, and what is told is what all pairs say.
+
+
+def drawn(seed: int) -> tuple[dict[str, int], set[str]]:
+    """Names that are much alike, with so many rows each, and some that the book had before."""
+    chosen = random.Random(seed)
+    letters = chosen.choice(["ab", "abc .", "aäbA", "ab12", "aö&/ "])
+    names = (" ".join("".join(chosen.choices(letters, k=chosen.randrange(2, 9))).split()) for _ in range(40))
+    rows = {name: chosen.choice([1, 2, 5, 10, 20]) for name in names if name}
+    return rows, {*chosen.sample(sorted(rows), len(rows) // 5), "ab a", "b"}
+
+
+def report_of(rows: Mapping[str, int], tell: Callable[[NextBook], None]) -> list[Finding]:
+    animals = {f"a{at}": SheetAnimal(f"a{at}", at, owner=owner) for at, owner in enumerate(rows, 2)}
+    report = Report()
+    tell(cast(NextBook, SimpleNamespace(animals=animals, report=report)))
+    return [entry.finding for entry in report.entries]
+
+
+@pytest.mark.parametrize("seed", range(40))
+def test_mistyped_of_all_pairs(seed: int) -> None:
+    rows, before = drawn(seed)
+    meant = {owner: its for _, owner, its in told(rows, before)}
+    for owner, count in rows.items():
+        near = [one for one in rows if rows[one] >= 5 * count and len(one) >= 4 and differ_by_one(owner, one)]
+        assert (owner in meant) == (count <= 2 and len(owner) >= 4 and owner not in before and near != [])
+        if owner in meant:
+            assert meant[owner] in near and rows[meant[owner]] == max(rows[one] for one in near)
+
+
+@pytest.mark.parametrize("seed", range(40))
+def test_names_within_of_all_pairs(seed: int) -> None:
+    rows, before = drawn(seed)
+    findings = report_of(rows, lambda next_book: tell_doubtful_owners(next_book, before))
+    found = {one.owner: one.others for one in findings if isinstance(one, OwnerOfSeveral)}
+    words = {one: " ".join(["", *re.findall(r"[^_\W]+", one.casefold()), ""]) for one in {*rows, *before}}
+    for owner in rows.keys() - before:
+        within = [one for one in words if one != owner and words[one].strip() and words[one] in words[owner]]
+        is_told = MORE.search(owner) and not is_no_name(owner)
+        assert found.get(owner, ()) == (tuple(sorted(within)[:5]) if is_told else ())
+
+
+@pytest.mark.parametrize("seed", range(40))
+def test_spellings_of_all_pairs(seed: int) -> None:
+    rows, _ = drawn(seed)
+    found = [one.spellings for one in report_of(rows, tell_owners_alike) if isinstance(one, OwnersAlike)]
+    by_name = collections.defaultdict[str, set[str]](set)
+    for owner in rows:
+        for name in plain(owner), plain(owner.casefold().replace("ä", "ae").replace("ö", "oe")):
+            by_name[name].add(owner)
+    several = {frozenset(its) for name, its in by_name.items() if name and len(its) > 1}
+    most = {its for its in several if not any(its < other for other in several)}
+    assert {frozenset(one.text for one in its) for its in found} == most and len(found) == len(most)

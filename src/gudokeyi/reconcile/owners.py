@@ -5,6 +5,7 @@ import collections
 import difflib
 import itertools
 import re
+from collections.abc import Collection, Iterator, Mapping
 
 from gudokeyi.ingest.animals import LINE_OF, NAME_OF, OWNER_OF
 from gudokeyi.ingest.texts import plain
@@ -82,9 +83,15 @@ def tell_owners_alike(next_book: NextBook) -> None:
         for name in {plain(owner), plain(owner.casefold().translate(UMLAUTS))}:
             alike[name].append(Spelling(owner, count))
     several = dict.fromkeys(tuple(alike[name]) for name in sorted(alike) if name and len(alike[name]) > 1)
-    for spellings in several:
-        if not any(set(spellings) < set(other) for other in several):
-            next_book.report.add(0, "", OwnersAlike(spellings))
+    # a spelling stands in two of these at most
+    having = collections.defaultdict[Spelling, list[set[Spelling]]](list)
+    for told in several:
+        spellings = set(told)
+        for one in spellings:
+            having[one].append(spellings)
+    for told in several:
+        if not any(set(told) < other for other in having[told[0]]):
+            next_book.report.add(0, "", OwnersAlike(told))
 
 
 # Owners whose cell has more than a name, and names of animals that never lived.
@@ -102,16 +109,28 @@ MOST_WITHIN = 5
 def tell_doubtful_owners(next_book: NextBook, owners_before: set[str]) -> None:
     """New owners whose name reads like an exit or a day, or has the names of others in it."""
     rows = owners_of_rows(next_book)
-    words = {owner: f" {' '.join(WORD.findall(owner.casefold()))} " for owner in {*rows, *owners_before}}
+    words = {owner: tuple(WORD.findall(owner.casefold())) for owner in {*rows, *owners_before}}
+    named = collections.defaultdict[tuple[str, ...], list[str]](list)
+    for owner in sorted(words):
+        # one more than are told: a name isn't told of itself
+        if len(named[words[owner]]) <= MOST_WITHIN:
+            named[words[owner]].append(owner)
+    lengths = {*map(len, named)} - {0}
     for owner, count in rows.items():
         if owner in owners_before:
             continue
         if is_no_name(owner):
             next_book.report.add(0, "", OwnerIsNoName(owner, count))
         elif MORE.search(owner):
-            within = [one for one, its in words.items() if one != owner and its.strip() and its in words[owner]]
+            parts = parts_of(words[owner], lengths)
+            within = {one for part in parts for one in named.get(part, ())} - {owner}
             if within:
                 next_book.report.add(0, "", OwnerOfSeveral(owner, tuple(sorted(within)[:MOST_WITHIN]), count))
+
+
+def parts_of(words: tuple[str, ...], lengths: Collection[int]) -> set[tuple[str, ...]]:
+    """What stands side by side of some words, in these lengths."""
+    return {words[at : at + length] for length in lengths for at in range(len(words) - length + 1)}
 
 
 def tell_born_dead(next_book: NextBook) -> None:
@@ -139,28 +158,69 @@ def tell_mistyped_owners(next_book: NextBook, owners_before: set[str]) -> None:
     """Names of few rows that are those of many but for one letter, or for two that are swapped. One that the book had
     before was told when it came."""
     rows = owners_of_rows(next_book)
-    # of two names that differ by a letter each has one without one of its letters
-    pieces = collections.defaultdict[str, list[str]](list)
+    many, likely = NamesOfMany(rows), list[tuple[str, str]]()
     for owner, count in rows.items():
-        if count >= TIMES and len(owner) >= SHORT:
-            for piece in without_a_letter(owner):
-                pieces[piece].append(owner)
-    for owner, count in rows.items():
-        if count > FEW or len(owner) < SHORT or owner in owners_before:
-            continue
-        likely = dict.fromkeys(one for piece in without_a_letter(owner) for one in pieces.get(piece, ()))
-        near = [one for one in likely if rows[one] >= TIMES * count and differ_by_one(owner, one)]
-        if near:
-            meant = max(near, key=lambda one: rows[one])
-            first = next(one for one in next_book.animals.values() if one.line and one.owner == owner)
-            found = OwnerMistyped(Spelling(owner, count), Spelling(meant, rows[meant]))
-            next_book.report.add(first.line, first.id, found)
+        meant = many.meant(owner) if count <= FEW and len(owner) >= SHORT and owner not in owners_before else ""
+        if meant:
+            likely.append((owner, meant))
+    lines = [one for one in next_book.animals.values() if one.line] if likely else []
+    first = {one.owner: one for one in reversed(lines)}
+    for owner, meant in likely:
+        found = OwnerMistyped(Spelling(owner, rows[owner]), Spelling(meant, rows[meant]))
+        next_book.report.add(first[owner].line, first[owner].id, found)
 
 
-def without_a_letter(text: str) -> list[str]:
-    """A text in small letters, and what it is without each of them."""
-    folded = text.casefold()
-    return sorted({folded, *(folded[:at] + folded[at + 1 :] for at in range(len(folded)))})
+# what two names have in common that differ by one letter: what stands before and behind that in both, or in the longer
+# one; or the whole of one that is the other with two letters swapped
+Common = tuple[str, ...]
+
+
+class NamesOfMany:
+    """The owners of many rows, by what another name may have in common with theirs. Of each such thing two are kept
+    that have most rows and aren't the same but for accents and signs: the first that isn't so of a text is meant, and
+    many that are nearly alike are compared with few."""
+
+    def __init__(self, rows: Mapping[str, int]) -> None:
+        self.rows, self.order = rows, {owner: at for at, owner in enumerate(rows)}
+        self.having = collections.defaultdict[Common, list[str]](list)
+        some = [owner for owner, count in rows.items() if count >= TIMES and len(owner) >= SHORT]
+        for owner in sorted(some, key=lambda one: -rows[one]):
+            text = owner.casefold()
+            before_and_behind = [(text[:at], text[at + 1 :]) for at in letters_within(text)]
+            for common in {("whole", text), *before_and_behind, *((a + b,) for a, b in before_and_behind)}:
+                there = self.having[common]
+                if not there or (len(there) == 1 and plain(there[0]) != plain(owner)):
+                    there.append(owner)
+
+    def meant(self, owner: str) -> str:
+        """That with most rows, and many times as many, from which a name differs by one letter; empty where there is
+        none."""
+        least = TIMES * self.rows[owner]
+        near = [
+            (-self.rows[one], letters, self.order[one], one)
+            for letters, common in in_common(owner.casefold()) for one in self.having.get(common, ())
+            if self.rows[one] >= least and differ_by_one(owner, one)
+        ]  # fmt: skip
+        return min(near)[-1] if near else ""
+
+
+def in_common(text: str) -> Iterator[tuple[str, Common]]:
+    """What a text may have in common with a name, each with the letters that are the same in both."""
+    yield text, (text,)
+    for at in letters_within(text):
+        before, behind = text[:at], text[at + 1 :]
+        yield before + behind, (before, behind)
+        yield before + behind, ("whole", before + behind)
+    for at in range(len(text) - 1):
+        here, there = text[at], text[at + 1]
+        yield min(text[:at] + one + text[at + 2 :] for one in (here, there)), (
+            "whole", text[:at] + there + here + text[at + 2 :]
+        )  # fmt: skip
+
+
+def letters_within(text: str) -> list[int]:
+    """The places of letters that stand in a word with others."""
+    return [at for at, one in enumerate(text) if one.isalpha() and is_in_word(text, at, at + 1)]
 
 
 def differ_by_one(one: str, other: str) -> bool:
