@@ -7,7 +7,7 @@ import os
 import signal
 import sys
 import threading
-from typing import Any, NoReturn
+from typing import Any, NoReturn, TextIO
 
 # A process that makes one call and ends: what the call made goes with the process, all at once. To give it back piece
 # by piece would take long after a large sheet, and serve nobody.
@@ -94,6 +94,22 @@ def with_cells_of_any_length() -> None:
     import csv
 
     csv.field_size_limit(sys.maxsize)
+
+
+# What this process tells where systemd reads it: journald takes from a line's beginning how grave that is, as syslog
+# counts.
+
+FAULT, REFUSED, CHANGED, USUAL = 3, 4, 5, 6
+
+
+def how_grave(priority: int, out: TextIO) -> str:
+    """What stands before a line; nothing does where it isn't read by journald, of whose stream systemd tells the device
+    and the number."""
+    with contextlib.suppress(OSError, ValueError):
+        found = os.fstat(out.fileno())
+        if os.environ.get("JOURNAL_STREAM") == f"{found.st_dev}:{found.st_ino}":
+            return f"<{priority}>"
+    return ""
 
 
 # A process beside others that somebody waits for takes what these leave. Linux parts its time first among sessions and

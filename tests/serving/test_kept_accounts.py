@@ -3,6 +3,7 @@ from __future__ import annotations
 
 import contextlib
 import io
+import os
 import pathlib
 import sqlite3
 
@@ -10,6 +11,7 @@ import pytest
 
 from gudokeyi.domain.messages import Mistake
 from gudokeyi.domain.people import AccountRole, Person
+from gudokeyi.process import FAULT
 from gudokeyi.store import accounts as passwords, accounts_file
 from gudokeyi.store.accounts import A_DAY, Accounts
 from gudokeyi.web.logins import FREE_BY_ADDRESS, FREE_BY_NAME, MOST, SECONDS, AccessLog, Throttle
@@ -175,6 +177,19 @@ def test_log_in_lines() -> None:
     out = io.StringIO()
     AccessLog(out).tell("one\r\nforged \x1b[2J\u202ex")
     assert out.getvalue().endswith("Z one\\x0d\\x0aforged \\x1b[2J\\u202ex\n")
+
+
+def test_log_for_journald(tmp_path: pathlib.Path, monkeypatch: pytest.MonkeyPatch) -> None:
+    """Where systemd reads it a line begins with how grave it is, as syslog counts; nowhere else."""
+    with open(tmp_path / "log", "w+", encoding="utf-8") as out:
+        found = os.fstat(out.fileno())
+        for stream in f"{found.st_dev}:{found.st_ino}", f"{found.st_dev}:1", "":
+            monkeypatch.setenv("JOURNAL_STREAM", stream)
+            AccessLog(out).tell("a disk is full", FAULT)
+            AccessLog(out).tell("somebody asked")
+        out.seek(0)
+        begins = [line.partition("20")[0] for line in out]
+    assert begins == ["<3>", "<6>", "", "", "", ""]
 
 
 def test_full_disk(accounts: Accounts, monkeypatch: pytest.MonkeyPatch) -> None:

@@ -155,7 +155,7 @@ def test_proxy(society_desk: Desk, cheap: None, tmp_path: pathlib.Path) -> None:
     try:
         page = curl(tmp_path, port, "/login")
         assert f"__Host-herdbook-{port}=" in page and "Secure" in page
-        assert "strict-transport-security: max-age=31536000" in page.lower()
+        assert "strict-transport-security: max-age=86400" in page.lower()
         token = page.partition('name="csrf_token" value="')[2].partition('"')[0]
         origin = f"Origin: https://{NAME}:{port}"
         words = [

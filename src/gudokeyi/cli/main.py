@@ -12,7 +12,7 @@ from gudokeyi.cli.statuses import Status, status_of
 from gudokeyi.cli.words import words_for
 from gudokeyi.domain.messages import Mistake
 from gudokeyi.domain.mistakes import WrongWords
-from gudokeyi.process import end, is_for_one_change, with_cells_of_any_length, with_short_turns
+from gudokeyi.process import FAULT, end, how_grave, is_for_one_change, with_cells_of_any_length, with_short_turns
 
 
 def main(words: list[str]) -> int:
@@ -48,7 +48,7 @@ def main(words: list[str]) -> int:
             f"a fault of the front desk itself ({type(error).__name__}: {error}): please report it, with the sheet",
         )
     for sentence in sentences:
-        print(f"gudokeyi: {sentence}", file=sys.stderr)
+        print(f"{how_grave(FAULT, sys.stderr)}gudokeyi: {sentence}", file=sys.stderr)
     return status
 
 

@@ -19,6 +19,7 @@ from flask.wrappers import Response
 
 from gudokeyi.domain.cells import escape, for_terminals
 from gudokeyi.domain.people import Person
+from gudokeyi.process import CHANGED, FAULT, REFUSED, USUAL, how_grave
 from gudokeyi.services.accounts import A_DAY, Account, Accounts, folded
 from gudokeyi.web.access import the_logins, the_person
 from gudokeyi.web.addresses import ServerAddress
@@ -105,6 +106,7 @@ def network_of(address: str) -> str:
 
 
 # The log of what was asked and refused: a line for each request, without what somebody wrote into forms or addresses.
+# systemd's journal shows what was refused apart, and so the faults, and what became of accounts.
 
 # what stands before the name of a part of an address, as `int:`
 CONVERTER = re.compile("<[^<>]*:")
@@ -130,15 +132,22 @@ class AccessLog:
         why = "".join(f" {g.get(name)}" for name in ("refused", "done") if name in g)
         if response.status_code >= 400 and "refused" not in g:
             why = "".join(f" {one}" for one in dict.fromkeys(g.get("told", [])))
-        self.tell(f"{g.get('client', '-')} {who} {request.method} {rule} {response.status_code} {took}ms{why}")
+        line = f"{g.get('client', '-')} {who} {request.method} {rule} {response.status_code} {took}ms{why}"
+        self.tell(line, priority_of(response.status_code))
         return response
 
-    def tell(self, what: str) -> None:
+    def tell(self, what: str, priority: int = USUAL) -> None:
         now = datetime.datetime.now(datetime.timezone.utc)
         # nobody's work ends where the log can't be written
         with self.lock, contextlib.suppress(OSError, ValueError):
             line = for_terminals(what).replace("\n", escape("\n"))
-            print(f"{now:%Y-%m-%dT%H:%M:%SZ} {line}", file=self.out, flush=True)
+            print(f"{how_grave(priority, self.out)}{now:%Y-%m-%dT%H:%M:%SZ} {line}", file=self.out, flush=True)
+
+
+def priority_of(status: int) -> int:
+    if status >= 500:
+        return FAULT
+    return REFUSED if status >= 400 else CHANGED if "done" in g else USUAL
 
 
 def begin() -> None:

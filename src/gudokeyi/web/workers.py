@@ -17,7 +17,7 @@ from gudokeyi.domain.messages import Mistake
 from gudokeyi.domain.people import WORKER
 from gudokeyi.domain.requests import WebFault
 from gudokeyi.domain.waiting import UNTIL
-from gudokeyi.process import take_what_is_left
+from gudokeyi.process import FAULT, how_grave, take_what_is_left
 from gudokeyi.services.folder_files import refresh
 from gudokeyi.web.work_places import BOUNDS, BREED, LOOKING, MOST_OF_PERSON, OTHERS, TAKING as TAKING, Bounds, Places
 from gudokeyi.web.worker_processes import Failed, Finished, KeptProcesses, Progress, Tell as Tell, WorkerProcess
@@ -344,7 +344,8 @@ class Exports:
             except Exception as error:
                 # the next change wishes them anew
                 fault = f"a fault of the front desk itself ({type(error).__name__}: {error})"
-                print(f"gudokeyi: {fault}: the exports aren't written", file=sys.stderr)
+                told = f"gudokeyi: {fault}: the exports aren't written"
+                print(how_grave(FAULT, sys.stderr) + told, file=sys.stderr)
 
     def end(self) -> None:
         """Ends behind what is written now."""
