@@ -1,12 +1,17 @@
 """The words `account` and `serve`: who gets an account, and where the server listens."""
 from __future__ import annotations
 
+import argparse
+import contextlib
+import getpass
 import logging
 import os
+import pathlib
 import pty
 import re
 import signal
 import socket
+import syslog
 import threading
 from typing import NoReturn
 
@@ -15,6 +20,7 @@ import pytest
 from web.server import SECONDS, free_port
 from web.site import shown
 from front_desk.desk import TOP, Desk
+from gudokeyi.cli.words.serving import do_account
 from gudokeyi.domain.messages import Mistake
 from gudokeyi.domain.people import AccountRole
 from gudokeyi.services.book_session import BookSession
@@ -68,6 +74,22 @@ def test_accounts(desk: Desk) -> None:
     assert desk.good("account", "CARL", "--role", "inspector").out == "Carl is inspector now; the password stays\n"
     assert desk.good("account", "Carl", "--remove").out == "Carl has no account any more\n"
     assert desk.good("account", "--list").out == "Kim: keeper\n"
+
+
+def test_accounts_in_the_log_of_the_machine(cheap: None, tmp_path: pathlib.Path, monkeypatch: pytest.MonkeyPatch) -> None:
+    """What somebody does by a terminal is told there, with who did it and to whom; what isn't done isn't."""
+    told = list[tuple[int, str]]()
+    monkeypatch.setattr(syslog, "syslog", lambda priority, line: told.append((priority, line)))
+    Accounts(tmp_path).add("Kim", AccountRole.KEEPER, WORD, WORD)
+    Accounts(tmp_path).add("Carl", AccountRole.CLERK, WORD, WORD)
+    for name, role, remove in ("Carl", "keeper", False), ("Carl", "", True), ("Kim", "", True):
+        asked = argparse.Namespace(book=tmp_path, name=name, role=role, remove=remove, list=False, copy=None)
+        with contextlib.suppress(Mistake):
+            do_account(asked)
+    assert told == [
+        (syslog.LOG_NOTICE, f"account, by {getpass.getuser()}: Carl is keeper now; the password stays"),
+        (syslog.LOG_NOTICE, f"account, by {getpass.getuser()}: Carl has no account any more"),
+    ]
 
 
 @pytest.mark.parametrize("words, told", [

@@ -136,6 +136,12 @@ def test_throttle_right() -> None:
     assert guess(throttle, "one", "2.2.2.2") == 0 and guess(throttle, "other", "2.2.2.2") == 1
 
 
+def test_throttle_of_a_course() -> None:
+    """However many log in at once from one address, none waits whose password is right."""
+    throttle = Throttle()
+    assert [guess(throttle, f"name {at}", "1.1.1.1", is_right=True) for at in range(2 * FREE_BY_ADDRESS)] == [0] * 40
+
+
 def test_throttle_at_once() -> None:
     """Whoever tries many passwords at once is told of so many alone as one after the other."""
     throttle = Throttle(lambda: 0.0)

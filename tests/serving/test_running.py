@@ -180,8 +180,16 @@ def test_proxy(society_desk: Desk, cheap: None, tmp_path: pathlib.Path) -> None:
             ["curl", "-si", "-H", f"Host: {NAME}", f"http://127.0.0.1:{plain}/"], capture_output=True, text=True
         )
         assert " 301 " in plainly.stdout.splitlines()[0] and f"https://{NAME}/" in plainly.stdout
+        # certbot's own address leads nowhere else
+        shown = subprocess.run(
+            ["curl", "-si", "-H", f"Host: {NAME}", f"http://127.0.0.1:{plain}/.well-known/acme-challenge/x"],
+            capture_output=True, text=True,
+        )  # fmt: skip
+        assert " 404 " in shown.stdout.splitlines()[0]
     finally:
-        proxy.send_signal(signal.SIGTERM)
         server.end(signal.SIGTERM)
+        page = curl(tmp_path, port, "/", "--retry", "0")
+        proxy.send_signal(signal.SIGTERM)
         assert proxy.wait(SECONDS) == 0
+    assert " 503" in page.splitlines()[0] and "retry-after: 60" in page.lower() and "load this page again" in page
     society_desk.good("verify")

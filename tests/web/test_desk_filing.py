@@ -56,7 +56,7 @@ def test_as_the_words(
     page = shown(site.page("/answer/2"))
     refused = re.search(r"refusal (\d+)", told.err)
     if refused:
-        assert "Refused." in page and Refusal(int(refused[1])).words() in page
+        assert "Refused." in page and Refusal(int(refused[1])).words() in page and "It is stored as" not in page
     else:
         assert "Accepted." in page and told.status == 0
     by_page = Desk(site.desk.folder.parent, site.desk.program.path.as_posix())
