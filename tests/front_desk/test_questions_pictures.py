@@ -1,6 +1,9 @@
 """Drawn pedigrees of many generations: each page can be printed, and no text leaves its box."""
 from __future__ import annotations
 
+import collections
+import html
+import sqlite3
 import time
 import xml.etree.ElementTree as xml
 
@@ -8,6 +11,10 @@ import pytest
 
 from front_desk.desk import Desk
 from gudokeyi.render.drawing import fitted, fitted_id, in_two_lines, width_of
+from gudokeyi.render.page_language import PageLanguage
+from gudokeyi.render.pedigree_pictures import Pedigree
+from gudokeyi.services.opening import book_in
+from gudokeyi.store.coefficients import Coefficient
 
 SVG = "{http://www.w3.org/2000/svg}"
 # ids and names of goats of a long line of full sibs
@@ -53,6 +60,24 @@ def test_pages(desk: Desk, generations: int, pages: int) -> None:
         desk.wrong(
             "stand on several pages", "pedigree", f"{LONG}10f", "--generations", str(generations), "--out", "x.svg"
         )
+
+
+def test_ancestors_that_are_not_drawn(desk: Desk) -> None:
+    """They are counted in the database: at each row that is read other threads of a desk are waited for."""
+    desk.take(full_sibs(50))
+    rows = list[tuple[object, ...]]()
+
+    def noted(_: sqlite3.Cursor, row: tuple[object, ...]) -> tuple[object, ...]:
+        rows.append(row)
+        return row
+
+    with book_in(desk.room / "book") as book:
+        animal = book.society_records[f"{LONG}50f"]
+        book.connection.row_factory = noted
+        coefficients = collections.defaultdict[str, Coefficient](lambda: Coefficient("0", "0"))
+        text = Pedigree(book, animal, coefficients, 2, PageLanguage("en")).text()
+    assert "4 known ancestors; 96 more lie further back and aren't drawn." in html.unescape(text)
+    assert 5 <= len(rows) < 40
 
 
 def test_text_in_a_box(desk: Desk) -> None:

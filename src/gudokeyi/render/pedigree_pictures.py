@@ -17,7 +17,7 @@ from gudokeyi.render.pedigree_boxes import (
 )  # fmt: skip
 from gudokeyi.store.book import Book
 from gudokeyi.store.coefficients import Coefficient
-from gudokeyi.store.queries import ancestors_of
+from gudokeyi.store.queries import count_of_ancestors
 
 # what is printed on a page of A4 in landscape format, in pixels of which an inch has 96
 WIDTH, HEIGHT = 1046, 718
@@ -136,9 +136,10 @@ class Pedigree:
     @functools.cached_property
     def note(self) -> str:
         """How many ancestors are drawn, and how many aren't."""
-        hidden = len(ancestors_of(self.book, self.animal.registration_number) - set(self.times))
+        drawn = len(self.times) - 1
+        hidden = count_of_ancestors(self.book, self.animal.registration_number) - drawn
         more = self.language.ngettext(*HIDDEN, hidden) if hidden else ""
-        return self.language.ngettext(*ANCESTORS, len(self.times) - 1) + more
+        return self.language.ngettext(*ANCESTORS, drawn) + more
 
 
 STYLE = f"""
