@@ -207,6 +207,34 @@ def test_new_tag(desk: Desk) -> None:
     assert "777" not in desk.numbers() and "006" in desk.numbers()
 
 
+FAMILY = NAMED + "011;Kid;w;1.2.2019;001;006;Huber;\n012;Kit;w;1.2.2021;001;011;Huber;\n"
+
+
+def test_new_tags_of_a_family(desk: Desk) -> None:
+    """A dam, her kid and that one's are proposed at once, each by the new tag of its dam; each is a decision."""
+    desk.take(TITLES + FAMILY)
+    later = FAMILY.replace("006", "706").replace("011", "711").replace("012", "712")
+    done = desk.take(TITLES + later, "--preview", "--anyway")
+    told = "to look at: it has the name, the birth day and the parents of"
+    assert [f"{id}: {told} {before}" in done.out for id, before in (("706", "006"), ("711", "011"), ("712", "012"))] == [True] * 3
+    done = desk.take(TITLES + later, "--new-tag", "011=711,006=706,012=712")
+    assert " 0 new, 0 changed" in done.last and desk.parents()["712"] == ("001", "711")
+
+
+@pytest.mark.parametrize("note", ["012", "alte Marke 012", "012 (alt)", "früher: 12"])
+def test_old_tag_in_another_column(desk: Desk, note: str) -> None:
+    """A new row that has it beside another name is asked about; one of another day isn't."""
+    titles = TITLES.replace("\n", ";Bemerkung\n")
+    rows = [f"{row};" for row in FAMILY.splitlines()]
+    desk.take(titles + "\n".join(rows) + "\n")
+    later = titles + "\n".join(rows[:-1]) + f"\n712;Kitty;w;1.2.2021;001;011;Huber;;{note}\n"
+    done = desk.take(later, "--preview")
+    assert f"712: to look at: 'Bemerkung' has '{note}', and 012 has no row any more: did that one get a new tag?" in done.out
+    [command] = [one for one in done.commands() if "--new-tag" in one]
+    assert " 0 new" in desk.typed(command.replace(" --preview", "")).last and "012" not in desk.numbers()
+    assert "new tag" not in desk.take(later.replace("712;Kitty;w;1.2.2021", "713;Kitty;w;1.2.2022"), "--anyway").out
+
+
 def workbook(rows: list[list[object]], formula: str = "", merged: str = "") -> bytes:
     """An `.xlsx` file in which texts are texts, also those that begin with an equals sign; and one with a formula."""
     book, data = openpyxl.Workbook(), io.BytesIO()

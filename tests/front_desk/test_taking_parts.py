@@ -33,6 +33,7 @@ from gudokeyi.store.book import Book
 from gudokeyi.store.database import empty
 
 NUMBER, BORN = "HOLGBRF000000000001", datetime.date(2001, 1, 2)
+BIRTH = birth(NUMBER, BORN, "", "", 1, False)
 DAYS = DayCells(UnknownParents(), month_first=False)
 
 
@@ -200,7 +201,7 @@ def test_refusals_behind_the_journal() -> None:
     """The first command behind it is seen, and what is refused in it, as of commands by hand, doesn't count."""
     for refused, wanted in ((2, []), (3, [0]), (4, [1])):
         program = SimpleNamespace(file_text=lambda text, count, at=refused: {at: Refusal.SAME_OWNER})
-        assert filing(3).refused_behind(cast(BookProgram, program), b"", 2) == wanted
+        assert filing(3).refused_behind(cast(BookProgram, program), [BIRTH, BIRTH], b"text") == wanted
 
 
 def test_a_birth_day_that_changes_is_told_but_where_both_are_invented() -> None:

@@ -110,6 +110,37 @@ def test_what_cells_show_besides(desk: Desk, workbook: openpyxl.Workbook) -> Non
     )
 
 
+GREYS = (
+    openpyxl.styles.Color(rgb="FFB2B2B2"), openpyxl.styles.Color(theme=0, tint=-0.25),
+    openpyxl.styles.Color(theme=2), openpyxl.styles.Color(indexed=22),
+)  # fmt: skip
+
+
+@pytest.mark.parametrize("grey", GREYS)
+def test_grey_rows(desk: Desk, workbook: openpyxl.Workbook, grey: openpyxl.styles.Color) -> None:
+    """Rows that are filled grey are told once, however the colour is written; grey titles and columns are none, and
+    nor is every second row."""
+    sheet, fill = workbook["Tiere"], openpyxl.styles.PatternFill("solid", fgColor=grey)
+    for at in range(4, 30):
+        for column, text in enumerate((f"X{at}", "f", "2010-01-01", "B1", ""), 1):
+            sheet.cell(at, column, text)
+    for cell in [*sheet[1], *sheet["B"], *sheet[7], *sheet[9][1:], sheet["C12"]]:
+        cell.fill = fill
+    for cell in sheet[11]:
+        cell.fill = openpyxl.styles.PatternFill("solid", fgColor="FFFFCC00")
+    save(desk, workbook)
+    said = (
+        "2 rows have a grey fill, the first is line 7: nothing is read from it; if that marks animals that have left, "
+        "write exits"
+    )
+    done = desk.good("import", "sheet.xlsx")
+    assert done.out.count("a grey fill") == 1 and f"to look at: {said}" in done.out
+    for cell in (one for row in (*range(2, 9), *range(10, 30)) for one in sheet[row] if row % 2):
+        cell.fill = fill
+    save(desk, workbook)
+    assert "grey fill" not in desk.good("import", "sheet.xlsx", "--book", "striped").out
+
+
 def test_names_like_truth_values(desk: Desk, workbook: openpyxl.Workbook) -> None:
     """A name that a spreadsheet took for a truth value is kept as that shows it, and told."""
     sheet = workbook["Tiere"]

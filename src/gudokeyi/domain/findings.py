@@ -275,6 +275,12 @@ class Report:
     def add(self, line: int, id: str, finding: Finding) -> None:
         self.entries.append(Entry(line, id, finding))
 
+    def cut_off(self, at: int) -> list[Entry]:
+        """Takes away what was told from a place on, and answers it."""
+        told = self.entries[at:]
+        del self.entries[at:]
+        return told
+
     def left_out(self) -> str:
         """How many rows, cells and parents are left out, in words."""
         counts = collections.Counter(entry.part for entry in self.entries if entry.what is What.LEFT_OUT)

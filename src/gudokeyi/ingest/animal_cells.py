@@ -16,8 +16,8 @@ from gudokeyi.ingest.day_forms import DayForms, Readings
 from gudokeyi.ingest.days import ANY_DAY, DayFault, Span
 from gudokeyi.ingest.encodings import Letters
 from gudokeyi.ingest.findings.cells import (
-    DAYS, DayLeftOut, EmbryoUnread, ErrorValue, ExitInferred, ExitsInOtherWords, ExitsWithoutDay, SexUnread,
-    TextTooLong,
+    DAYS, DayLeftOut, EmbryoUnread, ErrorValue, ExitInferred, ExitsInOtherWords, ExitsWithoutDay, NoExits, Remark,
+    SexUnread, TextTooLong,
 )  # fmt: skip
 from gudokeyi.ingest.findings.columns import SheetFinding
 from gudokeyi.ingest.findings.rows import SoldWithin, TakerUnclear
@@ -45,6 +45,8 @@ class Unread:
         self.exits: list[Cell] = []
         # texts with a day that is taken for that of an exit, though no word tells of one
         self.other_words: list[Cell] = []
+        # texts that tell of something else than an exit
+        self.no_exits: list[Cell] = []
         self.read: collections.Counter[str] = collections.Counter()
 
     def add(self, field: str, text: str, line: int) -> None:
@@ -54,7 +56,12 @@ class Unread:
     def found(self) -> list[SheetFinding]:
         told: list[SheetFinding] = [CellsUnread(self.of(field, cells)) for field, cells in self.cells.items()]
         told += [ExitsWithoutDay(self.of(Field.EXIT, self.exits))] if self.exits else []
+        told += [NoExits.of(self.remarks())] if self.no_exits else []
         return told + ([ExitsInOtherWords(self.of(Field.EXIT, self.other_words))] if self.other_words else [])
+
+    def remarks(self) -> list[Remark]:
+        """The texts that tell of no exit, to be kept."""
+        return [Remark(line, self.titles[Field.EXIT], text) for text, line in self.no_exits]
 
     def of(self, field: str, cells: list[Cell]) -> Cells:
         counts = collections.Counter(text for text, _ in cells).most_common()
@@ -230,6 +237,10 @@ class AnimalCells:
     def read_exit(self, animal: SheetAnimal, text: str) -> None:
         exit = self.days.exit(text)
         if exit is None or (not exit.is_span and self.is_sold_within(animal, text, exit)):
+            return
+        if exit.is_none:
+            self.unread.read[Field.EXIT] += 1
+            self.unread.no_exits.append((text, animal.line))
             return
         left = self.span(animal, Field.EXIT, text, exit.day)
         if left and left.last < animal.birth.first:

@@ -23,7 +23,8 @@ from gudokeyi.ingest.titles import (
 )  # fmt: skip
 from gudokeyi.ingest.texts import plain
 from gudokeyi.ingest.words import (
-    DEAD, KNOWN_EXITS, KNOWN_SEXES, KNOWN_STAYS, LETTER, PLAIN_EXITS, TELLING_EXITS, has_word, sex_word,
+    DEAD, KNOWN_EXITS, KNOWN_SEXES, KNOWN_STAYS, KNOWN_STILL_THERE, LETTER, PLAIN_EXITS, TELLING_EXITS, has_word,
+    sex_word,
 )  # fmt: skip
 
 PARENTS = Field.SIRE, Field.DAM
@@ -169,8 +170,8 @@ def column_below(columns: Columns, name: Field) -> None:
 def tells_exits(columns: Columns, at: int, is_told: bool = True) -> bool:
     """Do most cells of the column tell that an animal left, or that it lives?"""
     cells = [cell for cell in columns.cells(at) if cell]
-    known = sum(is_span(cell) or has_word(cell, KNOWN_EXITS) or has_word(cell, KNOWN_STAYS) for cell in cells)
-    known += sum(map(is_cross, cells))
+    words = KNOWN_EXITS | KNOWN_STAYS | KNOWN_STILL_THERE
+    known = sum(is_span(cell) or has_word(cell, words) or is_cross(cell) for cell in cells)
     if is_told and 2 * known <= len(cells) and known:
         columns.notes.append(TellsNoExits(columns.title(at)))
     return 2 * known > len(cells)

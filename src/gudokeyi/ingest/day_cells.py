@@ -18,7 +18,7 @@ from gudokeyi.ingest.days import (
 from gudokeyi.ingest.findings.cells import DayLeftOut
 from gudokeyi.ingest.findings.days import DayReading
 from gudokeyi.ingest.findings.sheets import NoOrderShown, Place, WrongOrder
-from gudokeyi.ingest.words import exit_word, lives, word_fault
+from gudokeyi.ingest.words import exit_word, is_still_there, lives, word_fault
 
 # Whether days with slashes or hyphens have the day first or the month, as a sheet's own days show.
 
@@ -95,6 +95,8 @@ class ExitCell(NamedTuple):
     day: DayCell
     is_span: bool
     is_later: bool
+    # it tells of something else, as `on loan`: the animal hasn't left
+    is_none: bool = False
 
     @property
     def basis(self) -> ExitBasis:
@@ -102,6 +104,9 @@ class ExitCell(NamedTuple):
         span = self.day.span
         assert span is not None
         return GIVEN_EXIT if span.is_day else ExitBasis(ExitSource.PERIOD, span.period())
+
+
+NO_EXIT = ExitCell(SAYS_NOTHING, False, False, True)
 
 
 class DayCells:
@@ -126,6 +131,8 @@ class DayCells:
         is_day = usual_day(text) is not None
         if not is_day and lives(text):
             return None
+        if not is_day and is_still_there(text):
+            return NO_EXIT
         day = self.day(Field.EXIT, text)
         is_no_more = is_day or is_span(text) or (day.reading is not None and not exit_word(text))
         return ExitCell(day, is_no_more, day.fault is not None and self.is_later(text))

@@ -33,6 +33,7 @@ BETWEEN = r"[\W_]*"
 # what stands around a word that sums up
 SIGNS = ":;.,=–-"
 LINE_OF, CELLS_OF = operator.attrgetter("line"), operator.attrgetter("cells")
+NO_ANIMAL = SheetAnimal("")
 
 
 def chooser(places: list[int]) -> Callable[[list[str]], Sequence[str]]:
@@ -110,17 +111,33 @@ class PlainRows:
             lefts,
         )]  # fmt: skip
 
-    def again(self, cells: AnimalCells, words: Collection[str]) -> PlainRows | None:
-        """The same rows, some of whose texts mean something else now: the rows that have these are odd from here on.
-        Nothing where most would be."""
+    def again(self, sheet: Sheet, cells: AnimalCells, words: Collection[str]) -> PlainRows | None:
+        """The same rows, some of whose texts mean something else now, and others come or go: the rows that have these,
+        and those that come, are odd from here on. Nothing where most would be."""
         before, found = self.cells, copy.copy(self)
         if before.days.today != cells.days.today:
             return None
         found.cells, found.words, found.odd = cells, {*words}, {*self.odd}
+        if sheet is not self.sheet:
+            found.take_rows(sheet)
         found.leave_words(found.words - self.words)
         for field, texts in self.different.items():
             found.leave(Field(field), {*before.read_otherwise(cells, Field(field), texts)})
         return found if 2 * len(found.odd) <= len(self.rows) else None
+
+    def take_rows(self, sheet: Sheet) -> None:
+        """Takes the rows of a sheet in place of those that were read. One that wasn't is odd, and so is one with its
+        id."""
+        places = {id(row): at for at, row in enumerate(self.rows)}
+        before = [places.get(id(row)) for row in sheet.rows]
+        new = {at for at, place in enumerate(before) if place is None}
+        odd = {at for at, place in enumerate(before) if place in self.odd}
+        # what stands for the animal of an odd row isn't asked for
+        self.animals = [NO_ANIMAL if place is None else self.animals[place] for place in before]
+        self.sheet, self.rows, self.odd = sheet, sheet.rows, new | odd
+        self.texts = {name: sheet.column(at) for name, at in self.columns.items()}
+        self.different = {name: {*texts} for name, texts in self.texts.items()}
+        self.leave(Field.ID, {self.texts[Field.ID][at] for at in new})
 
     def by_id(self) -> dict[str, SheetAnimal]:
         """The animals of plain rows."""

@@ -3,20 +3,21 @@ cell above in place of a mark that repeats it, and with what a column of words s
 from __future__ import annotations
 
 import collections
+import functools
 import operator
 import re
-from collections.abc import Mapping
+from collections.abc import Callable, Mapping
 from dataclasses import replace
 from typing import Container
 
 from gudokeyi.domain.findings import Report
 from gudokeyi.domain.kinds import Field
-from gudokeyi.ingest.findings.cells import UnseenInId
+from gudokeyi.ingest.findings.cells import NoExits, Remark, UnseenInId
 from gudokeyi.ingest.findings.rows import CellsRepeated, NoteRow, StatusDisagrees, StatusRead
 from gudokeyi.ingest.findings.sheets import UnseenDropped
 from gudokeyi.ingest.sheets import Sheet, SheetRow
 from gudokeyi.ingest.texts import nearly, plain
-from gudokeyi.ingest.words import DEAD, KNOWN_SUMS, KNOWN_YES, exit_word, lives
+from gudokeyi.ingest.words import DEAD, KNOWN_SUMS, KNOWN_YES, exit_word, is_still_there, lives
 
 # Cells with signs that no one sees: they are read without, but an id, which others write otherwise than it is seen.
 
@@ -63,14 +64,21 @@ def shape(id: str) -> str:
 
 
 class Notes:
-    """Finds such rows. `animals` are ids that are animals, whatever the row says."""
+    """Finds such rows."""
 
-    def __init__(self, sheet: Sheet, columns: Mapping[str, int], animals: Container[str]) -> None:
-        self.sheet, self.columns, self.animals = sheet, columns, animals
-        self.id = columns[Field.ID]
+    def __init__(self, sheet: Sheet, columns: Mapping[str, int]) -> None:
+        self.sheet, self.columns, self.id = sheet, columns, columns[Field.ID]
 
-    def found(self) -> dict[int, str]:
-        """The texts of such rows by their lines."""
+    def is_of(self, sheet: Sheet, columns: Mapping[str, int]) -> bool:
+        """Are these the notes of a sheet with such columns of ids?"""
+        return sheet is self.sheet and all(columns.get(name) == self.columns.get(name) for name in IDS)
+
+    def found(self, animals: Container[str]) -> dict[int, str]:
+        """The texts of such rows by their lines; `animals` are ids that are animals, whatever the row says."""
+        return {line: text for line, text in self.likely.items() if text not in animals}
+
+    @functools.cached_property
+    def likely(self) -> dict[int, str]:
         # most sheets have a column with a cell in each row
         if any(all(self.sheet.column(at)) for at in self.columns.values() if at != self.id):
             return {}
@@ -86,7 +94,7 @@ class Notes:
             for cell in set(self.sheet.column(self.columns[role]))
         }  # fmt: skip
         texts = {row.line: row.cells[self.id] for row in likely}
-        free = {line: text for line, text in texts.items() if text not in self.animals and nearly(text) not in parents}
+        free = {line: text for line, text in texts.items() if nearly(text) not in parents}
         return {line: text for line, text in free.items() if reads_so(text, shapes)}
 
     def says_an_id_alone(self, row: SheetRow) -> bool:
@@ -195,18 +203,23 @@ class Statuses:
         self.sheet, self.unknown, self.report = sheet, unknown, report
         self.id, self.exit, self.status = (columns[one] for one in (Field.ID, Field.EXIT, Field.STATUS))
         self.titles = sheet.titles[self.exit], sheet.titles[self.status]
-        self.taken = 0
+        self.taken, self.remarks = 0, list[Remark]()
 
     def rows(self, rows: list[SheetRow]) -> list[SheetRow]:
         found = [self.row(row) for row in rows]
         if self.taken:
             self.report.add(0, "", StatusRead(self.titles[1], self.titles[0], self.taken))
+        if self.remarks:
+            self.report.add(0, "", NoExits.of(self.remarks))
         return found
 
     def row(self, row: SheetRow) -> SheetRow:
         exit, status = (row.cells[at] if at < len(row.cells) else "" for at in (self.exit, self.status))
         said = said_of(status, self.titles[1])
         if not said or said in self.unknown and not DEAD.search(said):
+            return row
+        if is_still_there(said):
+            self.remarks.append(Remark(row.line, self.titles[1], said))
             return row
         tells, stays = bool(exit_word(said)), lives(said)
         says_exit = exit not in self.unknown and not lives(exit)
@@ -231,18 +244,22 @@ class Statuses:
 
 
 def as_meant(
-    sheet: Sheet, columns: Mapping[str, int], unknown: Container[str], animals: Container[str], report: Report
-) -> Sheet:
-    """The sheet with its rows as they are meant; what is read so is told. `animals` are the ids of animals for sure."""
+    sheet: Sheet, columns: Mapping[str, int], unknown: Container[str], animals: Container[str], report: Report,
+    notes_of: Callable[[Sheet, Mapping[str, int]], Notes] = Notes,
+) -> Sheet:  # fmt: skip
+    """The sheet with its rows as they are meant; what is read so is told. `animals` are the ids of animals for sure,
+    and `notes_of` has the notes of a sheet."""
     sheet = as_seen(sheet, columns, animals, report)
-    notes = Notes(sheet, columns, animals).found()
+    notes = notes_of(sheet, columns).found(animals)
     for line, text in notes.items():
         report.add(line, "", NoteRow(text))
     rows = [row for row in sheet.rows if row.line not in notes] if notes else sheet.rows
     rows = repeat(rows, sheet, columns, report)
+    remarks = list[Remark]()
     if Field.STATUS in columns and Field.EXIT in columns:
-        rows = Statuses(sheet, columns, unknown, report).rows(rows)
-    return sheet if rows is sheet.rows else replace(sheet, rows=rows, kept={})
+        statuses = Statuses(sheet, columns, unknown, report)
+        rows, remarks = statuses.rows(rows), statuses.remarks
+    return sheet if rows is sheet.rows else replace(sheet, rows=rows, kept={}, remarks=remarks)
 
 
 # Owners to whom animals are sold within the society.

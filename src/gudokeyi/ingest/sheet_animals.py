@@ -19,7 +19,7 @@ from gudokeyi.ingest.day_forms import DayForms
 from gudokeyi.ingest.days import Span, Unreadable, read_span
 from gudokeyi.ingest.findings.cells import (
     DAYS, IdAgain, IdAlone, IdOfOtherAlphabet, IdTooLong, IdUnlikeOthers, IdWithFewerDigits, LikeASum, NoAnimal, NoId,
-    TitlesAgain, TooManyCells, TruthValue,
+    Remark, TitlesAgain, TooManyCells, TruthValue,
 )  # fmt: skip
 from gudokeyi.ingest.findings.columns import SheetFinding
 from gudokeyi.ingest.findings.sheets import CutNumber, FormulaCell, Place
@@ -208,6 +208,10 @@ class Rows:
         self.faults: list[SheetFinding] = []
         self.notes: list[SheetFinding] = []
 
+    def remarks(self) -> list[Remark]:
+        """Cells that are kept as notes."""
+        return [*self.sheet.remarks, *self.unread.remarks()]
+
     def texts(self, name: str) -> list[str]:
         """A column, in which error values are empty."""
         at = self.columns.get(name)
@@ -230,7 +234,7 @@ class Rows:
     def plain(self) -> PlainRows:
         """The rows that are read together."""
         words = self.no_animals.words
-        again = self.before.again(self.cells, words) if self.before else None
+        again = self.before.again(self.sheet, self.cells, words) if self.before else None
         lines = {line for line, *_ in self.errors.found}
         return again or PlainRows(self.sheet, self.columns, self.cells, words, lines)
 

@@ -8,7 +8,7 @@ import itertools
 import operator
 import re
 import unicodedata
-from collections.abc import Callable
+from collections.abc import Callable, Mapping
 from dataclasses import dataclass, field
 from typing import NamedTuple
 
@@ -18,20 +18,41 @@ from gudokeyi.domain.messages import Mistake
 from gudokeyi.domain.requests import seen_of
 from gudokeyi.ingest.encodings import decoding
 from gudokeyi.ingest.files import MOST_LETTERS, GivenFile, check_bounds
+from gudokeyi.ingest.findings.cells import Remark
 from gudokeyi.ingest.findings.columns import SheetFinding
+from gudokeyi.ingest.findings.files import GreyRows
 from gudokeyi.ingest.messages import SheetFault
 from gudokeyi.ingest.texts import clean
-from gudokeyi.ingest.workbooks import Formulas, read_workbook
+from gudokeyi.ingest.workbooks import Formulas, best_of, read_workbook
 
 SEPARATORS = ";\t,"
 # blanks that cells are read without
 BLANKS = ("  ", " \n", "\n ", " \r", "\r ")
 # the titles stand in one of so many rows
 BEGINNING = 5
+# so great a part of the rows at most is marked by grey
+MOST_GREY = 0.4
 Score = Callable[[list[str]], int]
 
 
 Unseen = dict[tuple[int, int], str]
+# the first rows of a file, by the separators with which they may be read, or of a workbook by its worksheets
+Tops = Mapping[str, list[list[str]]]
+
+
+@dataclass(frozen=True)
+class Decision:
+    """Which separator or worksheet was taken, and which row for the titles, with the rows by which that was decided."""
+
+    tops: Tops
+    best: Callable[[Tops, Score], str]
+    taken: str
+    rows: list[list[str]]
+    at: int
+
+    def is_same(self, score: Score) -> bool:
+        """Is it the same where other titles are known?"""
+        return self.best(self.tops, score) == self.taken and title_row(self.rows, score) == self.at
 
 
 class SheetRow(NamedTuple):
@@ -61,6 +82,13 @@ class Sheet:
     unread: list[SheetFinding] = field(default_factory=list)
     # the row above the titles, which may be the first of two lines of these
     above: list[str] = field(default_factory=list)
+    # cells of a column that is read beside another one
+    remarks: list[Remark] = field(default_factory=list)
+    decision: Decision | None = None
+
+    def is_same(self, meant: Sheet) -> bool:
+        """Has another sheet that was made of the same one the same rows?"""
+        return (meant.rows, meant.unseen, meant.remarks) == (self.rows, self.unseen, self.remarks)
 
     def column(self, at: int) -> list[str]:
         """The cells of a column; a row that ends before it has an empty one."""
@@ -88,28 +116,45 @@ def read_sheet(file: GivenFile, score: Score, worksheet: str = "") -> Sheet:
     path, data = file.path, file.data
     faults: list[SheetFinding]
     formulas: Formulas | None = None
-    unread = list[SheetFinding]()
+    unread, grey = list[SheetFinding](), list[int]()
     if file.is_zipped() and not file.is_workbook():
         raise Mistake(SheetFault.ODS.said(path=path))
     if file.is_workbook():
         found = read_workbook(path, data, score, BEGINNING, worksheet)
         rows, how, faults = [SheetRow(*one) for one in found.rows], found.how, found.faults
-        formulas, unread = found.formulas, found.unread
+        formulas, unread, grey = found.formulas, found.unread, found.grey
+        tops, best, taken = found.tops, best_worksheet, found.title
     else:
         if worksheet:
             raise Mistake(SheetFault.NO_WORKSHEETS.said(path=path))
         text, encoding, fault = decoding(path, data)
-        rows, separator = read_text(text, score)
-        how = f"{encoding}, cells separated by " + {";": "semicolons", "\t": "tabs", ",": "commas"}[separator]
+        tops, best = tops_of(text), best_separator
+        taken = best(tops, score)
+        rows = read_records(text, taken)[is_named(text) :]
+        how = f"{encoding}, cells separated by " + {";": "semicolons", "\t": "tabs", ",": "commas"}[taken]
         faults = [fault] if fault else []
     rows, unseen = without_unseen(rows)
     if not rows:
         raise Mistake(SheetFault.EMPTY.said(path=path))
-    at = title_row([row.cells for row in rows[:BEGINNING]], score)
+    first = [row.cells for row in rows[:BEGINNING]]
+    at = title_row(first, score)
     line, titles = rows[at]
     check_bounds(path, rows, at + 1)
     below, above = rows[at + 1 :], rows[at - 1].cells if at else []
-    return Sheet(line, titles, below, how, faults, {}, unseen, formulas, unread, above)
+    unread += grey_rows([one for one in grey if one > line], len(below))
+    decision = Decision(tops, best, taken, first, at)
+    return Sheet(line, titles, below, how, faults, {}, unseen, formulas, unread, above, decision=decision)
+
+
+def best_worksheet(tops: Tops, score: Score) -> str:
+    """Empty where it is unclear."""
+    titles, _ = best_of(tops, score)
+    return titles[0] if len(titles) == 1 else ""
+
+
+def grey_rows(lines: list[int], rows: int) -> list[SheetFinding]:
+    """What is told of rows that are filled grey; nothing where so many are that this marks none, as every second."""
+    return [GreyRows(len(lines), lines[0])] if lines and len(lines) <= MOST_GREY * rows else []
 
 
 def without_unseen(rows: list[SheetRow]) -> tuple[list[SheetRow], Unseen]:
@@ -132,20 +177,21 @@ def title_row(rows: list[list[str]], score: Score) -> int:
     return best if score(rows[best]) >= 3 and score(rows[best]) > score(rows[0]) else 0
 
 
-def read_text(text: str, score: Score) -> tuple[list[SheetRow], str]:
-    # a first line that names the separator, as Excel reads it
-    named = text[:4].lower() == "sep=" and text[4:5] in SEPARATORS and text[4:5]
-    if named:
-        return read_records(text, named)[1:], named
-    # the file's first lines, each with any separator
+def is_named(text: str) -> bool:
+    """Does a first line name the separator, as Excel reads it?"""
+    return text[:4].lower() == "sep=" and text[4:5] in [*SEPARATORS]
+
+
+def tops_of(text: str) -> Tops:
+    """The file's first lines, each with any separator."""
+    if is_named(text):
+        return {text[4:5]: []}
     beginning = [line for line in text[:20_000].splitlines() if line.strip()][:BEGINNING]
+    return {one: [next(csv.reader([line], delimiter=one)) for line in beginning] for one in SEPARATORS}
 
-    def likely(separator: str) -> tuple[int, int]:
-        rows = [next(csv.reader([line], delimiter=separator)) for line in beginning]
-        return max((score(row), len(row)) for row in rows) if rows else (0, 0)
 
-    separator = max(SEPARATORS, key=likely)
-    return read_records(text, separator), separator
+def best_separator(tops: Tops, score: Score) -> str:
+    return max(tops, key=lambda one: max(((score(row), len(row)) for row in tops[one]), default=(0, 0)))
 
 
 class Cleaned(dict[str, str]):

@@ -51,11 +51,26 @@ STAYS = (
 EXITS = (
     "ja, yes, oui, x, verkauft, verk, Verkauf, geschlachtet, Schlachtung, geschl, gestorben, verstorben, verst, verendet, "
     "eingegangen, tot, Tod, abgegangen, Abgang, ausgeschieden, exportiert, gekeult, euthanasiert, notgetötet, "
-    "notgeschlachtet, eingeschläfert, getötet, verunglückt, abgegeben, verliehen, ausgeliehen, gestohlen, gerissen, "
+    "notgeschlachtet, eingeschläfert, getötet, verunglückt, abgegeben, gestohlen, gerissen, "
     "weg, inaktiv, sold, sale, slaughtered, "
     "slaughter, dead, died, death, deceased, culled, exported, gone, left, lost, stolen, killed, euthanised, "
     "euthanized, rehomed, vendu, vendue, vente, abattu, abattue, abattage, mort, morte, décédé, décédée, réformé, "
     "réformée, réforme, sorti, sortie, exporté, exportée, volé, volée, euthanasié, euthanasiée, inactif, inactive"
+)
+# what such cells tell of animals that are still there, beside a day or alone: of rest, loans, castrations, matings,
+# care and sales that aren't made
+STILL_THERE = (
+    "retired, retirement, pensioned, in retirement, loaned, on loan, lent, leased, on lease, leased out, castrated, "
+    "gelded, neutered, spayed, covered, served, mated, inseminated, bred, pregnant, in foal, in calf, in lamb, in kid, "
+    "weaned, vaccinated, shorn, chipped, returned, came back, for sale, reserved, "
+    "Zuchtruhe, im Ruhestand, Ruhestand, Rente, in Rente, Rentner, Gnadenbrot, in Pension, Pension, Pensionsstall, "
+    "verliehen, ausgeliehen, Leihgabe, Leihe, geliehen, verpachtet, kastriert, kastr, Kastration, sterilisiert, "
+    "gedeckt, belegt, besamt, Besamung, Deckeinsatz, Bedeckung, trächtig, tragend, abgesetzt, geimpft, entwurmt, "
+    "geschoren, gechipt, zurück, zurückgekommen, zurückgekehrt, zu verkaufen, reserviert, "
+    "retraité, retraitée, retraite, à la retraite, en retraite, mis à la retraite, en pension, mis en pension, prêté, "
+    "prêtée, prêt, en prêt, loué, louée, castré, castrée, castration, stérilisé, stérilisée, saillie, sailli, saillies, "
+    "couverte, inséminé, inséminée, insémination, gestante, pleine, gravide, sevré, sevrée, vacciné, vaccinée, tondu, "
+    "tondue, pucé, pucée, revenu, revenue, de retour, retour, à vendre, réservé, réservée"
 )
 # names of animals that never lived
 BORN_DEAD = "totgeburt, totgeboren, stillborn, still born, stillbirth, mort-né, mort-née, mortné, mortinato"
@@ -91,6 +106,7 @@ KNOWN_YES = {word.casefold() for word in listed(YES)}
 KNOWN_NO = {word.casefold() for word in listed(NO)}
 KNOWN_STAYS = {plain(word) for word in listed(STAYS)}
 KNOWN_EXITS = {plain(word) for word in listed(EXITS)}
+KNOWN_STILL_THERE = {plain(word) for word in listed(STILL_THERE)}
 KNOWN_NEGATIONS = {plain(word) for word in listed(NEGATIONS)}
 KNOWN_BORN_DEAD = {plain(word) for word in listed(BORN_DEAD)}
 # how all of them begin: few lists have one
@@ -134,6 +150,8 @@ PLAIN_EXITS = TELLING_EXITS & {
         "abattue, mort, morte, décédé, décédée, exporté, exportée, euthanasié, euthanasiée"
     )
 }  # fmt: skip
+# a word that tells of an exit tells of none here
+SALE_NOT_MADE = re.compile(r"\bfor\s+sale\b", re.IGNORECASE)
 # the signs of a death
 DEAD = re.compile(r"†|✝|^\+(?=\s*\d)")
 
@@ -143,6 +161,14 @@ def lives(text: str) -> bool:
     if not text or text.casefold() in KNOWN_NO:
         return True
     return has_word(text, KNOWN_STAYS) and not has_word(text, TELLING_EXITS | KNOWN_NEGATIONS)
+
+
+def is_still_there(text: str) -> bool:
+    """Does it tell of something else than an exit, as `retired 2019` or `on loan`?"""
+    if not LETTER.search(text) or DEAD.search(text):
+        return False
+    rest = SALE_NOT_MADE.sub(" ", text)
+    return has_word(text, KNOWN_STILL_THERE) and not has_word(rest, TELLING_EXITS)
 
 
 def exit_word(text: str) -> str:

@@ -20,6 +20,7 @@ from gudokeyi.domain.cells import from_spreadsheets
 from gudokeyi.domain.findings import ImportRefused
 from gudokeyi.domain.messages import Mistake
 from gudokeyi.ingest.files import MOST_CELLS, MOST_ROWS
+from gudokeyi.ingest.fills import grey_lines
 from gudokeyi.ingest.findings.columns import SheetFinding
 from gudokeyi.ingest.findings.files import (
     DigitsLost, FormulasWithoutValue, NotesAtCells, StruckThrough, WorksheetLacks, WorksheetUnclear,
@@ -138,6 +139,8 @@ TOO_LONG = 10**15
 # what stands between quotation marks, brackets or behind a backslash in a format isn't part of a date
 QUOTED = re.compile(r'"[^"]*"|\[[^\]]*\]|\\.')
 Score = Callable[[list[str]], int]
+# the first rows of worksheets, by their titles
+Tops = Mapping[str, list[list[str]]]
 
 
 class Formulas(NamedTuple):
@@ -161,6 +164,11 @@ class Worksheet(NamedTuple):
     formulas: Formulas
     # what its cells show besides their text
     unread: list[SheetFinding]
+    # the numbers of rows that are filled grey
+    grey: list[int]
+    # its title, and the first rows of each worksheet among which it was chosen
+    title: str
+    tops: Tops
 
 
 def read_workbook(path: pathlib.Path, data: bytes, score: Score, most: int, named: str) -> Worksheet:
@@ -169,12 +177,15 @@ def read_workbook(path: pathlib.Path, data: bytes, score: Score, most: int, name
     check_unpacked(path, data)
     shown, written = opened(path, data, True), opened(path, data, False)
     titles: list[str] = [sheet.title for sheet in shown.worksheets]
-    at = titles.index(chosen(path, shown, score, most, named))
+    tops = tops_of(path, shown, most, named)
+    at = titles.index(chosen(path, tops, score))
     values, texts = shown.worksheets[at], written.worksheets[at]
     rows = as_texts(path, values)
     others = [f"'{title}'" for title in titles if title != titles[at]]
     how = f"the worksheet '{titles[at]}' of an .xlsx file" + (f"; not read: {', '.join(others)}" if others else "")
-    return Worksheet(rows, how if others else "an .xlsx file", faults(texts), formulas(values, texts), unread(values))
+    how = how if others else "an .xlsx file"
+    found = faults(texts), formulas(values, texts), unread(values), grey_lines(values)
+    return Worksheet(rows, how, *found, titles[at], tops)
 
 
 def opened(path: pathlib.Path, data: bytes, values: bool) -> Any:
@@ -243,21 +254,28 @@ def fill_merged(sheet: Any, rows: dict[int, dict[int, str]]) -> None:
             rows[row].setdefault(range.min_col, text)
 
 
-def chosen(path: pathlib.Path, workbook: Any, score: Score, most: int, named: str) -> str:
+def tops_of(path: pathlib.Path, workbook: Any, most: int, named: str) -> Tops:
+    """The first rows of each worksheet that may be meant; of the only one they aren't looked at."""
     titles: list[str] = [sheet.title for sheet in workbook.worksheets]
     if named and named not in titles:
         raise ImportRefused(WorksheetLacks(str(path), named, tuple(titles)))
     if named or len(titles) == 1:
-        return named or titles[0]
-    scores = {sheet.title: best_score(path, sheet, score, most) for sheet in workbook.worksheets}
-    best: list[str] = [title for title, points in scores.items() if points == max(scores.values())]
+        return {named or titles[0]: []}
+    return {sheet.title: [cells for _, cells in as_texts(path, sheet, most)] for sheet in workbook.worksheets}
+
+
+def best_of(tops: Tops, score: Score) -> tuple[list[str], int]:
+    """The worksheets whose titles fit best, and how many of these are known."""
+    scores = {title: max(map(score, rows), default=0) for title, rows in tops.items()}
+    most = max(scores.values())
+    return [title for title, points in scores.items() if points == most], most
+
+
+def chosen(path: pathlib.Path, tops: Tops, score: Score) -> str:
+    best, most = best_of(tops, score)
     if len(best) > 1:
-        raise ImportRefused(WorksheetUnclear(str(path), tuple(best), max(scores.values()) > 0))
+        raise ImportRefused(WorksheetUnclear(str(path), tuple(best), most > 0))
     return best[0]
-
-
-def best_score(path: pathlib.Path, sheet: Any, score: Score, most: int) -> int:
-    return max((score(cells) for _, cells in as_texts(path, sheet, most)), default=0)
 
 
 def faults(texts: Any) -> list[SheetFinding]:

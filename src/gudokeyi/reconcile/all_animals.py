@@ -75,7 +75,7 @@ def add_gone(
 MOST_ANIMALS = 60_000
 
 
-def add_others(next_book: NextBook, drop_gone: bool) -> None:
+def add_others(next_book: NextBook, drop_gone: bool, columns: Columns | None = None) -> None:
     """Adds the animals of the book that have no row, and the parents that have none."""
     book, animals, report = next_book.book, next_book.animals, next_book.report
     keep_values(next_book)
@@ -94,17 +94,17 @@ def add_others(next_book: NextBook, drop_gone: bool) -> None:
         keep_parents_named(next_book, all_animals)
     if not next_book.is_pedigree:
         mend_sexes(next_book, gone)
-        near = NearIds(animals, all_animals, with_id)
+        near = NearIds(animals, all_animals, with_id, next_book.last_found)
         if not have_rows:
-            ParentsInTexts(animals, all_animals, with_id).find(report)
+            ParentsInTexts(animals, all_animals, with_id, next_book.last_found).find(report)
             near.find_parents(report)
         near.tell_alike(report)
-    before = Names(all_animals, report)
+    before = Names(all_animals, report, next_book.last_found)
     if not have_rows:
         before.find_parents(animals, next_book, with_id)
     try_parents_again(next_book, gone, all_animals)
     if not next_book.is_pedigree:
-        tell_new_tags(next_book, gone)
+        tell_new_tags(next_book, gone, columns)
     animals |= {id: gone.pop(id) for id in next_book.used_again}
     if next_book.appends:
         animals |= gone
@@ -112,7 +112,7 @@ def add_others(next_book: NextBook, drop_gone: bool) -> None:
         add_gone(animals, gone, book, drop_gone, report)
     leave_out_unread_sexes(next_book, are_all_there=have_rows and not has_gone)
     if has_gone or not have_rows:
-        names = Names(animals, report, before)
+        names = Names(animals, report, next_book.last_found, before)
         names.advise_unknown(next_book.is_pedigree)
         names.add_parents()
     if len(animals) > MOST_ANIMALS:
@@ -139,7 +139,7 @@ def complete(next_book: NextBook, columns: Columns, import_options: ImportOption
         )
         if next_book.otherwise is not next_book.animals:
             next_book.otherwise = {row.id: row for row in next_book.rows_otherwise()}
-    add_others(next_book, import_options.drop_gone)
+    add_others(next_book, import_options.drop_gone, columns)
     found += guards.of_animals(next_book.animals)
     if found and not import_options.anyway:
         next_book.obstacles += found

@@ -10,7 +10,7 @@ from gudokeyi.domain.findings import Report
 from gudokeyi.domain.kinds import Field
 from gudokeyi.domain.pedigree_order import Waiting, offspring_by_parent
 from gudokeyi.domain.provenance import GIVEN_BIRTH, BirthBasis, BirthSource
-from gudokeyi.ingest.animals import SheetAnimal, parents_of_all
+from gudokeyi.ingest.animals import DAM_OF, SIRE_OF, SheetAnimal, parents_of_all
 from gudokeyi.ingest.days import ANY_DAY, FIRST_DAY, Precision, Span
 from gudokeyi.reconcile.findings.animals import BirthDayInferred
 from gudokeyi.reconcile.impossible_parents import cut_cycles
@@ -37,7 +37,7 @@ def unread_cell(animal: SheetAnimal) -> str:
 def find_days(next_book: NextBook) -> None:
     """Birth days of all animals, of which none is its own ancestor any more."""
     animals, report = next_book.animals, next_book.report
-    undated = cut_cycles(animals, report, next_book.has_in_book)
+    undated = cut_cycles(animals, report, next_book.has_in_book, next_book.last_found)
     Days(animals, undated, next_book.in_book.inferred).infer(report)
 
 
@@ -148,10 +148,12 @@ class Days:
 def offspring_of(animals: dict[str, SheetAnimal], some: list[str]) -> dict[str, list[str]]:
     """The offspring of some animals."""
     found: dict[str, list[str]] = {id: [] for id in some}
-    for id, animal in animals.items() if found else ():
-        for parent in animal.parent_ids():
-            if parent in found:
-                found[parent].append(id)
+    both = zip(animals, map(SIRE_OF, animals.values()), map(DAM_OF, animals.values())) if found else ()
+    for id, sire, dam in both:
+        if sire in found:
+            found[sire].append(id)
+        if dam in found:
+            found[dam].append(id)
     return found
 
 

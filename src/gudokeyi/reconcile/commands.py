@@ -19,6 +19,7 @@ from gudokeyi.ingest.animals import SheetAnimal
 from gudokeyi.reconcile.exits import leave_out_exit
 from gudokeyi.reconcile.findings.by_hand import NewAnimal, ValueChanged
 from gudokeyi.reconcile.findings.rows import CommandLeftOut
+from gudokeyi.reconcile.last_found import Kept
 from gudokeyi.reconcile.messages import ImportFault
 from gudokeyi.reconcile.next_book import NextBook
 from gudokeyi.reconcile.owner_day_known import owner_day_known
@@ -42,7 +43,7 @@ class Filing:
         """The commands, none of which is refused: an exit or a transfer that is refused is left out before, and told;
         a mistake where a birth is."""
         while True:
-            if appended := self.appended(program):
+            if appended := self.appended(program, is_preview):
                 return appended
             found = self.written_anew(program, is_preview)
             if isinstance(found, Filed):
@@ -51,26 +52,33 @@ class Filing:
 
     def filed_at_once(self, program: Herdbook, is_preview: bool) -> Filed | None:
         """The same where nothing is refused: then no animal has a parent that can't be."""
-        if appended := self.appended(program):
+        if appended := self.appended(program, is_preview):
             return appended
         found = None if self.is_refused else self.written_anew(program, is_preview)
         return found if isinstance(found, Filed) else None
 
-    def appended(self, program: Herdbook) -> Filed | None:
-        """The commands that the book lacks, where that is enough and none is refused."""
+    def appended(self, program: Herdbook, is_preview: bool) -> Filed | None:
+        """The commands that the book lacks, where that is enough and none is refused. Those of a preview aren't
+        kept."""
         self.is_refused = self.refuses_births = False
         more = self.more()
         if more is None:
             return None
-        text = self.text_behind(more)
-        refused = self.refused_behind(program, text, len(more))
+        return self.filed_behind(program, more, is_preview)
+
+    def filed_behind(self, program: Herdbook, more: list[Command], is_preview: bool) -> Filed | None:
+        text = b"" if is_preview else self.text_behind(more)
+        by = self.book.command_file() if self.book.journal.length else b"", more
+        refused = self.next_book.last_found.of(Kept.REFUSED, by, lambda: self.refused_behind(program, more, text))
         self.see_refused(more, refused)
-        return None if refused else Filed(accepted(more), text=text)
+        if refused:
+            return None
+        return Filed([]) if is_preview else Filed(accepted(more), text=text)
 
     def written_anew(self, program: Herdbook, is_preview: bool) -> Filed | tuple[list[Command], dict[int, Refusal]]:
         """The whole book, or what is refused of its commands. Those of a preview aren't kept."""
         commands = self.anew()
-        refused = program.file(commands)
+        refused = self.next_book.last_found.of(Kept.REFUSED_ANEW, (commands,), lambda: program.file(commands))
         self.see_refused(commands, refused)
         if refused:
             return commands, refused
@@ -103,10 +111,11 @@ class Filing:
         """The journal with commands behind it, as a command file."""
         return self.book.command_file() + lines_of(more) if self.book.journal.length else text_of(more)
 
-    def refused_behind(self, program: Herdbook, text: bytes, count: int) -> list[int]:
-        """The places of those that are refused of so many commands behind the journal."""
+    def refused_behind(self, program: Herdbook, more: list[Command], text: bytes) -> list[int]:
+        """The places of those that are refused of commands behind the journal; `text` is both, where it was made."""
         length = self.book.journal.length
-        return [place - length for place in program.file_text(text, length + count) if place >= length]
+        refused = program.file_text(text or self.text_behind(more), length + len(more))
+        return [place - length for place in refused if place >= length]
 
     def more(self) -> list[Command] | None:
         """The commands that the book lacks, or none where what stands in it has to be corrected."""

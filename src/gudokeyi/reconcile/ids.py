@@ -19,6 +19,7 @@ from gudokeyi.reconcile.findings.obstacles import LettersUnsaid
 from gudokeyi.reconcile.findings.parents import FoundByNearId
 from gudokeyi.reconcile.findings.by_hand import IdsAlike
 from gudokeyi.reconcile.findings.rows import BornAfterOffspring
+from gudokeyi.reconcile.last_found import Kept, LastFound
 from gudokeyi.reconcile.next_book import NextBook
 from gudokeyi.reconcile.parents import can_be
 from gudokeyi.store.book import Book
@@ -38,14 +39,19 @@ class NearIds:
     """The animals that have a row, had one, or were filed by hand, by what their ids have but for case, blanks and
     zeros. `animals` are those of the sheet and of the book."""
 
-    def __init__(self, rows: dict[str, SheetAnimal], animals: dict[str, SheetAnimal], with_id: Set[str]) -> None:
-        self.rows, self.animals, self.with_id = rows, animals, with_id
+    def __init__(
+        self, rows: dict[str, SheetAnimal], animals: dict[str, SheetAnimal], with_id: Set[str], last: LastFound
+    ) -> None:
+        self.rows, self.animals, self.with_id, self.last = rows, animals, with_id, last
         self.ids = tuple(filter(with_id.__contains__, animals))
         self.nearly = nearly_of_sheet(self.ids)
 
     @functools.cached_property
     def near(self) -> dict[str, list[str]]:
         """The ids by what they have but for these."""
+        return self.last.of(Kept.NEAR_IDS, (self.ids,), self.found_near)
+
+    def found_near(self) -> dict[str, list[str]]:
         near: collections.defaultdict[str, list[str]] = collections.defaultdict(list)
         for id, one in zip(self.ids, self.nearly):
             near[one].append(id)

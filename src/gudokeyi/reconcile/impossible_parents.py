@@ -13,10 +13,11 @@ from gudokeyi.domain.messages import MessageText, Mistake, Some, why
 from gudokeyi.domain.pedigree_order import in_order, longest_paths, offspring_by_parent, round_from
 from gudokeyi.domain.refusals import Refusal
 from gudokeyi.engine.program import Herdbook
-from gudokeyi.ingest.animals import LAST_OF, SheetAnimal, parents_of_all
+from gudokeyi.ingest.animals import DAM_OF, LAST_OF, SIRE_OF, SheetAnimal, parents_of_all
 from gudokeyi.ingest.days import Precision
 from gudokeyi.ingest.messages import Where
 from gudokeyi.reconcile.findings.parents import DayFact, OwnAncestor, ParentRefused
+from gudokeyi.reconcile.last_found import Kept, LastFound, NothingKept
 from gudokeyi.reconcile.messages import ImportFault
 from gudokeyi.reconcile.next_book import NextBook
 from gudokeyi.reconcile.parents import take_back
@@ -33,14 +34,17 @@ def in_no_book(offspring: str, parent: str) -> bool:
     return False
 
 
-def cut_cycles(animals: dict[str, SheetAnimal], report: Report, in_book: InBook = in_no_book) -> list[str]:
+def cut_cycles(
+    animals: dict[str, SheetAnimal], report: Report, in_book: InBook = in_no_book, last: LastFound | None = None
+) -> list[str]:
     """Leaves out one parent of each animal that would be its own ancestor: of a cycle a link that the book doesn't
     have, one whose days can't be, or else that of the latest row. Answers the animals without a day, parents before
     their offspring."""
     undated = {id: animal for id, animal in animals.items() if animal.birth.precision is not Precision.DAY}
     if are_older(animals):
         return by_age(undated)
-    order = in_order(parents_of_all(animals))
+    by = [*animals], [*map(SIRE_OF, animals.values())], [*map(DAM_OF, animals.values())]
+    order = (last or NothingKept()).of(Kept.ORDER, by, lambda: in_order(parents_of_all(animals)))
     left = animals.keys() - order
     if left:
         cut_all(animals, left, report, in_book)

@@ -1,13 +1,17 @@
 """Animals with a new tag: a row with another id, and with the name, the birth day and the parents of an animal of the
-book that has no row any more, is proposed as that animal; where somebody says so it is."""
+book that has no row any more, or with its old id in a column that isn't read, is proposed as that animal; where
+somebody says so it is."""
 from __future__ import annotations
 
-from collections.abc import Mapping
+import re
+from collections.abc import Iterator, Mapping
 
 from gudokeyi.domain.messages import Mistake
-from gudokeyi.ingest.animals import SheetAnimal
+from gudokeyi.ingest.animals import FIRST_OF, SheetAnimal
+from gudokeyi.ingest.columns import Columns
+from gudokeyi.ingest.texts import nearly
 from gudokeyi.ingest.titles import parts_of
-from gudokeyi.reconcile.findings.same_animals import NewTag
+from gudokeyi.reconcile.findings.same_animals import NewTag, OldTag
 from gudokeyi.reconcile.messages import ImportFault
 from gudokeyi.reconcile.next_book import NextBook
 from gudokeyi.store.book import Book
@@ -49,19 +53,67 @@ def call_anew(book: Book, words: list[str]) -> None:
         }
 
 
-def tell_new_tags(next_book: NextBook, gone: Mapping[str, SheetAnimal]) -> None:
-    """Rows of new animals that may be those that have no row any more."""
-    lost: dict[object, list[str]] = {}
-    for id, animal in gone.items():
-        if animal.name and animal.has_day() and next_book.book.society_records[id].standing.had_row():
-            lost.setdefault(alike(animal), []).append(id)
-    for id, animal in next_book.animals.items() if lost else ():
-        is_new = animal.line and id not in next_book.book.society_records
-        found = lost.get(alike(animal), []) if is_new and animal.name and animal.has_day() else []
+def tell_new_tags(next_book: NextBook, gone: Mapping[str, SheetAnimal], columns: Columns | None) -> None:
+    """Rows of new animals that may be those that have no row any more. Parents are found before their offspring, whose
+    parents they are by either tag."""
+    records = next_book.book.society_records
+    lost = {id: animal for id, animal in gone.items() if records[id].standing.had_row()}
+    new = [animal for id, animal in next_book.animals.items() if animal.line and id not in records] if lost else []
+    by_values: dict[object, list[str]] = {}
+    for id, animal in lost.items():
+        if animal.name and animal.has_day():
+            by_values.setdefault(alike(animal, {}), []).append(id)
+    former: dict[str, str] = {}
+    for animal in sorted(new, key=FIRST_OF):
+        found = by_values.get(alike(animal, former), []) if animal.name and animal.has_day() else []
         if len(found) == 1:
-            next_book.report.add(animal.line, id, NewTag(found[0], id))
+            former[animal.id] = found[0]
+            next_book.report.add(animal.line, animal.id, NewTag(found[0], animal.id))
+    others = {animal.line: animal for animal in new if animal.id not in former}
+    if columns and others and lost:
+        tell_old_tags(next_book, others, lost, columns)
 
 
-def alike(animal: SheetAnimal) -> object:
-    """What two rows of one animal have in common."""
-    return animal.name.casefold(), animal.birth.first, animal.sire, animal.dam
+def alike(animal: SheetAnimal, former: Mapping[str, str]) -> object:
+    """What two rows of one animal have in common; `former` are the ids of before by those of now."""
+    parents = (former.get(parent, parent) for parent in (animal.sire, animal.dam))
+    return animal.name.casefold(), animal.birth.first, *parents
+
+
+# Old tags in columns that aren't read.
+
+# an id is so many words of a cell at most
+MOST_WORDS = 4
+
+
+def tell_old_tags(
+    next_book: NextBook, new: Mapping[int, SheetAnimal], lost: Mapping[str, SheetAnimal], columns: Columns
+) -> None:
+    """New rows, by their lines, with the id of an animal that has no row any more."""
+    ids: dict[str, str] = {nearly(id): id for id in lost}
+    places = [at for at, title in enumerate(columns.sheet.titles) if title and columns.is_free(at)]
+    for row in columns.sheet.rows if places else ():
+        animal = new.get(row.line)
+        for at in places if animal else ():
+            text = row.cells[at] if at < len(row.cells) else ""
+            named = {ids[part] for part in parts_in(text) if part in ids}
+            if animal and len(named) == 1 and may_be_one(animal, lost[before := named.pop()]):
+                next_book.report.add(row.line, animal.id, OldTag(before, animal.id, columns.title(at), text))
+                break
+
+
+def parts_in(text: str) -> Iterator[str]:
+    """The words of a text that follow one another, as ids are compared."""
+    words = re.split(r"[\s,;:()=]+", text)
+    for at in range(len(words)):
+        for count in range(1, MOST_WORDS + 1):
+            yield nearly("".join(words[at : at + count]))
+
+
+def may_be_one(one: SheetAnimal, other: SheetAnimal) -> bool:
+    """Does nothing that both rows say of sex and birth speak against it, and have they the day or the name?"""
+    if one.sex and other.sex and one.sex != other.sex:
+        return False
+    if one.has_day() and other.has_day():
+        return one.birth.first == other.birth.first
+    return bool(one.name) and one.name.casefold() == other.name.casefold()

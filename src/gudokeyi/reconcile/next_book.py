@@ -13,11 +13,12 @@ from gudokeyi.domain.collections import made
 from gudokeyi.domain.commands import Command, RegisterRecord, day_text, lines_of, parents
 from gudokeyi.domain.findings import Finding, Report
 from gudokeyi.domain.kinds import Field, Role, Standing
-from gudokeyi.ingest.animals import BORN_OF, DAM_OF, NUMBER_OF, SIRE_OF, SheetAnimal, by_age
+from gudokeyi.ingest.animals import BORN_OF, DAM_OF, EMBRYO_OF, NUMBER_OF, SIRE_OF, SheetAnimal, by_age
 from gudokeyi.ingest.day_cells import DayCell, DayCells
 from gudokeyi.ingest.texts import clean, nearly
 from gudokeyi.ingest.words import KNOWN_CASTRATED, KNOWN_SEXES, KNOWN_YES, sex_word
 from gudokeyi.reconcile.animals_of_book import AnimalsOfBook
+from gudokeyi.reconcile.last_found import Kept, LastFound, NothingKept
 from gudokeyi.reconcile.rows_of_book import RowsOfBook
 from gudokeyi.store.book import Book
 from gudokeyi.store.state import Rows, Table
@@ -90,7 +91,7 @@ def days_of(cell: DayCell, text: str) -> object:
 
 # The book that is to be: what the sheet says of its animals, and what the book has besides.
 
-EMBRYO_OF, EMBRYO_TEXTS = operator.attrgetter("embryo"), {False: "", True: "1"}
+EMBRYO_TEXTS = {False: "", True: "1"}
 
 
 class NextBook:
@@ -98,10 +99,11 @@ class NextBook:
 
     def __init__(
         self, book: Book, animals: dict[str, SheetAnimal], given: set[str], report: Report, days: DayCells,
-        is_pedigree: bool = False, in_book: AnimalsOfBook | None = None,
+        is_pedigree: bool = False, in_book: AnimalsOfBook | None = None, last_found: LastFound | None = None,
     ) -> None:  # fmt: skip
         """`days` is how days are read, and which words are unknown parents; `in_book` are the animals of the book,
-        where they were looked at before."""
+        where they were looked at before; `last_found` is what a look before found."""
+        self.last_found = last_found or NothingKept()
         self.in_book = in_book or AnimalsOfBook(book)
         self.book, self.animals, self.given, self.report = book, animals, given, report
         self.meanings, self.is_pedigree = Meanings(animals, book, days), is_pedigree
@@ -160,19 +162,21 @@ class NextBook:
 
     # -- what commands name
 
-    def births_of(self, animals: Sequence[SheetAnimal], owner_codes: Iterable[int]) -> list[Command]:
+    def births_of(
+        self, animals: Sequence[SheetAnimal], owner_codes: Sequence[int], kept: Kept = Kept.BIRTHS
+    ) -> list[Command]:
         """The births of animals with the parents of today, each in a herd."""
         number_of = self.numbers().__getitem__
         sires, dams = map(number_of, map(SIRE_OF, animals)), map(number_of, map(DAM_OF, animals))
-        values = zip(
-            itertools.repeat("birth"), map(NUMBER_OF, animals), map(day_text, map(BORN_OF, animals)), sires, dams,
-            itertools.repeat(""), map(str, owner_codes), map(EMBRYO_TEXTS.__getitem__, map(EMBRYO_OF, animals)),
+        values = (
+            [*map(NUMBER_OF, animals)], [*map(day_text, map(BORN_OF, animals))], [*sires], [*dams],
+            [*map(str, owner_codes)], [*map(EMBRYO_TEXTS.__getitem__, map(EMBRYO_OF, animals))],
         )  # fmt: skip
-        return [made(Command, one) for one in values]
+        return self.last_found.of(kept, values, lambda: births_made(*values))
 
     def births_text(self, animals: list[SheetAnimal]) -> bytes:
         """The births of animals in the first herd, as records of a command file."""
-        return lines_of(self.births_of(animals, itertools.repeat(1)))
+        return lines_of(self.births_of(animals, [1] * len(animals), Kept.BIRTHS_OF_ONE))
 
     def numbers(self) -> dict[str, str]:
         """The numbers of all animals by their ids, once they have them, and that of an unknown parent: made where they
@@ -186,6 +190,13 @@ class NextBook:
     def by_birth(self) -> list[SheetAnimal]:
         """All animals, once they have their numbers: from then on neither these nor birth days change."""
         return by_age(sorted(self.animals.values(), key=NUMBER_OF))
+
+
+def births_made(
+    numbers: list[str], days: list[str], sires: list[str], dams: list[str], owner_codes: list[str], embryos: list[str]
+) -> list[Command]:
+    values = zip(itertools.repeat("birth"), numbers, days, sires, dams, itertools.repeat(""), owner_codes, embryos)
+    return [made(Command, one) for one in values]
 
 
 # What is known of each animal after an import.

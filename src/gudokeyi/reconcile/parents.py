@@ -11,13 +11,14 @@ from gudokeyi.domain.findings import Finding, Report
 from gudokeyi.domain.kinds import Field, Role, Standing
 from gudokeyi.domain.pedigree_order import ancestors
 from gudokeyi.domain.requests import MOST_IN_ID
-from gudokeyi.domain.spelling import SameLetters
-from gudokeyi.ingest.animals import LINE_OF, Link, SheetAnimal, links_outside
+from gudokeyi.ingest.animals import LINE_OF, NAME_OF, Link, SheetAnimal, links_outside
 from gudokeyi.ingest.findings.cells import TextTooLong
 from gudokeyi.ingest.texts import nearly, without_accents
 from gudokeyi.reconcile.findings.parents import AddedAsParent, FoundByName, FoundByNearId, FoundInBook, FoundWithin
 from gudokeyi.reconcile.findings.plausibility import LikeNoId, MayBeUnknown, MoreMayBeUnknown
-from gudokeyi.reconcile.near_names import NearNames, have_digits, is_like_word
+from gudokeyi.reconcile.ids_by_name import IdsByName
+from gudokeyi.reconcile.last_found import LastFound
+from gudokeyi.reconcile.near_names import have_digits, is_like_word
 from gudokeyi.reconcile.next_book import NextBook
 from gudokeyi.store.book import Book
 
@@ -37,35 +38,19 @@ FIELDS = {Role.SIRE: Field.SIRE, Role.DAM: Field.DAM}
 class Names:
     """Finds parents by their names, and tells which animals may be meant by a text that is no id."""
 
-    def __init__(self, animals: dict[str, SheetAnimal], report: Report, before: Names | None = None) -> None:
+    def __init__(
+        self, animals: dict[str, SheetAnimal], report: Report, last: LastFound, before: Names | None = None
+    ) -> None:
         """`before` are those of whom `animals` are the ones that stay."""
-        self.animals, self.report, self.before = animals, report, before
+        self.animals, self.report, self.last, self.before = animals, report, last, before
 
     @functools.cached_property
-    def named(self) -> dict[str, list[SheetAnimal]]:
-        """The animals by their names in small letters."""
-        if self.before:
-            return self.before.named
-        named: collections.defaultdict[str, list[SheetAnimal]] = collections.defaultdict(list)
-        for animal in self.animals.values():
-            if animal.name:
-                named[animal.name.casefold()].append(animal)
-        return named
+    def by_name(self) -> IdsByName:
+        return self.last.by_name([*self.animals], [*map(NAME_OF, self.animals.values())])
 
-    @functools.cached_property
-    def unaccented(self) -> dict[str, list[SheetAnimal]]:
-        """The same without accents, which capitals often lack."""
-        if self.before:
-            return self.before.unaccented
-        found: collections.defaultdict[str, list[SheetAnimal]] = collections.defaultdict(list)
-        for name, animals in self.named.items():
-            found[without_accents(name)] += animals
-        return found
-
-    def same(self, name: str) -> list[SheetAnimal]:
-        """The animals of a name, or else those that have it with other accents."""
-        key = name.casefold()
-        return self.named.get(key) or self.unaccented.get(without_accents(key)) or []
+    def same(self, name: str) -> list[str]:
+        """The ids of the animals of a name; of those that stay too these are sought among all."""
+        return (self.before or self).by_name.same(name)
 
     def find_parents(self, rows: dict[str, SheetAnimal], next_book: NextBook, with_id: Collection[str]) -> None:
         """A parent that is none of the ids that were given, but the name of one animal alone, is taken for that one
@@ -94,7 +79,8 @@ class Names:
 
     def others(self, offspring: SheetAnimal, name: str) -> list[SheetAnimal]:
         """The animals of a name, but for the offspring itself."""
-        return [one for one in self.same(name) if one is not offspring and self.animals.get(one.id) is one]
+        named = map(self.animals.get, self.same(name))
+        return [one for one in named if one is not None and one is not offspring]
 
     def add_parents(self) -> None:
         """A founder for each parent without a row."""
@@ -157,16 +143,6 @@ class Names:
     def have_digits(self) -> bool:
         return have_digits([id for id, animal in self.animals.items() if animal.line])
 
-    @functools.cached_property
-    def near_names(self) -> NearNames:
-        return NearNames(self.animals)
-
-    @functools.cached_property
-    def same_letters(self) -> SameLetters:
-        """All names and ids; an id counts before a name."""
-        names = [(animal.name, id) for id, animal in self.animals.items() if animal.name]
-        return SameLetters([*names, *((id, id) for id in self.animals)])
-
     def meant(self, offspring: SheetAnimal, role: Role, text: str) -> tuple[str, tuple[str, ...]]:
         """Which id may be meant by a text that is none, or several that have it as their name. Where few parents lack a
         row, a short text may also be one that can be the parent, two of whose letters are swapped, or the only one
@@ -174,12 +150,13 @@ class Names:
         ids = [one.id for one in self.others(offspring, text)]
         if len(ids) > 1:
             return "", tuple(ids)
-        alike = ids[0] if ids else self.same_letters.meant(text.removesuffix(".0")) or self.same_letters.meant(text)
+        by_name = self.by_name
+        alike = ids[0] if ids else by_name.meant(text.removesuffix(".0")) or by_name.meant(text)
         if not alike and len(self.lacking) <= FEW:
-            swapped = self.same_letters.swapped(text)
+            swapped = by_name.swapped(text)
             alike = next((id for id in swapped if can_be(self.animals[id], role, offspring)), "")
         if not alike and len(self.lacking) <= FEW_NAMED:
-            near = {id for id in self.near_names.meant(text, len(self.lacking) <= FEW) if id != offspring.id}
+            near = by_name.near(text, len(self.lacking) <= FEW) - {offspring.id}
             near = {id for id in near if can_be(self.animals[id], role, offspring)}
             alike = near.pop() if len(near) == 1 else ""
         return (alike if alike != offspring.id else ""), ()

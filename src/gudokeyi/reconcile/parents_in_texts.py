@@ -2,12 +2,13 @@
 from __future__ import annotations
 
 import re
-from collections.abc import Iterator, Mapping, Set
+from collections.abc import Iterator, Mapping, Sequence, Set
 
 from gudokeyi.domain.findings import Report
-from gudokeyi.ingest.animals import SheetAnimal, links_outside
-from gudokeyi.ingest.texts import nearly
+from gudokeyi.ingest.animals import NAME_OF, SheetAnimal, links_outside
+from gudokeyi.ingest.texts import nearly, nearly_all
 from gudokeyi.reconcile.findings.parents import BothParents, EitherParent, FoundWithin, NamedByRelation
+from gudokeyi.reconcile.last_found import Kept, LastFound
 from gudokeyi.reconcile.parents import can_be
 
 # what stands between two animals of which one is the parent, and between an id and a name
@@ -26,22 +27,27 @@ RELATED = re.compile(
 BETWEEN = re.compile(r"\s*[/;,()\[\]|]\s*|\s+[-–—]\s+")
 
 
+def compared(ids: Sequence[str], names: Sequence[str]) -> tuple[dict[str, str], set[str]]:
+    """Ids by what is compared of them, and names in small letters."""
+    return dict(zip(nearly_all(ids), ids)), {*map(str.casefold, names)} - {""}
+
+
 class ParentsInTexts:
     """`animals` are those of the sheet and of the book."""
 
     def __init__(
-        self, rows: dict[str, SheetAnimal], animals: Mapping[str, SheetAnimal], with_id: Set[str]
-    ) -> None:  # fmt: skip
+        self, rows: dict[str, SheetAnimal], animals: Mapping[str, SheetAnimal], with_id: Set[str], last: LastFound
+    ) -> None:
         """`with_id` are the ids that were given."""
-        self.rows, self.animals, self.with_id = rows, animals, with_id
+        self.rows, self.animals, self.with_id, self.last = rows, animals, with_id, last
 
     def find(self, report: Report) -> None:
         links = links_outside(self.rows.values(), self.with_id)
         links = [link for link in links if " " in link[2] or BETWEEN.search(link[2])]
         if not links:
             return
-        self.ids = {nearly(id): id for id in self.with_id & self.animals.keys()}
-        self.names = {animal.name.casefold() for animal in self.animals.values() if animal.name}
+        by = ids, names = [*filter(self.with_id.__contains__, self.animals)], [*map(NAME_OF, self.animals.values())]
+        self.ids, self.names = self.last.of(Kept.IDS_IN_TEXTS, by, lambda: compared(ids, names))
         for offspring, role, text in links:
             if nearly(text) in self.ids or text.casefold() in self.names:
                 continue

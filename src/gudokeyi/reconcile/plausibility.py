@@ -5,21 +5,23 @@ from __future__ import annotations
 
 import collections
 import datetime
+import functools
 import itertools
 import operator
-from collections.abc import Collection, Iterable, Mapping, Sequence
+from collections.abc import Callable, Collection, Iterable, Mapping, Sequence
 from typing import TYPE_CHECKING
 
-from gudokeyi.domain.findings import Report
+from gudokeyi.domain.findings import Entry, Report
 from gudokeyi.domain.kinds import Field, Role
 from gudokeyi.ingest.animals import (
-    BORN_OF, CASTRATED_OF, DAM, DAM_OF, ID_OF, NAME_OF, SIRE, SIRE_OF, YEARS_LATER, SheetAnimal,
+    BORN_OF, CASTRATED_OF, DAM, DAM_OF, ID_OF, LINE_OF, NAME_OF, SIRE, SIRE_OF, YEARS_LATER, SheetAnimal,
 )  # fmt: skip
 from gudokeyi.ingest.days import Precision
 from gudokeyi.reconcile.findings.by_hand import YoungParent
 from gudokeyi.reconcile.findings.plausibility import (
     BirthsTooNear, CastratedSire, ColumnsSwapped, ManyOldAsLiving, NameAndDayTwice, OldAsLiving, SireLeftLongBefore,
 )  # fmt: skip
+from gudokeyi.reconcile.last_found import FoundBy, Kept, LastFound, NothingKept
 from gudokeyi.reconcile.limits import Limits
 from gudokeyi.store.book import Book
 
@@ -40,14 +42,23 @@ FEW_OLD = 3
 FEW_OLD_ONES = 10
 
 
+def values_of(animals: Sequence[SheetAnimal], *values: Callable[[SheetAnimal], object]) -> FoundBy:
+    """Some values of animals, beside those by which all of them are told of."""
+    all_values: Iterable[Callable[[SheetAnimal], object]] = (ID_OF, LINE_OF, BORN_OF, *values)
+    return tuple([*map(value, animals)] for value in all_values)
+
+
 class PlausibilityChecks:
     """Looks at all animals, whose days and parents are found. Days that were inferred tell nothing. What is told is
     about animals of the sheet, or about those that somebody files, whose ids are `filed`."""
 
     def __init__(
-        self, animals: dict[str, SheetAnimal], limits: Limits, report: Report, filed: Collection[str] = ()
-    ) -> None:
+        self, animals: dict[str, SheetAnimal], limits: Limits, report: Report, filed: Collection[str] = (),
+        last: LastFound | None = None,
+    ) -> None:  # fmt: skip
+        """`last` is what was found of the same sheet at the last look."""
         self.animals, self.limits, self.report, self.filed = animals, limits, report, filed
+        self.last = last or NothingKept()
 
     def is_new(self, animal: SheetAnimal) -> bool:
         return bool(animal.line) or animal.id in self.filed
@@ -71,15 +82,42 @@ class PlausibilityChecks:
 
     def tell_families(self) -> None:
         """What is told of parents, offspring, and animals that are there twice."""
-        dated = [animal for animal in self.animals.values() if animal.birth.precision is Precision.DAY]
-        days = dict(zip(self.animals, map(datetime.date.toordinal, map(BORN_OF, self.animals.values()))))
-        left = {id: animal.left for id, animal in self.animals.items() if animal.left}
-        for animal in self.likely_too_young(dated, days, left):
-            if animal.line or animal.id in self.filed:
-                self.look_at_parents(animal, days, left)
-        self.look_at_dams(dated, days)
+        left, limits = [(one.id, one.left, one.line) for one in self.animals.values() if one.left], self.limits
+        young = *values_of(self.dated, SIRE_OF, DAM_OF), left, limits.youngest
+        self.tell_found(Kept.YOUNG_PARENTS, young, self.look_at_young)
+        self.tell_found(Kept.BIRTHS_OF_DAMS, (*values_of(self.borne, DAM_OF), limits.apart), self.look_at_dams)
         self.look_at_castrated()
-        self.look_at_names(dated)
+        self.tell_found(Kept.TWICE, values_of(self.dated, NAME_OF), self.look_at_names)
+
+    def tell_found(self, what: Kept, by: FoundBy, look: Callable[[], None]) -> None:
+        """Tells what a look tells of all animals, which is kept for the next one."""
+
+        def found() -> list[Entry]:
+            told_before = len(self.report.entries)
+            look()
+            return self.report.cut_off(told_before)
+
+        self.report.entries += self.last.of(what, by, found)
+
+    @functools.cached_property
+    def dated(self) -> list[SheetAnimal]:
+        return [animal for animal in self.animals.values() if animal.birth.precision is Precision.DAY]
+
+    @functools.cached_property
+    def borne(self) -> list[SheetAnimal]:
+        """Those of them that were born by their dam."""
+        return [animal for animal in self.dated if animal.dam and not animal.embryo]
+
+    @functools.cached_property
+    def days(self) -> dict[str, int]:
+        """Those of all births."""
+        return dict(zip(self.animals, map(datetime.date.toordinal, map(BORN_OF, self.animals.values()))))
+
+    def look_at_young(self) -> None:
+        left = {id: animal.left for id, animal in self.animals.items() if animal.left}
+        for animal in self.likely_too_young(self.dated, self.days, left):
+            if animal.line or animal.id in self.filed:
+                self.look_at_parents(animal, self.days, left)
 
     def likely_too_young(
         self, dated: Sequence[SheetAnimal], days: Mapping[str, int], left: Collection[str]
@@ -111,11 +149,10 @@ class PlausibilityChecks:
             found = YoungParent(role, id, parent.line, days, self.limits.youngest)
             self.report.add(offspring.line, offspring.id, found)
 
-    def look_at_dams(self, dated: Sequence[SheetAnimal], born: Mapping[str, int]) -> None:
-        progeny = collections.defaultdict[str, list[SheetAnimal]](list)
-        for animal in dated:
-            if animal.dam and not animal.embryo:
-                progeny[animal.dam].append(animal)
+    def look_at_dams(self) -> None:
+        born, progeny = self.days, collections.defaultdict[str, list[SheetAnimal]](list)
+        for animal in self.borne:
+            progeny[animal.dam].append(animal)
         by_age = operator.attrgetter("born", "line")
         for dam, its in progeny.items():
             if len(its) == 1 or not self.are_near(sorted([born[animal.id] for animal in its])):
@@ -143,12 +180,12 @@ class PlausibilityChecks:
             found = CastratedSire(animal.cells.get(Field.SEX, ""), len(its), its[0].id, its[0].line)
             self.report.add(animal.line, sire, found)
 
-    def look_at_names(self, dated: Sequence[SheetAnimal]) -> None:
+    def look_at_names(self) -> None:
         """Animals with one name and birth day. Many sheets have names that stand for none, as `Lamm`, at each."""
         alike = collections.defaultdict[tuple[str, datetime.date], list[SheetAnimal]](list)
-        names = [*map(str.casefold, map(NAME_OF, dated))]
+        names = [*map(str.casefold, map(NAME_OF, self.dated))]
         counts = collections.Counter(names)
-        for animal, name in zip(dated, names):
+        for animal, name in zip(self.dated, names):
             if name and counts[name] > 1:
                 alike[name, animal.born].append(animal)
         for pair in alike.values():

@@ -14,6 +14,7 @@ from gudokeyi.ingest.animals import DAM_OF, ID_OF, NAME_OF, SEX_OF, SIRE_OF, UNR
 from gudokeyi.reconcile.findings.animals import SexInferred, SexNotKnown
 from gudokeyi.reconcile.findings.parents import Couple, NoSexesFit, ParentsSwapped
 from gudokeyi.reconcile.findings.same_animals import SexAgainstOffspring
+from gudokeyi.reconcile.last_found import Kept
 from gudokeyi.reconcile.next_book import NextBook
 from gudokeyi.reconcile.plausibility import FEW_REFUSED
 
@@ -107,6 +108,14 @@ def progeny_by_role(next_book: NextBook, gone: Mapping[str, SheetAnimal]) -> dic
     """The offspring of each animal in each role, as cells name it by its id or by a name that it has alone; where a
     cell names none so, as the book has it."""
     all_animals = {**next_book.animals, **gone}
+    values = ([*map(of, all_animals.values())] for of in (ID_OF, NAME_OF, SIRE_OF, DAM_OF))
+    found_by = *values, next_book.in_book
+    return next_book.last_found.of(Kept.PROGENY, found_by, lambda: all_progeny_by_role(next_book, all_animals))
+
+
+def all_progeny_by_role(
+    next_book: NextBook, all_animals: Mapping[str, SheetAnimal]
+) -> dict[str, dict[Role, set[str]]]:
     found: dict[str, dict[Role, set[str]]] = {}
     texts: list[Link] = []
     for role, parent_of in (Role.SIRE, SIRE_OF), (Role.DAM, DAM_OF):

@@ -15,8 +15,8 @@ from gudokeyi.ingest.animals import LINE_OF
 from gudokeyi.ingest.files import GivenFile
 from gudokeyi.process import keep
 from gudokeyi.reconcile.all_animals import complete
+from gudokeyi.reconcile.cells_as_notes import keep_as_notes
 from gudokeyi.reconcile.commands import Filing
-from gudokeyi.reconcile.early_years import keep_early_years
 from gudokeyi.reconcile.exits import leave_out_early_exits, tell_most_changed, tell_withdrawn_exits
 from gudokeyi.reconcile.findings.obstacles import StrictlyNothing
 from gudokeyi.reconcile.ids import call_as_now, give_numbers, letters_unsaid, numbers_begin
@@ -57,7 +57,7 @@ class About:
     understood: Understood | None = None
     limits: Limits = Limits()
     invented: int = 0
-    # reads the society's own columns and keeps early years as notes, once animals have their numbers
+    # reads the society's own columns and keeps some cells as notes, once animals have their numbers
     take_own: Callable[[], None] = lambda: None
 
 
@@ -87,7 +87,7 @@ def file(
     owners_before = set(book.owners)
     told_before = len(report.entries)
     filed = filing.filed_at_once(program, import_options.preview)
-    told = cut_off(report, told_before) if book.journal.length else []
+    told = report.cut_off(told_before) if book.journal.length else []
     if filed is None:
         leave_out_faulty_parents(next_book, program, filing.refuses_births)
     if next_book.is_pedigree and not import_options.leave_out:
@@ -95,7 +95,7 @@ def file(
     if about.understood:
         tell_swapped_columns(next_book, about.understood)
     if not next_book.is_pedigree:
-        checks = PlausibilityChecks(next_book.animals, about.limits, report)
+        checks = PlausibilityChecks(next_book.animals, about.limits, report, last=next_book.last_found)
         checks.tell_births(book, next_book.rows_otherwise())
         checks.tell("exit" in next_book.given)
     # what is told of owners' days comes behind what may be wrong
@@ -117,13 +117,6 @@ def file(
         book.folder, about.call.after(), about.understood, tuple(about.read), tuple(next_book.obstacles), report, after,
         next_book.own_values,
     )  # fmt: skip
-
-
-def cut_off(report: Report, at: int) -> list[Entry]:
-    """Takes away what was told from a place on, and answers it."""
-    told = report.entries[at:]
-    del report.entries[at:]
-    return told
 
 
 def refuse_unsaid_letters(next_book: NextBook, import_options: ImportOptions) -> None:
@@ -196,8 +189,9 @@ def import_sheet_into(
     keep(book, read)
     are_renamed = call_as_now(read.animals, book, read.report)
     next_book = NextBook(
-        book, read.animals, set(read.columns.found), read.report, read.rows.cells.days, in_book=read.in_book
-    )
+        book, read.animals, set(read.columns.found), read.report, read.rows.cells.days, in_book=read.in_book,
+        last_found=last.found if last else None,
+    )  # fmt: skip
     if last and book.society_records:
         next_book.compare(last.rows_of(book), frozenset() if are_renamed else last.same_rows(book))
     complete(next_book, read.columns, import_options)
@@ -207,7 +201,7 @@ def import_sheet_into(
 
     def take_own() -> None:
         take_own_values(next_book, own, read.sheet, bool(words[Remembered.MONTH_FIRST]))
-        keep_early_years(next_book, dict(read.columns.titles_found()))
+        keep_as_notes(next_book, dict(read.columns.titles_found()), read.rows.remarks())
 
     about = About(import_options.call(str(path)), understood.lines(), understood, limits_of(words), take_own=take_own)
     return finish(next_book, program, import_options, source, about)

@@ -4,14 +4,14 @@ what the book has.
 A process that looks at one sheet again and again keeps what came of each step with all by which it was found, in
 `LastReading`. A step is made again where any of that is another now, and so are those that stand on it. Of rows that
 are read together (`ingest/plain_rows.py`) those alone are read again that have a text which may mean something else
-now. What an import finds of the animals is found anew by each look: its passes ask all of them at once."""
+now. Much of what an import finds of all animals by few of their values is kept in `LastFound`; the rest is found anew
+by each look: its passes ask all of them at once."""
 from __future__ import annotations
 
 import datetime
-import functools
 import itertools
 import operator
-from collections.abc import Collection, Iterable, Mapping
+from collections.abc import Callable, Collection, Iterable, Mapping
 from dataclasses import dataclass, field, fields
 
 from gudokeyi.domain.animals import NO_OWNER
@@ -22,13 +22,14 @@ from gudokeyi.ingest.animals import UNREAD_OF, SheetAnimal
 from gudokeyi.ingest.columns import Columns, find_columns
 from gudokeyi.ingest.files import GivenFile
 from gudokeyi.ingest.parents_beside import tell_parents_named_otherwise
-from gudokeyi.ingest.rows_as_meant import as_meant, member_numbered
+from gudokeyi.ingest.rows_as_meant import Notes, as_meant, member_numbered
 from gudokeyi.ingest.sheet_animals import Rows
 from gudokeyi.ingest.sheets import Sheet, read_sheet
 from gudokeyi.ingest.titles import known_titles, parts_of, read_given, read_sexes
 from gudokeyi.ingest.unknown_parents import UnknownParents
 from gudokeyi.reconcile.animals_of_book import AnimalsOfBook
 from gudokeyi.reconcile.findings.obstacles import NoRowTaken
+from gudokeyi.reconcile.last_found import LastFound
 from gudokeyi.reconcile.import_options import ImportOptions, RememberedWords
 from gudokeyi.reconcile.rows_of_book import RowsOfBook
 from gudokeyi.store.book import Book
@@ -37,10 +38,29 @@ from gudokeyi.store.members import members_by_code
 # The columns.
 
 
-@functools.lru_cache(1)
-def sheet_of(file: GivenFile, titles: frozenset[str], worksheet: str) -> Sheet:
-    """The rows of a file; the titles are those that its columns had or are named by. A look at it reads it once."""
-    return read_sheet(file, lambda row: known_titles(row) + sum(title in titles for title in row), worksheet)
+class LastSheet:
+    """The sheet that was read last: a look at it reads it once, and so do those behind it, unless titles that are known
+    meanwhile decide otherwise which rows it has."""
+
+    def __init__(self) -> None:
+        self.read: tuple[GivenFile, str, Sheet] | None = None
+
+    def of(self, file: GivenFile, titles: frozenset[str], worksheet: str) -> Sheet:
+        """The rows of a file; the titles are those that its columns had or are named by."""
+
+        def score(row: list[str]) -> int:
+            return known_titles(row) + sum(title in titles for title in row)
+
+        last = self.read
+        if last and last[:2] == (file, worksheet) and last[2].decision and last[2].decision.is_same(score):
+            return last[2]
+        self.read = None
+        sheet = read_sheet(file, score, worksheet)
+        self.read = file, worksheet, sheet
+        return sheet
+
+
+LAST_SHEET = LastSheet()
 
 
 def titles_before(book: Book) -> dict[str, str]:
@@ -85,16 +105,17 @@ class Reading:
         words = (self.unknown.more, self.unknown.known) if Field.STATUS in self.columns else ()
         return dict(self.columns), self.sure, words
 
-    def meant(self, report: Report) -> Sheet:
+    def meant(self, report: Report, notes_of: Callable[[Sheet, Mapping[str, int]], Notes] = Notes) -> Sheet:
         """The sheet with its rows as they are meant."""
         if Field.ID not in self.columns:
             return self.sheet
-        return as_meant(self.sheet, self.columns, self.unknown, self.sure, report)
+        return as_meant(self.sheet, self.columns, self.unknown, self.sure, report, notes_of)
 
     def rows(self, meant: Sheet, report: Report, before: Rows | None = None) -> Rows:
         """The rows as they are meant; `before` are the last ones, where they may be of the same sheet."""
         columns = {name: at for name, at in self.columns.items() if name != Field.STATUS}
-        is_same = before is not None and before.sheet is meant and before.columns == columns and Field.ID in columns
+        is_of_file = before is not None and before.sheet.titles is meant.titles
+        is_same = is_of_file and before and before.columns == columns and Field.ID in columns
         return Rows(
             meant, columns, self.unknown, self.sexes, report, self.month_first, self.born, self.no_animals, self.owners,
             before.plain if before and is_same else None,
@@ -151,11 +172,14 @@ class LastReading:
 
     def __init__(self) -> None:
         self.columns: ColumnsRead | None = None
+        self.notes: Notes | None = None
         self.meant: RowsMeant | None = None
         self.animals: AnimalsRead | None = None
         self.in_book: AnimalsOfBook | None = None
         self.rows_of_book: RowsOfBook | None = None
         self.same: SameRows | None = None
+        # what was found of the animals
+        self.found = LastFound()
 
     def columns_of(
         self, sheet: Sheet, given: Mapping[str, str], before: Mapping[str, str], unknown: UnknownParents,
@@ -167,11 +191,18 @@ class LastReading:
             self.columns = last = ColumnsRead(read_by, find_columns(sheet, given, before, unknown, ids))
         return last.columns
 
+    def notes_of(self, sheet: Sheet, columns: Mapping[str, int]) -> Notes:
+        if self.notes is None or not self.notes.is_of(sheet, columns):
+            self.notes = Notes(sheet, columns)
+        return self.notes
+
     def meant_of(self, reading: Reading, report: Report) -> Sheet:
         """The rows as they are meant, of which is told before all else."""
         last, meant_by = self.meant, reading.meant_by()
         if last is None or last.sheet is not reading.sheet or last.meant_by != meant_by:
-            meant = reading.meant(report)
+            meant = reading.meant(report, self.notes_of)
+            if last and last.sheet is reading.sheet and last.meant.is_same(meant):
+                meant = last.meant
             self.meant = last = RowsMeant(reading.sheet, meant_by, meant, [*report.entries])
         report.entries = [*last.entries]
         return last.meant
@@ -233,7 +264,7 @@ def read_columns(
     """The columns of a sheet, which has its rows."""
     now = read_given(import_options.columns)
     before = titles_before(book) | read_given(words[Remembered.COLUMNS])
-    sheet = sheet_of(file, frozenset({*before.values(), *now.values()}), import_options.worksheet)
+    sheet = LAST_SHEET.of(file, frozenset({*before.values(), *now.values()}), import_options.worksheet)
     unknown = UnknownParents(words[Remembered.UNKNOWN], words[Remembered.KNOWN])
     ids = (last.animals_of_book(book) if last else AnimalsOfBook(book)).had_row
     before = {name: title for name, title in before.items() if name not in now}

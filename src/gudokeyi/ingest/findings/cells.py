@@ -2,16 +2,17 @@
 from __future__ import annotations
 
 import datetime
-from collections.abc import Hashable, Mapping
+from collections.abc import Hashable, Mapping, Sequence
 from dataclasses import dataclass
+from typing import NamedTuple
 
 from gudokeyi.domain.findings import ANYWAY, Finding, LeftOut, Part, Severity, Suggestion, What, is_animal, is_no_animal
 from gudokeyi.domain.kinds import Field
 from gudokeyi.domain.provenance import ExitBasis
-from gudokeyi.domain.wording import AllOf, Joined, OptionalPart, Text, Told, WithText, Word
+from gudokeyi.domain.wording import AllOf, Counted, Joined, OptionalPart, Quoted, Text, Told, WithText, Word
 from gudokeyi.ingest.days import DayFault
 from gudokeyi.ingest.findings.columns import SheetFinding
-from gudokeyi.ingest.findings.sheets import Cells
+from gudokeyi.ingest.findings.sheets import MOST_SHOWN, Cells
 from gudokeyi.ingest.words import exit_word
 
 # What is found of a sheet's rows and cells: each kind as data, and in words.
@@ -403,6 +404,50 @@ class ExitsInOtherWords(SheetFinding):
     parts = {
         "maybe_cells_more": OptionalPart(" and {cells_more} more"),
     }
+
+
+class Remark(NamedTuple):
+    """A cell that tells of something which no field has: it is kept as a note."""
+
+    line: int
+    title: str
+    text: str
+
+
+@dataclass(frozen=True, slots=True)
+class NoExits(SheetFinding):
+    """Cells of a column such as `retired 2019` or `on loan`, which tell of something else than an exit: the first line,
+    and the first texts; `more` aren't here."""
+
+    title: str
+    count: int
+    line: int
+    texts: tuple[str, ...]
+    more: int
+
+    severity = Severity.FACTS
+    code = "no exits"
+    message = Counted(
+        "{count} cell of the column '{title}' tells of something else than an exit, in line {line}: {said}: the animal "
+        "stays, and what the cell says is kept as a note; if it has left, write a day, or a word such as sold, verkauft "
+        "or vendu",
+        "{count} cells of the column '{title}' tell of something else than exits, the first in line {line}: "
+        "{said}{maybe_more}: these animals stay, and what the cells say is kept as notes; if one has left, write a day, "
+        "or a word such as sold, verkauft or vendu",
+        "count",
+    )
+    parts = {
+        "maybe_more": OptionalPart(" and {more} more"),
+    }
+
+    @classmethod
+    def of(cls, remarks: Sequence[Remark]) -> NoExits:
+        texts = [*dict.fromkeys(one.text for one in remarks)]
+        first = remarks[0]
+        return cls(first.title, len(remarks), first.line, tuple(texts[:MOST_SHOWN]), len(texts[MOST_SHOWN:]))
+
+    def values(self) -> Mapping[str, object]:
+        return {"said": Quoted(self.texts)}
 
 
 @dataclass(frozen=True, slots=True)

@@ -163,6 +163,24 @@ class StruckThrough(SheetFinding):
 
 
 @dataclass(frozen=True, slots=True)
+class GreyRows(SheetFinding):
+    """Rows of a worksheet that are filled grey, where the others aren't: how many, and the first of them."""
+
+    count: int
+    line: int
+
+    severity = Severity.FACTS
+    code = "grey rows"
+    message = Counted(
+        "{count} row has a grey fill, line {line}: nothing is read from it; if that marks an animal that has left, "
+        "write an exit",
+        "{count} rows have a grey fill, the first is line {line}: nothing is read from it; if that marks animals that "
+        "have left, write exits",
+        "count",
+    )
+
+
+@dataclass(frozen=True, slots=True)
 class WorksheetUnclear(SheetFinding):
     """Several worksheets have titles that fit, or none has."""
 

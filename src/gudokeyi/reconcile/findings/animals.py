@@ -226,6 +226,17 @@ class EarlyYearKept(Finding):
 
 
 @dataclass(frozen=True, slots=True)
+class RemarkKept(Finding):
+    """A cell that tells of something which no field has is kept as a note."""
+
+    note: str
+
+    what = What.CHANGED
+    code = "remark kept"
+    message = Text("kept as a note: '{note}'")
+
+
+@dataclass(frozen=True, slots=True)
 class OwnValueWritten(Finding):
     """A value of the society's own columns, and what it was before; each is empty where there is none."""
 

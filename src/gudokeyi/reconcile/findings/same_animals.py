@@ -60,3 +60,23 @@ class NewTag(PlausibilityWarning):
     def suggestions(self) -> tuple[Suggestion, ...]:
         return (Suggestion("if it is that one with a new tag", (Option(NEW_TAG, quoted(f"{self.before}={self.now}")),),
                            undoes=True),)  # fmt: skip
+
+
+@dataclass(frozen=True, slots=True)
+class OldTag(PlausibilityWarning):
+    """A new row with the id of an animal that has no row any more in a column that isn't read."""
+
+    before: str
+    now: str
+    title: str
+    text: str
+
+    severity = Severity.ANIMALS
+    code = "old tag"
+    message = Text(
+        "'{title}' has '{text}', and {before} has no row any more: did that one get a new tag? It is taken as another "
+        "animal"
+    )
+
+    def suggestions(self) -> tuple[Suggestion, ...]:
+        return NewTag(self.before, self.now).suggestions()

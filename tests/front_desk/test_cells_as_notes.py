@@ -1,5 +1,5 @@
-"""Days before 1900, which no book can have: what their cells say is kept as notes, with the change that takes the
-sheet."""
+"""Days before 1900, which no book can have, and what a column of exits tells of something else: what such cells say is
+kept as notes, with the change that takes the sheet."""
 from __future__ import annotations
 
 import pytest
@@ -52,3 +52,37 @@ def test_no_note_of_days_that_a_book_has(desk: Desk) -> None:
     """Nor of other numbers in such cells."""
     desk.take(TITLES + OLD.replace("14.05.1887", "vor 2001").replace("ca. 1899", "Nr. 31899").replace("12.3.1899", "12.3.1999"))
     assert not any(notes(desk).values())
+
+
+NO_EXITS = (
+    "retired 2019", "on loan to Meier 3.4.2021", "pensioned", "castré le 03.04.2020", "saillie 12.05.2021", "prêtée",
+    "kastriert 3.4.2020", "gedeckt 12.05.2021", "verliehen", "covered 12.05.2021", "for sale", "zurück 5.2020",
+)  # fmt: skip
+
+
+@pytest.mark.parametrize("title", ["Abgang", "Status", "Abgang am;Status"])
+def test_what_is_no_exit(desk: Desk, title: str) -> None:
+    """Such an animal stays; the cell is kept as a note, and told once among the first lines."""
+    beside = ";" * title.count(";")
+    rows = "".join(f"{at:03};;w;2.2.2009;;;Huber;{beside}{cell}\n" for at, cell in enumerate(NO_EXITS, 1))
+    text = TITLES.replace("Abgang", title) + rows + f"100;;w;2.2.2009;;;Huber;{beside}verkauft (gedeckt)\n"
+    done = desk.take(text)
+    name = title.rpartition(";")[2]
+    told = f"{len(NO_EXITS)} cells of the column '{name}' tell of something else than exits, the first in line 2: 'retired 2019', "
+    assert told in done.out.partition("rows below the titles")[0] and "and 7 more" in done.out
+    assert [one["id"] for one in desk.table("book/ids.csv") if one["exit"]] == ["100"]
+    assert not [line for line in desk.commands() if line.startswith("exit")]
+    assert notes(desk) == {f"{at:03}": {f"{name}: {cell}"} for at, cell in enumerate(NO_EXITS, 1)} | {"100": set[str]()}
+    assert " 0 changed" in desk.take(text).last
+
+
+def test_exit_that_was_none(desk: Desk) -> None:
+    """One that a book has is taken back where the next sheet says something else."""
+    row = "001;Max;m;1.2.2010;;;Huber;"
+    desk.take(TITLES + f"{row}12.05.2020\n")
+    done = desk.take(TITLES + f"{row}gedeckt 12.05.2020\n")
+    done.tells(
+        "line 2: 001: changed: exit: none, before 2020-05-12",
+        "line 2: 001: changed: kept as a note: 'Abgang: gedeckt 12.05.2020'",
+    )
+    assert not [one for one in desk.table("book/ids.csv") if one["exit"]]

@@ -1,0 +1,64 @@
+"""What was found of all animals by some of what is said of them, kept for the next look at the same sheet: it is found
+anew where any of that is another."""
+from __future__ import annotations
+
+import enum
+from collections.abc import Callable, Sequence
+from typing import TypeVar, cast
+
+from gudokeyi.reconcile.ids_by_name import IdsByName, NamesEver
+
+Value = TypeVar("Value")
+# by what something was found: lists of many values, most of which are the same objects as at the last look
+FoundBy = tuple[object, ...]
+
+
+class Kept(enum.Enum):
+    """What is kept."""
+
+    NEAR_IDS = enum.auto()
+    IDS_IN_TEXTS = enum.auto()
+    # the offspring of each animal in each role
+    PROGENY = enum.auto()
+    # animals behind their parents, commands, and what the program refuses of them
+    ORDER = enum.auto()
+    BIRTHS = enum.auto()
+    # the same where all have one owner
+    BIRTHS_OF_ONE = enum.auto()
+    REFUSED = enum.auto()
+    REFUSED_ANEW = enum.auto()
+    # what is told of parents' ages, of births of one dam, and of animals that are there twice
+    YOUNG_PARENTS = enum.auto()
+    BIRTHS_OF_DAMS = enum.auto()
+    TWICE = enum.auto()
+
+
+class LastFound:
+    """What was found last of each kind, and by what. Nobody changes what is kept."""
+
+    def __init__(self) -> None:
+        self.kept: dict[Kept, tuple[FoundBy, object]] = {}
+        self.names: NamesEver | None = None
+
+    def of(self, what: Kept, by: FoundBy, find: Callable[[], Value]) -> Value:
+        last = self.kept.get(what)
+        if last is None or last[0] != by:
+            self.kept.pop(what, None)
+            self.kept[what] = last = by, find()
+        return cast(Value, last[1])
+
+    def by_name(self, ids: Sequence[str], names: Sequence[str]) -> IdsByName:
+        """The animals that are there by their names."""
+        found = IdsByName(ids, names, self.names)
+        self.names = found.ever
+        return found
+
+
+class NothingKept(LastFound):
+    """For whoever looks once: it is found where it is asked for, and goes behind that."""
+
+    def of(self, what: Kept, by: FoundBy, find: Callable[[], Value]) -> Value:
+        return find()
+
+    def by_name(self, ids: Sequence[str], names: Sequence[str]) -> IdsByName:
+        return IdsByName(ids, names)
