@@ -1,4 +1,4 @@
-//! Pedigrees as bytes: what is read of them, and their first faults.
+//! Pedigrees as bytes: what is read of them, and the fault where reading breaks.
 ghost use Rattle.std.specs.Prelude.{Some};
 
 use herd_lineage::MOST_ANIMALS;
@@ -48,40 +48,6 @@ fn reads_parents(rt: HostRuntime) -> Result<(), Fail> {
     Ok(())
 }
 
-#[test]
-fn tells_the_first_fault(rt: HostRuntime) {
-    let faults: [(&[u8], u32, u32, PedigreeCause); 12] = [
-        (b"", 9, 0, PedigreeCause::Header),
-        (b"dam,sire\n0,0\n", 9, 0, PedigreeCause::Header),
-        (b"sire,dam,sex\n0,0,1\n", 9, 0, PedigreeCause::Header),
-        (b"sire,dam\n0,0\n0,0,1\n", 1, 2, PedigreeCause::TooMany),
-        (b"sire,dam\n0,0\nx,y,z\n", 9, 2, PedigreeCause::Fields),
-        (b"sire,dam\n1,2\n", 9, 1, PedigreeCause::Sire),
-        (b"sire,dam\n0,0\n+1,0\n", 9, 2, PedigreeCause::Sire),
-        (b"sire,dam\n0,0\n01,0\n", 9, 2, PedigreeCause::Sire),
-        (b"sire,dam\n0,0\n0,00\n", 9, 2, PedigreeCause::Dam),
-        (b"sire,dam\n0,0\n0, 1\n", 9, 2, PedigreeCause::Dam),
-        (b"sire,dam\n0,0\n0,-1\n", 9, 2, PedigreeCause::Dam),
-        (
-            b"sire,dam\n0,0\n0,100000000000000000000000000001\n",
-            9,
-            2,
-            PedigreeCause::Dam,
-        ),
-    ];
-    for (file, most, record_number, cause) in faults {
-        let told = read_lineage(rt.alloc(), file, most);
-        assert_eq!(rt;
-            told.err(),
-            Some(PedigreeFault {
-                record_number,
-                cause
-            }),
-            "{file:?}"
-        );
-    }
-}
-
 // The last record that is not yet whole is the one that is told.
 #[test]
 fn tells_where_reading_broke(rt: HostRuntime) {
@@ -103,24 +69,4 @@ fn tells_where_reading_broke(rt: HostRuntime) {
             "{text:?}"
         );
     }
-}
-
-// A chain of selfed animals, of which the one after 60 steps is too deep.
-#[test]
-fn tells_an_animal_that_is_too_deep(rt: HostRuntime) -> Result<(), Fail> {
-    let mut file = String::from_str(rt.alloc(), "sire,dam\n0,0\n")?;
-    for parent in 1..=61 {
-        let line = format!(in rt.alloc(); "{parent},{parent}\n")?;
-        file.push_str(&line)?;
-    }
-    let told = read_lineage(rt.alloc(), file.as_bytes(), MOST_ANIMALS);
-    let cause = PedigreeCause::TooDeep;
-    assert_eq!(rt;
-        told.err(),
-        Some(PedigreeFault {
-            record_number: 62,
-            cause
-        })
-    );
-    Ok(())
 }
