@@ -2,10 +2,12 @@
 from __future__ import annotations
 
 import contextlib
+import gc
 import pathlib
 import sqlite3
 import threading
 import time
+import weakref
 from collections.abc import Callable
 
 import pytest
@@ -129,6 +131,44 @@ def test_others_wait_for_the_last_try(
     made = imported(folder, path, ANYWAY, Asked(look.seen, look.by_animal, new_form()), lambda _: None)
     assert free == [True] * (TRIES_BESIDE + 1) + [False]
     assert made.change == TRIES_BESIDE + 3 and kinds(folder)[-1] == "take"
+
+
+def test_nothing_of_a_try_is_kept(
+    folder: pathlib.Path, society_desk: Desk, monkeypatch: pytest.MonkeyPatch
+) -> None:
+    """What was prepared in vain is gone before the next try: a large sheet is tried many times beside others."""
+    path, books = sheet(society_desk), list[weakref.ref[Book]]()
+    look = looked_at(folder, path, ANYWAY, (), lambda _: None)
+    filed_meanwhile(monkeypatch, folder, society_desk)
+    prepare = getattr(sheet_work, "import_sheet_into")
+
+    def prepared(book: Book, *values: object) -> object:
+        assert not [one for one in books if one()]
+        books.append(weakref.ref(book))
+        return prepare(book, *values)
+
+    monkeypatch.setattr(sheet_work, "import_sheet_into", prepared)
+    monkeypatch.setattr(sheet_work, "SECONDS_OTHERS_WAIT", 0.0)
+    monkeypatch.setattr(sheet_work, "MOST_TRIES", TRIES_BESIDE)
+    gc.disable()
+    try:
+        imported(folder, path, ANYWAY, Asked(look.seen, look.by_animal, new_form()), lambda _: None)
+    finally:
+        gc.enable()
+    assert len(books) == TRIES_BESIDE
+
+
+def test_filed_by_hand_stays(folder: pathlib.Path, society_desk: Desk) -> None:
+    """Where others filed something of an animal whose row says what the last sheet said, that stays: the sheet doesn't
+    change it, and is taken without another look."""
+    path = TOP / "examples/society.csv"
+    look = looked_at(folder, path, ANYWAY, (), lambda _: None)
+    society_desk.good("exit", OTHER, "--day", DAY)
+    society_desk.good("transfer", DAM, "--day", DAY, "--to", "Lower Mill")
+    made = imported(folder, path, ANYWAY, Asked(look.seen, look.by_animal, new_form()), lambda _: None)
+    assert made.otherwise == () and kinds(folder) == ["take", "exit", "transfer", "take"]
+    assert OTHER not in {row["id"] for row in society_desk.listed("list", "--living")}
+    society_desk.good("verify")
 
 
 def own_sheet(desk: Desk, value: str) -> pathlib.Path:

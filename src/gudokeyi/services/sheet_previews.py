@@ -17,6 +17,7 @@ from gudokeyi.ingest.findings.cells import OddRow
 from gudokeyi.ingest.messages import SheetFault
 from gudokeyi.ingest.sheets import Sheet as Sheet
 from gudokeyi.ingest.texts import plain
+from gudokeyi.reconcile.findings.animals import KeptByHand, KeptFromBook
 from gudokeyi.reconcile.findings.by_hand import NewAnimal
 from gudokeyi.reconcile.import_options import ImportOptions, remember, with_settings
 from gudokeyi.reconcile.outcome import Outcome
@@ -103,15 +104,18 @@ def severity_of(entry: Entry) -> tuple[Severity, bool]:
 # the book meanwhile.
 
 DIGEST_BYTES = 8
+# what says that a sheet doesn't change something, since the book has it
+STAYS = (KeptByHand, KeptFromBook)
 
 
 def changes_by_animal(outcome: Outcome, drops_gone: bool) -> dict[str, bytes]:
     """What is told of each animal, as digests, with the values of the society's own columns, of which the report tells
-    how many change alone. What has no row stays as it is, unless it is dropped; a new animal has whichever number is
-    free."""
+    how many change alone. What has no row stays as it is, unless it is dropped, and so does what was filed by hand; a
+    new animal has whichever number is free."""
     told = collections.defaultdict[str, list[str]](list)
     for entry in outcome.report.in_order():
-        if entry.id and (drops_gone or entry.what is not What.GONE):
+        stays = isinstance(entry.finding, STAYS) or (entry.what is What.GONE and not drops_gone)
+        if entry.id and not stays:
             values = "" if isinstance(entry.finding, NewAnimal) else repr(entry.finding)
             told[entry.id].append(f"{entry.line} {entry.finding.code} {values}")
     for id, values_of_it in outcome.own_values.items():

@@ -4,6 +4,7 @@ from __future__ import annotations
 import contextlib
 import csv
 import functools
+import gc
 import hashlib
 import io
 import pathlib
@@ -208,18 +209,28 @@ def imported(folder: pathlib.Path, path: pathlib.Path, chosen: Chosen, asked: As
     program = BookProgram()
     tell(Doing.TAKING)
     for may_wait in tries():
-        with contextlib.suppress(Overtaken), book_for(folder, program, may_wait) as book:
-            stamp = stamp_of(book)
-            found = prepared_for(book, path, chosen, asked, program)
-            if isinstance(found, Imported):
-                return found
-            # from here on others wait for it
-            take_as_others()
-            with contextlib.nullcontext(book) if may_wait else still_to_change(folder, book.change) as now:
-                is_same = stamp_of(now) == stamp
-                change = save(now, program, found)
-            return Imported(change.number, mark=change.mark, whole=stamp_behind(folder, change) if is_same else ())
+        with contextlib.suppress(Overtaken):
+            return taken(folder, path, chosen, asked, program, may_wait)
+        # what was prepared in vain isn't kept beside what is prepared anew: by itself it would be looked for later
+        gc.collect()
     return Imported(0, True)
+
+
+def taken(
+    folder: pathlib.Path, path: pathlib.Path, chosen: Chosen, asked: Asked, program: BookProgram, may_wait: bool
+) -> Imported:
+    """What comes of one try; raises `Overtaken`. With `may_wait` others wait for all of it."""
+    with book_for(folder, program, may_wait) as book:
+        stamp = stamp_of(book)
+        found = prepared_for(book, path, chosen, asked, program)
+        if isinstance(found, Imported):
+            return found
+        # from here on others wait for it
+        take_as_others()
+        with contextlib.nullcontext(book) if may_wait else still_to_change(folder, book.change) as now:
+            is_same = stamp_of(now) == stamp
+            change = save(now, program, found)
+        return Imported(change.number, mark=change.mark, whole=stamp_behind(folder, change) if is_same else ())
 
 
 def tries() -> Iterator[bool]:
