@@ -105,10 +105,11 @@ Link = tuple[SheetAnimal, Role, str]
 
 def links_outside(progeny: Collection[SheetAnimal], ids: Collection[str]) -> list[Link]:
     """The known parents that aren't among some ids. Few are outside of most sheets."""
-    parents = {*map(SIRE_OF, progeny), *map(DAM_OF, progeny)} - {""}
-    outside = {*itertools.filterfalse(ids.__contains__, parents)}
+    sires, dams = [*map(SIRE_OF, progeny)], [*map(DAM_OF, progeny)]
+    outside = {*itertools.filterfalse(ids.__contains__, {*sires, *dams} - {""})}
+    have_one = map(operator.or_, map(outside.__contains__, sires), map(outside.__contains__, dams))
     found: list[Link] = []
-    for offspring in progeny if outside else ():
+    for offspring in itertools.compress(progeny, have_one) if outside else ():
         if offspring.sire in outside:
             found.append((offspring, SIRE, offspring.sire))
         if offspring.dam in outside:

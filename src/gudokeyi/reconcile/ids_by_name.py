@@ -29,7 +29,9 @@ class NamesEver:
 
     def has(self, ids: Sequence[str], names: Sequence[str]) -> bool:
         """Are these among them, or few of them new? Nothing is known of one that has another name than before."""
-        before = map(self.names.get, ids)
+        before = [*map(self.names.get, ids)]
+        if before == [*names]:
+            return True
         new = {id: name for id, name, known in zip(ids, names, before) if known is not name and known != name}
         if len(new) > ADDED * len(ids) or not new.keys().isdisjoint(self.names):
             return False

@@ -225,11 +225,23 @@ class OwnerDays:
         return Owners(first_herd, transfers, len(before), not is_kept or first_herd != first)
 
     def of_all(self, animals: Iterable[SheetAnimal]) -> list[Owners]:
-        """The same of many animals. Most new ones have one owner from their birth on."""
+        """The same of many animals. Most have one owner from their birth on."""
         known, from_birth, found = self.book.society_records, dict[str, Owners](), list[Owners]()
+        records, of_book = self.book.records, dict[int, Owners]()
         for animal in animals:
-            if animal.since is not None or animal.owner_before or animal.id in known:
+            in_book = known.get(animal.id)
+            if animal.since is not None or animal.owner_before:
                 found.append(self.of(animal))
+                continue
+            if in_book:
+                record = records[in_book.registration_number]
+                code = record.owner_code
+                if record.from_owner or (animal.owner and self.book.owners.get(animal.owner) != code):
+                    found.append(self.of(animal))
+                    continue
+                # it has the owner that it has in the book, from its birth on
+                animal.owner_day = in_book.owner_day
+                found.append(of_book.setdefault(code, made(Owners, (code, [], 0, False))))
                 continue
             owners = from_birth.get(animal.owner)
             if owners is None:

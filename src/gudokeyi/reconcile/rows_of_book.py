@@ -46,15 +46,28 @@ class RowsOfBook:
     """What the rows of a book's animals say where they say nothing new. Animals of which something was inferred or
     filed by hand have no such row."""
 
-    def __init__(self, book: Book, in_book: AnimalsOfBook) -> None:
+    def __init__(self, book: Book, in_book: AnimalsOfBook, before: RowsOfBook | None = None) -> None:
+        """`before` are those of the same animals, whose owners may have had other names; nobody asks them any more."""
         self.in_book, self.owners = in_book, {**book.owners}
         self.society_records, self.records, self.ids = in_book.society_records, in_book.records, in_book.ids
         self.names = {NO_OWNER: "", **{code: owner for owner, code in self.owners.items()}}
-        pairs = ((in_book, self.records[in_book.registration_number]) for in_book in self.society_records.values())
-        self.values = {
-            in_book.id: self.values_of(in_book, record) for in_book, record in pairs
-            if is_given(in_book) and record.owner_code in self.names
-        }  # fmt: skip
+        self.values: dict[str, tuple[object, ...]] = {}
+        those: Iterable[SocietyRecord] = self.society_records.values()
+        if before:
+            self.values = before.values
+            renamed = {code for code, _ in self.names.items() ^ before.names.items()}
+            those = [one for one in those if self.records[one.registration_number].owner_code in renamed]
+            if "folded" in vars(before):
+                self.folded = before.folded
+        self.find_values(those)
+
+    def find_values(self, those: Iterable[SocietyRecord]) -> None:
+        for in_book in those:
+            record = self.records[in_book.registration_number]
+            if is_given(in_book) and record.owner_code in self.names:
+                self.values[in_book.id] = self.values_of(in_book, record)
+            else:
+                self.values.pop(in_book.id, None)
 
     def is_of(self, book: Book) -> bool:
         """Are these still the rows of a book, whose animals were read once for both?"""

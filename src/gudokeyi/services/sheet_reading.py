@@ -225,10 +225,12 @@ class LastReading:
 
     def rows_of(self, book: Book) -> RowsOfBook:
         """What the rows of the book's animals say."""
-        if self.rows_of_book is None or not self.rows_of_book.is_of(book):
+        last, in_book = self.rows_of_book, self.animals_of_book(book)
+        if last is None or not last.is_of(book):
+            last = last if last and last.in_book is in_book else None
             self.rows_of_book = None
-            self.rows_of_book = RowsOfBook(book, self.animals_of_book(book))
-        return self.rows_of_book
+            self.rows_of_book = last = RowsOfBook(book, in_book, last)
+        return last
 
 
     def same_rows(self, book: Book) -> set[str]:
