@@ -48,39 +48,47 @@ class TestSessions(Checks):
         self.count(reports > count // 4, f"session {seed}: {reports} reports alone")
 
     def test_as_other_words(self) -> None:
-        """One desk and one inspector answer byte for byte as `file` and the other words do."""
+        """One desk and its inspectors answer byte for byte as `file` and the other words do."""
         for seed in range(5):
             text = drawn(seed)
             numbers = [animal(sex, one) for one in (1, 7, 40) for sex in "MF"]
-            client = Client(self.program, ["--desks", "1", "--inspectors", "1"])
+            client = Client(self.program, ["--desks", "1", "--inspectors", "8"])
             for place, line in enumerate(text.removeprefix(HEADER).splitlines(), 1):
                 client.given.write(f"a{place},desk,1,{line},\n".encode())
             client.flush()
             client.wait_until(lambda: len(client.answers) == place)
             replies = "".join(f"{answer.lines[0]}\n" for answer in client.answers)
             self.count(replies.encode() == self.run(["file"], text).out, f"replies as of file: {seed}")
-            self.as_word(client, text, "inbreeding", ["inbreeding"])
-            self.as_word(client, text, "inverse", ["inverse"])
-            self.as_word(client, text, f"mating,{','.join(numbers)}", ["mating", "--dam", *numbers])
-            self.as_word(client, text, f"relationships,{','.join(numbers)}", ["relationships", *numbers])
-            there = reference.filed(text)[0].by_age()[-2:]
-            self.as_word(client, text, f"certificate,{','.join(there)}", ["certificate", *there])
-            self.as_word(client, text, "records", ["records"])
-            self.as_word(client, text, f"record,{there[0]}", ["records", there[0]])
-            self.as_word(client, text, "seal", ["seal"])
-            self.as_word(client, text, f"sealed,{there[0]}", ["sealed", there[0]])
+            there = reference.filed(text)[0].by_age()
+            whole = ["inbreeding", "inverse", "records", "seal"]
+            # the first question of an inspector is answered from the ancestors of a few named animals alone
+            for named in numbers, there[-2:], [*numbers, *there[-9:]]:
+                asked = [["relationships", *named], ["mating", *named], ["record", there[-1]], ["sealed", there[-1]]]
+                if named != numbers:
+                    asked.append(["certificate", *there[-len(named) :]])
+                for inspector, words in enumerate([*asked, whole[:1]], 2):
+                    self.as_word(client, text, words, inspector)
+                # one step more, so that each inspector reads anew
+                again, count = text.splitlines()[1], len(client.answers)
+                client.given.write(f"again,desk,1,{again},\n".encode())
+                client.flush()
+                client.wait_until(lambda: len(client.answers) > count)
+                text += f"{again}\n"
+            for word in whole:
+                self.as_word(client, text, [word], 1)
             self.count(client.end() == 0, f"session as other words: {seed}")
 
-    def as_word(self, client: Client, text: str, question: str, words: Words) -> None:
+    def as_word(self, client: Client, text: str, question: Words, inspector: int) -> None:
         before = len(client.answers)
-        client.given.write(f"seen,inspector,1,{question}\n".encode())
+        client.given.write(f"seen,inspector,{inspector},{','.join(question)}\n".encode())
         client.flush()
-        wanted = self.run(words, text)
+        words = {"record": ["records"], "mating": ["mating", "--dam"]}.get(question[0], [*question[:1]])
+        wanted = self.run([*words, *question[1:]], text)
         # the tag was never asked by `ask`, so that each line is an answer
         client.wait_until(lambda: len(client.answers) > before and client.answers[-1].lines[0].startswith("end,"))
         lines = [answer.lines[0] for answer in client.answers[before:]]
         told = "".join(f"{line}\n" for line in lines[:-1]).encode()
-        self.count(told == wanted.out, f"as {words}: {told[-160:]!r}, not {wanted.out[-160:]!r}")
+        self.count(told == wanted.out, f"as {question}: {told[-160:]!r}, not {wanted.out[-160:]!r}")
 
     def test_questions_beside_commands(self) -> None:
         """A question waits for no clerk."""

@@ -497,8 +497,8 @@ impl<A: Allocator> Pedigree<A> {
         frozen_from(alloc, &self.records)
     }
 
-    /// The book of some animals and of all their known ancestors, in age order: all that is asked for a certificate, a
-    /// coefficient or a relationship of these animals. A number that isn't in the book is passed over. It goes through
+    /// The book of some animals and of all their known ancestors, in age order: all that a certificate, a coefficient
+    /// or a relationship of these animals needs. A number that isn't in the book is passed over. It goes through
     /// these animals alone, and takes nine bytes for each animal of the book. The only error is a growth of memory
     /// that is refused.
     pub fn freeze_ancestors<B: Allocator + Clone>(
@@ -508,7 +508,7 @@ impl<A: Allocator> Pedigree<A> {
     ) -> Result<Frozen<B>, AllocError>
         ensures { IfOk result (IsFrozenPart DEPTH_LIMIT MOST_ANIMALS self.now.book numbers.now) }
     {
-        let room = Ancestors::none(alloc.clone()?, self.records.len())?;
+        let room = Ancestors::with_room(alloc.clone()?, self.records.len())?;
         let found = room.search(&self.records, numbers)?;
         let part = found.records(Vec::new(alloc.clone()?), &self.records)?;
         freeze_list(alloc, &part)

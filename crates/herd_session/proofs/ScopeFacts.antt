@@ -2,16 +2,17 @@
 use Rattle.std.proofs.Common.{◌≡◌, ◌∙◌, ap, arith, refl, sym, subst, ℕ, zero, suc, List, [], ◌∷◌, Contains, Some}
 use Rattle.std.proofs.lemmas.Option.{same_Some}
 use Rattle.herd_frozen.specs.rules.Book.{Book}
-use Rattle.herd_frozen.specs.freezing.Frozen.{IsFrozenFrom}
+use Rattle.herd_frozen.specs.freezing.Frozen.{IsFrozenFrom, book_of}
 use Rattle.herd_frozen.specs.declared.TheConstants.{DEPTH_LIMIT, MOST_ANIMALS}
 use Rattle.herd_frozen.specs.declared.freezing.frozen.Row.{Row}
 use Rattle.herd_frozen.proofs.lemmas.freezing.ExistsFacts.{frozen-exists}
 use Rattle.herd_pedigree.specs.Part.{IsFrozenPart}
 use Rattle.herd_report.specs.writing.Certificate.{certificates_of}
 use Rattle.herd_report.specs.writing.CoefficientLine.{coefficient_line}
-use Rattle.herd_report.proofs.lemmas.PartFacts.{certificates-part, coefficient-part, matings-part, records-part}
+use Rattle.herd_report.specs.writing.RelationshipList.{relationships_text}
+use Rattle.herd_report.proofs.lemmas.PartFacts.{certificates-part, coefficient-part, matings-part, records-part, relationships-part}
 use Rattle.herd_session.specs.Questions.{text_of}
-use Rattle.herd_session.specs.Scopes.{IsOf, IsReadIn, SufficesFor, named_in}
+use Rattle.herd_session.specs.Scopes.{IsReadIn, IsScopeOf, SufficesFor, named_in}
 use Rattle.herd_session.specs.declared.question.Question.{Question}
 use Rattle.herd_session.specs.declared.question.Question.TheVariants.{Inbreeding, Inverse, Certificates, Mating, Relationships, Coefficient, Records, Record, Seal, Sealed, Seen}
 use Rattle.herd_session.specs.declared.scope.Scope.{Scope}
@@ -47,7 +48,9 @@ module _ (book : Book) (numbers : List (List ℕ)) (rows whole : List Row) (part
       records-part book numbers rows whole part frozen number (subst (λ list. Contains list number) same (first_of number []))
   text-part Inbreeding is steps = absurd (cc)
   text-part Inverse is steps = absurd (cc)
-  text-part (Relationships named) is steps = absurd (cc)
+  text-part (Relationships named) is steps =
+      let same : named.items ≡ numbers = same_Some _ _ is in
+      subst (λ list. relationships_text (book_of whole) list [] ≡ relationships_text (book_of rows) list []) (sym same) (relationships-part book numbers rows whole part frozen)
   text-part Records is steps = absurd (cc)
   text-part Seal is steps = absurd (cc)
   text-part (Sealed number) is steps = absurd (cc)
@@ -60,6 +63,6 @@ whole_of question (Named named) book rows suffices part =
     record { whole = all.0; frozen = all.1; same = λ steps. sym (text-part book named.items rows all.0 part all.1 question suffices steps) }
 
 -- all that a question names is enough for it
-pub suffices : (question : Question) (numbers : List (List ℕ)) (scope : Scope) → named_in question ≡ Some numbers → IsOf numbers scope → SufficesFor question scope
+pub suffices : (question : Question) (numbers : List (List ℕ)) (scope : Scope) → named_in question ≡ Some numbers → IsScopeOf numbers scope → SufficesFor question scope
 suffices question numbers All is of = tt
 suffices question numbers (Named named) is of = is ∙ ap Some of

@@ -6,7 +6,7 @@ use Rattle.herd_frozen.specs.declared.TheConstants.{DEPTH_LIMIT, MOST_ANIMALS}
 use Rattle.herd_frozen.specs.declared.freezing.frozen.Row.{Row}
 use Rattle.herd_pedigree.specs.Part.{IsFrozenPart}
 use Rattle.herd_session.specs.declared.question.Question.{Question}
-use Rattle.herd_session.specs.declared.question.Question.TheVariants.{Certificates, Mating, Coefficient, Record}
+use Rattle.herd_session.specs.declared.question.Question.TheVariants.{Certificates, Mating, Relationships, Coefficient, Record}
 use Rattle.herd_session.specs.declared.scope.Scope.{Scope}
 use Rattle.herd_session.specs.declared.scope.Scope.TheVariants.{All, Named}
 
@@ -14,14 +14,15 @@ use Rattle.herd_session.specs.declared.scope.Scope.TheVariants.{All, Named}
 abbrev pub named_in : Question → Option (List (List ℕ))
 named_in (Certificates numbers) = Some numbers.items
 named_in (Mating dam sires) = Some (dam ∷ sires.items)
+named_in (Relationships numbers) = Some numbers.items
 named_in (Coefficient number) = Some (number ∷ [])
 named_in (Record number) = Some (number ∷ [])
 named_in other = None
 
 -- they are all, or those of these numbers and all their known ancestors
-abbrev pub IsOf : List (List ℕ) → Scope → Type 0
-IsOf numbers All = Unit {0}
-IsOf numbers (Named named) = numbers ≡ named.items
+abbrev pub IsScopeOf : List (List ℕ) → Scope → Type 0
+IsScopeOf numbers All = Unit {0}
+IsScopeOf numbers (Named named) = numbers ≡ named.items
 
 -- a question is answered from these animals as from all
 abbrev pub SufficesFor : Question → Scope → Type 0

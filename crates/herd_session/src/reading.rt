@@ -173,7 +173,7 @@ pub(crate) fn current<N: OfficeName>(
     let scope = scope_of(alloc, question)?;
     if let Some(reading) = kept {
         if reading.is_of(inspector) {
-            if reading.scope.has(&scope) {
+            if reading.scope.covers(&scope) {
                 return Ok(reading);
             }
             return whole(alloc, inspector);

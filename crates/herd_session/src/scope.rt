@@ -1,6 +1,6 @@
 //! Which animals of a book a question is answered from.
 ghost use Rattle.std.specs.Prelude.{◌++◌, IfOk, IsTrue};
-ghost use Rattle.herd_session.specs.Scopes.{IsOf, SufficesFor};
+ghost use Rattle.herd_session.specs.Scopes.{IsScopeOf, SufficesFor};
 ghost use Rattle.herd_session.specs.declared.question.Question.{Question};
 
 use crate::question::Question;
@@ -22,7 +22,7 @@ pub(crate) enum Scope {
 impl Scope {
     /// Whether what is answered from the animals of another one is also answered from these: they are all, or the same
     /// are named.
-    pub(crate) fn has(&self, other: &Scope) -> bool
+    pub(crate) fn covers(&self, other: &Scope) -> bool
         ensures { IsTrue result → (question : Question) → SufficesFor question other.now
             → SufficesFor question self.now }
     {
@@ -40,7 +40,9 @@ pub(crate) fn scope_of(alloc: Global, question: &Question) -> Result<Scope, Allo
 {
     match question {
         Question::Coefficient(number) | Question::Record(number) => named(alloc, &[*number], &[]),
-        Question::Certificates(numbers) => named(alloc, &[], numbers.as_slice()),
+        Question::Certificates(numbers) | Question::Relationships(numbers) => {
+            named(alloc, &[], numbers.as_slice())
+        }
         Question::Mating { dam, sires } => named(alloc, &[*dam], sires.as_slice()),
         _ => Ok(Scope::All),
     }
@@ -53,7 +55,7 @@ fn named(
     first: &[AnimalNumber],
     others: &[AnimalNumber],
 ) -> Result<Scope, AllocError>
-    ensures { IfOk result (IsOf (first.now ++ others.now)) }
+    ensures { IfOk result (IsScopeOf (first.now ++ others.now)) }
 {
     if MOST_NAMED < first.len().saturating_add(others.len()) {
         return Ok(Scope::All);

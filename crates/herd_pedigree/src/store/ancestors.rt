@@ -33,8 +33,9 @@ impl<A: Allocator> Model for Ancestors<A> {
 
 impl<A: Allocator + Clone> Ancestors<A> {
     /// None yet, with room for a search among so many animals.
-    pub fn none(alloc: A, animals: usize) -> Result<Ancestors<A>, AllocError>
-        ensures { IfOk result (λ found. found.animals ≡ animals) }
+    pub fn with_room(alloc: A, animals: usize) -> Result<Ancestors<A>, AllocError>
+        ensures animals { IfOk result (λ found. found.animals ≡ animals) }
+        ensures none { IfOk result (λ found. found.places ≡ []) }
     {
         Ok(Ancestors {
             places: Vec::with_capacity(alloc.clone()?, animals)?,
@@ -65,7 +66,8 @@ impl<A: Allocator> Ancestors<A> {
 
     // None of so many animals, in the room that was there.
     fn emptied(self, animals: usize) -> Result<Ancestors<A>, AllocError>
-        ensures { IfOk result (λ found. found.animals ≡ animals) }
+        ensures animals { IfOk result (λ found. found.animals ≡ animals) }
+        ensures none { IfOk result (λ found. found.places ≡ []) }
     {
         let Ancestors {
             mut places,

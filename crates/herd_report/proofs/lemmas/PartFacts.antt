@@ -1,7 +1,8 @@
--- Certificates, coefficients, records and matings of named animals ask for no others but their ancestors.
-use Rattle.std.proofs.Common.{ap₂, ◌&&◌, ◌||◌, ◌≡◌, ◌++◌, ◌∙◌, ◌*◌, ◌-◌, ℕ, zero, suc, arith, false, not, inl, inr, ⊎_elim, List, [], ◌∷◌, Option, Some, None, Contains, ap, map, refl, sym}
+-- Certificates, coefficients, records, matings and relationships of named animals ask for no others but their ancestors.
+use Rattle.std.proofs.Common.{ap₂, ◌&&◌, ◌||◌, ◌≡◌, ◌++◌, ◌∙◌, ◌*◌, ◌-◌, ℕ, zero, suc, arith, true, false, if◌then◌else◌, not, inl, inr, ⊎_elim, List, [], ◌∷◌, All, Option, Some, None, Contains, ap, map, refl, sym}
 use Rattle.std.specs.Prelude.{is_some}
-use Rattle.std.specs.List.{flat_map}
+use Rattle.std.specs.List.{filter, flat_map}
+use Rattle.std.proofs.lemmas.List.Elements.{All-head, All-tail, filter_passes}
 use Rattle.std.specs.Map.{keys_of}
 use Rattle.std.specs.Option.{option_and_then, option_map, option_map_or}
 use Rattle.herd_frozen.specs.declared.rules.animal.Animal.{Animal}
@@ -34,7 +35,9 @@ use Rattle.herd_report.specs.writing.Certificate.{ancestors_text, animal_text, c
 use Rattle.herd_report.specs.writing.CoefficientLine.{coefficient_line}
 use Rattle.herd_report.specs.writing.MatingList.{mating_line, mating_text, refused_line}
 use Rattle.herd_report.specs.writing.RecordList.{records_text}
+use Rattle.herd_report.specs.writing.RefusedText.{refused_line_end}
 use Rattle.herd_report.specs.writing.Registered.{are_there}
+use Rattle.herd_report.specs.writing.RelationshipList.{absent_line, lines_with, pair_lines, relationship_line, relationships_text}
 
 map-itself : (o : Option (List ℕ)) → option_map (λ x. x) o ≡ o
 map-itself None = refl
@@ -229,3 +232,51 @@ module _ (book : Book) (numbers : List (List ℕ)) (rows whole : List Row) (part
   matings-part dam [] dammed named = refl
   matings-part dam (x ∷ sires) dammed named =
       ap₂ (λ a b. a ++ b) (line-same dam x dammed (named x (zero, omega arith, refl))) (matings-part dam sires dammed (λ y has. named y (further x y sires has)))
+
+  -- relationships of animals of the part are the same
+  known-there : (x : List ℕ) → is_there (book_of rows) x ≡ true → Contains (keys_of (book_of rows)) x
+  known-there x there =
+      ⊎_elim
+      (λ (none : record_of (book_of rows) x ≡ None). let missing = ap is_some none in absurd (cc))
+      (λ some. number_there (book_of rows) x some.0 some.1)
+      (option_cases (record_of (book_of rows) x))
+
+  entry-same : (x y : List ℕ) (k : ℕ) → Contains (keys_of (book_of rows)) x → Contains (keys_of (book_of rows)) y → entry (ancestry_of whole) k (Some x) (Some y) ≡ entry (ancestry_of rows) k (Some x) (Some y)
+  entry-same x y k has_x has_y =
+      entry-included (ancestry_of rows) (ancestry_of whole) (λ x. x) lawful included k (Some x) (Some y) (known_some (ancestry_of rows) x has_x) (known_some (ancestry_of rows) y has_y)
+
+  lines-same : (x : List ℕ) (list : List (List ℕ)) → Contains (keys_of (book_of rows)) x → All (Contains (keys_of (book_of rows))) list → lines_with (book_of whole) x list ≡ lines_with (book_of rows) x list
+  lines-same x [] has each = refl
+  lines-same x (y ∷ list) has each =
+      ap₂ (λ numerator rest. relationship_line x y numerator ++ rest) (entry-same x y (2 * DEPTH_LIMIT) has (All-head (Contains (keys_of (book_of rows))) y list each))
+      (lines-same x list has (All-tail (Contains (keys_of (book_of rows))) y list each))
+
+  pairs-same : (list : List (List ℕ)) → All (Contains (keys_of (book_of rows))) list → pair_lines (book_of whole) true [] list ≡ pair_lines (book_of rows) true [] list
+  pairs-same [] each = refl
+  pairs-same (x ∷ list) each =
+      ap₂ (λ a b. a ++ b) (lines-same x (x ∷ list) (All-head (Contains (keys_of (book_of rows))) x list each) each)
+      (pairs-same list (All-tail (Contains (keys_of (book_of rows))) x list each))
+
+  -- a named animal is in the whole book where it is in the part
+  there-same : (x : List ℕ) → Contains numbers x → is_there (book_of whole) x ≡ is_there (book_of rows) x
+  there-same x named = ap is_some (record-part x named)
+
+  absent-same : (list : List (List ℕ)) → ((x : List ℕ) → Contains list x → Contains numbers x) → flat_map (absent_line (book_of whole)) list ≡ flat_map (absent_line (book_of rows)) list
+  absent-same [] named = refl
+  absent-same (x ∷ list) named =
+      ap₂ (λ there rest. (if there then [] else x ++ refused_line_end 1) ++ rest) (there-same x (named x (zero, omega arith, refl)))
+      (absent-same list (λ y has. named y (further x y list has)))
+
+  kept-same : (list : List (List ℕ)) → ((x : List ℕ) → Contains list x → Contains numbers x) → filter (is_there (book_of whole)) list ≡ filter (is_there (book_of rows)) list
+  kept-same [] named = refl
+  kept-same (x ∷ list) named =
+      ap₂ (λ there rest. if there then x ∷ rest else rest) (there-same x (named x (zero, omega arith, refl)))
+      (kept-same list (λ y has. named y (further x y list has)))
+
+  -- the relationships of named animals with one another
+  pub relationships-part : relationships_text (book_of whole) numbers [] ≡ relationships_text (book_of rows) numbers []
+  relationships-part =
+      let each : All (Contains (keys_of (book_of rows))) (filter (is_there (book_of rows)) numbers) =
+      λ place other within. known-there _ (filter_passes (is_there (book_of rows)) numbers place other within) in
+      ap₂ (λ absent there. absent ++ [] ++ pair_lines (book_of whole) true [] there) (absent-same numbers (λ x has. has)) (kept-same numbers (λ x has. has))
+      ∙ ap (λ pairs. flat_map (absent_line (book_of rows)) numbers ++ [] ++ pairs) (pairs-same (filter (is_there (book_of rows)) numbers) each)

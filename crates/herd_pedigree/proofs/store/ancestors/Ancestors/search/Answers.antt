@@ -11,7 +11,7 @@ returns-clause-found g c =
     let named : List ℕ = c.add_named.new.self.places in
     let is = c.found-2.view_is in
     let animals : length c.found-2.inside.marks.items ≡ length book =
-    ap (λ (f : Found). f.animals) is ∙ c.in_ok-add_ancestors.ensures.animals ∙ c.in_ok-add_named.ensures.animals ∙ c.in_ok-found.ensures ∙ c.count.ensures in
+    ap (λ (f : Found). f.animals) is ∙ c.in_ok-add_ancestors.ensures.animals ∙ c.in_ok-add_named.ensures.animals ∙ c.in_ok-found.ensures.animals ∙ c.count.ensures in
     let kept : BeginsWith named c.found-2.inside.places.items = subst (λ (f : Found). BeginsWith named f.places) (sym is) c.in_ok-add_ancestors.ensures.kept in
     let parents : HasParents book c.found-2.inside.places.items = subst (λ (f : Found). HasParents book f.places) (sym is) c.in_ok-add_ancestors.ensures.closed in
     subst (λ (f : Found). HasAncestors book numbers f.places) is

@@ -1,8 +1,8 @@
--- `Ancestors::none`: what its result keeps to.
+-- `Ancestors::with_room`: what its result keeps to.
 use Rattle.std.proofs.Common.{sym, subst, List, Bool, [], ℕ}
 use Rattle.herd_pedigree.specs.store.Ancestors.{AreMarked}
 use Rattle.herd_pedigree.proofs.lemmas.store.AncestorFacts.{marked-none}
-use Rattle.herd_pedigree.proofs.store.ancestors.Ancestors.none.Goals as goal
+use Rattle.herd_pedigree.proofs.store.ancestors.Ancestors.with_room.Goals as goal
 
 pub invariant_of-result : goal.invariant_of-result
 invariant_of-result g c =

@@ -1,8 +1,8 @@
--- `Scope::has`: its result where both name animals.
+-- `Scope::covers`: its result where both name animals.
 use Rattle.std.proofs.Common.{◌≡◌, ◌∙◌, ap, sym, subst, Some}
 use Rattle.std.proofs.lemmas.Slice.Eq.{bytes_eq-Decides, slice_eq-Decides}
 use Rattle.herd_session.specs.Scopes.{SufficesFor}
-use Rattle.herd_session.proofs.scope.Scope.has.Goals as goal
+use Rattle.herd_session.proofs.scope.Scope.covers.Goals as goal
 
 pub returns-in-Named-Named : goal.returns-in-Named-Named
 returns-in-Named-Named c equal question enough =
