@@ -14,8 +14,8 @@ PROGRAM is the executable of the crate herdbook, as `rt run` leaves it; nothing 
     correction   of the parents of an early sire, to older animals and back, each of which may change the depth of
                  all its descendants: the processor time of one
 
-`cpu` is the least processor time of the runs, and `MB` the most memory, never less than this script's. A ratio stands
-before the greatest that it is to be: of processor time by the native program's, of `workers` by the clock to `list`, of
+`cpu` is the least processor time of the runs, which are done in turn with those that they stand beside, and `MB` the
+most memory, never less than this script's. A ratio stands before the greatest that it is to be: of processor time by the native program's, of `workers` by the clock to `list`, of
 `certificate` to `file`, and of `coefficient` to the session without the question; and the bytes of memory for each
 animal. The status is 1 where the native program writes other bytes, or a ratio is greater than it is to be. """
 
@@ -75,19 +75,25 @@ class Book:
                 _, number, day, sire, _ = line.split(",", 4)
                 yield Birth(day, number, sire)
 
-    def least(self, words: list[str], file: str) -> Least:
-        tried = [ran(words, file, self.out) for _ in range(self.runs)]
-        for run in tried:
-            if run.status:
-                sys.exit(f"{words} ended with status {run.status}: {run.told.strip()}")
-        processor, wall = min(it.processor for it in tried), min(it.wall for it in tried)
-        return Least(processor, wall, max(it.memory for it in tried), digest(self.out))
+    def least(self, *calls: list[str]) -> list[Least]:
+        """Of each call, done in turn with the others."""
+        rounds = [[self.run(words) for words in calls] for _ in range(self.runs)]
+        return [
+            Least(min(it.processor for it in runs), min(it.wall for it in runs), max(it.memory for it in runs), runs[0].text)
+            for runs in zip(*rounds)
+        ]
 
-    def ours(self, *words: str, file: str = "") -> Least:
-        return self.least([self.program, *words, *self.limits], file or self.file)
+    def run(self, words: list[str], file: str = "") -> Least:
+        done = ran(words, file or self.file, self.out)
+        if done.status:
+            sys.exit(f"{words} ended with status {done.status}: {done.told.strip()}")
+        return Least(done.processor, done.wall, done.memory, digest(self.out))
 
-    def theirs(self, mode: str) -> Least:
-        return self.least([self.native, mode, "--animals", str(self.animals)], self.file)
+    def ours(self, *words: str) -> list[str]:
+        return [self.program, *words, *self.limits]
+
+    def theirs(self, mode: str) -> list[str]:
+        return [self.native, mode, "--animals", str(self.animals)]
 
     def told(self, name: str, least: Least, ratio: float | None, most: float, bytes_most: int = 0) -> bool:
         """Prints a line, and returns whether its ratios are no greater than they are to be."""
@@ -102,13 +108,17 @@ class Book:
 
     def compare(self) -> bool:
         """All lines of the book; whether the bytes are the native program's and all ratios small enough."""
-        file, native_file = self.ours("file"), self.theirs("file")
+        file, native_file, shown = self.least(
+            self.ours("file"), self.theirs("file"), self.ours("certificate", self.youngest)
+        )
         well = self.told("file", file, file.processor / native_file.processor, 1.2, 190)
-        one, native_list = self.ours("inbreeding"), self.theirs("exact-colleau-lists")
+        one, native_list, more = self.least(
+            self.ours("inbreeding"),
+            self.theirs("exact-colleau-lists"),
+            self.ours("inbreeding", "--workers", str(self.workers)),
+        )
         well &= self.told("list", one, one.processor / native_list.processor, 1.2, 270)
-        more = self.ours("inbreeding", "--workers", str(self.workers))
         well &= self.told("workers", more, more.wall / one.wall, 1.0)
-        shown = self.ours("certificate", self.youngest)
         well &= self.told("certificate", shown, shown.processor / file.processor, 1.3)
         well &= self.coefficient()
         well &= self.correction(file)
@@ -121,7 +131,8 @@ class Book:
         with open(self.file, encoding="ascii") as births, open(self.changed, "w", encoding="ascii") as requests:
             next(births)
             requests.writelines(f"b,desk,1,{line.rstrip()},\n" for line in births)
-        alone, asked = (min(self.session(question) for _ in range(self.runs)) for question in (False, True))
+        rounds = [(self.session(False), self.session(True)) for _ in range(self.runs)]
+        alone, asked = min(one for one, _ in rounds), min(one for _, one in rounds)
         print(f"  coefficient  cpu {asked:8.2f} s{'':32} {asked / alone:5.2f} (1.3)", flush=True)
         return asked <= 1.3 * alone
 
@@ -174,11 +185,11 @@ class Book:
             for _ in range(self.corrections):
                 commands.write(f"parents,{sire},,{male},{female},,\n")
                 commands.write(f"parents,{sire},,0,0,,\n")
-        corrected = self.ours("file", file=self.changed)
+        corrected = min(self.run(self.ours("file"), self.changed).processor for _ in range(self.runs))
         with open(self.out, "rb") as replies:
             replies.seek(-200, os.SEEK_END)
             last = replies.read().split(b"\n")[-3:-1]
-        each = (corrected.processor - file.processor) / (2 * self.corrections)
+        each = (corrected - file.processor) / (2 * self.corrections)
         answers = " and ".join(it.split(b",", 1)[1].decode() for it in last)
         print(f"  correction   cpu {1000 * each:8.2f} ms each, {answers}", flush=True)
         return True
