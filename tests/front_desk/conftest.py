@@ -74,6 +74,14 @@ def taken_society(program: str, tmp_path_factory: pytest.TempPathFactory) -> Des
     return kept
 
 
+@pytest.fixture(scope="session")
+def taken_flock(program: str, tmp_path_factory: pytest.TempPathFactory) -> Desk:
+    """The desk that took a flock before any test, to be copied."""
+    kept = Desk(tmp_path_factory.mktemp("flock") / "desk", program)
+    kept.take(FLOCK)
+    return kept
+
+
 @pytest.fixture
 def secretary_desk(taken_secretary: Desk, tmp_path: pathlib.Path) -> Desk:
     """A desk with the book of the secretary's sheet: 201 animals with the one that was added."""
@@ -93,10 +101,9 @@ def society_desk(taken_society: Desk, tmp_path: pathlib.Path) -> Desk:
 
 
 @pytest.fixture
-def flock_desk(desk: Desk) -> Desk:
+def flock_desk(taken_flock: Desk, desk: Desk) -> Desk:
     """With a flock in its book."""
-    desk.take(FLOCK)
-    return desk
+    return taken_flock.copy_to(desk.room)
 
 
 @pytest.fixture

@@ -15,10 +15,11 @@ import textwrap
 import xml.etree.ElementTree as xml
 from typing import Callable
 
-TOP = pathlib.Path(__file__).resolve().parent.parent.parent
+from front_desk import prepared
+
+TOP, SECONDS = prepared.TOP, prepared.SECONDS
 # how the front desk is called
 CALLED = shlex.quote(str(TOP / "gudokeyi"))
-SECONDS = 300
 
 
 @dataclasses.dataclass(frozen=True, repr=False)
@@ -61,6 +62,9 @@ class Done:
 class Desk:
     """A folder of its own, in which the front desk runs with a program."""
 
+    # whether a call is the script's, in a process that reads all modules anew, as a test of the process needs it
+    begins_anew = False
+
     def __init__(self, room: pathlib.Path, program: str) -> None:
         self.room, self.program = room, program
         self.room.mkdir(exist_ok=True)
@@ -76,8 +80,11 @@ class Desk:
             "PATH": os.environ["PATH"], "HERDBOOK": program or self.program, "LANG": "C", "PYTHONPATH": str(self.room),
             "XDG_CACHE_HOME": os.environ.get("XDG_CACHE_HOME", ""), "GUDOKEYI_NUMBERS": os.environ.get("GUDOKEYI_NUMBERS", ""),
         }  # fmt: skip
-        command = [str(TOP / "gudokeyi"), *words]
-        done = subprocess.run(command, cwd=self.room, env=known, capture_output=True, timeout=SECONDS)
+        if self.begins_anew:
+            command = [str(TOP / "gudokeyi"), *words]
+            done = subprocess.run(command, cwd=self.room, env=known, capture_output=True, timeout=SECONDS)
+        else:
+            done = prepared.run(words, self.room, known)
         found = Done(done.returncode, done.stdout.decode(), done.stderr.decode(), self.report(words))
         is_well = "Traceback" not in found.err and "fault of the front desk" not in found.err
         assert is_well, f"{words}: {found}"

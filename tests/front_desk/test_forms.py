@@ -141,6 +141,7 @@ def test_workbook_of_numbers(desk: Desk) -> None:
 
 def test_broken_workbook(desk: Desk) -> None:
     """A file that openpyxl can't read, for whatever reason."""
+    desk.begins_anew = True
     (desk.room / "openpyxl/reader").mkdir(parents=True)
     desk.write("openpyxl/__init__.py", "def load_workbook(*_, **__): raise KeyError('no workbook')")
     sheet = desk.write("broken.xlsx", b"PK\3\4")

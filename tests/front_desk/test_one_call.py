@@ -15,12 +15,14 @@ SHEET = "id;sex;birth;sire;dam\nDE 1;F;2001-01-01;;\n"
 
 
 def test_all_that_is_told_comes_through_a_pipe(desk: Desk) -> None:
+    desk.begins_anew = True
     done = desk.take(SHEET)
     assert done.last.startswith("book: 1 animal, 1 new") and done.status == 0
     assert not list((desk.room / "book").glob("book.sqlite-*"))
 
 
 def test_a_taking_that_is_refused_ends_with_its_status(desk: Desk) -> None:
+    desk.begins_anew = True
     done = desk.run("import", "lacks.csv")
     assert done.status == 1 and "lacks.csv" in done.err
 

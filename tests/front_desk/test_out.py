@@ -34,14 +34,15 @@ def test_never_onto_the_book(flock_desk: Desk, name: str) -> None:
     flock_desk.wrong("is a file of the book, and is never written over", "list", "--out", "link", "--force")
 
 
-def test_never_onto_a_sheet(flock_desk: Desk) -> None:
+def test_never_onto_a_sheet(desk: Desk) -> None:
     """Neither by its name nor by what stands in it."""
-    flock_desk.write("copy.csv", FLOCK)
+    desk.take(FLOCK)
+    desk.write("copy.csv", FLOCK)
     for name in "sheet.csv", "copy.csv":
-        flock_desk.wrong("is a sheet that was taken, and is never written over", "list", "--out", name, "--force")
+        desk.wrong("is a sheet that was taken, and is never written over", "list", "--out", name, "--force")
     # she may be changing it for the next taking
-    flock_desk.write("sheet.csv", FLOCK + "b,M,2010-01-01,a8,a9,x,\n")
-    flock_desk.wrong("is a sheet that was taken, and is never written over", "list", "--out", "sheet.csv", "--force")
+    desk.write("sheet.csv", FLOCK + "b,M,2010-01-01,a8,a9,x,\n")
+    desk.wrong("is a sheet that was taken, and is never written over", "list", "--out", "sheet.csv", "--force")
 
 
 def test_a_book_is_written_over_nothing_else(desk: Desk) -> None:

@@ -10,6 +10,7 @@ import sqlite3
 import subprocess
 from typing import Callable
 
+from front_desk import prepared
 from front_desk.desk import TOP, Desk, Done
 
 SECONDS = 300
@@ -55,7 +56,11 @@ def ended(run: subprocess.Popen[bytes]) -> Done:
 
 
 def run(desk: Desk, *words: str, before: Callable[[], None] | None = None, **more: str) -> Done:
-    return ended(start(desk, *words, before=before, **more))
+    """A call, in a process of which something is set before."""
+    if before:
+        return ended(start(desk, *words, before=before, **more))
+    done = prepared.run(words, desk.room, known(desk, **more))
+    return Done(done.returncode, done.stdout.decode(), done.stderr.decode())
 
 
 def kill_within(run: subprocess.Popen[bytes], seconds: float) -> None:
