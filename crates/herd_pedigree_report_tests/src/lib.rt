@@ -1,4 +1,4 @@
-//! Tests of pedigree files, of reading that breaks, and of the reports of what is read.
+//! Tests of lineages, of pedigree files, of reading that breaks, and of the reports of what is read.
 #![tactic(auto)]
 
 #[cfg(test)]

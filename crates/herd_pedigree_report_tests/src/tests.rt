@@ -1,4 +1,5 @@
-//! Pedigree files, and the reports of what they have.
+//! Lineages, pedigree files, and the reports of what they have.
 
 mod files;
+mod lineages;
 mod reports;

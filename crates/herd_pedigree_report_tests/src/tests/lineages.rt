@@ -1,4 +1,4 @@
-//! What no clause says: that memory is enough, and how faults read.
+//! Lineages that are built animal by animal: when there is room, faults, and coefficients by ancestors alone.
 
 use herd_kinship::coefficients_plain;
 use herd_lineage::{Lineage, LineageBuilder, LineageFault};
