@@ -27,7 +27,7 @@ unknown_words <- c(
   "onc", "origine non constat\u00e9e", "origine inconnue", "-1", "-9", "-99", "-999", "-9999"
 )
 # signs alone, zeros alone, and the usual numbers as other programs write them
-unknown_signs <- "^([-\u2013\u2014?.*/_~+]+|[-+]?0[0.,]*|-(1|9{1,4})[.,]0+)$"
+unknown_signs <- "^([-\u2013\u2014?.*/_~+\u2020\u271d]+|[-+]?0[0.,]*|-(1|9{1,4})[.,]0+)$"
 error_values <- paste0(
   "^(#(REF|BEZUG|N/A|NV|WERT|VALUE|VALEUR|NAME|NOM|DIV/0|NUM|ZAHL|NOMBRE|NULL|\u00dcBERLAUF|SPILL|PROPAGATION|CALC|",
   "KALK|FIELD|FELD|CHAMP|BLOCKED|GETTING_DATA)[!?]?|Err:[0-9]{3}|#{3,})$"

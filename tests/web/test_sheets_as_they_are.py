@@ -110,3 +110,30 @@ def test_id_unlike_others(empty_site: Site, language: str) -> None:
     empty_site.take(address)
     with empty_site.desk.opened() as book:
         assert book and "gez. Huber" not in book.society_records and "410777" in book.society_records
+
+
+@pytest.mark.parametrize(
+    "language, words",
+    [
+        ("en", ("tell of something else than exits", "has 'alte Marke 003'", "did that one get a new tag?")),
+        ("de", ("etwas anderes als einen Abgang", "hat „alte Marke 003“", "hat dieses eine neue Marke?")),
+        ("fr", ("disent autre chose qu'une sortie", "a « alte Marke 003 »", "celui-ci a-t-il une nouvelle boucle ?")),
+    ],
+)
+def test_exits_and_old_tags(empty_site: Site, language: str, words: tuple[str, ...]) -> None:
+    """What is no exit, and an old tag in a column that isn't read, stand among what may be wrong; a button makes the
+    row that animal."""
+    site, titles = empty_site, TITLES.replace(";Status", ";Notiz")
+    rows = "001;Max;m;1.2.2010;;;Huber;;\n002;Eva;w;1.2.2010;;;Huber;;\n"
+    address, _ = look_at(site, titles + rows + "003;A;w;3.2.2013;001;002;Huber;;\n")
+    site.take(address)
+    site.get(f"/language/{language}")
+    rows = "001;Max;m;1.2.2010;;;Huber;kastriert 2013;\n002;Eva;w;1.2.2010;;;Huber;prêtée;\n"
+    address, page = look_at(site, titles + rows + "777;B;w;3.2.2013;001;002;Huber;;alte Marke 003\n")
+    first = shown(part(page, "May be wrong", language)).replace("\u00a0", " ")
+    assert [one for one in words if one not in first] == []
+    page = press(site, address, page, PageLanguage(language).gettext("{} has the tag {} from now on", "003", "777"))
+    site.take(address)
+    with site.desk.opened() as book:
+        assert book and "777" in book.society_records and "003" not in book.society_records
+        assert not any(book.has_left(one) for one in book.society_records.values())

@@ -222,8 +222,8 @@ class Statuses:
             self.remarks.append(Remark(row.line, self.titles[1], said))
             return row
         tells, stays = bool(exit_word(said)), lives(said)
-        says_exit = exit not in self.unknown and not lives(exit)
-        if not exit or exit in self.unknown:
+        says_exit = (exit not in self.unknown or DEAD.search(exit) is not None) and not lives(exit)
+        if not exit or exit in self.unknown and not DEAD.search(exit):
             self.taken += tells or not stays
             return with_cell(row, self.exit, said) if tells or not stays else row
         if says_exit and tells and TAKER.search(said):

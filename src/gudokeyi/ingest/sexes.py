@@ -21,12 +21,20 @@ class Meaning(NamedTuple):
     word: str
 
 
+# words of which columns have the first letters, some of which stand for another sex elsewhere
+THREE_LETTERS = (
+    ("Hengst", "Stute", "Wallach"), ("stallion", "mare", "gelding"), ("étalon", "jument", "hongre"),
+)  # fmt: skip
+
+
 class Sexes:
     """The words of a column, and those that are named by `--sexes`."""
 
     def __init__(self, texts: list[str], given: dict[str, str]) -> None:
         self.known = KNOWN_SEXES | given
         self.short = self.short_words(texts)
+        # what single letters mean in this column, whatever they mean in others
+        self.letters = self.letters_of_three({sex_word(text) for text in {*texts}}, given)
         # the same words stand in many cells
         self.meaning = functools.cache(self.find)
         # how often a text is taken for a known word
@@ -41,6 +49,18 @@ class Sexes:
                 found.setdefault(known[:length], []).append((word, sex))
         return found
 
+    def letters_of_three(self, words: set[str], given: dict[str, str]) -> dict[str, str]:
+        """The words of letters that stand together for a male, a female and a castrated male, where no other letter of
+        the column is a sex. One that begins a word of the column for one sex stands for that."""
+        single = {word for word in words if len(word) == 1 and word.isalpha()}
+        for three in THREE_LETTERS:
+            by_letter = {plain(word)[0]: word for word in three}
+            if single - given.keys() == by_letter.keys():
+                longer = {letter: self.short.get(letter, []) for letter in by_letter}
+                alone = {letter for letter in by_letter if len({sex for _, sex in longer[letter]}) == 1}
+                return {letter: longer[letter][0][0] if letter in alone else by_letter[letter] for letter in by_letter}
+        return {}
+
     def read(self, text: str) -> tuple[str, bool]:
         """The sex, or nothing where it isn't known, and whether the animal is castrated."""
         found = self.meaning(text)
@@ -50,6 +70,9 @@ class Sexes:
 
     def find(self, text: str) -> Meaning:
         word = sex_word(text)
+        if whole := self.letters.get(word):
+            sex = self.known[sex_word(whole)]
+            return Meaning(sex, sex == "M" and has_word(whole, KNOWN_CASTRATED), whole)
         sex, longer = self.known.get(word, ""), self.short.get(word, [])
         taken_for, meant = "", [text]
         if not sex and text and len({sex for _, sex in longer}) == 1:

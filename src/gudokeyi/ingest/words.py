@@ -62,15 +62,23 @@ EXITS = (
 STILL_THERE = (
     "retired, retirement, pensioned, in retirement, loaned, on loan, lent, leased, on lease, leased out, castrated, "
     "gelded, neutered, spayed, covered, served, mated, inseminated, bred, pregnant, in foal, in calf, in lamb, in kid, "
-    "weaned, vaccinated, shorn, chipped, returned, came back, for sale, reserved, "
+    "weaned, vaccinated, shorn, chipped, returned, came back, for sale, reserved, exhibited, "
     "Zuchtruhe, im Ruhestand, Ruhestand, Rente, in Rente, Rentner, Gnadenbrot, in Pension, Pension, Pensionsstall, "
     "verliehen, ausgeliehen, Leihgabe, Leihe, geliehen, verpachtet, kastriert, kastr, Kastration, sterilisiert, "
-    "gedeckt, belegt, besamt, Besamung, Deckeinsatz, Bedeckung, trächtig, tragend, abgesetzt, geimpft, entwurmt, "
-    "geschoren, gechipt, zurück, zurückgekommen, zurückgekehrt, zu verkaufen, reserviert, "
+    "gedeckt, belegt, besamt, Besamung, Deckeinsatz, Bedeckung, trächtig, tragend, abgesetzt, geimpft, entwurmt, gesperrt, "
+    "ausgestellt, geschoren, gechipt, zurück, zurückgekommen, zurückgekehrt, zu verkaufen, reserviert, "
     "retraité, retraitée, retraite, à la retraite, en retraite, mis à la retraite, en pension, mis en pension, prêté, "
     "prêtée, prêt, en prêt, loué, louée, castré, castrée, castration, stérilisé, stérilisée, saillie, sailli, saillies, "
     "couverte, inséminé, inséminée, insémination, gestante, pleine, gravide, sevré, sevrée, vacciné, vaccinée, tondu, "
-    "tondue, pucé, pucée, revenu, revenue, de retour, retour, à vendre, réservé, réservée"
+    "tondue, pucé, pucée, revenu, revenue, de retour, retour, à vendre, réservé, réservée, exposé, exposée"
+)
+# words in parents' cells that tell how an animal came to be, and name no parent
+NO_PARENTS = (
+    "Leihhengst, Leihbock, Leihbulle, Deckhengst, Deckbock, Deckbulle, Herdensprung, Herdenbock, Natursprung, Besamung, "
+    "Sprung, mehrere, verschiedene, diverse, Import, importiert, gekauft, zugekauft, Ankauf, siehe, Flaschenkind, "
+    "Flaschenlamm, Waise, verst, verstorben, gestorben, tot, Nachbar, borrowed, hired, insemination, several, various, "
+    "imported, bought, purchased, see, bottle, orphan, dead, died, insémination, importé, importée, acheté, achetée, "
+    "plusieurs, divers, voir, saillie, biberon, orphelin, orpheline, mort, morte, voisin"
 )
 # names of animals that never lived
 BORN_DEAD = "totgeburt, totgeboren, stillborn, still born, stillbirth, mort-né, mort-née, mortné, mortinato"
@@ -107,6 +115,7 @@ KNOWN_NO = {word.casefold() for word in listed(NO)}
 KNOWN_STAYS = {plain(word) for word in listed(STAYS)}
 KNOWN_EXITS = {plain(word) for word in listed(EXITS)}
 KNOWN_STILL_THERE = {plain(word) for word in listed(STILL_THERE)}
+KNOWN_NO_PARENTS = {plain(word) for word in listed(NO_PARENTS)}
 KNOWN_NEGATIONS = {plain(word) for word in listed(NEGATIONS)}
 KNOWN_BORN_DEAD = {plain(word) for word in listed(BORN_DEAD)}
 # how all of them begin: few lists have one

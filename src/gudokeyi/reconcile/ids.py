@@ -200,16 +200,16 @@ def give_numbers(next_book: NextBook, breed: str, country: str) -> None:
     become those that are given; new ones have those that are set else, or those of the book."""
     book, animals = next_book.book, next_book.animals
     former = book.former_numbers() | {id: in_book.registration_number for id, in_book in book.dropped.items()}
-    numbers, are_kept = former | next_book.in_book.numbers, not breed and not country
-    for animal, number in zip(map(animals.get, numbers), numbers.values()):
-        if animal is None:
-            continue
-        if are_kept and animal.sex == number[6]:
+    of_book, are_kept, new = next_book.in_book.numbers, not breed and not country, list[SheetAnimal]()
+    numbers = former | of_book if former else of_book
+    for animal, number in zip(animals.values(), map(numbers.get, animals)):
+        if number is None:
+            new.append(animal)
+        elif are_kept and animal.sex == number[6]:
             animal.registration_number = number
         else:
             next_book.renumbered.add(animal.id)
             animal.registration_number = (breed or number[:3]) + (country or number[3:6]) + animal.sex + number[7:]
-    new = [animal for animal in animals.values() if not animal.registration_number]
     begin = letters_for(book, breed, country)
     for digits, animal in enumerate(by_age(sorted(new, key=ID_OF)), book.greatest_digits() + 1):
         animal.registration_number = f"{begin}{animal.sex}{digits:012}"

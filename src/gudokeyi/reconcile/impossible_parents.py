@@ -10,14 +10,13 @@ from gudokeyi.domain.commands import HEADER, day_text, leave, lines_of
 from gudokeyi.domain.findings import Report
 from gudokeyi.domain.kinds import Field, Role
 from gudokeyi.domain.messages import MessageText, Mistake, Some, why
-from gudokeyi.domain.pedigree_order import in_order, longest_paths, offspring_by_parent, round_from
+from gudokeyi.domain.pedigree_order import ancestors, in_order, longest_paths, offspring_by_parent, round_from
 from gudokeyi.domain.refusals import Refusal
 from gudokeyi.engine.program import Herdbook
-from gudokeyi.ingest.animals import DAM_OF, LAST_OF, SIRE_OF, SheetAnimal, parents_of_all
+from gudokeyi.ingest.animals import LAST_OF, SheetAnimal, parents_of_all
 from gudokeyi.ingest.days import Precision
 from gudokeyi.ingest.messages import Where
 from gudokeyi.reconcile.findings.parents import DayFact, OwnAncestor, ParentRefused
-from gudokeyi.reconcile.last_found import Kept, LastFound, NothingKept
 from gudokeyi.reconcile.messages import ImportFault
 from gudokeyi.reconcile.next_book import NextBook
 from gudokeyi.reconcile.parents import take_back
@@ -34,22 +33,28 @@ def in_no_book(offspring: str, parent: str) -> bool:
     return False
 
 
-def cut_cycles(
-    animals: dict[str, SheetAnimal], report: Report, in_book: InBook = in_no_book, last: LastFound | None = None
-) -> list[str]:
+def cut_cycles(animals: dict[str, SheetAnimal], report: Report, in_book: InBook = in_no_book) -> list[str]:
     """Leaves out one parent of each animal that would be its own ancestor: of a cycle a link that the book doesn't
     have, one whose days can't be, or else that of the latest row. Answers the animals without a day, parents before
     their offspring."""
     undated = {id: animal for id, animal in animals.items() if animal.birth.precision is not Precision.DAY}
-    if are_older(animals):
+    younger = not_surely_older(animals)
+    if not younger:
         return by_age(undated)
-    by = [*animals], [*map(SIRE_OF, animals.values())], [*map(DAM_OF, animals.values())]
-    order = (last or NothingKept()).of(Kept.ORDER, by, lambda: in_order(parents_of_all(animals)))
-    left = animals.keys() - order
-    if left:
-        cut_all(animals, left, report, in_book)
+    # these stand in one order, whether the others do or not
+    some = with_ancestors(animals, {*undated, *younger})
+    order = in_order(parents_of_all(some))
+    if len(order) < len(some):
+        order = in_order(parents_of_all(animals))
+        cut_all(animals, animals.keys() - order, report, in_book)
         order = in_order(parents_of_all(animals))
     return [id for id in order if id in undated]
+
+
+def with_ancestors(animals: dict[str, SheetAnimal], ids: set[str]) -> dict[str, SheetAnimal]:
+    """Some animals and their ancestors, in the order of all."""
+    found = ids | ancestors(ids, lambda id: animals[id].parent_ids())
+    return {id: animal for id, animal in animals.items() if id in found}
 
 
 def cut_all(animals: dict[str, SheetAnimal], left: set[str], report: Report, in_book: InBook) -> None:
@@ -63,12 +68,12 @@ def cut_all(animals: dict[str, SheetAnimal], left: set[str], report: Report, in_
         left -= set(in_order(parents_of_all({id: animals[id] for id in left})))
 
 
-def are_older(animals: dict[str, SheetAnimal]) -> bool:
-    """Is each parent older than its offspring by the days of both? Then none is its own ancestor."""
+def not_surely_older(animals: dict[str, SheetAnimal]) -> list[str]:
+    """The animals with a parent that may not be older by the days of both: in each cycle there is one."""
     last = dict(zip(animals, map(LAST_OF, animals.values())))
     last[""] = datetime.date.min
-    births = map(operator.attrgetter("birth.first", "sire", "dam"), animals.values())
-    return all(last[sire] < first and last[dam] < first for first, sire, dam in births)
+    births = map(operator.attrgetter("id", "birth.first", "sire", "dam"), animals.values())
+    return [id for id, first, sire, dam in births if last[sire] >= first or last[dam] >= first]
 
 
 def by_age(animals: dict[str, SheetAnimal]) -> list[str]:

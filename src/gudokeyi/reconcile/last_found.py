@@ -20,8 +20,7 @@ class Kept(enum.Enum):
     IDS_IN_TEXTS = enum.auto()
     # the offspring of each animal in each role
     PROGENY = enum.auto()
-    # animals behind their parents, commands, and what the program refuses of them
-    ORDER = enum.auto()
+    # commands, and what the program refuses of them
     BIRTHS = enum.auto()
     # the same where all have one owner
     BIRTHS_OF_ONE = enum.auto()

@@ -6,6 +6,7 @@ import re
 from collections.abc import Collection, Iterator
 
 from gudokeyi.domain.spelling import folded
+from gudokeyi.ingest.words import KNOWN_NO_PARENTS, has_word
 
 # so many words of a text are looked at, and so many letters a part has that may be a name
 MOST_WORDS, LEAST_LETTERS = 8, 3
@@ -32,4 +33,5 @@ def have_digits(ids: Collection[str]) -> bool:
 
 
 def is_like_word(text: str) -> bool:
-    return LIKE_WORD.fullmatch(text) is not None
+    """Is it written like no id, or has it a word that names no parent, as `Import Peru`?"""
+    return LIKE_WORD.fullmatch(text) is not None or has_word(text, KNOWN_NO_PARENTS)

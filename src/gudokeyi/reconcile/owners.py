@@ -11,7 +11,7 @@ from gudokeyi.ingest.animals import LINE_OF, NAME_OF, OWNER_OF
 from gudokeyi.ingest.texts import plain
 from gudokeyi.ingest.words import BEGINS_BORN_DEAD, KNOWN_BORN_DEAD, TELLING_EXITS, has_word
 from gudokeyi.reconcile.findings.animals import (
-    OwnerMistyped, OwnerRenamed, OwnerRespelt, OwnersAlike, Spelling,
+    OwnerMistyped, OwnerRenamed, OwnerRespelt, OwnersAlike, OwnersOtherwise, Spelling,
 )  # fmt: skip
 from gudokeyi.reconcile.findings.plausibility import BornDead, OwnerIsNoName, OwnerOfSeveral
 from gudokeyi.reconcile.next_book import NextBook
@@ -24,6 +24,8 @@ from gudokeyi.store.book import Book
 ALIKE = 0.75
 # an owner of so few animals may be one with so many times as many whose name has a letter more, less or otherwise
 FEW, TIMES = 2, 5
+# of the animals of an owner who is written otherwise so many have the new name: others may be sold meanwhile
+MOSTLY = 0.8
 # how umlauts are written where they lack
 UMLAUTS = str.maketrans({"ä": "ae", "ö": "oe", "ü": "ue"})
 # in shorter names each letter counts
@@ -37,8 +39,7 @@ def tell_respelt_owners(next_book: NextBook, owners_before: set[str]) -> None:
     book, animals = next_book.book, next_book.animals
     if not book.society_records or {*map(OWNER_OF, animals.values())} - {""} <= owners_before:
         return
-    numbers = {id: in_book.registration_number for id, in_book in book.society_records.items()}
-    some = next_book.otherwise
+    numbers, some = next_book.in_book.numbers, next_book.otherwise
     rows = [one for one in next_book.rows_otherwise() if one.line and one.id in numbers and one.id not in kept]
     # these have their owners of before
     stay = {one.owner for id, one in animals.items() if one.line and id not in some} if some is not animals else set()
@@ -48,7 +49,7 @@ def tell_respelt_owners(next_book: NextBook, owners_before: set[str]) -> None:
             taken[before][owner] += count
     for before, now in taken.items():
         owner, count = now.most_common(1)[0]
-        is_new = len(now) == 1 and owner not in owners_before and before not in stay
+        is_new = MOSTLY * now.total() <= count and owner not in owners_before and before not in stay
         if is_new and difflib.SequenceMatcher(None, before.casefold(), owner.casefold()).ratio() >= ALIKE:
             next_book.report.add(0, "", OwnerRespelt(before, owner, count))
 
@@ -82,6 +83,7 @@ def tell_owners_alike(next_book: NextBook) -> None:
     for owner, count in sorted(animals.items()):
         for name in {plain(owner), plain(owner.casefold().translate(UMLAUTS))}:
             alike[name].append(Spelling(owner, count))
+    tell_otherwise(next_book, animals)
     several = dict.fromkeys(tuple(alike[name]) for name in sorted(alike) if name and len(alike[name]) > 1)
     # a spelling stands in two of these at most
     having = collections.defaultdict[Spelling, list[set[Spelling]]](list)
@@ -92,6 +94,24 @@ def tell_owners_alike(next_book: NextBook) -> None:
     for told in several:
         if not any(set(told) < other for other in having[told[0]]):
             next_book.report.add(0, "", OwnersAlike(told))
+
+
+FAMILY = re.compile(r"\b(?:familie|family|famille|fam)\b\.?", re.IGNORECASE)
+
+
+def tell_otherwise(next_book: NextBook, animals: Mapping[str, int]) -> None:
+    """Names whose last name stands first, before a comma, or that have a word for a family otherwise."""
+    found = collections.defaultdict[str, list[Spelling]](list)
+    usual = collections.defaultdict[str, set[str]](set)
+    for owner, count in sorted(animals.items()):
+        last, comma, first = owner.partition(",")
+        name = f"{first} {last}" if comma else owner
+        key = plain(FAMILY.sub("fam", name).casefold().translate(UMLAUTS))
+        found[key].append(Spelling(owner, count))
+        usual[key].add(plain(owner.casefold().translate(UMLAUTS)))
+    for key in sorted(found):
+        if key and len(usual[key]) > 1:
+            next_book.report.add(0, "", OwnersOtherwise(tuple(found[key])))
 
 
 # Owners whose cell has more than a name, and names of animals that never lived.

@@ -335,6 +335,22 @@ class OwnerMistyped(PlausibilityWarning):
 
 
 @dataclass(frozen=True, slots=True)
+class OwnersOtherwise(PlausibilityWarning):
+    """Owners of the sheet whose names have their words in another order, or a word such as `Familie` otherwise."""
+
+    spellings: tuple[Spelling, ...]
+
+    code = "owners otherwise"
+    message = Text(
+        "the owners {names} differ in the order of first and last name, or in how Familie is written: if they are one, "
+        "write the name alike in all rows, and take the sheet again"
+    )
+
+    def values(self) -> Mapping[str, object]:
+        return {"names": AllOf(self.spellings)}
+
+
+@dataclass(frozen=True, slots=True)
 class OwnersAlike(PlausibilityWarning):
     """Owners of the sheet whose names differ in case, accents, umlauts, blanks or signs alone."""
 

@@ -1,0 +1,71 @@
+"""A list of a society of alpacas: letters for sexes, cells of parents that name nobody, and owners who are written in
+two ways."""
+from __future__ import annotations
+
+import pytest
+
+from front_desk.desk import Desk
+
+TITLES = "Ohrmarke;Name;Geschl.;Typ;geb. am;Vater;Mutter;Halter\n"
+
+
+def rows(*sexes: str) -> str:
+    return "".join(f"AZV-{at:03};A{at};{sex};H;1.6.{2000 + at};;;Hof\n" for at, sex in enumerate(sexes, 1))
+
+
+def sexes_of(desk: Desk) -> str:
+    return "".join(desk.numbers()[id][6] for id in sorted(desk.numbers()))
+
+
+@pytest.mark.parametrize(
+    "words, sexes, told",
+    [
+        ("HSWW", "MFMM", "'H' as 'Hengst', 'S' as 'Stute', 'W' (2 times) as 'Wallach'"),
+        ("hsw", "MFM", "'h' as 'Hengst', 's' as 'Stute', 'w' as 'Wallach'"),
+        (["H", "S", "W", "Hengstfohlen"], "MFMM", "'H' as 'Hengstfohlen', 'S' as 'Stute', 'W' as 'Wallach'"),
+        (["H", "S", "W", "weiblich"], "MFFF", "'H' as 'Hengst', 'S' as 'Stute', 'W' as 'weiblich'"),
+        ("SMG", "MFM", "'G' as 'gelding', 'M' as 'mare', 'S' as 'stallion'"),
+        ("EJH", "MFM", "'E' as 'étalon', 'H' as 'hongre', 'J' as 'jument'"),
+        ("MWW", "MFF", ""),
+        ("MFM", "MFM", ""),
+    ],
+)
+def test_letters_for_sexes(desk: Desk, words: str | list[str], sexes: str, told: str) -> None:
+    """Where a column has those of a male, a female and a castrated male, each stands for its word, which is told."""
+    done = desk.take(TITLES + rows(*words))
+    assert sexes_of(desk) == sexes
+    assert (f"words for sexes are read as others of the column: {told}" in done.out) == bool(told)
+
+
+def test_letters_that_are_named(desk: Desk) -> None:
+    desk.take(TITLES + rows("H", "S", "W"), "--sexes", "W=f,S=f,H=m")
+    assert sexes_of(desk) == "MFF"
+
+
+@pytest.mark.parametrize("cell", ["Leihhengst", "tragend gekauft", "Import Peru", "Herdensprung", "siehe Züchter"])
+def test_cells_that_name_no_parent(desk: Desk, cell: str) -> None:
+    """They are asked about; a cross alone names nobody."""
+    text = TITLES + rows("H", "S", "W") + f"AZV-020;Z;H;H;1.6.2019;{cell};†;Hof\n"
+    done = desk.take(text, "--preview")
+    assert f"to look at: {cell} has no row and is written like no id, and is the sire of 1" in done.out
+    desk.take(text, "--unknown", cell)
+    assert desk.parents()["AZV-020"] == ("", "") and len(desk.numbers()) == 4
+
+
+def test_owners_in_two_ways(desk: Desk) -> None:
+    """A first name before or behind the last one, and words for a family."""
+    owners = ["Müller, Petra", "Petra Müller", "Familie Brandt", "Fam. Brandt", "Huber", "Brandt, Ida"]
+    text = "".join(f"AZV-{at:03};A{at};m;H;1.6.{2000 + at};;;{one}\n" for at, one in enumerate(owners, 1))
+    done = desk.take(TITLES + text)
+    way = "differ in the order of first and last name, or in how Familie is written"
+    for pair in "'Müller, Petra' (1 animal) and 'Petra Müller' (1 animal)", "'Fam. Brandt' (1 animal) and 'Familie Brandt' (1 animal)":
+        assert f"the owners {pair} {way}" in done.out
+    assert done.out.count(way) == 2
+
+
+def test_owner_respelt_while_an_animal_is_sold(desk: Desk) -> None:
+    """Nearly all animals of one who is now called otherwise tell of it, also where another has one of them."""
+    text = "".join(f"AZV-{at:03};A{at};m;H;1.6.{2000 + at};;;K. Huber\n" for at in range(1, 10)) + rows("H").replace("001", "030")
+    desk.take(TITLES + text)
+    later = text.replace("K. Huber", "Karl Huber").replace("A9;m;H;1.6.2009;;;Karl Huber", "A9;m;H;1.6.2009;;;Hof")
+    assert "the 8 animals of 'K. Huber' are now of 'Karl Huber', whom the book didn't have" in desk.take(TITLES + later).out
