@@ -48,6 +48,7 @@ def test_cells_that_name_no_parent(desk: Desk, cell: str) -> None:
     text = TITLES + rows("H", "S", "W") + f"AZV-020;Z;H;H;1.6.2019;{cell};†;Hof\n"
     done = desk.take(text, "--preview")
     assert f"to look at: {cell} has no row and is written like no id, and is the sire of 1" in done.out
+    assert "like no id" not in desk.take(text.replace(cell, f"IMP-7 ({cell})"), "--preview").out
     desk.take(text, "--unknown", cell)
     assert desk.parents()["AZV-020"] == ("", "") and len(desk.numbers()) == 4
 

@@ -33,5 +33,5 @@ def have_digits(ids: Collection[str]) -> bool:
 
 
 def is_like_word(text: str) -> bool:
-    """Is it written like no id, or has it a word that names no parent, as `Import Peru`?"""
-    return LIKE_WORD.fullmatch(text) is not None or has_word(text, KNOWN_NO_PARENTS)
+    """Is it written like no id, or has it a word that names no parent, as `Import Peru`, and no digit?"""
+    return LIKE_WORD.fullmatch(text) is not None or not DIGITS.search(text) and has_word(text, KNOWN_NO_PARENTS)
