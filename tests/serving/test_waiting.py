@@ -16,9 +16,12 @@ from web.said import in_each
 from web.server import SECONDS
 from web.site import shown
 from front_desk.desk import Desk
+from gudokeyi.domain.requests import WebFault
 from gudokeyi.domain.waiting import SECONDS_OF_PAGE
 from gudokeyi.store.messages import AccountFault, BookFault
+from gudokeyi.web.access import PAGES
 from gudokeyi.web.connections import MANY_CONNECTIONS, MOST_CONNECTIONS, SECONDS_FOR_HEAD
+from gudokeyi.web.work_places import MOST_PAGES, MOST_PAGES_WAITING
 from serving.server import Browser, Server
 from serving.visitor import Served, Visitor, with_accounts
 
@@ -88,6 +91,21 @@ def test_accounts(served: Served, monkeypatch: pytest.MonkeyPatch) -> None:
         assert 'value="Clara"' in page
         assert clerk.post("/file/exit", **FIELDS).status_code == 302
     assert other.log_in("Clara").status_code == 302
+
+
+def test_very_many_pages_of_one_person(served: Served, clerk: Visitor) -> None:
+    """Whoever asks for very many pages at once is told so; others are answered, and so is that person behind it."""
+    ines = Visitor(served, "Ines")
+    pages = served.app.extensions[PAGES]
+    for path in "/animals", "/nowhere", "/accounts":
+        ines.get(path)
+    assert not pages.at_work["Ines"]
+    pages.at_work["Ines"], pages.waiting["Ines"] = MOST_PAGES, MOST_PAGES_WAITING
+    answer = ines.get("/animals")
+    assert answer.status_code == 400 and WebFault.MUCH_WORK.value[1:] in shown(answer.get_data(as_text=True))
+    assert clerk.get("/animals").status_code == 200 and ines.get("/static/desk.css").status_code == 200
+    pages.at_work["Ines"] = pages.waiting["Ines"] = 0
+    assert ines.get("/animals").status_code == 200
 
 
 def test_settings(served: Served, monkeypatch: pytest.MonkeyPatch) -> None:

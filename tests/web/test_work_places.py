@@ -13,8 +13,10 @@ from gudokeyi.domain.mistakes import BookBusy
 from gudokeyi.domain.people import WORKER
 from gudokeyi.domain.requests import WebFault
 from gudokeyi.domain.waiting import waiting
-from gudokeyi.web import workers
-from gudokeyi.web.work_places import BOUNDS, BREED, LOOKING, MOST_OF_PERSON, TAKING, Bounds, Places, Turns
+from gudokeyi.web import work_places, workers
+from gudokeyi.web.work_places import (
+    BOUNDS, BREED, LOOKING, MOST_OF_PERSON, MOST_PAGES, TAKING, Bounds, PagesOfPeople, Places, Turns,
+)  # fmt: skip
 from gudokeyi.web.workers import Job, Jobs, Stage
 
 
@@ -138,3 +140,35 @@ def test_stop(site: Site) -> None:
 def test_bounds() -> None:
     """What changes the book has places of its own, and takes most of the processors."""
     assert BOUNDS[TAKING].places and BOUNDS[TAKING].niceness == min(one.niceness for one in BOUNDS.values())
+
+
+def test_pages_of_one_person(monkeypatch: pytest.MonkeyPatch) -> None:
+    """So many of one person are made at once, so many more wait, and what comes beyond is told; others don't wait."""
+    monkeypatch.setattr(work_places, "MOST_PAGES_WAITING", 2)
+    pages, begun = PagesOfPeople(), list[int]()
+
+    def read(at: int) -> None:
+        pages.begin("Ines")
+        begun.append(at)
+
+    for at in range(MOST_PAGES):
+        read(at)
+    threads = [threading.Thread(target=read, args=(at,), daemon=True) for at in (10, 11)]
+    for one in threads:
+        one.start()
+    while pages.waiting["Ines"] < 2:
+        time.sleep(0.01)
+    with pytest.raises(Mistake) as told:
+        read(12)
+    assert told.value.sentences == (WebFault.MUCH_WORK.said(),)
+    for _ in range(3):
+        pages.begin("Carl")
+    assert begun == [*range(MOST_PAGES)]
+    pages.end("Ines")
+    pages.end("Ines")
+    for one in threads:
+        one.join(60)
+    assert {*begun[MOST_PAGES:]} == {10, 11} and pages.at_work["Ines"] == MOST_PAGES
+    with waiting(time.monotonic()), pytest.raises(Mistake):
+        read(13)
+    assert not pages.waiting["Ines"]

@@ -26,6 +26,7 @@ from gudokeyi.services.imports import MOST_BACKUP_BYTES, MOST_BYTES
 from gudokeyi.services.seals import MOST_BYTES as MOST_CERTIFICATE_BYTES
 from gudokeyi.services.settings import MOST_PICTURE_BYTES
 from gudokeyi.web.addresses import is_safe_redirect
+from gudokeyi.web.work_places import PagesOfPeople
 
 # Who asks the desk, and what each may do at the book.
 
@@ -189,6 +190,8 @@ def look_at_body() -> None:
 READS = ("GET", "HEAD", "OPTIONS")
 # the moment until which a request waits for others, as its connection says it
 WAITS_UNTIL = "gudokeyi.until"
+# the pages that several people read at once
+PAGES = "pages"
 POLICY = (
     "default-src 'none'; script-src 'self'; style-src 'self'{}; img-src 'self'; connect-src 'self'; "
     "form-action 'self'; base-uri 'none'; frame-ancestors 'none'"
@@ -235,6 +238,7 @@ def guard(app: Flask, logins: Logins) -> None:
         WTF_CSRF_SSL_STRICT=False,
     )
     app.extensions["logins"] = logins
+    app.extensions[PAGES] = PagesOfPeople()
     logins.set_up(app)
     app.before_request(look_at_request)
     app.teardown_request(wait_no_more)
@@ -244,6 +248,8 @@ def guard(app: Flask, logins: Logins) -> None:
 
 def wait_no_more(_: BaseException | None) -> None:
     UNTIL.set(None)
+    if "reads" in g:
+        current_app.extensions[PAGES].end(g.reads)
 
 
 def look_at_request() -> ResponseReturnValue | None:
@@ -265,6 +271,9 @@ def look_at_request() -> ResponseReturnValue | None:
     if request.endpoint and not may(request.endpoint):
         abort(403, logins.not_allowed())
     look_at_body()
+    if person.name and request.method in READS:
+        current_app.extensions[PAGES].begin(person.name)
+        g.reads = person.name
     # what somebody else knows is no password
     if person.for_one_login and request.endpoint not in OF_OWN_PASSWORD:
         return redirect(url_for("login.password"))

@@ -148,3 +148,34 @@ class Turns:
     def first(self) -> Turn:
         """That of whoever had one longest ago."""
         return min(self.waiting, key=lambda one: self.had.get(one.person, 0))
+
+
+# so many pages of one person are made at once, and so many more of them wait for that: a browser asks for six
+MOST_PAGES, MOST_PAGES_WAITING = 3, 9
+
+
+class PagesOfPeople:
+    """The pages that people read: whoever asks for very many at once keeps nobody else waiting for all of them."""
+
+    def __init__(self) -> None:
+        self.changed = threading.Condition()
+        self.at_work, self.waiting = Counter[str](), Counter[str]()
+
+    def begin(self, person: str) -> None:
+        """Waits until few of the person's are made; a mistake where that is for longer than a page waits, or where many
+        wait already."""
+        with self.changed:
+            if self.waiting[person] >= MOST_PAGES_WAITING:
+                raise Mistake(WebFault.MUCH_WORK.said())
+            self.waiting[person] += 1
+            try:
+                if not self.changed.wait_for(lambda: self.at_work[person] < MOST_PAGES, seconds_left()):
+                    raise Mistake(WebFault.MUCH_WORK.said())
+                self.at_work[person] += 1
+            finally:
+                self.waiting[person] -= 1
+
+    def end(self, person: str) -> None:
+        with self.changed:
+            self.at_work[person] -= 1
+            self.changed.notify_all()
