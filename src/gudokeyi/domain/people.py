@@ -3,7 +3,7 @@ from __future__ import annotations
 
 import contextvars
 import enum
-from dataclasses import dataclass
+from typing import NamedTuple
 
 
 class AccountRole(enum.StrEnum):
@@ -21,8 +21,7 @@ class AccountRole(enum.StrEnum):
         return order.index(self) >= order.index(least)
 
 
-@dataclass(frozen=True)
-class Person:
+class Person(NamedTuple):
     """Who asks. Whoever has no name here is named by the system."""
 
     name: str

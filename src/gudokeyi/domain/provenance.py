@@ -177,38 +177,6 @@ class OwnerDay(enum.Enum):
         return mark(self.is_inferred)
 
 
-@dataclass(frozen=True, slots=True)
-class MarkedDay(Told):
-    """A day as `2001-03-01`, with a mark behind one that the sheet doesn't give; empty for none."""
-
-    day: str
-    is_inferred: bool = False
-    is_invented: bool = False
-
-    message = Text("{day}{maybe_inferred}{maybe_invented}")
-    parts = {
-        "maybe_inferred": OptionalPart(" (inferred)", when="is_inferred"),
-        "maybe_invented": OptionalPart(" (invented)", when="is_invented"),
-    }
-
-    def values(self) -> Mapping[str, object]:
-        return {"is_inferred": self.is_inferred and not self.is_invented}
-
-
-@dataclass(frozen=True, slots=True)
-class UnknownExitDay(Told):
-    """An exit whose day isn't known, with the cell that tells of it."""
-
-    text: str
-
-    message = Text("day unknown{maybe_text} (inferred)")
-    page_message = Text("has left, day unknown{maybe_text_on_page}")
-    parts = {
-        "maybe_text": OptionalPart(": '{text}'"),
-        "maybe_text_on_page": OptionalPart(" ({text})"),
-    }
-
-
 def mark(is_inferred: bool, is_invented: bool = False) -> str:
     """What stands behind a day or a sex that the sheet doesn't give."""
     return " (invented)" if is_invented else " (inferred)" if is_inferred else ""

@@ -17,14 +17,17 @@ def records_of(lines: Iterable[str], givers: Mapping[str, int]) -> dict[str, Reg
     """The records that lines have, by the animals' numbers; `givers` are the herds that gave them last."""
     day = datetime.date.fromisoformat
     found: dict[str, RegisterRecord] = {}
+    # the older ones come first: each number is one text for all that have it, which takes far less memory
+    numbers = {UNKNOWN: ""}
     for line in lines:
         number, birth, sire, dam, herd, since, left, embryo = line.split(",")
+        numbers[number] = number
         born = day(birth)
         values = (
             number,
             born,
-            "" if sire == UNKNOWN else sire,
-            "" if dam == UNKNOWN else dam,
+            numbers.get(sire, sire),
+            numbers.get(dam, dam),
             embryo == "1",
             int(herd),
             # most have their owner from their birth on

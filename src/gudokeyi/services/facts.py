@@ -7,8 +7,7 @@ from dataclasses import dataclass
 
 from gudokeyi.domain.animals import NO_OWNER
 from gudokeyi.domain.kinds import ExitReason, Field
-from gudokeyi.domain.provenance import MarkedDay, UnknownExitDay
-from gudokeyi.domain.wording import SEXES, Joined, Text, Told, Word
+from gudokeyi.domain.wording import SEXES, Joined, OptionalPart, Text, Told, Word
 from gudokeyi.reconcile.owner_day_known import owner_day_known
 from gudokeyi.store.animal_rows import AnimalRow, birth_basis, exit_basis, society_record_of
 from gudokeyi.store.book import Book
@@ -40,6 +39,38 @@ class Fact(enum.StrEnum):
 
 # each with its value, an empty text for none
 Facts = Mapping[Fact, object]
+
+
+@dataclass(frozen=True, slots=True)
+class MarkedDay(Told):
+    """A day as `2001-03-01`, with a mark behind one that the sheet doesn't give; empty for none."""
+
+    day: str
+    is_inferred: bool = False
+    is_invented: bool = False
+
+    message = Text("{day}{maybe_inferred}{maybe_invented}")
+    parts = {
+        "maybe_inferred": OptionalPart(" (inferred)", when="is_inferred"),
+        "maybe_invented": OptionalPart(" (invented)", when="is_invented"),
+    }
+
+    def values(self) -> Mapping[str, object]:
+        return {"is_inferred": self.is_inferred and not self.is_invented}
+
+
+@dataclass(frozen=True, slots=True)
+class UnknownExitDay(Told):
+    """An exit whose day isn't known, with the cell that tells of it."""
+
+    text: str
+
+    message = Text("day unknown{maybe_text} (inferred)")
+    page_message = Text("has left, day unknown{maybe_text_on_page}")
+    parts = {
+        "maybe_text": OptionalPart(": '{text}'"),
+        "maybe_text_on_page": OptionalPart(" ({text})"),
+    }
 
 
 @dataclass(frozen=True, slots=True)

@@ -3,9 +3,8 @@ from __future__ import annotations
 
 import enum
 from collections.abc import Callable, Iterable, Sequence
-from dataclasses import dataclass
 from functools import cached_property
-from typing import TYPE_CHECKING, Any
+from typing import TYPE_CHECKING, Any, NamedTuple
 
 from gudokeyi.domain.animals import LETTERS
 from gudokeyi.domain.decimals import decimal, decimal_of_text
@@ -84,8 +83,7 @@ class PedigreeFacts:
 # Columns of a table of animals: each is made of columns of the book, for all animals at once.
 
 
-@dataclass(frozen=True, slots=True)
-class ColumnRecipe:
+class ColumnRecipe(NamedTuple):
     """How a column is made: of which columns of the book, and by which function of the facts and their values."""
 
     title: str

@@ -94,7 +94,10 @@ def prepared_of(
     """What is to be written. Nothing is yet."""
     book, report = next_book.book, next_book.report
     text = text_after(book, filed)
-    coefficients, records = begun(program, "inbreeding", text), begun(program, "records", text)
+    givers = givers_after(book, filed)
+    coefficients = Background(lambda: program.lines(["inbreeding"], text))
+    # its lines aren't kept, as much as they take
+    records = Background(lambda: records_of(program.lines(["records"], text), givers))
     owner_codes = {*book.owners_came().values()}
     counts = report.counts()
     made = ChangeDetails(
@@ -116,7 +119,7 @@ def prepared_of(
 
     def find_state() -> State:
         return State(
-            changed_animals(book, known_after(next_book), records_of(records.value(), givers_after(book, filed))),
+            changed_animals(book, known_after(next_book), records.value()),
             Rows(cells_before(book), cell_rows(next_book)),
             book.remembered,
             new_owners,
@@ -136,11 +139,6 @@ def before_others_wait(book: Book, find: Callable[[], State]) -> FindState:
         return lambda _: found.value()
     state = find()
     return lambda _: state
-
-
-def begun(program: BookProgram, word: str, text: bytes) -> Background[list[str]]:
-    """What the program writes of a command file, which it begins to do."""
-    return Background(lambda: program.lines([word], text))
 
 
 def text_after(book: Book, filed: Filed) -> bytes:

@@ -3,8 +3,7 @@ from __future__ import annotations
 
 import datetime
 from collections.abc import Mapping
-from dataclasses import dataclass
-from typing import Any
+from typing import Any, NamedTuple
 
 from gudokeyi.domain.animals import SocietyRecord
 from gudokeyi.domain.messages import AnyOf
@@ -20,8 +19,7 @@ from gudokeyi.store.conditions import LIVING, Condition, all_of, born_between, o
 MOST_NAMED = 5
 
 
-@dataclass(frozen=True, slots=True)
-class Choice:
+class Choice(NamedTuple):
     """What an animal has to be. `sex` is M or F, and empty for both; `born` has the first and the last day."""
 
     living: bool = False

@@ -4,6 +4,7 @@ from __future__ import annotations
 import enum
 from collections.abc import Iterable, Iterator, Sequence
 from dataclasses import dataclass
+from typing import NamedTuple
 
 from gudokeyi.domain.cells import (
     column_for_spreadsheets, csv_text, for_spreadsheets, joined, ordered, plain_text, texts_of,
@@ -31,8 +32,7 @@ RELATIONSHIP_COLUMNS = (
 )  # fmt: skip
 
 
-@dataclass(frozen=True)
-class Begun:
+class Begun(NamedTuple):
     """How the rows of a file begin that has commas: so many of their first columns, written before the others are
     known; none where a cell needs quotes."""
 

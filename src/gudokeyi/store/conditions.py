@@ -138,7 +138,8 @@ def in_tag(tag: str) -> Condition:
     order, also where signs stand between these."""
     same, pattern = always_same(tag), f"*{pattern_of(tag)}*"
     if same:
-        return Condition(f"(folded_id GLOB ? AND {TAG} GLOB ?)", (in_order(same), pattern))
+        likely = f"folded_id GLOB ? AND (folded_id GLOB ? OR {has_accents('folded_id')})"
+        return Condition(f"({likely} AND {TAG} GLOB ?)", (in_order(same), in_order(tag), pattern))
     now = f"(folded_id GLOB ? AND instr({TAG}, ?))"
     return Condition(f"{now} OR ({has_accents('folded_id')} AND {TAG} GLOB ?)", (in_order(tag), tag, pattern))
 
