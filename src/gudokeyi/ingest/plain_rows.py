@@ -8,7 +8,7 @@ import datetime
 import itertools
 import operator
 import re
-from collections.abc import Callable, Collection, Iterable, Mapping, Sequence
+from collections.abc import Callable, Collection, Iterable, KeysView, Mapping, Sequence
 from typing import TypeVar
 
 from gudokeyi.domain.kinds import Field
@@ -70,6 +70,11 @@ def first_sum(id: str) -> str:
     return word.strip(SIGNS) if not word[-1:].isdigit() and plain(word) in KNOWN_SUMS else ""
 
 
+def different_of(texts: Iterable[str]) -> KeysView[str]:
+    """Each of some texts once. In their order they take less memory than as a set, and are gone through sooner."""
+    return dict.fromkeys(texts).keys()
+
+
 def is_doubtful(text: str) -> bool:
     """May its letters have been decoded wrongly?"""
     return LOST in text or bool(decoded_twice(text))
@@ -85,7 +90,7 @@ class PlainRows:
     ) -> None:  # fmt: skip
         self.sheet, self.columns, self.cells, self.words, self.rows = sheet, columns, cells, {*words}, sheet.rows
         self.texts = {name: sheet.column(at) for name, at in columns.items()}
-        self.different = {name: {*texts} for name, texts in self.texts.items()}
+        self.different = {name: different_of(texts) for name, texts in self.texts.items()}
         # the places of the odd rows
         self.odd = {at for at, row in enumerate(self.rows) if row.line in lines} if lines else set[int]()
         # of the columns of which it is counted, the texts that say something
@@ -136,7 +141,7 @@ class PlainRows:
         self.animals = [NO_ANIMAL if place is None else self.animals[place] for place in before]
         self.sheet, self.rows, self.odd = sheet, sheet.rows, new | odd
         self.texts = {name: sheet.column(at) for name, at in self.columns.items()}
-        self.different = {name: {*texts} for name, texts in self.texts.items()}
+        self.different = {name: different_of(texts) for name, texts in self.texts.items()}
         self.leave(Field.ID, {self.texts[Field.ID][at] for at in new})
 
     def by_id(self) -> dict[str, SheetAnimal]:

@@ -35,6 +35,9 @@ class Kept(enum.Enum):
 class LastFound:
     """What was found last of each kind, and by what. Nobody changes what is kept."""
 
+    # whether anything is: else nobody needs to say by what it is found
+    keeps = True
+
     def __init__(self) -> None:
         self.kept: dict[Kept, tuple[FoundBy, object]] = {}
         self.names: NamesEver | None = None
@@ -55,6 +58,8 @@ class LastFound:
 
 class NothingKept(LastFound):
     """For whoever looks once: it is found where it is asked for, and goes behind that."""
+
+    keeps = False
 
     def of(self, what: Kept, by: FoundBy, find: Callable[[], Value]) -> Value:
         return find()

@@ -169,10 +169,13 @@ class NextBook:
         number_of = self.numbers().__getitem__
         sires, dams = map(number_of, map(SIRE_OF, animals)), map(number_of, map(DAM_OF, animals))
         values = (
-            [*map(NUMBER_OF, animals)], [*map(day_text, map(BORN_OF, animals))], [*sires], [*dams],
-            [*map(str, owner_codes)], [*map(EMBRYO_TEXTS.__getitem__, map(EMBRYO_OF, animals))],
+            map(NUMBER_OF, animals), map(day_text, map(BORN_OF, animals)), sires, dams, map(str, owner_codes),
+            map(EMBRYO_TEXTS.__getitem__, map(EMBRYO_OF, animals)),
         )  # fmt: skip
-        return self.last_found.of(kept, values, lambda: births_made(*values))
+        if not self.last_found.keeps:
+            return births_made(*values)
+        columns = [[*one] for one in values]
+        return self.last_found.of(kept, tuple(columns), lambda: births_made(*columns))
 
     def births_text(self, animals: list[SheetAnimal]) -> bytes:
         """The births of animals in the first herd, as records of a command file."""
@@ -193,8 +196,9 @@ class NextBook:
 
 
 def births_made(
-    numbers: list[str], days: list[str], sires: list[str], dams: list[str], owner_codes: list[str], embryos: list[str]
-) -> list[Command]:
+    numbers: Iterable[str], days: Iterable[str], sires: Iterable[str], dams: Iterable[str], owner_codes: Iterable[str],
+    embryos: Iterable[str],
+) -> list[Command]:  # fmt: skip
     values = zip(itertools.repeat("birth"), numbers, days, sires, dams, itertools.repeat(""), owner_codes, embryos)
     return [made(Command, one) for one in values]
 

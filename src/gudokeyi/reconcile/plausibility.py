@@ -82,22 +82,30 @@ class PlausibilityChecks:
 
     def tell_families(self) -> None:
         """What is told of parents, offspring, and animals that are there twice."""
-        left, limits = [(one.id, one.left, one.line) for one in self.animals.values() if one.left], self.limits
-        young = *values_of(self.dated, SIRE_OF, DAM_OF), left, limits.youngest
-        self.tell_found(Kept.YOUNG_PARENTS, young, self.look_at_young)
-        self.tell_found(Kept.BIRTHS_OF_DAMS, (*values_of(self.borne, DAM_OF), limits.apart), self.look_at_dams)
+        self.tell_found(Kept.YOUNG_PARENTS, self.values_of_young, self.look_at_young)
+        self.tell_found(Kept.BIRTHS_OF_DAMS, self.values_of_dams, self.look_at_dams)
         self.look_at_castrated()
-        self.tell_found(Kept.TWICE, values_of(self.dated, NAME_OF), self.look_at_names)
+        self.tell_found(Kept.TWICE, lambda: values_of(self.dated, NAME_OF), self.look_at_names)
 
-    def tell_found(self, what: Kept, by: FoundBy, look: Callable[[], None]) -> None:
-        """Tells what a look tells of all animals, which is kept for the next one."""
+    def values_of_young(self) -> FoundBy:
+        left = [(one.id, one.left, one.line) for one in self.animals.values() if one.left]
+        return *values_of(self.dated, SIRE_OF, DAM_OF), left, self.limits.youngest
+
+    def values_of_dams(self) -> FoundBy:
+        return *values_of(self.borne, DAM_OF), self.limits.apart
+
+    def tell_found(self, what: Kept, by: Callable[[], FoundBy], look: Callable[[], None]) -> None:
+        """Tells what a look tells of all animals, which is kept for the next one if anything is."""
+        if not self.last.keeps:
+            look()
+            return
 
         def found() -> list[Entry]:
             told_before = len(self.report.entries)
             look()
             return self.report.cut_off(told_before)
 
-        self.report.entries += self.last.of(what, by, found)
+        self.report.entries += self.last.of(what, by(), found)
 
     @functools.cached_property
     def dated(self) -> list[SheetAnimal]:
