@@ -13,6 +13,8 @@ from counting import Counts, counts_of
 
 TOP = pathlib.Path(__file__).resolve().parent.parent.parent
 SECONDS = 180
+# a script for a shell, which becomes the program
+IN_ROOM = 'ulimit -v "$0"; exec "$@"'
 
 Words = Sequence[str | bytes]
 # a text, or the handle of an open file
@@ -71,13 +73,15 @@ class Checks:
         err: int | IO[bytes] = subprocess.PIPE,
         refuse: Mapping[str, object] | None = None,
         before: Callable[[], object] | None = None,
+        kilobytes: int | None = None,
     ) -> Done:
-        """Runs the program. `refuse` is what `refuse.c` reads; `before` is called in the new process."""
+        """Runs the program. `refuse` is what `refuse.c` reads; `before` is called in the new process, which may have so
+        many kilobytes of memory. These are set by a shell: a copy of this process takes longer than a short run."""
         env = {"PATH": "/usr/bin:/bin", "LANG": "C.UTF-8"}
         if refuse:
             env |= {"LD_PRELOAD": str(self.refuser)} | {name: str(value) for name, value in refuse.items()}
         done = subprocess.run(
-            [self.program, *words],
+            [*(("/bin/sh", "-c", IN_ROOM, f"{kilobytes}") if kilobytes else ()), self.program, *words],
             input=None if isinstance(given, int) else given.encode() if isinstance(given, str) else given,
             stdin=given if isinstance(given, int) else None,
             stdout=out,
@@ -100,6 +104,7 @@ class Checks:
         out: int | IO[bytes] = subprocess.PIPE,
         refuse: Mapping[str, object] | None = None,
         before: Callable[[], object] | None = None,
+        kilobytes: int | None = None,
     ) -> None:
-        found = self.run(words, given, out=out, refuse=refuse, before=before)
+        found = self.run(words, given, out=out, refuse=refuse, before=before, kilobytes=kilobytes)
         self.count(found == wanted, f"{what}: {' '.join(map(repr, words))}: {found}; wanted {wanted}")

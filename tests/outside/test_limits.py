@@ -5,7 +5,6 @@ from outside.books import HEADER, males
 from outside.orders import WIDEST_BLOCK, each_order
 from outside.runs import Checks, fault, wrote
 from outside.small import SMALL
-from outside.test_memory import in_room
 
 COMMANDS = SMALL.removeprefix(HEADER).splitlines(keepends=True)
 
@@ -30,7 +29,7 @@ class TestLimits(Checks):
         """They change no answer of a small book, and take no memory for it."""
         for words in each_order():
             raised = [*words, "--limit-animals", "16000000", "--limit-steps", "200000000"]
-            self.expect("raised limits", self.run(words, SMALL), raised, SMALL, before=in_room(400_000))
+            self.expect("raised limits", self.run(words, SMALL), raised, SMALL, kilobytes=400_000)
 
     def test_lowered_limits(self) -> None:
         """A book that is full refuses births, and a command too many is told as a fault of its record."""

@@ -1,10 +1,7 @@
 """The system itself refuses memory."""
 from __future__ import annotations
 
-import functools
-import resource
 import signal
-from collections.abc import Callable
 
 from outside.orders import each_order
 from outside.refusals import Refusals, is_fault, want_of_memory
@@ -17,11 +14,6 @@ STACK = 250
 MOST_ROOM = 40_000
 
 
-def in_room(kilobytes: int) -> Callable[[], None]:
-    """Lets a new process have so much memory."""
-    return functools.partial(resource.setrlimit, resource.RLIMIT_AS, (kilobytes * 1024, kilobytes * 1024))
-
-
 class TestMemory(Refusals):
     def test_little_memory(self) -> None:
         """From the least room in which the version is told, each end is the full answer or a text that may come.
@@ -31,7 +23,7 @@ class TestMemory(Refusals):
         """
         version = self.run(["--version"])
         rooms = range(1_000, MOST_ROOM, 20)
-        least = next((room for room in rooms if self.run(["--version"], before=in_room(room)) == version), None)
+        least = next((room for room in rooms if self.run(["--version"], kilobytes=room) == version), None)
         self.count(least, "the version is told in no room below 40 MB")
         if least:
             for words in each_order():
@@ -40,9 +32,9 @@ class TestMemory(Refusals):
     def more_and_more(self, words: list[str], least: int) -> None:
         wanted, has_stack = self.run(words, SMALL), False
         for more in [*range(0, 2 * STACK, 20), *range(2 * STACK, MOST_ROOM, 500)]:
-            done = self.run(words, SMALL, before=in_room(least + more))
+            done = self.run(words, SMALL, kilobytes=least + more)
             right = done == wanted or is_fault(words[0], wanted, done, want_of_memory(words))
             has_stack |= right
             no_stack = not has_stack and more < STACK and done == wrote("", status=-signal.SIGSEGV)
             self.count(right or no_stack, f"{least + more} kB: {words}: {done}")
-        self.expect("400 MB", wanted, words, SMALL, before=in_room(400_000))
+        self.expect("400 MB", wanted, words, SMALL, kilobytes=400_000)
