@@ -19,6 +19,10 @@ from counting import counts_of, sum_of
 pytest.register_assert_rewrite("front_desk.desk")
 
 TOP = pathlib.Path(__file__).resolve().parent.parent
+# fixtures that take seconds to make: a browser, and R's look at its package
+MADE_ONCE = {"chromium", "checked"}
+# so many letters a text has that stands in the name of a test, and so many of one with more
+LONGEST, BEGINNING = 200, 40
 # what the process of the tests may use, and whatever is begun by it
 LIMITS = {one: resource.getrlimit(one) for one in (resource.RLIMIT_AS, resource.RLIMIT_CPU, resource.RLIMIT_FSIZE)}
 
@@ -44,6 +48,24 @@ def caches(tmp_path_factory: pytest.TempPathFactory) -> None:
 def numbers() -> None:
     """What is asked once of a person at a new book: the variable says it for all the tests' books."""
     os.environ["GUDOKEYI_NUMBERS"] = "HOLGBR"
+
+
+def pytest_make_parametrize_id(val: object) -> str | None:
+    """A long text doesn't stand whole in the name of its test, which goes from process to process with each report."""
+    if isinstance(val, str | bytes) and len(val) > LONGEST:
+        return f"{ascii(val[:BEGINNING])} and so on"
+    return None
+
+
+def pytest_itemcollected(item: pytest.Item) -> None:
+    """Tests with something that is made once go to one process, where there are several."""
+    for name in MADE_ONCE.intersection(getattr(item, "fixturenames", ())):
+        item.add_marker(pytest.mark.xdist_group(name))
+
+
+def pytest_collection_modifyitems(items: list[pytest.Item]) -> None:
+    """They begin before others, since that process may need longer."""
+    items.sort(key=lambda item: item.get_closest_marker("xdist_group") is None)
 
 
 def pytest_runtest_setup() -> None:

@@ -8,7 +8,7 @@ import pytest
 
 import reference
 from outside.books import HEADER, animal, drawn
-from outside.runs import Checks, Words, wrote
+from outside.runs import Checks, wrote
 from outside.session_client import Client
 from outside.session_journal import JournalChecks
 from outside.session_requests import Requests
@@ -78,7 +78,7 @@ class TestSessions(Checks):
                 self.as_word(client, text, [word], 1)
             self.count(client.end() == 0, f"session as other words: {seed}")
 
-    def as_word(self, client: Client, text: str, question: Words, inspector: int) -> None:
+    def as_word(self, client: Client, text: str, question: list[str], inspector: int) -> None:
         before = len(client.answers)
         client.given.write(f"seen,inspector,{inspector},{','.join(question)}\n".encode())
         client.flush()

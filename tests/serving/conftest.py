@@ -6,6 +6,7 @@ from collections.abc import Iterator
 
 import pytest
 
+from web.screen import chromium
 from web.server import none_left
 from web.site import HOST
 from front_desk.conftest import desk, new_desk, society_desk, taken_society
@@ -14,7 +15,7 @@ from gudokeyi.store import accounts as passwords
 from gudokeyi.web.addresses import ServerAddress
 from serving.visitor import Served, Visitor, served_of, with_accounts
 
-__all__ = ["desk", "new_desk", "none_left", "society_desk", "taken_society"]
+__all__ = ["chromium", "desk", "new_desk", "none_left", "society_desk", "taken_society"]
 
 
 @pytest.fixture

@@ -7,14 +7,13 @@ import re
 import pytest
 from selenium import webdriver
 
-from web.screen import PHONE, Screen, chromium
+from web.screen import PHONE, Screen
 from web.test_access import Outline
 from front_desk.desk import Desk
 from gudokeyi.store.accounts import Accounts
 from serving.server import Server
 from serving.visitor import WORD, Served, Visitor, with_accounts
 
-__all__ = ["chromium"]
 DAM, OTHER = "GK-17/472c", "another good word"
 # as the server's log has what was refused: the wrong password, and the form that was sent when the login was over
 REFUSED = [("POST /login", "401", "refused login as Carl"), ("POST /file/<kind>", "401", "refused login")]

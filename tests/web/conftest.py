@@ -6,12 +6,13 @@ from collections.abc import Iterator
 
 import pytest
 
+from web.screen import chromium
 from web.server import none_left
 from web.site import Site, site_of
 from front_desk.conftest import desk, new_desk, society_desk, taken_society, today
 from front_desk.desk import Desk
 
-__all__ = ["desk", "new_desk", "none_left", "society_desk", "taken_society", "today"]
+__all__ = ["chromium", "desk", "new_desk", "none_left", "society_desk", "taken_society", "today"]
 
 
 @pytest.fixture

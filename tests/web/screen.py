@@ -36,7 +36,7 @@ IS_WHOLE = "document.readyState === 'complete'"
 Value = TypeVar("Value")
 
 
-@pytest.fixture(scope="module")
+@pytest.fixture(scope="session")
 def chromium(request: pytest.FixtureRequest) -> Iterator[webdriver.Chrome]:
     driver, browser = shutil.which("chromedriver"), shutil.which("chromium")
     if not driver or not browser:

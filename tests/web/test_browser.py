@@ -11,11 +11,10 @@ from selenium.webdriver.common.keys import Keys
 from selenium.webdriver.support.ui import Select
 
 from web.said import in_each
-from web.screen import PHONE, Screen, chromium
+from web.screen import PHONE, Screen
 from web.server import Server
 from front_desk.desk import TOP, Desk
 
-__all__ = ["chromium"]
 LANGUAGES = ("en", "de", "fr")
 EXAMPLE = TOP / "examples/society.csv"
 

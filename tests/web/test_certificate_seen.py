@@ -9,12 +9,11 @@ import re
 import pytest
 from selenium import webdriver
 
-from web.screen import PHONE, Screen, chromium
+from web.screen import PHONE, Screen
 from front_desk.desk import Desk
 from web.test_picture import picture_of
 from gudokeyi.domain.settings import LANGUAGES
 
-__all__ = ["chromium"]
 NAME = "Wilhelmine Charlotte Friederike von der hohen Wiese am Wald und an der Heide"
 OWNER = "Arbeitsgemeinschaft der Halter alter Rassen im Landkreis Sonstwo"
 SOCIETY = (

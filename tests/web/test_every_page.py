@@ -4,11 +4,10 @@ from __future__ import annotations
 import pytest
 from selenium import webdriver
 
-from web.screen import Screen, chromium
+from web.screen import Screen
 from web.server import Server
 from front_desk.desk import Desk
 
-__all__ = ["chromium"]
 NUMBER = "HOLGBRM000000000402"
 PAGES = [
     "/", "/about", "/animals", "/animals?words=nothing", "/animals?sex=X&from=no", f"/animal/{NUMBER}",

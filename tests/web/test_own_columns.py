@@ -11,12 +11,11 @@ from selenium import webdriver
 
 from front_desk.desk import Desk
 from front_desk.test_corrections import SHEET
-from web.screen import Screen, chromium
+from web.screen import Screen
 from web.sent_forms import corrected, written_in
 from web.server import Server
 from web.site import Site, shown, site_of
 
-__all__ = ["chromium"]
 ANNA = "HOLGBRF000000000004"
 # two columns that a book doesn't know
 KEPT = "".join(

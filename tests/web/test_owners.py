@@ -9,12 +9,11 @@ from selenium import webdriver
 
 from front_desk.desk import Desk
 from front_desk.test_corrections import SHEET
-from web.screen import Screen, chromium
+from web.screen import Screen
 from web.sent_forms import corrected, written_in
 from web.server import Server
 from web.site import Site, shown, site_of
 
-__all__ = ["chromium"]
 ANNA, ALF = "HOLGBRF000000000004", "HOLGBRM000000000005"
 KEPT = {"number": "M-17", "address": "Hof 3\nBergdorf", "mail": "anna@oak.example", "telephone": "0123 456"}
 

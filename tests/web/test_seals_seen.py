@@ -10,7 +10,7 @@ from selenium import webdriver
 from werkzeug.test import TestResponse
 
 from web.said import SENTENCES
-from web.screen import Screen, chromium
+from web.screen import Screen
 from web.server import Server
 from web.site import HOST, Site, shown
 from front_desk.desk import Desk
@@ -23,7 +23,6 @@ from gudokeyi.services.seals import SealedCertificate, sealed_certificate
 from gudokeyi.store.book import Book
 from gudokeyi.web import certificate_work
 
-__all__ = ["chromium"]
 ANIMAL = "GK-17/472c"
 TITLE = "document.querySelector('h1').innerText"
 PUBLISH = '//form[@class="line"][contains(@action, "/seals")]//button'

@@ -7,10 +7,9 @@ from selenium.webdriver.support.ui import Select
 
 from front_desk.desk import Desk
 from front_desk.test_taken_back import SHEET
-from web.screen import Screen, chromium
+from web.screen import Screen
 from web.server import Server
 
-__all__ = ["chromium"]
 # nothing is wider than a telephone
 FITS = "document.documentElement.scrollWidth <= window.innerWidth"
 

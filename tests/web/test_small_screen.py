@@ -4,11 +4,10 @@ from __future__ import annotations
 import pytest
 from selenium import webdriver
 
-from web.screen import PHONE, Screen, chromium
+from web.screen import PHONE, Screen
 from web.server import Server
 from front_desk.desk import Desk
 
-__all__ = ["chromium"]
 # with known ancestors of six generations
 DEEP = "GK-18/500c"
 NUMBER = "HOLGBRF000000000500"
