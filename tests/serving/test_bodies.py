@@ -4,6 +4,7 @@ from __future__ import annotations
 import io
 import itertools
 import re
+import resource
 import socket
 import urllib.parse
 
@@ -154,6 +155,21 @@ def test_files_not_received(society_desk: Desk, cheap: None) -> None:
         told = all_told(server, "/sheet", within, f"Accept-Language: {language}-CH,en;q=0.5").rpartition("\n")[2]
         assert told.startswith(begins) and told == TOO_LARGE.told(language).text
     server.end()
+
+
+def test_no_room_for_a_file(society_desk: Desk, cheap: None) -> None:
+    """Where there is no room for what is received, as on a full disk, that is told, and the server goes on."""
+    with_accounts(society_desk.room / "book")
+    server = Server(society_desk.room, society_desk.program)
+    carl = Browser(server, "Carl")
+    # as of a full disk, nothing more is written into a file than this
+    resource.prlimit(server.process.pid, resource.RLIMIT_FSIZE, (600_000, 600_000))
+    head = b'--b\r\nContent-Disposition: form-data; name="sheet"; filename="a.csv"\r\n\r\n'
+    body = head + b"x" * 2_000_000 + b"\r\n--b--\r\n"
+    headers = f"Content-Length: {len(body)}", f"Cookie: {carl.cookie}"
+    assert " 507 " in first_line(server, "/sheet", *headers, body=body, kind="multipart/form-data; boundary=b")
+    assert "a.csv" not in carl.get("/sheet") and "Animals" in carl.get("/animals")
+    server.kill()
 
 
 def all_told(server: Server, path: str, body: bytes, *headers: str) -> str:
