@@ -241,7 +241,9 @@ class OwnerDays:
                     continue
                 # it has the owner that it has in the book, from its birth on
                 animal.owner_day = in_book.owner_day
-                found.append(of_book.setdefault(code, made(Owners, (code, [], 0, False))))
+                if code not in of_book:
+                    of_book[code] = made(Owners, (code, [], 0, False))
+                found.append(of_book[code])
                 continue
             owners = from_birth.get(animal.owner)
             if owners is None:
