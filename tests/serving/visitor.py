@@ -11,6 +11,7 @@ from dataclasses import dataclass
 from flask import Flask
 from werkzeug.test import TestResponse
 
+from web.prepared_workers import prepared_workers
 from web.site import HOST, Site
 from gudokeyi.domain.people import AccountRole
 from gudokeyi.services.book_session import BookSession
@@ -88,7 +89,8 @@ def served_of(folder: pathlib.Path, program: str, room: pathlib.Path, way: Serve
     gate = AccountLogins(Accounts(folder, clock), way, Throttle(clock), AccessLog(log))
     desk = ServedBook(folder, BookSession(), False, Uploads(room), Jobs(), Exports(folder))
     try:
-        yield Served(desk, web_app(desk, gate), gate, clock, log)
+        with prepared_workers():
+            yield Served(desk, web_app(desk, gate), gate, clock, log)
     finally:
         desk.jobs.end()
         desk.exports.end()

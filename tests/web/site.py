@@ -23,6 +23,7 @@ from gudokeyi.web.files import Uploads
 from gudokeyi.web.forms import mark_text, new_form
 from gudokeyi.web.served_book import ServedBook
 from gudokeyi.web.workers import Exports, Jobs
+from web.prepared_workers import prepared_workers
 
 SECRET, PORT = "a secret", 4711
 HOST = f"127.0.0.1:{PORT}"
@@ -122,7 +123,8 @@ def site_of(
     room.mkdir(mode=0o700)
     desk = ServedBook(folder, BookSession(), read_only, Uploads(room), Jobs(), Exports(folder))
     try:
-        yield Site(desk, web_app(desk, LinkLogins(secret, PORT, read_only)), secret)
+        with prepared_workers():
+            yield Site(desk, web_app(desk, LinkLogins(secret, PORT, read_only)), secret)
     finally:
         # a change of this process may have it ignored, and whoever is started later would ignore it too
         signal.signal(signal.SIGINT, signal.default_int_handler)

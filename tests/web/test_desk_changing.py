@@ -116,8 +116,10 @@ def test_same_number(site: Site, society_desk: Desk) -> None:
     assert "sheet.csv is taken." in shown(site.page(site.post(f"{sheet}/take", **looked_in(pages[sheet])).headers["Location"]))
 
 
-def test_breed_of_another_history(site: Site, society_desk: Desk) -> None:
+def test_breed_of_another_history(site: Site, society_desk: Desk, monkeypatch: pytest.MonkeyPatch) -> None:
     """While the breed is measured an earlier state of the book is shown, none of a book that gave way to a backup."""
+    # a page waits for no measures, however soon they come
+    monkeypatch.setattr("gudokeyi.web.workers.SOON", 0)
     copy = site.get("/book.sqlite").get_data()
     society_desk.good("exit", DAM, "--day", "2024-05-01")
     site.page("/breed")

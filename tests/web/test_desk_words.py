@@ -188,8 +188,10 @@ def test_plan(site: Site, society_desk: Desk) -> None:
 
 
 @pytest.mark.parametrize("language", LANGUAGES)
-def test_breed(site: Site, society_desk: Desk, language: str) -> None:
+def test_breed(site: Site, society_desk: Desk, language: str, monkeypatch: pytest.MonkeyPatch) -> None:
     """The breed's state is the part of the page that `breed` writes; an animal's page has its mean kinship then."""
+    # a page waits for no measures, however soon they come
+    monkeypatch.setattr("gudokeyi.web.workers.SOON", 0)
     site.get(f"/language/{language}")
     page = site.page("/breed")
     society_desk.good("breed", "--language", language, "--out", "breed.html")
