@@ -59,7 +59,7 @@ def test_what_is_told_besides(flock_desk: Desk, monkeypatch: pytest.MonkeyPatch)
     def prepare(book: Book) -> tuple[Outcome, Prepared | None]:
         notes.append(f"{len(notes)}")
         book.notes.append(notes[-1])
-        return outcome, cast(Prepared, "prepared")
+        return outcome, cast(Prepared, SimpleNamespace(filed=SimpleNamespace(text="")))
 
     def prepare_beside_another(book: Book) -> tuple[Outcome, Prepared | None]:
         if not notes:

@@ -77,9 +77,10 @@ def test_owners_that_are_only_respelt(rows: list[str], before: set[str], found: 
     records = {id: SimpleNamespace(owner_code=one) for id, one in before_it.items()}
     numbers = {id: SimpleNamespace(registration_number=id) for id in before_it}
     book, report = SimpleNamespace(society_records=numbers, records=records, owner_of=str), Report()
+    in_book = SimpleNamespace(numbers={id: id for id in before_it})
     next_book = SimpleNamespace(
         animals=animals, otherwise=animals, rows_otherwise=lambda: [*animals.values()], book=book, report=report,
-        kept_owners={"d"},
+        kept_owners={"d"}, in_book=in_book,
     )  # fmt: skip
     tell_respelt_owners(cast(NextBook, next_book), before)
     assert [entry.finding for entry in report.entries] == found

@@ -1,4 +1,4 @@
-"""Processes beside the pages by copies of one that has their modules already, for tests of what such a process finds."""
+"""Processes beside the pages as copies of one that has their modules: for tests of what such a process finds."""
 from __future__ import annotations
 
 import contextlib

@@ -2,7 +2,6 @@
 plan of matings with what it assumes."""
 from __future__ import annotations
 
-import dataclasses
 import datetime
 import html
 import pathlib
@@ -202,7 +201,7 @@ def test_plan_assumes(site: Site, society_desk: Desk) -> None:
 
 def test_one_description_of_a_list(site: Site) -> None:
     """The word and the page have the options that a choice has, from one description."""
-    assert {one.attribute for one in LIST.values()} == {field.name for field in dataclasses.fields(Choice)}
+    assert {one.attribute for one in LIST.values()} == {*Choice._fields}
     assert {*LIST_ON_PAGE} == LIST.keys()
     page = site.page("/animals?sex=M&owner=Hill++Farm&from=2017&to=2018&living=1")
     fields = written_in(page)
