@@ -47,8 +47,8 @@ Value = TypeVar("Value")
 # the field that drops what has no row
 DROPS = "drop_gone"
 # so often a sheet is prepared while others file, and so often at most where they would wait longer than this for it, in
-# seconds
-TRIES_BESIDE, MOST_TRIES, SECONDS_OTHERS_WAIT = 3, 15, 2.5
+# seconds: for a large sheet these are some minutes in which others file without a pause
+TRIES_BESIDE, MOST_TRIES, SECONDS_OTHERS_WAIT = 3, 40, 2.5
 # the book and the sheet that this process looked at last
 STATE, READING = StateKept(), LastReading()
 # the settings by which sheets are read
