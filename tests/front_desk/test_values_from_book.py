@@ -15,7 +15,7 @@ from gudokeyi.domain.provenance import GIVEN_EXIT, BirthBasis, BirthSource, Exit
 from gudokeyi.ingest.animals import SheetAnimal
 from gudokeyi.ingest.day_cells import DayCells
 from gudokeyi.ingest.days import Span, month_of, year_of
-from gudokeyi.ingest.findings.cells import ExitInferred
+from gudokeyi.ingest.findings.exits import ExitInferred
 from gudokeyi.ingest.unknown_parents import UnknownParents
 from gudokeyi.reconcile.findings.animals import KeptByHand, KeptFromBook, SexInferred
 from gudokeyi.reconcile.next_book import NextBook

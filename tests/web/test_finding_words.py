@@ -12,7 +12,8 @@ from gudokeyi.domain.kinds import Field, Role
 from gudokeyi.domain.provenance import BirthBasis, BirthSource, ExitBasis, ExitSource, Period, SexSource
 from gudokeyi.domain.refusals import Refusal
 from gudokeyi.domain.settings import LANGUAGES
-from gudokeyi.ingest.findings.cells import ExitInferred, IdAgain
+from gudokeyi.ingest.findings.cells import IdAgain
+from gudokeyi.ingest.findings.exits import ExitInferred
 from gudokeyi.reconcile.findings.animals import BirthDayInferred, KeptByHand, KeptFromBook, RowIsGone
 from gudokeyi.reconcile.findings.by_hand import ValueChanged
 from gudokeyi.reconcile.findings.parents import DayFact, ParentRefused

@@ -15,11 +15,9 @@ from gudokeyi.ingest.day_cells import DayCell, DayCells, ExitCell, usual_cell
 from gudokeyi.ingest.day_forms import DayForms, Readings
 from gudokeyi.ingest.days import ANY_DAY, DayFault, Span
 from gudokeyi.ingest.encodings import Letters
-from gudokeyi.ingest.findings.cells import (
-    DAYS, DayLeftOut, EmbryoUnread, ErrorValue, ExitInferred, ExitsInOtherWords, ExitsWithoutDay, NoExits, Remark,
-    SexUnread, TextTooLong,
-)  # fmt: skip
+from gudokeyi.ingest.findings.cells import DAYS, DayLeftOut, EmbryoUnread, ErrorValue, SexUnread, TextTooLong
 from gudokeyi.ingest.findings.columns import SheetFinding
+from gudokeyi.ingest.findings.exits import ExitInferred, ExitsInOtherWords, ExitsWithoutDay, NoExits, Remark
 from gudokeyi.ingest.findings.rows import SoldWithin, TakerUnclear
 from gudokeyi.ingest.findings.sheets import MOST_TEXTS, Cells, CellsUnread, ErrorCells, ErrorColumn, TextCount
 from gudokeyi.ingest.rows_as_meant import Takers

@@ -12,7 +12,8 @@ from typing import Container
 
 from gudokeyi.domain.findings import Report
 from gudokeyi.domain.kinds import Field
-from gudokeyi.ingest.findings.cells import NoExits, Remark, UnseenInId
+from gudokeyi.ingest.findings.cells import UnseenInId
+from gudokeyi.ingest.findings.exits import NoExits, Remark
 from gudokeyi.ingest.findings.rows import CellsRepeated, NoteRow, StatusDisagrees, StatusRead
 from gudokeyi.ingest.findings.sheets import UnseenDropped
 from gudokeyi.ingest.sheets import Sheet, SheetRow

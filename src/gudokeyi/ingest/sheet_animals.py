@@ -19,9 +19,10 @@ from gudokeyi.ingest.day_forms import DayForms
 from gudokeyi.ingest.days import Span, Unreadable, read_span
 from gudokeyi.ingest.findings.cells import (
     DAYS, IdAgain, IdAlone, IdOfOtherAlphabet, IdTooLong, IdUnlikeOthers, IdWithFewerDigits, LikeASum, NoAnimal, NoId,
-    Remark, TitlesAgain, TooManyCells, TruthValue,
+    TitlesAgain, TooManyCells, TruthValue,
 )  # fmt: skip
 from gudokeyi.ingest.findings.columns import SheetFinding
+from gudokeyi.ingest.findings.exits import Remark
 from gudokeyi.ingest.findings.sheets import CutNumber, FormulaCell, Place
 from gudokeyi.ingest.odd_ids import Oddity, odd_ids
 from gudokeyi.ingest.plain_rows import CELLS_OF, SIGNS, PlainRows, chooser, first_sum

@@ -18,8 +18,8 @@ from gudokeyi.domain.messages import Mistake
 from gudokeyi.domain.requests import seen_of
 from gudokeyi.ingest.encodings import decoding
 from gudokeyi.ingest.files import MOST_LETTERS, GivenFile, check_bounds
-from gudokeyi.ingest.findings.cells import Remark
 from gudokeyi.ingest.findings.columns import SheetFinding
+from gudokeyi.ingest.findings.exits import Remark
 from gudokeyi.ingest.findings.files import GreyRows
 from gudokeyi.ingest.messages import SheetFault
 from gudokeyi.ingest.texts import clean

@@ -11,7 +11,7 @@ from gudokeyi.domain.findings import Finding
 from gudokeyi.domain.kinds import CELL_FIELDS, Field
 from gudokeyi.domain.own_columns import MOST_IN_NOTE, MOST_IN_TITLE, Note
 from gudokeyi.ingest.animals import SheetAnimal
-from gudokeyi.ingest.findings.cells import Remark
+from gudokeyi.ingest.findings.exits import Remark
 from gudokeyi.reconcile.findings.animals import EarlyYearKept, RemarkKept
 from gudokeyi.reconcile.next_book import NextBook
 from gudokeyi.store.history import login

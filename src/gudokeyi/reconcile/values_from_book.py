@@ -11,7 +11,8 @@ from gudokeyi.domain.kinds import CELL_FIELDS, Field, Role
 from gudokeyi.domain.provenance import Period
 from gudokeyi.ingest.animals import SheetAnimal, birth_in_book
 from gudokeyi.ingest.days import ANY_DAY, DayFault, Span
-from gudokeyi.ingest.findings.cells import DayLeftOut, ExitInferred
+from gudokeyi.ingest.findings.cells import DayLeftOut
+from gudokeyi.ingest.findings.exits import ExitInferred
 from gudokeyi.reconcile.exits import Exit, exit_in_book, given_day
 from gudokeyi.reconcile.findings.animals import KeptByHand, KeptFromBook
 from gudokeyi.reconcile.impossible_parents import tried_again

@@ -16,7 +16,8 @@ from gudokeyi.domain.kinds import Field
 from gudokeyi.domain.messages import MOST_NAMED, Mistake
 from gudokeyi.domain.refusals import Refusal
 from gudokeyi.domain.wording import SEXES
-from gudokeyi.ingest.findings.cells import CellLeftOut, ErrorValue, ExitsWithoutDay
+from gudokeyi.ingest.findings.cells import CellLeftOut, ErrorValue
+from gudokeyi.ingest.findings.exits import ExitsWithoutDay
 from gudokeyi.ingest.findings.sheets import CellsUnread, ErrorCells
 from gudokeyi.reconcile.findings.parents import WRONG, ParentRefused
 from gudokeyi.reconcile.findings.by_hand import YoungParent

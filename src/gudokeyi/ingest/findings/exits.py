@@ -1,0 +1,115 @@
+"""What is found of cells that tell of exits, or of something that is none: each kind as data, and in words."""
+from __future__ import annotations
+
+import datetime
+from collections.abc import Mapping, Sequence
+from dataclasses import dataclass
+from typing import NamedTuple
+
+from gudokeyi.domain.findings import Finding, Severity, What
+from gudokeyi.domain.provenance import ExitBasis
+from gudokeyi.domain.wording import Counted, OptionalPart, Quoted, Text
+from gudokeyi.ingest.findings.columns import SheetFinding
+from gudokeyi.ingest.findings.sheets import MOST_SHOWN, Cells
+from gudokeyi.ingest.words import exit_word
+
+
+@dataclass(frozen=True, slots=True)
+class ExitInferred(Finding):
+    """An exit on the last day of a month or a year, or one whose day stands within a text, which is empty where the
+    cell has nothing else."""
+
+    day: datetime.date
+    basis: ExitBasis
+    text: str
+
+    what = What.INFERRED
+    code = "exit inferred"
+    message = Text("exit on {day}{maybe_basis_period}{maybe_text}")
+    parts = {
+        "maybe_basis_period": OptionalPart(", the last day of {basis_period}"),
+        "maybe_text": OptionalPart(", from '{text}'"),
+    }
+
+
+@dataclass(frozen=True, slots=True)
+class ExitsWithoutDay(SheetFinding):
+    """Cells such as `sold`."""
+
+    cells: Cells
+
+    code = "exits without day"
+    message = Text(
+        "an exit without a day stands in {cells}, the first in line {cells_line}: {cells_texts}{maybe_cells_more}: "
+        "such an animal counts as gone, on a day that isn't known unless the book has it; where you know the day, "
+        "write it as 01.03.2001, or behind the word, as {word} 01.03.2001",
+        "cells_count",
+    )
+    parts = {
+        "maybe_cells_more": OptionalPart(" and {cells_more} more"),
+    }
+
+    def values(self) -> Mapping[str, object]:
+        return {"word": exit_word(self.cells.texts[0].text) if self.cells.texts else ""}
+
+
+@dataclass(frozen=True, slots=True)
+class ExitsInOtherWords(SheetFinding):
+    """Cells such as `licensed 2020`, which have a day beside words of which none tells of an exit."""
+
+    cells: Cells
+
+    code = "exits in other words"
+    message = Text(
+        "a day beside words that tell of no exit stands in {cells}, the first in line {cells_line}: "
+        "{cells_texts}{maybe_cells_more}: each counts as an exit on this day; where the animal hasn't left, write "
+        "nothing or alive, lebt or vivant",
+        "cells_count",
+    )
+    parts = {
+        "maybe_cells_more": OptionalPart(" and {cells_more} more"),
+    }
+
+
+class Remark(NamedTuple):
+    """A cell that tells of something which no field has: it is kept as a note."""
+
+    line: int
+    title: str
+    text: str
+
+
+@dataclass(frozen=True, slots=True)
+class NoExits(SheetFinding):
+    """Cells of a column such as `retired 2019` or `on loan`, which tell of something else than an exit: the first line,
+    and the first texts; `more` aren't here."""
+
+    title: str
+    count: int
+    line: int
+    texts: tuple[str, ...]
+    more: int
+
+    severity = Severity.FACTS
+    code = "no exits"
+    message = Counted(
+        "{count} cell of the column '{title}' tells of something else than an exit, in line {line}: {said}: the animal "
+        "stays, and what the cell says is kept as a note; if it has left, write a day, or a word such as sold, verkauft "
+        "or vendu",
+        "{count} cells of the column '{title}' tell of something else than exits, the first in line {line}: "
+        "{said}{maybe_more}: these animals stay, and what the cells say is kept as notes; if one has left, write a day, "
+        "or a word such as sold, verkauft or vendu",
+        "count",
+    )
+    parts = {
+        "maybe_more": OptionalPart(" and {more} more"),
+    }
+
+    @classmethod
+    def of(cls, remarks: Sequence[Remark]) -> NoExits:
+        texts = [*dict.fromkeys(one.text for one in remarks)]
+        first = remarks[0]
+        return cls(first.title, len(remarks), first.line, tuple(texts[:MOST_SHOWN]), len(texts[MOST_SHOWN:]))
+
+    def values(self) -> Mapping[str, object]:
+        return {"said": Quoted(self.texts)}
