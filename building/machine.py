@@ -9,10 +9,13 @@ import shutil
 import tempfile
 from typing import Iterator
 
-# What the proof of one crate takes, and what a process of it may take.
+# What the proof of one crate by one process takes, and what each further process of it may take.
 MEMORY = 4_000_000_000
 MEMORY_OF_JOB = 2_000_000_000
+# A crate proved by four processes takes half as much again of the processor as by one; more shorten it no further.
 MOST_JOBS = 4
+# With so many processors the crate that most others wait for has two processes from the start.
+MANY_PROCESSORS = 4
 # A container's limit, and what it holds of that.
 GROUPS = (
     ("/sys/fs/cgroup/memory.max", "/sys/fs/cgroup/memory.stat", r"^anon (\d+)"),
@@ -27,15 +30,23 @@ class Machine:
     """
 
     def __init__(self) -> None:
-        free = free_memory()
-        self.processors = len(os.sched_getaffinity(0))
-        self.most_runs = max(1, min(self.processors, max(2, self.processors // 2), free // MEMORY))
-        # One run has so many processes, and each other one half as many: all of them are to fit into the memory.
-        self.most_jobs = max(1, min(self.processors, MOST_JOBS, 2 * free // (MEMORY_OF_JOB * (self.most_runs + 1))))
+        self.memory, self.processors = free_memory(), len(os.sched_getaffinity(0))
+        self.most_runs = max(1, min(self.processors, self.memory // MEMORY))
 
-    def jobs(self, running: list[int]) -> int:
-        """The processes of a run that begins beside runs of so many: one run at a time has all, others half as many."""
-        return max(1, self.most_jobs // 2) if self.most_jobs in running else self.most_jobs
+    def jobs(self, running: list[int], ready: int, leads: bool) -> int:
+        """The processes of the next run, beside runs of so many and with so many crates ready, its own among them; none
+        while there is no room. It has one, or its share of the processors that nobody has yet. The crate that most
+        others wait for leads: it has two where processors are many, even if others are to wait for theirs."""
+        idle = self.processors - sum(running)
+        if len(running) >= self.most_runs or idle <= 0 and not leads:
+            return 0
+        least = 2 if leads and self.processors >= MANY_PROCESSORS else 1
+        return max(1, min(max(least, idle // ready), MOST_JOBS, self.fitting(running)))
+
+    def fitting(self, running: list[int]) -> int:
+        """The processes of a further run for which there is memory beside runs of so many."""
+        taken = sum(MEMORY + MEMORY_OF_JOB * (jobs - 1) for jobs in running)
+        return 1 + (self.memory - taken - MEMORY) // MEMORY_OF_JOB
 
 
 def free_memory() -> int:

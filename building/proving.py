@@ -53,12 +53,15 @@ class Proving:
             return
         chains = self.crates.chains
         self.ready = sorted([*self.ready, *self.order.get_ready()], key=lambda name: -chains[name])
-        while self.ready and len(self.running) < self.machine.most_runs:
-            name = self.ready.pop(0)
-            jobs = self.machine.jobs([jobs for _, jobs in self.running.values()])
-            gives_way = any(chains[other] > chains[name] for other, _ in self.running.values())
+        while self.ready:
+            name, running = self.ready[0], [jobs for _, jobs in self.running.values()]
+            leads = all(chains[other] <= chains[name] for other, _ in self.running.values())
+            jobs = self.machine.jobs(running, len(self.ready), leads)
+            if not jobs:
+                break
+            self.ready.remove(name)
             self.say(f"proving {name}")
-            self.running[pool.submit(self.prove, name, jobs, gives_way)] = name, jobs
+            self.running[pool.submit(self.prove, name, jobs, not leads)] = name, jobs
 
     def end(self) -> None:
         """Waits until one has ended."""

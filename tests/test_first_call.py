@@ -27,15 +27,16 @@ CHANGES: dict[str, Callable[[Repository], object]] = {
     "it isn't known what it was built of": lambda here: (here.top / f"crates/{PROGRAM}/out/{PROGRAM}.built").unlink(),
 }
 
-# processors, free memory in GB; runs at once, processes of the first, of one beside it
+# processors, free memory in GB; runs at once; processes of the leading crate alone, of it where nine are ready, and of
+# another one beside it
 SHARES = [
-    (1, 60, 1, 1, 1),
-    (2, 24, 2, 2, 1),
-    (4, 24, 2, 4, 2),
-    (4, 8, 2, 2, 1),
-    (4, 4, 1, 2, 1),
-    (4, 2, 1, 1, 1),
-    (16, 60, 8, 4, 2),
+    (1, 60, 1, 1, 1, 0),
+    (2, 24, 2, 2, 1, 1),
+    (4, 24, 4, 4, 2, 1),
+    (4, 8, 2, 3, 2, 1),
+    (4, 4, 1, 1, 1, 0),
+    (4, 2, 1, 1, 1, 0),
+    (16, 60, 15, 4, 2, 1),
 ]
 
 
@@ -230,11 +231,14 @@ class TestFirstCall:
 
     def test_shares(self) -> None:
         """What a machine's processors and free memory give: runs at once, and the processes of each."""
-        for processors, free, runs, first, second in SHARES:
+        for processors, free, *wanted in SHARES:
             with (
                 unittest.mock.patch("os.sched_getaffinity", return_value=range(processors)),
                 unittest.mock.patch("building.machine.free_memory", return_value=free * 10**9),
             ):
                 machine = Machine()
-            got = (machine.most_runs, machine.jobs([]), machine.jobs([machine.most_jobs]))
-            self.count(got == (runs, first, second), f"{processors} processors, {free} GB: {got}")
+            leading = machine.jobs([], 9, leads=True)
+            got = [machine.most_runs, machine.jobs([], 1, leads=True), leading, machine.jobs([leading], 8, leads=False)]
+            self.count(got == wanted, f"{processors} processors, {free} GB: {got}")
+            full = machine.jobs([1] * machine.most_runs, 1, leads=True)
+            self.count(full == 0, f"{processors} processors, {free} GB: {full} beside all")
