@@ -14,7 +14,7 @@ from copied_repository import answered
 # the commands that `check` is given, beside those that a test makes
 COMMANDS = "cat cp cut dirname grep head id mktemp readlink rm sed sh tail tee tr wc".split()
 RT = """#!/bin/sh
-echo "rt $*" >>"$NOTES"
+echo "rt $* by $RT_JOBS at once" >>"$NOTES"
 echo "7 passed, 0 failed"
 exit {status}
 """
@@ -44,7 +44,7 @@ class Folder:
         for folder in (self.top / "building", self.top / "tests", self.bin):
             folder.mkdir(parents=True)
         shutil.copy(TOP / "check", self.top / "check")
-        for name in ("tests/counting.py", "building/asking.py"):
+        for name in ("tests/counting.py", "building/asking.py", "building/machine.py"):
             shutil.copy(TOP / name, self.top / name)
         self.write("tests/conftest.py", CONFTEST)
         self.write("tests/test_one.py", "def test_one() -> None:\n    assert True\n")
@@ -95,7 +95,7 @@ def test_what_is_missing_is_told_behind_the_proofs(tmp_path: pathlib.Path) -> No
     folder = Folder(tmp_path, commands=("cc", "Rscript"))
     ended, lines, told = folder.call()
     assert ended == 1
-    assert folder.notes.read_text(encoding="utf-8").splitlines()[0] == "rt ci"
+    assert folder.notes.read_text(encoding="utf-8").splitlines()[0] == "rt ci by 1 at once"
     assert "7 passed, 0 failed" in lines
     assert "chromedriver isn't on the path" in told
     assert not lines[-1].endswith(" 0 failed")
