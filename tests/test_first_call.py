@@ -154,7 +154,15 @@ class TestFirstCall:
         self.count((status, out) == (1, ""), f"a crate that fails: {status} {out!r}")
         why = "herd_advice is not proved: rt check in crates/herd_advice says why"
         self.count(tells(err, "a contract isn't met", why, "still proving herd_pedigree"), err)
-        later = begun & {"herd_register", "herd_office", "herd_report", "herd_session", "herdbook"}
+        later = begun & {
+            "herd_register",
+            "herd_command_file",
+            "herd_office",
+            "herd_report",
+            "herd_orders",
+            "herd_session",
+            "herdbook",
+        }
         self.count(not later, f"begun in spite of a crate that failed: {later}")
         below = {
             "herd_animal",

@@ -1,3 +1,2 @@
-pub mod reading
 pub mod writing
 pub mod PartFacts

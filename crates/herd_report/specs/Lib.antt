@@ -1,4 +1,1 @@
-pub mod reading
 pub mod writing
-pub mod RunFault
-pub mod Run

@@ -9,8 +9,8 @@ use Rattle.herd_register.specs.Register.{Register, register_book}
 use Rattle.herd_register.specs.Run.{IsLegal, commands_of, run_book}
 use Rattle.herd_register.specs.declared.step.Step.{Step}
 use Rattle.csv_records.specs.Fields.{Fields}
-use Rattle.herd_report.specs.reading.LineCause.{is_interruption}
-use Rattle.herd_report.specs.declared.reading.line_fault.LineFault.{LineFault}
+use Rattle.herd_command_file.specs.LineCause.{is_interruption}
+use Rattle.herd_command_file.specs.declared.line_fault.LineFault.{LineFault}
 use Rattle.herd_text.specs.Text.{PassesOn}
 use Rattle.herd_session.specs.Answers.{IsAnswer, closed_line, joined}
 use Rattle.herd_session.specs.Filed.{AreAskedInTurn, commands_at}

@@ -20,8 +20,8 @@ use Rattle.herd_report.specs.writing.Registered.{are_there}
 use Rattle.herd_report.specs.writing.RelationshipList.{relationships_text}
 use Rattle.herd_report.specs.writing.SealedCertificate.{sealed_text}
 use Rattle.herd_text.specs.Text.{AppendsFront}
-use Rattle.herd_report.specs.declared.reading.line_fault.LineCause.{LineCause}
-use Rattle.herd_report.specs.declared.reading.line_fault.LineCause.TheVariants as cause
+use Rattle.herd_command_file.specs.declared.line_fault.LineCause.{LineCause}
+use Rattle.herd_command_file.specs.declared.line_fault.LineCause.TheVariants as cause
 use Rattle.herd_report.specs.declared.writing.named_animals_fault.NamedAnimalsFault.{NamedAnimalsFault}
 use Rattle.herd_report.specs.declared.writing.named_animals_fault.NamedAnimalsFault.TheVariants as ending
 use Rattle.herd_text.specs.declared.report_fault.ReportFault.TheVariants as report

@@ -3,8 +3,8 @@ use Rattle.std.specs.Prelude.{◌≡◌, ◌≢◌, ◌⊎◌, ◌+◌, ◌<◌,
 use Rattle.csv.specs.Reading.{default_config, records, strip_bom}
 use Rattle.herd_register.specs.declared.command.Command.{Command}
 use Rattle.csv_records.specs.Fields.{Fields, field}
-use Rattle.herd_report.specs.reading.Grammar.{command_behind}
-use Rattle.herd_report.specs.declared.reading.line_fault.LineCause.{LineCause}
+use Rattle.herd_command_file.specs.Grammar.{command_behind}
+use Rattle.herd_command_file.specs.declared.line_fault.LineCause.{LineCause}
 use Rattle.herd_session.specs.Questions.{CanBeUnread, IsAskedIn}
 use Rattle.herd_session.specs.Tag.{IsTag}
 use Rattle.herd_session.specs.declared.fault.Fault.{Fault as WhyNot}

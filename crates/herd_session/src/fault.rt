@@ -3,9 +3,9 @@ ghost use Rattle.std.specs.Prelude.{◌≡◌};
 ghost use Rattle.herd_session.specs.Faults.{fault_name, fault_of_filing, fault_of_freezing};
 ghost use Rattle.herd_session.specs.declared.fault.Fault.TheVariants.{Fields, Memory};
 
+use herd_command_file::LineCause;
 use herd_office::FreezeFault;
 use herd_register::FileFault;
-use herd_report::LineCause;
 use std::alloc::{AllocError, AllocFailed};
 
 /// Why a request isn't answered. Nothing was filed then.

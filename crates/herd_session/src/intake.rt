@@ -1,7 +1,7 @@
 //! Reading requests and handing them on.
 ghost use Rattle.std.specs.Prelude.{◌≡◌, ◌+◌, ◌-◌, ◌<◌, ◌≤◌, ◌^◌, IfSome, length, min, true};
 ghost use Rattle.csv.specs.Records.{fields_of};
-ghost use Rattle.herd_report.specs.reading.LineCause.{is_interruption};
+ghost use Rattle.herd_command_file.specs.LineCause.{is_interruption};
 ghost use Rattle.herd_session.specs.Requests.{IsRecordAt, records_in};
 
 use crate::backlog::request_bytes;
@@ -16,7 +16,8 @@ use crate::stop::Stop;
 use crate::tasks::{FaultTask, Task, Wish};
 use csv::ByteRecord;
 use csv_records::{Interruption, open_records, read_record};
-use herd_report::{LineCause, LineFault, ReportFault};
+use herd_command_file::{LineCause, LineFault};
+use herd_report::ReportFault;
 use std::alloc::Global;
 use std::io::{Read, Write};
 use std::marker::PhantomData;

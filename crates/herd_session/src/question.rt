@@ -11,7 +11,7 @@ use crate::word::Word;
 use csv::ByteRecord;
 use csv_records::field;
 use herd_animal::AnimalNumber;
-use herd_report::LineCause;
+use herd_command_file::LineCause;
 use std::alloc::Global;
 
 /// What an inspector is asked.

@@ -9,8 +9,8 @@ use crate::question::{Question, question_in};
 use crate::tag::Tag;
 use csv::ByteRecord;
 use csv_records::field;
+use herd_command_file::command_behind;
 use herd_register::Command;
-use herd_report::command_behind;
 use itoa::Buffer;
 use std::alloc::Global;
 

@@ -2,8 +2,8 @@
 ghost use Rattle.std.specs.Prelude.{◌≡◌};
 ghost use Rattle.herd_session.specs.Closing.{fault_of_opening};
 
+use herd_command_file::LineFault;
 use herd_office::OpenFault;
-use herd_report::LineFault;
 
 /// Why a session ends early.
 #[derive(Clone, Copy, Debug, PartialEq, Eq, Drop)]

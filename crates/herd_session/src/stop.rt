@@ -4,7 +4,8 @@ ghost use Rattle.herd_session.specs.Closing.{CanStop};
 
 use crate::name::SessionName;
 use crate::session_fault::SessionFault;
-use herd_report::{LineFault, ReportFault};
+use herd_command_file::LineFault;
+use herd_report::ReportFault;
 use std::alloc::{AllocError, AllocFailed};
 use std::marker::PhantomData;
 

@@ -1,9 +1,9 @@
 //! Sessions over texts in memory. Where one thread answers all, the order of its answers is known.
 
 use csv::ByteRecord;
+use herd_command_file::{LineCause, LineFault};
 use herd_fixtures::BreaksAfter;
 use herd_register::Limits;
-use herd_report::{LineCause, LineFault};
 use herd_session::{Fault, Request, SessionFault, SessionPlan, request_in, session};
 use std::process::Abort;
 use std::sync::Wait;

@@ -3,8 +3,8 @@ use Rattle.std.proofs.Common.{◌≡◌, ℕ, List, Option, None, Result, Ok, Er
 use Rattle.std.specs.Prelude.{IfErr, OnErr}
 use Rattle.herd_register.specs.declared.command.Command.{Command}
 use Rattle.herd_register.specs.Limits.{Limits}
-use Rattle.herd_report.specs.RunFault.{run_fault_of}
-use Rattle.herd_report.specs.reading.CommandFile.{CommandFile, IsRead}
+use Rattle.herd_orders.specs.RunFault.{run_fault_of}
+use Rattle.herd_command_file.specs.CommandFile.{CommandFile, IsRead}
 use Rattle.herd_text.specs.Text.{AppendsFront}
 use Rattle.herd_text.specs.declared.report_fault.ReportFault.{ReportFault}
 use Rattle.herd_text.specs.declared.report_fault.ReportFault.TheVariants as report

@@ -8,7 +8,7 @@ use Rattle.clap.specs.Words.{fault_of, subcommand_of}
 use Rattle.herd_pedigree_report.specs.PedigreeReport.{CanEndBy, EndsBy, IsAnswered}
 use Rattle.herd_pedigree_report.specs.declared.pedigree_order.PedigreeOrder.{PedigreeOrder}
 use Rattle.herd_pedigree_report.specs.declared.pedigree_report_fault.PedigreeReportFault.{PedigreeReportFault}
-use Rattle.herd_report.specs.declared.run_fault.RunFault.{RunFault}
+use Rattle.herd_orders.specs.declared.run_fault.RunFault.{RunFault}
 use Rattle.herd_session.specs.Closing.{Ends}
 use Rattle.herd_session.specs.Requests.{records_in}
 use Rattle.herd_session.specs.declared.plan.SessionPlan.{SessionPlan}

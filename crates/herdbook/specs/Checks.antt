@@ -1,6 +1,6 @@
 -- How a check of a certificate may end the program.
 use Rattle.std.specs.Prelude.{◌≡◌}
-use Rattle.herd_report.specs.RunFault.{run_fault_of}
+use Rattle.herd_orders.specs.RunFault.{run_fault_of}
 use Rattle.herd_text.specs.declared.report_fault.ReportFault.{ReportFault}
 use Rattle.herdbook.specs.declared.request_fault.RequestFault.{RequestFault}
 use Rattle.herdbook.specs.declared.request_fault.RequestFault.TheVariants.{Run}

@@ -8,9 +8,9 @@ use Rattle.herd_office.specs.declared.faults.OpenFault.{OpenFault}
 use Rattle.herd_office.specs.declared.faults.OpenFault.TheVariants as opening
 use Rattle.herd_office.specs.declared.faults.FreezeFault.{FreezeFault}
 use Rattle.herd_office.specs.declared.faults.FreezeFault.TheVariants as freezing
-use Rattle.herd_report.specs.reading.CommandFile.{CommandFile, IsReadUpTo}
+use Rattle.herd_command_file.specs.CommandFile.{CommandFile, IsReadUpTo}
 use Rattle.herd_text.specs.Text.{AppendsFront}
-use Rattle.herd_report.specs.declared.run_fault.RunFault.TheVariants.{Line, NotRegistered, NoThread, Memory, Write}
+use Rattle.herd_orders.specs.declared.run_fault.RunFault.TheVariants.{Line, NotRegistered, NoThread, Memory, Write}
 use Rattle.herdbook.specs.Summary.{TellsOf}
 use Rattle.herdbook.specs.declared.clerk_fault.ClerkFault.{ClerkFault}
 use Rattle.herdbook.specs.declared.clerk_fault.ClerkFault.TheVariants as clerk

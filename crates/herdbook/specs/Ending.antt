@@ -2,9 +2,9 @@
 use Rattle.std.specs.Prelude.{◌≡◌, ◌≢◌, ◌⊎◌, ℕ, Bool, true, false, List, [], ◌++◌, codes, Option, Some, None, Result, Ok, Err}
 use Rattle.clap.specs.Words.{kind_of}
 use Rattle.clap.specs.declared.error.kind.ErrorKind.TheVariants.{DisplayHelp, DisplayVersion, OutOfMemory}
-use Rattle.herd_report.specs.declared.run_fault.RunFault.{RunFault}
-use Rattle.herd_report.specs.declared.run_fault.RunFault.TheVariants.{Memory, Write}
-use Rattle.herd_report.specs.RunFault.{run_fault_of}
+use Rattle.herd_orders.specs.declared.run_fault.RunFault.{RunFault}
+use Rattle.herd_orders.specs.declared.run_fault.RunFault.TheVariants.{Memory, Write}
+use Rattle.herd_orders.specs.RunFault.{run_fault_of}
 use Rattle.herd_text.specs.declared.report_fault.ReportFault.{ReportFault}
 use Rattle.herd_pedigree_report.specs.declared.pedigree_report_fault.PedigreeReportFault.{PedigreeReportFault}
 use Rattle.herd_session.specs.declared.session_fault.SessionFault.{SessionFault}

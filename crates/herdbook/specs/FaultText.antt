@@ -3,9 +3,9 @@ use Rattle.std.specs.Prelude.{ℕ, List, ◌++◌, codes, decimal}
 use Rattle.herd_animal.specs.declared.number.NumberFault.{NumberFault}
 use Rattle.herd_animal.specs.declared.number.NumberFault.TheVariants.{Length, Letter, SexLetter, NumberCharacter}
 use Rattle.herd_pedigree_file.specs.PedigreeCause.{cause_name as pedigree_cause_name, cause_number as pedigree_cause_number}
-use Rattle.herd_report.specs.reading.LineCause.{cause_name, cause_number}
-use Rattle.herd_report.specs.declared.run_fault.RunFault.{RunFault}
-use Rattle.herd_report.specs.declared.run_fault.RunFault.TheVariants.{Line, NotRegistered, NoThread, Memory, Write}
+use Rattle.herd_command_file.specs.LineCause.{cause_name, cause_number}
+use Rattle.herd_orders.specs.declared.run_fault.RunFault.{RunFault}
+use Rattle.herd_orders.specs.declared.run_fault.RunFault.TheVariants.{Line, NotRegistered, NoThread, Memory, Write}
 use Rattle.herdbook.specs.declared.request_fault.RequestFault.{RequestFault}
 use Rattle.herdbook.specs.declared.request_fault.RequestFault.TheVariants.{Run, Pedigree, NoPlace}
 

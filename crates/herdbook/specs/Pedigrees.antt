@@ -2,7 +2,7 @@
 use Rattle.std.specs.Prelude.{◌≡◌}
 use Rattle.herd_pedigree_report.specs.declared.pedigree_report_fault.PedigreeReportFault.{PedigreeReportFault}
 use Rattle.herd_pedigree_report.specs.declared.pedigree_report_fault.PedigreeReportFault.TheVariants.{Record, NotRegistered, NoThread, Memory, Write}
-use Rattle.herd_report.specs.declared.run_fault.RunFault.TheVariants as run
+use Rattle.herd_orders.specs.declared.run_fault.RunFault.TheVariants as run
 use Rattle.herdbook.specs.declared.request_fault.RequestFault.{RequestFault}
 use Rattle.herdbook.specs.declared.request_fault.RequestFault.TheVariants.{Run, Pedigree}
 

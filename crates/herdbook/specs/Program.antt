@@ -1,8 +1,8 @@
 -- How the program ends for its words and the bytes of a command file.
 use Rattle.std.specs.Prelude.{◌≡◌, ◌⊎◌, ℕ, true, false, List, [], Option, Some}
 use Rattle.clap.specs.Words.{fault_of, subcommand_of}
-use Rattle.herd_report.specs.reading.CommandFile.{commands}
-use Rattle.herd_report.specs.Run.{CanEndBy, CanEndReplying, EndsBy, EndsReplying, IsAnswered, IsReplied}
+use Rattle.herd_command_file.specs.CommandFile.{commands}
+use Rattle.herd_orders.specs.Run.{CanEndBy, CanEndReplying, EndsBy, EndsReplying, IsAnswered, IsReplied}
 use Rattle.herd_pedigree_report.specs.PedigreeReport.{CanEndBy as CanEndPedigreeBy, EndsBy as EndsPedigreeBy, IsAnswered as IsPedigreeAnswered}
 use Rattle.herd_session.specs.Closing.{EndsBy as EndsSessionBy, IsClosedSession}
 use Rattle.herd_session.specs.Requests.{records_in}

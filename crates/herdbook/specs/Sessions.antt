@@ -1,6 +1,6 @@
 -- How a session may end the program.
 use Rattle.std.specs.Prelude.{◌≡◌, ⊤}
-use Rattle.herd_report.specs.declared.run_fault.RunFault.TheVariants as run
+use Rattle.herd_orders.specs.declared.run_fault.RunFault.TheVariants as run
 use Rattle.herd_session.specs.declared.session_fault.SessionFault.{SessionFault}
 use Rattle.herd_session.specs.declared.session_fault.SessionFault.TheVariants.{Line, NoThread, Memory, Write, NoPlace as Unclosed}
 use Rattle.herdbook.specs.declared.request_fault.RequestFault.{RequestFault}

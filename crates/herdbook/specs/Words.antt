@@ -7,8 +7,8 @@ use Rattle.clap.specs.declared.error.kind.ErrorKind.TheVariants.{OutOfMemory}
 use Rattle.herd_animal.specs.AnimalNumber.{IsAnimalNumber}
 use Rattle.herd_animal.specs.NumberFault.{IsNumberFault}
 use Rattle.herd_animal.specs.declared.number.NumberFault.{NumberFault}
-use Rattle.herd_report.specs.declared.orders.Order.{Order}
-use Rattle.herd_report.specs.declared.orders.Order.TheVariants.{Inbreeding, Certificates, Mating, Inverse, Relationships, Records, Seal, Sealed}
+use Rattle.herd_orders.specs.declared.orders.Order.{Order}
+use Rattle.herd_orders.specs.declared.orders.Order.TheVariants.{Inbreeding, Certificates, Mating, Inverse, Relationships, Records, Seal, Sealed}
 use Rattle.herdbook.specs.CommandLine.{command_line}
 use Rattle.herdbook.specs.Subcommand.{subcommand_named}
 use Rattle.herdbook.specs.declared.arguments.Request.{Request}

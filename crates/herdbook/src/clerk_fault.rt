@@ -5,8 +5,8 @@ ghost use Rattle.herdbook.specs.declared.clerk_fault.ClerkFault.TheVariants.{Mem
 
 use crate::request_fault::RequestFault;
 use herd_office::{CloseFault, FreezeFault, OpenFault};
+use herd_orders::RunFault;
 use herd_register::FileFault;
-use herd_report::RunFault;
 use std::alloc::{AllocError, AllocFailed};
 
 /// Why clerks end early.

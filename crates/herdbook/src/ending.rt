@@ -9,9 +9,10 @@ use crate::fault_text::{NumberFaultText, RequestFaultText};
 use crate::request_fault::RequestFault;
 use clap::error::ErrorKind;
 use herd_animal::NumberFault;
+use herd_orders::RunFault;
 use herd_pedigree_report::PedigreeReportFault;
-use herd_report::{ReportFault, RunFault};
 use herd_session::SessionFault;
+use herd_text::ReportFault;
 use std::fmt;
 
 // What is told of words that no report of a pedigree takes.

@@ -5,8 +5,9 @@ ghost use Rattle.herdbook.specs.FaultText.{number_fault_code, number_fault_name}
 
 use crate::request_fault::RequestFault;
 use herd_animal::NumberFault;
+use herd_command_file::LineFault;
+use herd_orders::RunFault;
 use herd_pedigree_file::PedigreeFault;
-use herd_report::{LineFault, RunFault};
 use std::fmt;
 
 /// Why a request ended early.

@@ -1,7 +1,7 @@
 //! The herd book of a breed society, as a program over standard input and output.
 //!
 //! The words of the command line are read first. They ask for help or the version, for the replies to a command file or
-//! an order of its book, which `herd_report` carries out; for a report of a pedigree, which `herd_pedigree_report`
+//! an order of its book, which `herd_orders` carries out; for a report of a pedigree, which `herd_pedigree_report`
 //! writes; for the check of a certificate, which `herd_seal` makes; for `clerks`: the commands of a file, filed at the
 //! desks of an office by clerks side by side; or for a session, which `herd_session` holds. How the program ends is a
 //! value, made from what was asked and what came of it (`Ending`); only `main` prints it, or tells it on standard

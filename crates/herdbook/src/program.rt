@@ -6,8 +6,8 @@ ghost use Rattle.herdbook.specs.Program.{CanEnd, IsEnded, IsUntouchedUnlessAsked
 use crate::arguments::{Request, read_words};
 use crate::desks::clerks;
 use crate::ending::Ending;
+use herd_orders::{answer_file, run};
 use herd_pedigree_report::answer_pedigree;
-use herd_report::{answer_file, run};
 use herd_seal::answer_certificate;
 use herd_session::session;
 use std::alloc::Global;

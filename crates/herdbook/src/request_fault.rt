@@ -2,10 +2,12 @@
 ghost use Rattle.std.specs.Prelude.{◌≡◌};
 ghost use Rattle.herdbook.specs.declared.request_fault.RequestFault.TheVariants.{Run};
 
+use herd_command_file::LineFault;
+use herd_orders::RunFault;
 use herd_pedigree_file::PedigreeFault;
 use herd_pedigree_report::PedigreeReportFault;
-use herd_report::{LineFault, ReportFault, RunFault};
 use herd_session::SessionFault;
+use herd_text::ReportFault;
 
 /// Why a request ended early.
 #[derive(Clone, Copy, Debug, PartialEq, Eq, Drop)]
@@ -20,7 +22,7 @@ pub enum RequestFault {
 }
 
 impl From<LineFault> for RequestFault {
-    ghost use Rattle.herd_report.specs.declared.run_fault.RunFault.TheVariants.{Line};
+    ghost use Rattle.herd_orders.specs.declared.run_fault.RunFault.TheVariants.{Line};
 
     ghost from_gives = { λ cause fault. fault ≡ Run (Line cause) };
 
@@ -30,7 +32,7 @@ impl From<LineFault> for RequestFault {
 }
 
 impl From<ReportFault> for RequestFault {
-    ghost use Rattle.herd_report.specs.RunFault.{run_fault_of};
+    ghost use Rattle.herd_orders.specs.RunFault.{run_fault_of};
 
     ghost from_gives = { λ cause fault. fault ≡ Run (run_fault_of cause) };
 

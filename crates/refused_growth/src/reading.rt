@@ -1,9 +1,9 @@
 //! A command file that is read.
 
 use crate::founder::founder;
+use herd_command_file::{Commands, read_commands};
 use herd_fixtures::Name::Bull;
 use herd_register::Command;
-use herd_report::{Commands, read_commands};
 use std::alloc::{AllocError, Global};
 use std::io;
 

@@ -7,8 +7,8 @@ use herd_animal::AnimalNumber;
 use herd_frozen::Frozen;
 use std::alloc::Allocator;
 
-/// Whether each of some numbers is in the book.
-pub(crate) fn are_registered<F: Allocator>(frozen: &Frozen<F>, numbers: &[AnimalNumber]) -> bool
+/// Whether each of some numbers is in the book, as certificates and records ask.
+pub fn are_registered<F: Allocator>(frozen: &Frozen<F>, numbers: &[AnimalNumber]) -> bool
     ensures { result ≡ are_there (book_of frozen.now) numbers.now }
 {
     for number in numbers {

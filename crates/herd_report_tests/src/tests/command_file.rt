@@ -1,10 +1,10 @@
 //! Command files: what is read of them, and their first faults.
 
 use herd_animal::Day;
+use herd_command_file::{Commands, read_commands};
 use herd_fixtures::Name::{Bull, Cow};
 use herd_fixtures::{BreaksAfter, Name, herd_of};
 use herd_register::Command;
-use herd_report::{Commands, read_commands};
 use std::io;
 use std::io::{Cursor, Read};
 use std::process::Abort;

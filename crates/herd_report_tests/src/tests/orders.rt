@@ -3,11 +3,12 @@
 use super::books::{FULL_SIBS, TRANSFERS};
 use super::stops_after::{StopsAfter, Then};
 use herd_animal::AnimalNumber;
+use herd_command_file::{LineCause, LineFault};
 use herd_fixtures::BreaksAfter;
 use herd_fixtures::Name::{Bull, Cow};
+use herd_orders::{Order, RunFault, answer_file, run};
 use herd_pool::WorkPlan;
 use herd_register::Limits;
-use herd_report::{LineCause, LineFault, Order, RunFault, answer_file, run};
 use std::process::Abort;
 use std::test::Fail;
 

@@ -1,7 +1,8 @@
 //! Files with a fault: the replies before it, and the fault.
 
 use super::support::{Header, expect, expect_fault, file, push_lines, replies};
-use herd_report::{LineCause, LineFault, RunFault};
+use herd_command_file::{LineCause, LineFault};
+use herd_orders::RunFault;
 use std::test::Fail;
 
 // A record without a fault, which comes first in some files.

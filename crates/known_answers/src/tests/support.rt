@@ -1,11 +1,12 @@
 //! What the tests have in common: command files and texts in which numbers are written short.
 
 use herd_animal::AnimalNumber;
+use herd_command_file::read_commands;
 use herd_fixtures::Name;
 use herd_frozen::MOST_ANIMALS;
+use herd_orders::{Order, RunFault, answer_file};
 use herd_pool::WorkPlan;
 use herd_register::{Limits, MOST_STEPS, Register};
-use herd_report::{Order, RunFault, answer_file, read_commands};
 use std::alloc::{AllocError, Global};
 use std::process::Abort;
 use std::sync::Wait;
@@ -85,7 +86,7 @@ macro_rules! ran {
     ($rt:expr, $order:expr, $bytes:expr) => {{
         let _unknown: Option<herd_animal::AnimalNumber> = None;
         let mut written = Vec::new($rt.alloc());
-        let outcome = herd_report::run(
+        let outcome = herd_orders::run(
             $rt,
             $rt.alloc(),
             LIMITS,

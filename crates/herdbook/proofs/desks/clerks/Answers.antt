@@ -5,8 +5,8 @@ use Rattle.std.proofs.lemmas.Result.{err_from_is_err_and}
 use Rattle.std.specs.Io.KnownBytes.{Appends}
 use Rattle.herd_register.specs.declared.command.Command.{Command}
 use Rattle.herd_register.specs.Limits.{Limits}
-use Rattle.herd_report.specs.reading.CommandFile.{CommandFile, IsRead, commands}
-use Rattle.herd_report.specs.declared.reading.line_fault.LineFault.{LineFault}
+use Rattle.herd_command_file.specs.CommandFile.{CommandFile, IsRead, commands}
+use Rattle.herd_command_file.specs.declared.line_fault.LineFault.{LineFault}
 use Rattle.herdbook.proofs.ClerksFacts.{can-end-telling, can-end-unwritten, ends-telling, ends-unwritten, told-text}
 use Rattle.herdbook.proofs.desks.clerks.Goals as goal
 

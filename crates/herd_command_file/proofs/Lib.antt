@@ -1,0 +1,6 @@
+mod BehindFacts
+mod CommandReaderFacts
+mod FieldFacts
+pub mod FilingFacts
+mod HeaderFacts
+mod HerdFacts

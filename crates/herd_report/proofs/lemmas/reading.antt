@@ -1,6 +1,0 @@
--- How a command file is read.
-pub mod BehindFacts
-pub mod CommandReaderFacts
-pub mod FieldFacts
-pub mod HeaderFacts
-pub mod HerdFacts

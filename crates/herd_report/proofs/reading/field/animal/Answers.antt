@@ -1,6 +1,0 @@
--- `animal`: its result.
-use Rattle.herd_report.proofs.lemmas.reading.FieldFacts.{Decides-is_animal_number, result_or-by_test}
-use Rattle.herd_report.proofs.reading.field.animal.Goals as goal
-
-pub returns : goal.returns
-returns c = rw c.or.ensures (result_or-by_test c.parse.result _ _ _ _ (Decides-is_animal_number c.args.text.now) c.parse.ensures.accepted c.parse.ensures.value)
