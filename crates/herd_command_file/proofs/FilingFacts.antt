@@ -5,7 +5,6 @@ use Rattle.herd_register.specs.Register.{Register, register_book, with_step}
 use Rattle.herd_register.specs.Run.{answer, next, step_of, book_after, commands_of, run_book}
 use Rattle.herd_register.specs.declared.command.Command.{Command}
 use Rattle.herd_register.specs.Limits.{Limits}
-use Rattle.herd_register.specs.declared.step.Step.{Step}
 use Rattle.herd_command_file.specs.Filing.{HasFiled, filed_from}
 
 -- the steps of more commands come after those of the first ones

@@ -1,5 +1,5 @@
 -- What a run writes, and how it ends.
-use Rattle.std.proofs.Common.{◌&&◌, ap₂, ◌≡◌, inl, inr, ℕ, suc, ◌+◌, ◌<◌, arith, true, false, MatchBool, Option, Some, None, Result, List, [], ◌∷◌, ◌++◌, refl, ap, sym, subst, ◌∙◌, ⊎_elim, append_assoc, append-nil, length, length-append}
+use Rattle.std.proofs.Common.{◌&&◌, ap₂, ◌≡◌, inl, inr, ℕ, ◌+◌, ◌<◌, arith, true, false, MatchBool, Option, Some, None, Result, List, [], ◌∷◌, ◌++◌, refl, ap, sym, subst, ◌∙◌, ⊎_elim, append_assoc, append-nil, length, length-append}
 use Rattle.std.proofs.lemmas.List.Sorted.{IsPermutation-sym}
 use Rattle.std.proofs.lemmas.Result.{IfErr-weaker}
 use Rattle.std.specs.Prelude.{IfErr, is_some}
@@ -9,9 +9,9 @@ use Rattle.herd_frozen.specs.freezing.Frozen.{IsFrozenFrom, book_of}
 use Rattle.herd_frozen.specs.declared.TheConstants.{DEPTH_LIMIT, MOST_ANIMALS}
 use Rattle.herd_frozen.specs.declared.freezing.frozen.Row.{Row}
 use Rattle.herd_frozen.proofs.lemmas.rules.PermutedFacts.{record_of-permuted}
-use Rattle.herd_register.specs.Register.{Register, with_step}
+use Rattle.herd_register.specs.Register.{Register}
 use Rattle.herd_register.specs.Register.{register_book}
-use Rattle.herd_register.specs.Run.{answer, next, step_of, book_after, commands_of, run_book}
+use Rattle.herd_register.specs.Run.{book_after, run_book}
 use Rattle.herd_register.specs.declared.command.Command.{Command}
 use Rattle.herd_register.specs.Limits.{Limits}
 use Rattle.herd_register.specs.declared.step.Step.{Step}

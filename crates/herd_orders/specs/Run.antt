@@ -1,5 +1,5 @@
 -- What is written of a command file, and how that may end.
-use Rattle.std.specs.Prelude.{◌≡◌, ◌⊎◌, ◌<◌, ℕ, List, [], ◌∷◌, ⊤, IfSome, Option, Some, None, true, false, length}
+use Rattle.std.specs.Prelude.{◌≡◌, ◌⊎◌, ◌<◌, ℕ, List, [], ⊤, IfSome, Option, Some, None, true, false, length}
 use Rattle.std.specs.Io.KnownBytes.{Appends}
 use Rattle.herd_certificate.specs.Sealed.{seal_text}
 use Rattle.herd_frozen.specs.rules.Book.{Book, is_there}
@@ -7,11 +7,9 @@ use Rattle.herd_frozen.specs.freezing.Frozen.{IsFrozenFrom, book_of}
 use Rattle.herd_frozen.specs.declared.TheConstants.{DEPTH_LIMIT, MOST_ANIMALS}
 use Rattle.herd_frozen.specs.declared.freezing.frozen.Row.{Row}
 use Rattle.herd_pedigree.specs.Part.{IsFrozenPart}
-use Rattle.herd_register.specs.Register.{Register}
-use Rattle.herd_register.specs.Run.{answer, next, run_book, step_of}
+use Rattle.herd_register.specs.Run.{run_book}
 use Rattle.herd_register.specs.declared.command.Command.{Command}
 use Rattle.herd_register.specs.Limits.{Limits}
-use Rattle.herd_register.specs.declared.step.Step.{Step}
 use Rattle.herd_advice.specs.FrozenAncestry.{ancestry_of}
 use Rattle.herd_kinship.specs.Table.{coefficient}
 use Rattle.herd_report.specs.writing.Certificate.{certificates_of}
