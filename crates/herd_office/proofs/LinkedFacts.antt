@@ -66,13 +66,12 @@ module _ (book : Book) (lawful : IsLawful DEPTH_LIMIT MOST_ANIMALS book) (place 
       if_known entry.1.dam (λ number. IsTrue (is_there book number)) (λ number is. let dam = its.dam number is in some_is (record_of book number) dam.dam dam.there)
 
 -- the records of animals and all their known ancestors
-pub part_with : (book other : Book) (numbers : List (List ℕ)) (places : List ℕ) (part : Book) → IsLawful DEPTH_LIMIT MOST_ANIMALS book → HasAncestors book numbers places → part ≡ records_at book places → book ≡ other
-    → IsPartWith other numbers part
-part_with book other numbers places part lawful has is same =
-    subst (λ b. IsPartWith b numbers part) same
-    (subst (λ p. IsPartWith book numbers p) (sym is)
+pub part_with : (book : Book) (numbers : List (List ℕ)) (places : List ℕ) → IsLawful DEPTH_LIMIT MOST_ANIMALS book → HasAncestors book numbers places
+    → (part : Book) → part ≡ records_at book places → IsPartWith book numbers part
+part_with book numbers places lawful has part is =
+    subst (λ p. IsPartWith book numbers p) (sym is)
     (record {
       lawful = lawful;
       is_part = ancestors-part DEPTH_LIMIT MOST_ANIMALS book lawful numbers places has;
       named = ancestors-named DEPTH_LIMIT MOST_ANIMALS book lawful numbers places has;
-    }))
+    })
