@@ -184,3 +184,7 @@ AnswersIfKnown limits order known old new =
 abbrev pub EndsIfKnown : Limits → Order → Option (List ℕ) → Option (List ℕ) → Option (List ℕ) → RunFault → Type 0
 EndsIfKnown limits order known old new fault =
     IfSome known (λ bytes. EndsBy limits order (commands bytes limits.steps) old new fault)
+
+-- how a run over a command file may end before anything is written, whatever is ordered
+abbrev pub EndsUnwritten : Limits → CommandFile → RunFault → Type 0
+EndsUnwritten limits file fault = (order : Order) (text : Option (List ℕ)) → EndsBy limits order file text text fault

@@ -1,9 +1,12 @@
-ghost use Rattle.std.specs.Prelude.{◌≡◌, ◌<◌, IfErr, IfOk, IfSome, List, OnOk, Option, ℕ};
+ghost use Rattle.std.specs.Prelude.{◌≡◌, ◌<◌, [], IfErr, IfOk, IfSome, List, None, OnOk, Option, ℕ};
 ghost use Rattle.herd_frozen.specs.declared.TheConstants.{DEPTH_LIMIT};
 ghost use Rattle.herd_advice.specs.BookCoefficients.{AreBookCoefficients};
-ghost use Rattle.herd_command_file.specs.CommandFile.{commands};
+ghost use Rattle.herd_register.specs.Run.{commands_of};
+ghost use Rattle.herd_command_file.specs.CommandFile.{CommandFile, IsRead, commands};
+ghost use Rattle.herd_command_file.specs.CommandReader.{HasGiven, IsReady};
+ghost use Rattle.herd_command_file.specs.Filing.{HasFiled};
 ghost use Rattle.herd_orders.specs.Run.{AnswersIfKnown, CanEndBy, CanEndReplying, EndsIfKnown};
-ghost use Rattle.herd_orders.specs.Run.{EndsReplying, EndsReporting, IsFrozenFile, IsReplied, IsReported};
+ghost use Rattle.herd_orders.specs.Run.{EndsReplying, EndsReporting, EndsUnwritten, IsFrozenFile, IsReplied, IsReported};
 ghost use Rattle.herd_orders.specs.Run.{SufficeFor};
 ghost use Rattle.herd_orders.specs.declared.orders.Order.{Order};
 
@@ -69,7 +72,26 @@ pub fn answer_file<R: Read + Drop, W: Write>(
 {
     let mut commands = CommandReader::open(alloc, reader, limits.steps)?;
     let mut register = Register::new(alloc, limits);
-    let fault = file_commands(&mut commands, &mut register)?;
+    answer_commands(alloc, &mut commands, &mut register, writer)
+}
+
+// Files what a reader gives in an empty register, and writes the reply to each command. It borrows what `answer_file`
+// owns, since the two together take the prover several times as long.
+fn answer_commands<R: Read, W: Write>(
+    alloc: Global,
+    commands: &mut CommandReader<R>,
+    register: &mut Register<Global>,
+    writer: &mut W,
+) -> Result<(), RunFault>
+    requires ready { IsReady register.old.limits.steps 0 commands.old }
+    requires empty { register.old.journal ≡ [] }
+    ensures ok { OnOk result ((file : CommandFile) → HasGiven R.remaining file [] commands.old
+        → IsReplied register.old.limits file (W.contents writer.old) (W.contents writer.new)) }
+    ensures err { IfErr result (λ fault. (file : CommandFile) → HasGiven R.remaining file [] commands.old
+        → EndsReplying register.old.limits file (W.contents writer.old) (W.contents writer.new) fault) }
+    ensures fault { IfErr result CanEndReplying }
+{
+    let fault = file_commands(commands, register)?;
     write_replies(alloc, register.journal(), writer)?;
     match fault {
         None => Ok(()),
@@ -115,16 +137,54 @@ fn frozen_of_file<R: Read + Drop>(
 {
     let mut commands = CommandReader::open(alloc, reader, limits.steps)?;
     let mut register = Register::new(alloc, limits);
-    match file_commands(&mut commands, &mut register) {
-        Ok(None) => {}
-        Ok(Some(fault)) => return Err(RunFault::Line(fault)),
-        Err(AllocError) => match fault_of_rest(&mut commands) {
-            Some(fault) => return Err(RunFault::Line(fault)),
-            None => return Err(RunFault::Memory),
-        },
-    }
+    frozen_of_commands(alloc, order, &mut commands, &mut register)
+}
+
+// Files what a reader gives in an empty register, freezes as much of its book as an order asks for, and counts the
+// steps of its journal. It borrows what `frozen_of_file` owns, since the two together take the prover several times as
+// long.
+fn frozen_of_commands<R: Read>(
+    alloc: Global,
+    order: &Order<'_>,
+    commands: &mut CommandReader<R>,
+    register: &mut Register<Global>,
+) -> Result<(Frozen<Global>, u64), RunFault>
+    requires ready { IsReady register.old.limits.steps 0 commands.old }
+    requires empty { register.old.journal ≡ [] }
+    ensures ok { IfOk result (λ made. (file : CommandFile) → HasGiven R.remaining file [] commands.old
+        → IsFrozenFile register.old.limits order.now file made.1 made.0) }
+    ensures err { IfErr result (λ fault. (file : CommandFile) → HasGiven R.remaining file [] commands.old
+        → EndsUnwritten register.old.limits file fault) }
+    ensures fault { IfErr result (λ fault. (order : Order) → CanEndBy order fault) }
+{
+    file_all(commands, register)?;
     let frozen = freeze_for(alloc, register.pedigree(), order)?;
     Ok((frozen, register.journal().len() as u64))
+}
+
+// Files what a reader gives in an empty register. After a want of memory the rest is read, for a fault of the file is
+// told before it.
+fn file_all<R: Read>(
+    commands: &mut CommandReader<R>,
+    register: &mut Register<Global>,
+) -> Result<(), RunFault>
+    requires ready { IsReady register.old.limits.steps 0 commands.old }
+    requires empty { register.old.journal ≡ [] }
+    ensures read { OnOk result ((file : CommandFile) → HasGiven R.remaining file [] commands.old
+        → IsRead register.old.limits.steps file (commands_of register.new.journal) None) }
+    ensures filed { OnOk result (HasFiled register.old.limits (commands_of register.new.journal) register.new) }
+    ensures err { IfErr result (λ fault. (file : CommandFile) → HasGiven R.remaining file [] commands.old
+        → EndsUnwritten register.old.limits file fault) }
+    ensures fault { IfErr result (λ fault. (order : Order) → CanEndBy order fault) }
+{
+    match file_commands(commands, register) {
+        Ok(None) => Ok(()),
+        Ok(Some(fault)) => Err(RunFault::Line(fault)),
+        Err(AllocError) => match fault_of_rest(commands) {
+            None => Err(RunFault::Memory),
+            Some(line) => Err(RunFault::Line(line)),
+        },
+    }
 }
 
 // As much of a book as an order asks for, in age order: certificates ask for no animal but those that are named and
