@@ -17,7 +17,6 @@ use std::io::Write;
 use std::sync::Wait;
 
 /// Answers what an inspector is asked, until nobody can ask it any more or a write fails.
-#[tactic(auto, using(herd_office::proofs::Fronts::prefix_self, herd_office::proofs::Fronts::prefix_trans))]
 pub(crate) fn work_as_inspector<N: SessionName, H: Wait, R: Wait + Drop, W: Write>(
     rt: &H,
     alloc: Global,
@@ -31,19 +30,33 @@ pub(crate) fn work_as_inspector<N: SessionName, H: Wait, R: Wait + Drop, W: Writ
         inspector,
         kept: None,
     };
+    answer_batches(rt, alloc, shared, &mut reporting, &queue)?;
+    Ok(reporting.inspector)
+}
+
+// Answers batches of tasks, until none can be added any more or a write fails. It borrows what `work_as_inspector` owns,
+// since the two together take the prover longer.
+fn answer_batches<N: SessionName, H: Wait, R: Wait + Drop, W: Write>(
+    rt: &H,
+    alloc: Global,
+    shared: &Shared<N, R, W>,
+    reporting: &mut ReportingInspector<N>,
+    queue: &Outlet<Task<N, Question>>,
+) -> Result<(), ReportFault>
+    ensures { IsPrefix reporting.old.inspector.history reporting.new.inspector.history }
+{
     let mut batch = Batch::new(alloc);
     for _ in rt.forever() {
         if !queue.take(rt, &mut batch) {
             break;
         }
-        answer_each(rt, alloc, shared, &mut reporting, batch.tasks())?;
+        answer_each(rt, alloc, shared, reporting, batch.tasks())?;
         shared.backlog.leave(rt, batch.empty());
     }
-    Ok(reporting.inspector)
+    Ok(())
 }
 
 // Answers tasks that were taken from a queue.
-#[tactic(auto, using(herd_office::proofs::Fronts::prefix_self, herd_office::proofs::Fronts::prefix_trans))]
 fn answer_each<N: SessionName, H: Wait, R: Wait + Drop, W: Write>(
     rt: &H,
     alloc: Global,
