@@ -4,6 +4,7 @@ ghost use mathlib.Core.List.{IsPrefix};
 ghost use Rattle.herd_register.specs.Run.{IsLegal};
 ghost use Rattle.herd_session.specs.Closing.{Ends, IsOfDesks, last_line};
 ghost use Rattle.herd_session.specs.Filed.{HasFiledInTurn};
+ghost use Rattle.herd_session.specs.Output.{HasAnswers};
 ghost use Rattle.herd_text.specs.Text.{PassesOn};
 
 use crate::name::SessionName;
@@ -37,19 +38,47 @@ pub(crate) fn end<N: SessionName, H: Wait, R: Wait + Drop, W: Write + Drop>(
         longest_written,
         has_failed,
     } = output;
+    let closed = closed(rt, office, worked, &longest_written);
+    let ended = write_end(
+        &mut writer,
+        &mut waiting,
+        &longest_written,
+        has_failed,
+        &closed,
+    );
+    (writer, ended)
+}
+
+// Writes the last line of a session whose office was closed, or else the answers that wait. It borrows what `end` owns,
+// since the two together take the prover longer.
+fn write_end<N: SessionName, W: Write>(
+    writer: &mut W,
+    waiting: &mut Vec<u8>,
+    longest_written: &Slip<N>,
+    has_failed: bool,
+    closed: &Result<Register<Global>, Stop<N>>,
+) -> Result<(), SessionFault>
+    requires answers { ∥ HasAnswers N.limits N.records longest_written.now.history has_failed N.before
+        (W.contents writer.old) waiting.old.items ∥₁ }
+    requires limits { IfOk closed.now (λ register. register.limits ≡ N.limits) }
+    requires begins { IfOk closed.now (λ register. IsPrefix longest_written.now.history register.journal) }
+    requires desks { IfOk closed.now
+        (λ register. (numbers : List ℕ) × IsOfDesks N.records register.journal numbers) }
+    ensures { ∥ Ends N.limits N.records N.before (W.contents writer.new) result ∥₁ }
+{
     // A slip's history is legal.
     let _steps = longest_written.steps();
     if has_failed {
-        return (writer, Err(SessionFault::Write));
+        return Err(SessionFault::Write);
     }
-    match closed(rt, office, worked, &longest_written) {
-        Ok(register) => match write_last_line(&mut writer, &mut waiting, &register) {
-            Ok(()) => (writer, Ok(())),
-            Err(_) => (writer, Err(SessionFault::Write)),
+    match closed {
+        Ok(register) => match write_last_line(writer, waiting, register) {
+            Ok(()) => Ok(()),
+            Err(_) => Err(SessionFault::Write),
         },
-        Err(stop) => match write_waiting(&mut writer, &mut waiting) {
-            Ok(()) => (writer, Err(stop.fault)),
-            Err(_) => (writer, Err(SessionFault::Write)),
+        Err(stop) => match write_waiting(writer, waiting) {
+            Ok(()) => Err(stop.fault),
+            Err(_) => Err(SessionFault::Write),
         },
     }
 }
