@@ -160,6 +160,8 @@ class TestFirstCall:
             "herd_office",
             "herd_report",
             "herd_orders",
+            "herd_clerks",
+            "herd_command_line",
             "herd_session",
             "herdbook",
         }

@@ -141,7 +141,7 @@ def __dir__() -> list[str]:
 
 def version() -> str:
     """It stands in the sources of the program alone; an installed package has it in the name of its metadata."""
-    source = HERE.parents[1] / "crates/herdbook/src/help.rt"
+    source = HERE.parents[1] / "crates/herd_command_line/src/help.rt"
     if source.is_file():
         found = re.search(r'^pub const VERSION: &str = "(.*)";$', source.read_text(encoding="utf-8"), re.MULTILINE)
     else:

@@ -65,6 +65,7 @@
 //! | what lies under the lock | `Beginnings`, `Histories`, `Shelves` | `inside` | |
 //! | all desks and inspectors | `Beginnings`, `Histories` | `desks`, `inspector` | `Counting`, `ListFacts` |
 //! | a desk's call, its slip | `Filing`, `Histories`, `Standing` | `desk`, `filing` | `Stored` |
+//! | what a desk has filed, for callers | `Filed` | | `FiledFacts` |
 //! | the history: its rule, claims, beginnings of it | `Keeping` | `history`, `keeper` | `Claiming`, `Fronts` |
 //! | the readers' copies, what is sent to them | `Copies`, `Shelves` | `copies`, `shown` | `Sides`, `ToldFacts` |
 //! | reading a copy with no lock | `Copies`, `Keeping` | `inspector`, `linked` | `Sides`, `LinkedFacts` |

@@ -1,6 +1,7 @@
 -- What a session leaves, and how it may end early.
 use Rattle.std.specs.Prelude.{◌≡◌, ◌⊎◌, ⊤, ◌+◌, ◌-◌, ◌^◌, ◌≤◌, ℕ, true, List, [], ◌++◌, length, min, slice_get, sum_by, Option, Some, All, IfSome, Result, Ok, Err}
 use Rattle.std.specs.Io.KnownBytes.{Appends}
+use Rattle.herd_office.specs.Filed.{commands_at}
 use Rattle.herd_office.specs.Histories.{Apart, of_desk}
 use Rattle.herd_office.specs.declared.faults.OpenFault.{OpenFault}
 use Rattle.herd_office.specs.declared.faults.OpenFault.TheVariants as opening
@@ -13,7 +14,7 @@ use Rattle.herd_command_file.specs.LineCause.{is_interruption}
 use Rattle.herd_command_file.specs.declared.line_fault.LineFault.{LineFault}
 use Rattle.herd_text.specs.Text.{PassesOn}
 use Rattle.herd_session.specs.Answers.{IsAnswer, closed_line, joined}
-use Rattle.herd_session.specs.Filed.{AreAskedInTurn, commands_at}
+use Rattle.herd_session.specs.Filed.{AreAskedInTurn}
 use Rattle.herd_session.specs.declared.session_fault.SessionFault.{SessionFault}
 use Rattle.herd_session.specs.declared.session_fault.SessionFault.TheVariants.{Line, Memory, NoPlace, NoThread, Write}
 

@@ -8,11 +8,13 @@ use Rattle.herd_orders.specs.RunFault.{run_fault_of}
 use Rattle.herd_text.specs.declared.report_fault.ReportFault.{ReportFault}
 use Rattle.herd_pedigree_report.specs.declared.pedigree_report_fault.PedigreeReportFault.{PedigreeReportFault}
 use Rattle.herd_session.specs.declared.session_fault.SessionFault.{SessionFault}
+use Rattle.herd_clerks.specs.declared.clerks_fault.ClerksFault.{ClerksFault}
+use Rattle.herd_command_line.specs.declared.arguments.WordsFault.{WordsFault}
+use Rattle.herd_command_line.specs.declared.arguments.WordsFault.TheVariants.{Words, Number as NotNumber, Misplaced as AreMisplaced, NoSeal}
+use Rattle.herdbook.specs.Clerks.{fault_of_clerks}
 use Rattle.herdbook.specs.FaultText.{number_fault_text, request_fault_text}
 use Rattle.herdbook.specs.Pedigrees.{fault_of_pedigree}
 use Rattle.herdbook.specs.Sessions.{fault_of_session}
-use Rattle.herdbook.specs.declared.arguments.WordsFault.{WordsFault}
-use Rattle.herdbook.specs.declared.arguments.WordsFault.TheVariants.{Words, Number as NotNumber, Misplaced as AreMisplaced, NoSeal}
 use Rattle.herdbook.specs.declared.ending.Ending.{Ending}
 use Rattle.herdbook.specs.declared.ending.Ending.TheVariants.{Done, Shown, Usage, NotText, Number, Misplaced, NotSeal, Refused, Early}
 use Rattle.herdbook.specs.declared.request_fault.RequestFault.{RequestFault}
@@ -64,9 +66,9 @@ end_of_pedigree (Ok done) = Done
 end_of_pedigree (Err fault) = Early (fault_of_pedigree fault)
 
 -- the end of the clerks' work
-abbrev pub end_of_clerks : {T : Type 0} → Result T RequestFault → Ending
+abbrev pub end_of_clerks : {T : Type 0} → Result T ClerksFault → Ending
 end_of_clerks (Ok done) = Done
-end_of_clerks (Err fault) = Early fault
+end_of_clerks (Err fault) = Early (fault_of_clerks fault)
 
 -- the end of a session
 abbrev pub end_of_session : {T : Type 0} → Result T SessionFault → Ending

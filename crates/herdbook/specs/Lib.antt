@@ -1,14 +1,8 @@
+pub mod Checks
 pub mod Clerks
-pub mod CommandLine
-pub mod Deal
 pub mod Ending
 pub mod FaultText
+pub mod Orders
 pub mod Pedigrees
-pub mod Checks
-pub mod PedigreeWords
 pub mod Program
 pub mod Sessions
-pub mod Subcommand
-pub mod Summary
-pub mod Texts
-pub mod Words

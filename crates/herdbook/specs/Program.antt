@@ -8,15 +8,17 @@ use Rattle.herd_session.specs.Closing.{EndsBy as EndsSessionBy, IsClosedSession}
 use Rattle.herd_session.specs.Requests.{records_in}
 use Rattle.herd_seal.specs.Answer.{EndsTelling, IsTold}
 use Rattle.herdbook.specs.Checks.{TellsOfReport}
-use Rattle.herdbook.specs.Clerks.{CanEndClerks, EndsClerks, IsFiledBy}
-use Rattle.herdbook.specs.CommandLine.{command_line}
+use Rattle.herd_clerks.specs.Clerks.{EndsClerks, IsFiledBy}
+use Rattle.herd_command_line.specs.CommandLine.{command_line}
+use Rattle.herd_command_line.specs.Words.{IsAsked, IsRefused}
+use Rattle.herd_command_line.specs.declared.arguments.Request.{Request}
+use Rattle.herd_command_line.specs.declared.arguments.Request.TheVariants as request
+use Rattle.herd_command_line.specs.declared.arguments.WordsFault.{WordsFault}
+use Rattle.herdbook.specs.Clerks.{CanEndClerks, TellsOfClerks}
 use Rattle.herdbook.specs.Ending.{Explains}
+use Rattle.herdbook.specs.Orders.{order_of}
 use Rattle.herdbook.specs.Pedigrees.{TellsOf}
 use Rattle.herdbook.specs.Sessions.{CanEndSession, TellsOfSession}
-use Rattle.herdbook.specs.Words.{IsAsked, IsRefused}
-use Rattle.herdbook.specs.declared.arguments.Request.{Request}
-use Rattle.herdbook.specs.declared.arguments.Request.TheVariants as request
-use Rattle.herdbook.specs.declared.arguments.WordsFault.{WordsFault}
 use Rattle.herdbook.specs.declared.ending.Ending.{Ending}
 use Rattle.herdbook.specs.declared.ending.Ending.TheVariants.{Done, Refused, Early}
 use Rattle.herdbook.specs.declared.request_fault.RequestFault.{RequestFault}
@@ -25,7 +27,7 @@ use Rattle.herdbook.specs.declared.request_fault.RequestFault.TheVariants.{Run, 
 -- what a request asks for was carried out on the bytes of a command file, of a pedigree file, or of requests
 abbrev pub IsServed : Request → List ℕ → Option (List ℕ) → Option (List ℕ) → Type 0
 IsServed (request.File book) bytes old new = IsReplied book.limits (commands bytes book.limits.steps) old new
-IsServed (request.Report book order) bytes old new = IsAnswered book.limits order (commands bytes book.limits.steps) old new
+IsServed (request.Report book order) bytes old new = IsAnswered book.limits (order_of order) (commands bytes book.limits.steps) old new
 IsServed (request.Check plan) bytes old new = IsTold plan.seal bytes old new true
 IsServed (request.Pedigree plan order) bytes old new = IsPedigreeAnswered plan.animals order bytes old new
 IsServed (request.Clerks book plan) bytes old new =
@@ -50,14 +52,14 @@ EndsServing (request.File book) bytes old new (Run fault) =
 EndsServing (request.File book) bytes old new (Pedigree fault) = ⊥
 EndsServing (request.File book) bytes old new NoPlace = ⊥
 EndsServing (request.Report book order) bytes old new (Run fault) =
-    EndsBy book.limits order (commands bytes book.limits.steps) old new fault
+    EndsBy book.limits (order_of order) (commands bytes book.limits.steps) old new fault
 EndsServing (request.Report book order) bytes old new (Pedigree fault) = ⊥
 EndsServing (request.Report book order) bytes old new NoPlace = ⊥
 EndsServing (request.Check plan) bytes old new fault = TellsOfReport (EndsTelling plan.seal bytes old new) fault
 EndsServing (request.Pedigree plan order) bytes old new fault =
     TellsOf (EndsPedigreeBy plan.animals order bytes old new) fault
 EndsServing (request.Clerks book plan) bytes old new fault =
-    EndsClerks book.limits plan.desks plan.base (commands bytes book.limits.steps) old new fault
+    TellsOfClerks (EndsClerks book.limits plan.desks plan.base (commands bytes book.limits.steps) old new) fault
 EndsServing (request.Session plan) bytes old new fault =
     TellsOfSession (λ cause. ∥ EndsSessionBy plan.limits (records_in (Some bytes)) old new cause ∥₁) fault
 
@@ -66,13 +68,27 @@ abbrev pub CanEndServing : Request → RequestFault → Type 0
 CanEndServing (request.File book) (Run fault) = CanEndReplying fault
 CanEndServing (request.File book) (Pedigree fault) = ⊥
 CanEndServing (request.File book) NoPlace = ⊥
-CanEndServing (request.Report book order) (Run fault) = CanEndBy order fault
+CanEndServing (request.Report book order) (Run fault) = CanEndBy (order_of order) fault
 CanEndServing (request.Report book order) (Pedigree fault) = ⊥
 CanEndServing (request.Report book order) NoPlace = ⊥
 CanEndServing (request.Check plan) fault = TellsOfReport (λ _. Unit {0}) fault
 CanEndServing (request.Pedigree plan order) fault = TellsOf (CanEndPedigreeBy order) fault
 CanEndServing (request.Clerks book plan) fault = CanEndClerks fault
 CanEndServing (request.Session plan) fault = CanEndSession fault
+
+-- what a request asks for was done with these bytes, or it was refused, or ended early
+abbrev pub EndsRequest : Request → List ℕ → Option (List ℕ) → Option (List ℕ) → Ending → Type 0
+EndsRequest request bytes old new Done = IsServed request bytes old new
+EndsRequest request bytes old new Refused = IsRefusedBy request bytes old new
+EndsRequest request bytes old new (Early fault) = EndsServing request bytes old new fault
+EndsRequest request bytes old new ending = ⊥
+
+-- the ends that a request leaves open, whatever is read
+abbrev pub CanEndRequest : Request → Ending → Type 0
+CanEndRequest request Done = Unit {0}
+CanEndRequest request Refused = CanRefuse request
+CanEndRequest request (Early fault) = CanEndServing request fault
+CanEndRequest request ending = ⊥
 
 -- `clap` takes the words, and a fact holds of the request that they make
 pub record Asks (words : List (List ℕ)) (Holds : Request → Type 0) : Type 0 where

@@ -4,11 +4,12 @@ ghost use Rattle.std.specs.Prelude.{◌≡◌};
 ghost use Rattle.herdbook.specs.Ending.{Explains, end_of_check, end_of_clerks, end_of_pedigree, end_of_run};
 ghost use Rattle.herdbook.specs.Ending.{end_of_session, end_of_shown, end_of_unread, status_of};
 
-use crate::arguments::WordsFault;
 use crate::fault_text::{NumberFaultText, RequestFaultText};
 use crate::request_fault::RequestFault;
 use clap::error::ErrorKind;
 use herd_animal::NumberFault;
+use herd_clerks::ClerksFault;
+use herd_command_line::WordsFault;
 use herd_orders::RunFault;
 use herd_pedigree_report::PedigreeReportFault;
 use herd_session::SessionFault;
@@ -104,12 +105,12 @@ impl Ending {
     }
 
     /// The end of the clerks' work.
-    pub fn of_clerks(ended: Result<(), RequestFault>) -> Ending
+    pub fn of_clerks(ended: Result<(), ClerksFault>) -> Ending
         ensures { result ≡ end_of_clerks ended }
     {
         match ended {
             Ok(()) => Ending::Done,
-            Err(fault) => Ending::Early(fault),
+            Err(fault) => Ending::Early(RequestFault::from(fault)),
         }
     }
 

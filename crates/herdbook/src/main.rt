@@ -1,46 +1,26 @@
 //! The herd book of a breed society, as a program over standard input and output.
 //!
-//! The words of the command line are read first. They ask for help or the version, for the replies to a command file or
-//! an order of its book, which `herd_orders` carries out; for a report of a pedigree, which `herd_pedigree_report`
-//! writes; for the check of a certificate, which `herd_seal` makes; for `clerks`: the commands of a file, filed at the
-//! desks of an office by clerks side by side; or for a session, which `herd_session` holds. How the program ends is a
-//! value, made from what was asked and what came of it (`Ending`); only `main` prints it, or tells it on standard
-//! error.
+//! The words of the command line are read first (`herd_command_line`). They ask for help or the version, for the replies
+//! to a command file or an order of its book, which `herd_orders` carries out; for a report of a pedigree, which
+//! `herd_pedigree_report` writes; for the check of a certificate, which `herd_seal` makes; for `clerks`: the commands of
+//! a file, filed at the desks of an office by clerks side by side, as `herd_clerks` has them do; or for a session, which
+//! `herd_session` holds. How the program ends is a value, made from what was asked and what came of it (`Ending`); only
+//! `main` prints it, or tells it on standard error.
 //!
 //! | | definition (`specs/`) | code (`src/`) | proof (`proofs/`) |
 //! |---|---|---|---|
-//! | the command line | `CommandLine`, `Subcommand` | `command_line`, `subcommand` | `CommandFacts` |
-//! | what its words ask for | `Texts`, `Words` | `arguments` | `WordsFacts` |
-//! | the limits where the words don't say them | | `limits` | |
-//! | the texts of help and of the version | | `help` | |
-//! | what the program does for its words | `Program` | `program` | `ProgramFacts` |
+//! | what the program does for its words | `Program`, `Orders` | `program` | `ProgramFacts` |
 //! | how it ends, what is told on standard error | `Ending`, `FaultText` | `ending`, `request_fault`, `fault_text` | |
-//! | the words behind `pedigree` | `PedigreeWords` | `pedigree_words` | `PedigreeFacts` |
-//! | how its reports end | `Pedigrees` | | `PedigreeFacts` |
-//! | how a check of a certificate ends | `Checks` | `ending` | `ProgramFacts` |
-//! | clerks, their threads, one at a desk | `Clerks`, `Deal` | `desks`, `crew`, `clerk` | `DealFacts`, `SummaryFacts` |
-//! | the desk of each command, a desk's turn | `Deal` | `deal` | `DealFacts`, `Lists` |
-//! | how clerks end early | `Clerks` | `clerk_fault` | `ClerksFacts` |
-//! | what each desk answered, as text | `Summary` | `summary` | `SummaryFacts` |
-//! | how a session ends the program | `Sessions` | `ending`, `request_fault` | `ProgramFacts` |
+//! | how reports of a pedigree end it | `Pedigrees` | `ending`, `request_fault` | `ProgramFacts` |
+//! | how a check of a certificate ends it | `Checks` | `ending` | `ProgramFacts` |
+//! | how clerks end it | `Clerks` | `ending`, `request_fault` | `ProgramFacts` |
+//! | how a session ends it | `Sessions` | `ending`, `request_fault` | `ProgramFacts` |
 #![tactic(auto)]
 
-mod arguments;
-mod clerk;
-mod clerk_fault;
-mod command_line;
-mod crew;
-mod deal;
-mod desks;
 mod ending;
 mod fault_text;
-mod help;
-mod limits;
-mod pedigree_words;
 mod program;
 mod request_fault;
-mod subcommand;
-mod summary;
 
 use ending::Ending;
 use program::carry_out;

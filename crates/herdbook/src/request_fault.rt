@@ -2,6 +2,7 @@
 ghost use Rattle.std.specs.Prelude.{◌≡◌};
 ghost use Rattle.herdbook.specs.declared.request_fault.RequestFault.TheVariants.{Run};
 
+use herd_clerks::ClerksFault;
 use herd_command_file::LineFault;
 use herd_orders::RunFault;
 use herd_pedigree_file::PedigreeFault;
@@ -53,6 +54,22 @@ impl From<PedigreeReportFault> for RequestFault {
             PedigreeReportFault::NoThread => RequestFault::Run(RunFault::NoThread),
             PedigreeReportFault::Memory => RequestFault::Run(RunFault::Memory),
             PedigreeReportFault::Write => RequestFault::Run(RunFault::Write),
+        }
+    }
+}
+
+impl From<ClerksFault> for RequestFault {
+    ghost use Rattle.herdbook.specs.Clerks.{fault_of_clerks};
+
+    ghost from_gives = { λ cause fault. fault ≡ fault_of_clerks cause };
+
+    fn from(fault: ClerksFault) -> RequestFault {
+        match fault {
+            ClerksFault::Line(fault) => RequestFault::from(fault),
+            ClerksFault::NoThread => RequestFault::Run(RunFault::NoThread),
+            ClerksFault::Memory => RequestFault::Run(RunFault::Memory),
+            ClerksFault::Write => RequestFault::Run(RunFault::Write),
+            ClerksFault::NoPlace => RequestFault::NoPlace,
         }
     }
 }

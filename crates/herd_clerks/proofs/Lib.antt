@@ -1,0 +1,4 @@
+mod ClerksFacts
+mod DealFacts
+mod Lists
+mod SummaryFacts

@@ -1,0 +1,3 @@
+pub mod Clerks
+pub mod Deal
+pub mod Summary

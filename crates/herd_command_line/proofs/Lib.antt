@@ -1,0 +1,3 @@
+mod CommandFacts
+mod PedigreeFacts
+mod WordsFacts

@@ -1,0 +1,15 @@
+-- It must be there.
+use Rattle.std.proofs.Common.{◌∙◌, ap, true}
+use Rattle.clap.specs.Words.{Rule, rule_of}
+use Rattle.clap.specs.declared.builder.arg.Arg.{Arg}
+use Rattle.herd_command_line.specs.CommandLine.{IsArgumentOf, number_rule}
+use Rattle.herd_command_line.proofs.CommandFacts.{helped}
+use Rattle.herd_command_line.proofs.command_line.number_argument.Goals as goal
+
+pub returns : goal.returns
+returns c =
+    let required : IsArgumentOf number_rule c.required.result = record {
+      rule_is = ap rule_of c.required.ensures ∙ ap (λ (r : Rule). record r { required = true }) c.new.ensures.rule;
+      local = ap (λ (a : Arg). a.global) c.required.ensures ∙ c.new.ensures.optional.1;
+    } in
+    helped _ c.help.result number_rule _ required c.help.ensures

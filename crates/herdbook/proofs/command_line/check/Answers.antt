@@ -1,9 +1,0 @@
--- The argument is added with its rule.
-use Rattle.std.proofs.Common.{codes}
-use Rattle.clap.specs.Words.{new_app}
-use Rattle.herdbook.specs.CommandLine.{check_line, seal_rule}
-use Rattle.herdbook.proofs.command_line.check.Goals as goal
-
-pub returns : goal.returns
-unfolding check_line
-returns c = c.with_argument.ensures (new_app (codes "check")) seal_rule c.named-bare.ensures c.seal_argument.ensures

@@ -1,9 +1,0 @@
--- The limits are added with their rules.
-use Rattle.std.proofs.Common.{codes}
-use Rattle.clap.specs.Words.{new_app}
-use Rattle.herdbook.specs.CommandLine.{seal_line}
-use Rattle.herdbook.proofs.command_line.seal.Goals as goal
-
-pub returns : goal.returns
-unfolding seal_line
-returns c = c.with_limits.ensures (new_app (codes "seal")) c.named-bare.ensures

@@ -1,9 +1,0 @@
--- Each clerk who was started is awaited.
-use Rattle.std.proofs.Common.{rules}
-use Rattle.herdbook.proofs.crew.fn.file_in_turn.scope.Goals as goal
-
-pub returns : goal.returns
-returns g c = record {
-  numbers = search rules;
-  filed = c.join_all.ensures.filed c.captures.deal c.in_ok-started.ensures.deals;
-}

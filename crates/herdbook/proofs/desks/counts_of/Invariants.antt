@@ -1,7 +1,0 @@
--- A count for each desk so far.
-use Rattle.std.proofs.Common.{◌≡◌, map, take}
-use Rattle.herdbook.specs.Summary.{count_of}
-use Rattle.herdbook.proofs.desks.counts_of.Given as goal
-
-abbrev pub invariant-loop-desk : goal.invariant-loop-desk
-invariant-loop-desk g l = l.counts.items ≡ map (λ d. count_of d.number d.answered) (take l.desk-index l.desks)
