@@ -2,7 +2,7 @@
 """Prints what proofs cost: each crate in the gate, or the dearest functions of crates.
 
     proof_cost.py gate [--of PID]
-    proof_cost.py functions CRATE.. [--most 20]
+    proof_cost.py functions CRATE.. [--most 20] [--tests]
 
 Both run at the top of the repository, on an idle machine. `gate` runs `rt ci`, or watches one that runs already, and
 prints minutes of the processor for each crate: its proof, the proof and building of its tests, its must-fail edits (the
@@ -11,7 +11,7 @@ crate's second proof among them), all. It looks twice a second, so what a proces
 `functions` proves each crate from nothing in one process, over what is kept of the libraries below it, and prints seconds
 by the clock: the prover writes a file for each part of each function, and a part took what lies between its file and the
 one before. Of the parts, `Lts` is the walk over borrows, `Proof` what answers and automatic search take, `Tie` the code's
-link with its contract."""
+link with its contract. With `--tests` each crate is proved with its tests."""
 from __future__ import annotations
 
 import argparse
@@ -112,14 +112,15 @@ def parts(kept: pathlib.Path) -> Iterator[tuple[str, str, float]]:
             yield named[1], named[2].partition(".")[0], at - before
 
 
-def proved_from_nothing(crate: str, kept: pathlib.Path) -> bool:
+def proved_from_nothing(crate: str, kept: pathlib.Path, more: list[str]) -> bool:
     """Proves a crate in one process, over libraries that stand; what its own earlier checks kept lies aside meanwhile."""
     own = pathlib.Path("crates", crate, "out", "incremental")
     aside = kept / "aside"
     if own.exists():
         shutil.move(own, aside)
     try:
-        ran = subprocess.run(["rt", "check", "--jobs", "1"], cwd=f"crates/{crate}", stdout=subprocess.PIPE, text=True)
+        words = ["rt", "check", "--jobs", "1", *more]
+        ran = subprocess.run(words, cwd=f"crates/{crate}", stdout=subprocess.PIPE, text=True)
         if own.exists():
             shutil.move(own, kept / "made")
         return ran.returncode == 0
@@ -128,11 +129,11 @@ def proved_from_nothing(crate: str, kept: pathlib.Path) -> bool:
             shutil.move(aside, own)
 
 
-def print_functions(crates: list[str], most: int) -> int:
+def print_functions(crates: list[str], most: int, more: list[str]) -> int:
     by_function: dict[tuple[str, str], collections.Counter[str]] = collections.defaultdict(collections.Counter)
     for crate in crates:
         with tempfile.TemporaryDirectory() as room:
-            if not proved_from_nothing(crate, pathlib.Path(room)):
+            if not proved_from_nothing(crate, pathlib.Path(room), more):
                 print(f"{crate} is not proved: rt check in crates/{crate} says why", file=sys.stderr)
                 return 1
             for function, part, seconds in parts(pathlib.Path(room, "made")):
@@ -151,8 +152,11 @@ def main() -> int:
     functions = tables.add_parser("functions")
     functions.add_argument("crates", nargs="+", metavar="CRATE")
     functions.add_argument("--most", type=int, default=20)
+    functions.add_argument("--tests", action="store_const", const=["--test"], default=[])
     words = parser.parse_args()
-    return run_gate(words.of) if words.table == "gate" else print_functions(words.crates, words.most)
+    if words.table == "gate":
+        return run_gate(words.of)
+    return print_functions(words.crates, words.most, words.tests)
 
 
 if __name__ == "__main__":
