@@ -54,6 +54,11 @@ class Refusals(Checks):
         return None
 
 
+def behind(text: str) -> dict[str, object]:
+    """Refuses the read behind a short text, whose first byte is read by itself."""
+    return {"REFUSE": "read", "REFUSE_NTH": min(len(text), 2) + 1}
+
+
 def while_reading(order: str) -> str:
     """A growth that is refused while a record is read.
 

@@ -6,7 +6,7 @@ import re
 
 import reference
 from outside.books import SAMPLES, drawn, full_sibs
-from outside.refusals import ALL, Refusals
+from outside.refusals import ALL, Refusals, behind
 from outside.runs import Done, fault, wrote
 from reference_pedigree import Pedigree, mrode
 from reference_pedigree import drawn as drawn_pedigree
@@ -38,6 +38,28 @@ FAULTY_FILES = [
     (HEADER + "0,1\n", 1, "7 Dam"),
     (HEADER + "9,9\n", 1, "6 Sire"),
     (HEADER + "0,0\n0,2\n9,9,9\n", 2, "7 Dam"),
+]
+
+# the beginnings of a file, and the record that is being read behind them
+BROKEN = [("", 0), ("s", 0), ("sire", 0), (HEADER + "0,0", 1), (HEADER + "0,0\n1,1\n0", 3)]
+
+# the first animal is sire and dam of the second, that of the third, and the third and the first are of the fourth
+SELFED = HEADER + ",\n1,1\n2,2\n3,1\n"
+OF_SELFED = [
+    (INBREEDING, "1,0,0.00\n2,1/2,50.00\n3,3/4,75.00\n4,1/2,50.00\n"),
+    ([*INBREEDING, "--workers", "2", "--block", "1"], "1,0,0.00\n2,1/2,50.00\n3,3/4,75.00\n4,1/2,50.00\n"),
+    (
+        INVERSE,
+        "1,1,1,1\n2,2,2,2\n2,2,1,-2\n2,1,1,2\n3,3,3,4\n3,3,2,-4\n3,2,2,4\n"
+        "4,4,4,16/5\n4,4,3,-8/5\n4,4,1,-8/5\n4,3,3,4/5\n4,1,1,4/5\n4,3,1,4/5\n",
+    ),
+    ([*RELATIONSHIPS, "2", "4", "--with", "1", "4"], "2,1,1\n2,4,5/4\n4,1,1\n4,4,3/2\n"),
+    (
+        [*RELATIONSHIPS, "3", "4", "--units"],
+        "3,3,2326148992623602777581662355490603008\n"
+        "3,4,1827688494204259325242734707885473792\n"
+        "4,4,1993841993677373809355710590420516864\n",
+    ),
 ]
 
 # words that no report takes, and that are refused before anything is read
@@ -96,6 +118,17 @@ class TestPedigrees(Refusals):
         self.expect("no animals", wrote(""), INBREEDING, HEADER)
         self.expect("no animals", wrote(""), INVERSE, HEADER)
 
+    def test_selfed(self) -> None:
+        for words, answer in OF_SELFED:
+            self.expect("selfed", wrote(answer), words, SELFED)
+
+    def test_forms(self) -> None:
+        """A byte order mark, both line ends, a blank line, both forms of unknown parents, quotes, no last line end."""
+        text = b'\xef\xbb\xbfsire,dam\r\n,0\r\n\r\n1,1\n"2",\n0,3'
+        pedigree, everyone = Pedigree(((None, None), (0, 0), (1, None), (None, 2))), range(1, 5)
+        wanted = wrote(pedigree.relationships_of(everyone))
+        self.expect("forms", wanted, [*RELATIONSHIPS, *map(str, everyone)], text)
+
     def test_books(self) -> None:
         """The animals of a book, by age, have the coefficients that they have as a pedigree."""
         for text in [*(path.read_text() for path in SAMPLES), full_sibs(7), *map(drawn, range(40))]:
@@ -138,6 +171,12 @@ class TestPedigrees(Refusals):
                 refuse = {"REFUSE": "growth"} | ({"REFUSE_LAST": ALL} if last else {})
                 self.until_none("growth", words, text, refuse, is_told)
                 self.count({"fault 3 Memory", "no memory"} <= told, f"{words}: only {told} were told")
+
+    def test_where_reading_breaks(self) -> None:
+        """The last record that is not yet whole is the one that is told."""
+        for text, record in BROKEN:
+            for words in REPORTS:
+                self.expect("broken", fault(f"record {record}: fault 2 Read"), words, text, refuse=behind(text))
 
     def refused_by_each(self, text: str, told: str) -> None:
         """A fault of the file comes before all else, and nothing is written."""
