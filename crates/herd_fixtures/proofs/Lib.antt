@@ -1,3 +1,2 @@
 mod DigitFacts
-mod NameFacts
 mod NumberFacts

@@ -1,6 +1,5 @@
 -- The numbers of animals that are named short.
-use Rattle.std.specs.Prelude.{ℕ, zero, suc, ◌+◌, ◌/◌, ◌%◌, List, [], ◌∷◌, ◌++◌, codes, ◌≡◌, ◌<◌, ◌^◌}
-use Rattle.std.specs.Str.Parse.{IsNumeral, digits_value, without_leading_plus}
+use Rattle.std.specs.Prelude.{ℕ, zero, suc, ◌+◌, ◌/◌, ◌%◌, List, [], ◌∷◌, ◌++◌, codes}
 use Rattle.herd_animal.specs.declared.number.Sex.{Sex}
 use Rattle.herd_animal.specs.declared.number.Sex.TheVariants.{Male, Female}
 use Rattle.herd_fixtures.specs.declared.name.Name.{Name}
@@ -26,19 +25,3 @@ sex_named (Cow serial) = Female
 abbrev pub number_named : Name → List ℕ
 number_named (Bull serial) = number_with Male serial
 number_named (Cow serial) = number_with Female serial
-
-abbrev pub serial_named : Name → ℕ
-serial_named (Bull serial) = serial
-serial_named (Cow serial) = serial
-
--- the digits, perhaps with a plus before them, are a number below 2 ^ 32
-pub record IsSerial (digits : List ℕ) (serial : ℕ) : Type 0 where
-  pub numeral : IsNumeral 10 (without_leading_plus digits)
-  pub value : digits_value 10 (without_leading_plus digits) ≡ serial
-  pub fits : serial < 2 ^ 32
-
--- the text is the letter of the sex, and then the digits
-pub record IsNamed (text : List ℕ) (name : Name) : Type 0 where
-  pub own : List ℕ
-  pub text_is : text ≡ letter_of (sex_named name) ∷ own
-  pub serial : IsSerial own (serial_named name)

@@ -51,17 +51,6 @@ impl Pair {
         }
     }
 
-    /// The dam alone is known.
-    pub fn of_dam(dam: Name) -> Pair
-        ensures sire { result.sire ≡ None }
-        ensures dam { result.dam ≡ Some dam }
-    {
-        Pair {
-            sire: None,
-            dam: Some(dam),
-        }
-    }
-
     /// The sire's number, where he is known.
     pub fn sire_number(self) -> Option<AnimalNumber>
         ensures { result ≡ named self.sire }

@@ -77,18 +77,6 @@ pub fn file_births<A: Allocator + Copy>(
     Ok(())
 }
 
-/// The book of these births.
-pub fn pedigree_of<A: Allocator + Copy>(
-    alloc: A,
-    births: &[Birth],
-) -> Result<Pedigree<A>, BirthFault>
-    ensures { IfOk result (λ pedigree. pedigree.book ≡ map entry births.now) }
-{
-    let mut pedigree = Pedigree::new(alloc);
-    file_births(&mut pedigree, births)?;
-    Ok(pedigree)
-}
-
 // What is frozen of a pedigree.
 fn frozen_pedigree<A: Allocator + Copy>(
     alloc: A,
@@ -144,8 +132,8 @@ pub fn generations<A: Allocator + Copy>(alloc: A, count: u8) -> Result<Frozen<A>
     frozen_pedigree(alloc, &pedigree)
 }
 
-/// The births of such a pair: of the first one, which has no parents, for 0.
-pub fn pair_of(generation: u8) -> [Birth; 2] {
+// The births of such a pair: of the first one, which has no parents, for 0.
+fn pair_of(generation: u8) -> [Birth; 2] {
     let day = new_year(generation);
     let last = 2 * u32::from(generation);
     let parents = if generation == 0 {
@@ -159,8 +147,8 @@ pub fn pair_of(generation: u8) -> [Birth; 2] {
     ]
 }
 
-/// The first day of the year that is so many after 2000. There is none after 2099.
-pub fn new_year(after: u8) -> DayText {
+// The first day of the year that is so many after 2000. There is none after 2099.
+fn new_year(after: u8) -> DayText {
     let mut text = *b"2000-01-01";
     text[2] = b'0' + after / 10 % 10;
     text[3] = b'0' + after % 10;

@@ -1,23 +1,10 @@
-//! Heaps that are too small until what is spare in them is given back.
+//! Small heaps, and what takes them up until it is given back.
 
 use linked_list_allocator::LocalHeap;
 use std::alloc::{AllocError, Global};
 
-/// The bytes of a heap that are spare.
-const SPARE: usize = 8192;
-
 /// More than the blocks that a small heap has.
 pub const MOST_BLOCKS: u32 = 4_096;
-
-/// A heap with so many bytes beside the spare ones.
-pub fn heap_of(alloc: Global, bytes: usize) -> Result<LocalHeap, AllocError> {
-    LocalHeap::new(alloc, SPARE.saturating_add(bytes))
-}
-
-/// The spare bytes of a heap, taken until they are dropped.
-pub fn spare_of(heap: &LocalHeap) -> Result<Vec<u8, &LocalHeap>, AllocError> {
-    Vec::with_capacity(heap, SPARE)
-}
 
 /// A heap of 1,024 small blocks.
 pub fn small_heap(alloc: Global) -> Result<LocalHeap, AllocError> {

@@ -11,17 +11,12 @@ mod heaps;
 mod herd;
 mod meeting;
 mod name;
-mod rows;
 
 pub use birth::{Birth, DayText, Pair, UNKNOWN};
-pub use books::{
-    BirthFault, file_birth, file_births, founders, frozen_of, generations, new_year, pair_of,
-    pedigree_of,
-};
+pub use books::{BirthFault, file_birth, file_births, founders, frozen_of, generations};
 pub use breaks_after::BreaksAfter;
-pub use families::{descendants_of_full_sibs, full_sibs};
-pub use heaps::{Crowd, MOST_BLOCKS, heap_of, small_heap, spare_of};
+pub use families::full_sibs;
+pub use heaps::{Crowd, MOST_BLOCKS, small_heap};
 pub use herd::herd_of;
 pub use meeting::Meeting;
 pub use name::Name;
-pub use rows::row_at;

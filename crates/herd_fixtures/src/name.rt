@@ -1,9 +1,8 @@
 //! Animals, written short.
 
-ghost use Rattle.std.specs.Prelude.{◌≡◌, ℕ, IfSome, IsNone, length};
+ghost use Rattle.std.specs.Prelude.{◌≡◌, length};
 ghost use Rattle.herd_animal.specs.Sex.{sex_of};
-ghost use Rattle.herd_fixtures.specs.declared.name.Name.{Name};
-ghost use Rattle.herd_fixtures.specs.Name.{IsNamed, IsSerial, digits, letter_of, number_named, number_with, sex_named};
+ghost use Rattle.herd_fixtures.specs.Name.{digits, letter_of, number_named, number_with, sex_named};
 
 use herd_animal::{AnimalNumber, Sex};
 
@@ -15,20 +14,6 @@ pub enum Name {
 }
 
 impl Name {
-    /// Reads a name: the letter of the sex and the digits, as in `M5` and `F6`.
-    pub fn parse(text: &str) -> Option<Name>
-        ensures named { IfSome result (IsNamed text.now) }
-        ensures none { IsNone result → (name : Name) → ¬ (IsNamed text.now name) }
-    {
-        if let Some(digits) = text.strip_prefix('M') {
-            return serial_of(digits).map(Name::Bull);
-        }
-        if let Some(digits) = text.strip_prefix('F') {
-            return serial_of(digits).map(Name::Cow);
-        }
-        None
-    }
-
     /// The whole number.
     pub fn number(self) -> AnimalNumber
         ensures number { result ≡ number_named self }
@@ -39,13 +24,6 @@ impl Name {
             Name::Cow(serial) => animal_number(Sex::Female, serial),
         }
     }
-}
-
-fn serial_of(digits: &str) -> Option<u32>
-    ensures some { IfSome result (IsSerial digits.now) }
-    ensures none { IsNone result → (serial : ℕ) → ¬ (IsSerial digits.now serial) }
-{
-    digits.parse().ok()
 }
 
 fn animal_number(sex: Sex, serial: u32) -> AnimalNumber

@@ -1,4 +1,4 @@
-//! Tests of the office: races of desks and inspectors, closings, refused memory.
+//! Tests of a book: days, command files, pedigrees, registers with their copies, and offices.
 #![tactic(auto)]
 
 #[cfg(test)]

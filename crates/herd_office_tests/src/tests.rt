@@ -1,8 +1,11 @@
-//! The tests of the office, and what they share.
+//! What no clause says of a book: the numbers of days, texts that are shown, how far files are read, when memory is
+//! taken and when it suffices, and what inspectors see.
 
-mod closings;
-mod filing;
+mod animals;
+mod command_files;
+mod commands;
+mod copies;
 mod memory;
-mod races;
-mod racing;
+mod pedigrees;
 mod readings;
+mod registers;

@@ -25,8 +25,6 @@ mod check_fault;
 mod fields;
 mod reading;
 mod row;
-#[cfg(test)]
-mod tests;
 
 pub use answer::{MOST_BYTES, answer_certificate};
 pub use book::{row_digests, seal_book, seal_of_digests};

@@ -16,8 +16,6 @@
 
 mod beside;
 mod shown;
-#[cfg(test)]
-mod tests;
 mod tree;
 
 pub use beside::digests_beside;
