@@ -17,7 +17,6 @@ use Rattle.herdbook.specs.Pedigrees.{fault_of_pedigree}
 use Rattle.herdbook.specs.Sessions.{fault_of_session}
 use Rattle.herdbook.specs.declared.ending.Ending.{Ending}
 use Rattle.herdbook.specs.declared.ending.Ending.TheVariants.{Done, Shown, Usage, NotText, Number, Misplaced, NotSeal, Refused, Early}
-use Rattle.herdbook.specs.declared.request_fault.RequestFault.{RequestFault}
 use Rattle.herdbook.specs.declared.request_fault.RequestFault.TheVariants.{Run}
 
 abbrev pub status_of : Ending → ℕ
