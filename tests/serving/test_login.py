@@ -20,6 +20,7 @@ from gudokeyi.store.accounts import A_DAY
 from gudokeyi.web.addresses import ServerAddress
 from gudokeyi.web.forms import new_form
 from gudokeyi.web.logins import FREE_BY_ADDRESS, FREE_BY_NAME, LONGEST, SECONDS, Throttle
+from gudokeyi.web.request_threads import LOGINS_AT_ONCE, PASSWORDS_AT_ONCE
 from serving.test_kept_accounts import guess
 from serving.visitor import WORD, Served, Visitor, served_of, with_accounts
 
@@ -66,8 +67,9 @@ def test_kept(monkeypatch: pytest.MonkeyPatch) -> None:
     one, other = passwords.kept_of(WORD), passwords.kept_of(WORD)
     assert one.digest == hashlib.scrypt(WORD.encode(), salt=one.salt, n=1 << 15, r=8, p=3, maxmem=1 << 27, dklen=32)
     # few guesses at once need memory
-    assert [passwords.AT_ONCE.acquire(blocking=False) for _ in range(3)] == [True, True, False]
-    passwords.AT_ONCE.release(2)
+    threads = LOGINS_AT_ONCE + PASSWORDS_AT_ONCE
+    assert [passwords.AT_ONCE.acquire(blocking=False) for _ in range(threads + 1)] == [True] * 3 + [False]
+    passwords.AT_ONCE.release(threads)
     monkeypatch.setattr(passwords, "AT_ONCE", turn := threading.Lock())
     assert len(one.salt) == 16 and one.salt != other.salt and one.digest != other.digest
     compared: list[object] = []

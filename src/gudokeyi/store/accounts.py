@@ -24,8 +24,8 @@ LEAST_PASSWORD_LETTERS, MOST_PASSWORD_LETTERS = 10, 200
 # what a guess costs, as scrypt's n, r and p: 32 MB, three times
 COST = (1 << 15, 8, 3)
 MOST_BYTES = 80 << 20
-# so many are computed at once, whoever asks
-AT_ONCE = threading.Semaphore(2)
+# so many are computed at once, whoever asks; `web/request_threads.py` has no more threads for them
+AT_ONCE = threading.Semaphore(3)
 
 
 @dataclass(frozen=True, slots=True)

@@ -50,6 +50,8 @@ INSPECTOR, CLERK, KEEPER = AccountRole.INSPECTOR, AccountRole.CLERK, AccountRole
 OPEN_TO_ALL = ("door.enter", "login.page", "login.enter", "static", "start.icon", "start.language", "start.about")
 # what whoever has a password that a keeper gave may ask for before it is changed
 OF_OWN_PASSWORD = ("login.password", "login.change_password", "login.leave")
+# where one logs in, and where somebody who is logged in is asked for the own password: each takes long to look at
+LOG_IN, LOOK_AT_OWN_PASSWORD = "login.enter", ("login.change_password", "accounts.add", "accounts.change")
 # whoever may ask for the others has this role at least
 LEAST = {
     "start.page": INSPECTOR, "animals.page": INSPECTOR, "animals.file": INSPECTOR, "animals.search": INSPECTOR,
@@ -188,8 +190,10 @@ def look_at_body() -> None:
 # allowed. Nothing is changed by a page of another site.
 
 READS = ("GET", "HEAD", "OPTIONS")
-# the moment until which a request waits for others, as its connection says it
-WAITS_UNTIL = "gudokeyi.until"
+# what a request's connection says of it: the moment until which it waits for others; that at which it came, with how
+# many seconds a login's network had to wait then, and as what it was refused where very many wait
+WAITS_UNTIL, ARRIVED = "gudokeyi.until", "gudokeyi.arrived"
+WAIT_AS_IT_CAME, REFUSED_AS_IT_CAME = "gudokeyi.wait", "gudokeyi.refused"
 # the pages that several people read at once
 PAGES = "pages"
 POLICY = (
@@ -219,6 +223,12 @@ class Logins(Protocol):
 
     def person(self) -> Person | None:
         """Who asks, if that is known."""
+
+    def network(self) -> str:
+        """From where somebody asks, as far as the head of a request says it; who sits there counts as one."""
+
+    def wait_of(self, network: str) -> int:
+        """So many seconds a network has to wait before another password is looked at."""
 
     def stranger(self) -> ResponseReturnValue:
         """What is answered to somebody who isn't known."""
@@ -333,6 +343,12 @@ class LinkLogins:
         if not session.get(ENTERED):
             return None
         return Person("", AccountRole.INSPECTOR if self.read_only else AccountRole.KEEPER)
+
+    def network(self) -> str:
+        return request.remote_addr or ""
+
+    def wait_of(self, network: str) -> int:
+        return 0
 
     def stranger(self) -> ResponseReturnValue:
         abort(403, "enter")

@@ -1,13 +1,11 @@
-"""The connections of browsers: how much and how slowly each may send and take, and the threads that answer them, of
-which half are for those who change something."""
+"""The connections of browsers: how much and how slowly each may send and take, and what the head of a request says of
+who sends it."""
 from __future__ import annotations
 
 import contextlib
 import copy
 import socket
-import threading
 import time
-from collections import deque
 from collections.abc import Callable
 from dataclasses import dataclass, replace
 from typing import Any
@@ -15,17 +13,21 @@ from typing import Any
 from flask import Flask, g, request
 from waitress.channel import HTTPChannel
 from waitress.parser import HTTPRequestParser
-from waitress.task import ErrorTask, ThreadedTaskDispatcher, WSGITask
+from waitress.task import ErrorTask, WSGITask
 from waitress.utilities import RequestEntityTooLarge
 from werkzeug.datastructures import LanguageAccept
 from werkzeug.http import parse_accept_header
 
 from gudokeyi.domain.messages import Mistake
-from gudokeyi.domain.waiting import SECONDS_OF_PAGE
+from gudokeyi.domain.waiting import waiting
 from gudokeyi.render.page_language import PageLanguage
-from gudokeyi.web.access import MOST_FORM_BYTES, READS, WAITS_UNTIL, most_of_file, the_logins, the_person
+from gudokeyi.web.access import (
+    ARRIVED, LOOK_AT_OWN_PASSWORD, LOG_IN, MOST_FORM_BYTES, READS, REFUSED_AS_IT_CAME, WAIT_AS_IT_CAME, WAITS_UNTIL,
+    most_of_file, the_logins, the_person,
+)  # fmt: skip
 from gudokeyi.web.files import CONNECTION
 from gudokeyi.web.language import language_liked
+from gudokeyi.web.request_threads import Kind
 
 # How many connections there are, and how long they may take. What is idle goes first where there are many.
 
@@ -87,7 +89,7 @@ def is_too_slow(channel: Any, now: float) -> bool:
     return bool(now - channel.since > (SECONDS_FOR_HEAD if is_fresh else SECONDS_IDLE))
 
 
-# What is received of a body, and how long whoever sent it waits.
+# What the head of a request says: who sends it, what of its body is received, and for what it waits.
 
 # what is a little too large for a page is told to somebody who is known, in their language; the rest isn't received
 MOST_TOLD = 1 << 20
@@ -95,18 +97,41 @@ MOST_TOLD = 1 << 20
 SENT_TO_END = ("/book.sqlite",)
 # what WSGI wants to be told beside of a request
 SOMEWHERE = {"SERVER_NAME": "localhost", "SERVER_PORT": "80", "wsgi.url_scheme": "http"}
+# the headers that say who sends it, by their names there
+OF_SENDER = {"COOKIE": "HTTP_COOKIE", "X_FORWARDED_FOR": "HTTP_X_FORWARDED_FOR"}
 
 
-def bound_of(app: Flask, headers: dict[str, str], address: str) -> int:
-    """The bytes that are received of a body at most. A file's are received of somebody alone who may drop it there."""
-    sender = {"HTTP_COOKIE": headers.get("COOKIE", ""), "REQUEST_METHOD": "POST", "PATH_INFO": address}
-    with app.request_context(SOMEWHERE | sender):
+@dataclass(frozen=True)
+class Head:
+    """Of which kind a request is, and who sends it: a person by the name, else from which network. The bytes of a body
+    are received at most; a login's network has so many seconds to wait for what was wrong before."""
+
+    kind: Kind = Kind.STRANGER
+    sender: str = ""
+    most_bytes: int = MOST_FORM_BYTES
+    wait: int = 0
+
+
+def head_of(app: Flask, parser: Any, peer: str) -> Head:
+    """That of a request that comes from somewhere. A file's bytes are received of somebody alone who may drop it."""
+    told = {name: parser.headers[header] for header, name in OF_SENDER.items() if header in parser.headers}
+    method, address = parser.command.upper(), "/" + parser.path.lstrip("/")
+    asked = {"REMOTE_ADDR": peer, "REQUEST_METHOD": method, "PATH_INFO": address}
+    # nobody is answered meanwhile
+    with app.request_context(SOMEWHERE | told | asked), waiting(time.monotonic()):
+        logins = the_logins()
         # accounts that can't be read are told by the page
         with contextlib.suppress(Mistake):
-            g.person = the_logins().person()
-        if the_person() is None:
-            return MOST_FORM_BYTES
-        return MOST_TOLD + most_of_file(request.endpoint or "")
+            g.person = logins.person()
+        person, endpoint = the_person(), request.endpoint or ""
+        if endpoint == LOG_IN:
+            network = logins.network()
+            return Head(Kind.LOGIN, network, wait=logins.wait_of(network))
+        if person is None:
+            return Head(Kind.STRANGER, logins.network())
+        kind = Kind.PASSWORD if endpoint in LOOK_AT_OWN_PASSWORD else Kind.WRITING
+        most = MOST_TOLD + most_of_file(endpoint)
+        return Head(Kind.READING if method in READS else kind, person.name, most)
 
 
 def bounded_channel(app: Callable[[], Flask]) -> Any:
@@ -115,22 +140,26 @@ def bounded_channel(app: Callable[[], Flask]) -> Any:
 
     def parse_header(self: Any, header: bytes) -> None:
         HTTPRequestParser.parse_header(self, header)
+        self.head = head_of(app(), self, self.peer)
         if self.content_length or self.chunked:
             # others have these bounds too; waitress refuses what is as long as its bound
             self.adj = copy.copy(self.adj)
-            self.adj.max_request_body_size = bound_of(app(), self.headers, self.path) + 1
+            self.adj.max_request_body_size = self.head.most_bytes + 1
         if self.path in SENT_TO_END:
             self.headers["CONNECTION"] = "close"
 
     def get_environment(self: Any) -> dict[str, Any]:
         environ: dict[str, Any] = WSGITask.get_environment(self)
-        environ[WAITS_UNTIL] = self.request.arrived + SECONDS_OF_PAGE
+        said = self.request
+        environ |= {WAITS_UNTIL: said.until, ARRIVED: said.arrived, WAIT_AS_IT_CAME: said.head.wait}
+        environ[REFUSED_AS_IT_CAME] = said.refused
         if environ["PATH_INFO"] in SENT_TO_END:
             environ[CONNECTION] = self.channel.socket
         return environ
 
     # waitress has no types from which a class may be made
-    parser: Any = type("BoundedParser", (HTTPRequestParser,), {"parse_header": parse_header, "arrived": 0.0})
+    said: dict[str, Any] = {"head": Head(), "peer": "", "arrived": 0.0, "until": 0.0, "refused": 0}
+    parser: Any = type("BoundedParser", (HTTPRequestParser,), {"parse_header": parse_header, **said})
     task: Any = type("ConnectedTask", (WSGITask,), {"get_environment": get_environment})
     own = {"parser_class": parser, "task_class": task, "error_task_class": refusing_task()}
     return type("BoundedChannel", (HTTPChannel,), {**own, **timed_channel(), **refusing_channel()})
@@ -193,6 +222,17 @@ def refusing_channel() -> dict[str, Any]:
     return {"refuses": False, "refused": 0.0, "is_ending": False, "close_when_flushed": property(ends, set_ending)}
 
 
+def of_peer(parser: Callable[[Any], Any], peer: str) -> Callable[[Any], Any]:
+    """What reads requests that come from somewhere."""
+
+    def made(adj: Any) -> Any:
+        reads = parser(adj)
+        reads.peer = peer
+        return reads
+
+    return made
+
+
 def timed_channel() -> dict[str, Any]:
     """What of a connection says how long it takes: since when it is idle, or a request comes, with its bytes; and since
     when an answer is taken, with those."""
@@ -200,6 +240,7 @@ def timed_channel() -> dict[str, Any]:
     def begin(self: Any, *given: Any, **named: Any) -> None:
         self.since, self.got, self.sent, self.taking, self.answered = time.monotonic(), 0, 0, None, False
         HTTPChannel.__init__(self, *given, **named)
+        self.parser_class = of_peer(self.parser_class, str(self.addr[0]))
 
     def received(self: Any, data: bytes) -> Any:
         if self.refused:
@@ -229,66 +270,6 @@ def timed_channel() -> dict[str, Any]:
         self.since, self.got, self.answered = time.monotonic(), 0, True
 
     return {"__init__": begin, "received": received, "send": send, "service": service}
-
-
-# The threads: those who change something have half of them, so that whoever only reads waits for nobody.
-
-
-class Waiting:
-    """The requests that wait for a thread, in the order in which they came; of those that change something so many are
-    answered at once."""
-
-    def __init__(self, most_writing: int) -> None:
-        self.most_writing, self.at_work, self.lock = most_writing, 0, threading.Lock()
-        self.reading, self.writing = deque[Any](), deque[Any]()
-
-    def append(self, channel: Any) -> None:
-        first = channel.requests[0]
-        first.arrived = time.monotonic()
-        is_reading = first.error or getattr(first, "command", "") in READS
-        (self.reading if is_reading else self.writing).append(channel)
-
-    def __len__(self) -> int:
-        """How many may be answered now."""
-        return len(self.reading) + min(len(self.writing), self.most_writing - self.at_work)
-
-    def popleft(self) -> Any:
-        may_write = self.writing and self.at_work < self.most_writing
-        if may_write and (not self.reading or arrival(self.writing[0]) < arrival(self.reading[0])):
-            with self.lock:
-                self.at_work += 1
-            return Writing(self.writing.popleft(), self)
-        return self.reading.popleft()
-
-
-def arrival(channel: Any) -> float:
-    # one that was ended meanwhile has none
-    return float(channel.requests[0].arrived) if channel.requests else 0.0
-
-
-class Writing:
-    """A request that changes something, as a thread answers it."""
-
-    def __init__(self, channel: Any, waiting: Waiting) -> None:
-        self.channel, self.waiting = channel, waiting
-
-    def service(self) -> None:
-        try:
-            self.channel.service()
-        finally:
-            with self.waiting.lock:
-                self.waiting.at_work -= 1
-
-    def cancel(self) -> None:
-        self.channel.cancel()
-
-
-def threads(count: int) -> Any:
-    """So many, of which half answer whoever changes something."""
-    dispatcher: Any = ThreadedTaskDispatcher()
-    dispatcher.queue = Waiting(count // 2)
-    dispatcher.set_thread_count(count)
-    return dispatcher
 
 
 def bound(server: Any, app: Callable[[], Flask]) -> None:

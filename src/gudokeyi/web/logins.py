@@ -16,12 +16,13 @@ from typing import TextIO
 from flask import Flask, current_app, g, request, session
 from flask.typing import ResponseReturnValue
 from flask.wrappers import Response
+from werkzeug.exceptions import HTTPException
 
 from gudokeyi.domain.cells import escape, for_terminals
 from gudokeyi.domain.people import Person
 from gudokeyi.process import CHANGED, FAULT, REFUSED, USUAL, how_grave
 from gudokeyi.services.accounts import A_DAY, Account, Accounts, folded
-from gudokeyi.web.access import the_logins, the_person
+from gudokeyi.web.access import ARRIVED, WAIT_AS_IT_CAME, the_logins, the_person
 from gudokeyi.web.addresses import ServerAddress
 
 # Guesses of passwords are slowed down: after a few by one name or from one address each has to wait, twice as long as
@@ -56,6 +57,11 @@ class Throttle:
         """So many seconds somebody has to wait; 0 where a password may be tried."""
         with self.lock:
             return self.seconds(keys_of(name, address))
+
+    def wait_of_network(self, network: str) -> int:
+        """The same for whatever name."""
+        with self.lock:
+            return self.seconds({("address", network): FREE_BY_ADDRESS})
 
     def tried(self, name: str, address: str, is_right: bool) -> int:
         """Counts a password that was wrong; a right one ends what is counted by the name. Where others were wrong
@@ -151,7 +157,8 @@ def priority_of(status: int) -> int:
 
 
 def begin() -> None:
-    g.began = time.monotonic()
+    # how long it waited for a thread is told too
+    g.began = request.environ.get(ARRIVED, time.monotonic())
 
 
 # The way in of a desk for several people: each has an account, and is known by a cookie from the login on.
@@ -191,6 +198,14 @@ class AccountLogins:
         token = session.get(LOGIN)
         return self.accounts.person_of(token) if isinstance(token, str) else None
 
+    def network(self) -> str:
+        with contextlib.suppress(HTTPException):
+            return network_of(self.address.client())
+        return request.remote_addr or ""
+
+    def wait_of(self, network: str) -> int:
+        return self.throttle.wait_of_network(network)
+
     def stranger(self) -> ResponseReturnValue:
         from gudokeyi.web.routes.login import asked_to_log_in
 
@@ -203,7 +218,7 @@ class AccountLogins:
     def try_to_log_in(self, name: str, password: str) -> Account | int:
         """The account, or how many seconds somebody has to wait; 0 where name or password are wrong."""
         key = folded(name)[:MOST_LETTERS]
-        wait = self.throttle.wait_of(key, g.client)
+        wait = request.environ.get(WAIT_AS_IT_CAME, 0) or self.throttle.wait_of(key, g.client)
         account = None
         if not wait:
             account = self.accounts.fits(name, password)

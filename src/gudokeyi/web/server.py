@@ -31,10 +31,11 @@ from gudokeyi.services.opening import take_over, up_to_date
 from gudokeyi.web.access import LinkLogins
 from gudokeyi.web.addresses import ListenAddress, server_address
 from gudokeyi.web.app import web_app
-from gudokeyi.web.connections import SETTINGS, bound as bounded, threads as threads_of
+from gudokeyi.web.connections import SETTINGS, bound as bounded
 from gudokeyi.web.verification import keep_seeing
 from gudokeyi.web.files import Uploads
 from gudokeyi.web.logins import AccessLog, AccountLogins, Throttle
+from gudokeyi.web.request_threads import threads as threads_of
 from gudokeyi.web.served_book import ServedBook
 from gudokeyi.web.workers import PAUSE, Exports, Jobs
 

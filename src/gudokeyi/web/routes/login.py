@@ -5,7 +5,7 @@ from __future__ import annotations
 import contextlib
 from dataclasses import replace
 
-from flask import Blueprint, current_app, flash, redirect, render_template, request, url_for
+from flask import Blueprint, current_app, flash, g, make_response, redirect, render_template, request, url_for
 from werkzeug.exceptions import HTTPException
 from werkzeug.wrappers import Response
 
@@ -14,7 +14,7 @@ from gudokeyi.domain.settings import Setting
 from gudokeyi.render.page_wording import MessageView
 from gudokeyi.services.accounts import AccountFault
 from gudokeyi.services.settings import settings_of
-from gudokeyi.web.access import LEAST, MOST_FORM_BYTES, may, the_person, way_back
+from gudokeyi.web.access import LEAST, MOST_FORM_BYTES, REFUSED_AS_IT_CAME, may, the_person, way_back
 from gudokeyi.web.language import gettext, ngettext, on_page
 from gudokeyi.web.logins import the_account_logins
 from gudokeyi.web.served_book import Answer, served_book
@@ -27,6 +27,8 @@ WAIT = (
     "There were too many wrong passwords. Wait {} second, then try again.",
     "There were too many wrong passwords. Wait {} seconds, then try again.",
 )
+# what is told where so many logins wait that no more do, and after how many seconds one comes again
+MANY, SECONDS_FOR_MANY = "Very many people are logging in at this moment. Wait some seconds, then try again.", 5
 # what of a form is kept: so many fields, each of so many letters, and no secrets
 MOST_FIELDS, MOST_LETTERS = 60, 2_000
 SECRETS = ("csrf_token", "password", "new", "again")
@@ -69,6 +71,10 @@ def enter() -> Answer:
     logins, given = the_account_logins(), request.form
     kept = [(name.removeprefix(KEPT), text) for name, text in given.items(multi=True) if name.startswith(KEPT)]
     kept_to, to = given.get(KEPT_TO, ""), given.get("to", "")
+    refused = request.environ.get(REFUSED_AS_IT_CAME)
+    if refused:
+        g.refused = "refused many logins"
+        return behind(SECONDS_FOR_MANY, form([gettext(MANY)], kept, kept_to, refused, to))
     try:
         found = logins.try_to_log_in(given.get("name", ""), given.get("password", ""))
         if not isinstance(found, int):
@@ -76,14 +82,21 @@ def enter() -> Answer:
     except Mistake as mistake:
         return form([one.text for one in on_page(mistake.sentences)], kept, kept_to, 400, to)
     if isinstance(found, int):
-        told = not_let_in(found, WRONG_LOGIN)
-        return form([told], kept, kept_to, 429 if found else 401, to)
+        page = form([not_let_in(found, WRONG_LOGIN)], kept, kept_to, 429 if found else 401, to)
+        return behind(found, page) if found else page
     endpoint = form_at(kept_to)
     if endpoint and may(endpoint):
         return render_template("again.html", kept=kept[:MOST_FIELDS], kept_to=kept_to)
     if endpoint:
         flash(gettext("Your role doesn't allow this: ask a keeper of the book."), "look")
     return redirect(way_back(to))
+
+
+def behind(seconds: int, page: Answer) -> Response:
+    """A page that tells programs too when to come again."""
+    response = make_response(page)
+    response.headers["Retry-After"] = str(seconds)
+    return response
 
 
 def not_let_in(seconds: int, wrong: str) -> str:
