@@ -23,7 +23,7 @@ from gudokeyi.web.access import REFUSED_AS_IT_CAME, WAIT_AS_IT_CAME
 from gudokeyi.web.connections import Head, head_of
 from gudokeyi.web.logins import FREE_BY_ADDRESS, LOGIN
 from gudokeyi.web.request_threads import (
-    LOGINS_AT_ONCE, MOST_LOGINS, MOST_OF_NETWORK, MOST_SENDERS, Asked, Kind, Refused, Waiting,
+    LOGINS_AT_ONCE, MOST_LOGINS, MOST_OF_NETWORK, MOST_SENDERS, Asked, Kind, Refusal, Waiting,
 )  # fmt: skip
 from gudokeyi.web.routes.login import MANY, SECONDS_FOR_MANY
 from serving.server import Browser, Server
@@ -106,7 +106,7 @@ def test_bounds_of_logins() -> None:
     for one in course:
         waiting.append(one)
     assert MOST_OF_NETWORK >= COURSE
-    assert [one.requests[0].refused for one in course] == [0] * MOST_OF_NETWORK + [Refused.MANY_OF_NETWORK] * 3
+    assert [one.requests[0].refused for one in course] == [0] * MOST_OF_NETWORK + [Refusal.MANY_OF_NETWORK] * 3
     others = [channel(Kind.LOGIN, f"network {at}") for at in range(MOST_LOGINS)]
     for one in others[: MOST_LOGINS - MOST_OF_NETWORK]:
         waiting.append(one)
@@ -115,8 +115,8 @@ def test_bounds_of_logins() -> None:
         waiting.append(one)
     # the course's last ones gave way, but for its first
     refused = [one.requests[0].refused for one in course]
-    assert refused == [0] + [Refused.MANY] * (MOST_OF_NETWORK - 1) + [Refused.MANY_OF_NETWORK] * 3
-    assert [one.requests[0].refused for one in others] == [0] * (MOST_LOGINS - 1) + [Refused.MANY]
+    assert refused == [0] + [Refusal.MANY] * (MOST_OF_NETWORK - 1) + [Refusal.MANY_OF_NETWORK] * 3
+    assert [one.requests[0].refused for one in others] == [0] * (MOST_LOGINS - 1) + [Refusal.MANY]
     assert waiting.logins.all == MOST_LOGINS
     # what is refused, and what a network asks that has to wait, is told so without a turn of logins
     waiting.append(channel(Kind.LOGIN, "guesses", wait=30))
@@ -131,7 +131,8 @@ def head(
 ) -> Head:
     jar = visitor.client.cookie_jar if visitor else None
     cookies = "; ".join(f"{one.name}={one.value}" for one in jar or ())
-    parser = SimpleNamespace(command=method, path=path, headers={"COOKIE": cookies} | headers)
+    said = {"command": method, "path": path, "headers": {"COOKIE": cookies} | headers}
+    parser = SimpleNamespace(chunked=False, content_length=0, **said)
     return head_of(served.app, parser, peer)
 
 
@@ -184,7 +185,7 @@ def test_refused_as_it_came(served: Served, monkeypatch: pytest.MonkeyPatch) -> 
 
     for language, told in zip(("en", "de", "fr"), in_each(MANY)):
         visitor.get(f"/language/{language}")
-        for why in Refused:
+        for why in Refusal:
             status, seconds, page = posted({REFUSED_AS_IT_CAME: why})
             assert status == why and seconds == str(SECONDS_FOR_MANY) and told in shown(page)
             assert 'value="Carl"' in page and 'value="GK"' in page

@@ -9,6 +9,7 @@ import sqlite3
 import threading
 import time
 from collections.abc import Iterator
+from types import SimpleNamespace
 
 import pytest
 
@@ -20,7 +21,11 @@ from gudokeyi.domain.requests import WebFault
 from gudokeyi.domain.waiting import SECONDS_OF_PAGE
 from gudokeyi.store.messages import AccountFault, BookFault
 from gudokeyi.web.access import PAGES
-from gudokeyi.web.connections import MANY_CONNECTIONS, MOST_CONNECTIONS, SECONDS_FOR_HEAD
+from gudokeyi.web.connections import (
+    MANY_CONNECTIONS, MANY_FILES, MOST_ANSWERS_OF_PERSON, MOST_CONNECTIONS, MOST_FILES, MOST_FILES_OF_PERSON,
+    SECONDS_FOR_HEAD, Head, are_many_files, end_slow,
+)  # fmt: skip
+from gudokeyi.web.request_threads import Kind
 from gudokeyi.web.work_places import MOST_PAGES, MOST_PAGES_WAITING
 from serving.server import Browser, Server
 from serving.visitor import Served, Visitor, with_accounts
@@ -154,3 +159,73 @@ def test_many(server: Server) -> None:
     assert time.monotonic() - began < AT_ONCE + 2 and MANY_CONNECTIONS < MOST_CONNECTIONS
     for one in slow:
         one.close()
+
+
+def connection(since: float, **said: object) -> SimpleNamespace:
+    """One that was heard of last so many seconds ago, as far as it matters for how long it stays."""
+    usual: dict[str, object] = {
+        "requests": [], "request": None, "answers": Head(), "total_outbufs_len": 0, "connected": True, "sent": 0, "got": 0,
+        "will_close": False, "refused": 0.0, "taking": None, "answered": True, "since": time.monotonic() - since,
+    }  # fmt: skip
+    return SimpleNamespace(**(usual | {"socket": SimpleNamespace(shutdown=lambda _: None)} | said))
+
+
+def ended(*channels: SimpleNamespace) -> list[SimpleNamespace]:
+    end_slow(dict(enumerate(channels)))
+    return [one for one in channels if one.will_close]
+
+
+def test_room() -> None:
+    """Where there are many connections those give way that have been idle, or at a request that isn't whole, for
+    longest; none that has just come, none that sends a file, and none whose page somebody is taking."""
+    file = SimpleNamespace(head=Head(Kind.WRITING, "Carl", has_file=True), headers_finished=True)
+    form = SimpleNamespace(head=Head(Kind.LOGIN, "1.1.1.1"), headers_finished=True)
+    clerk, stranger = Head(Kind.READING, "Carl"), Head(Kind.STRANGER, "1.1.1.1")
+    stay = [
+        connection(9, requests=[form]), connection(9, request=file), connection(0, request=form), connection(0),
+        connection(9, total_outbufs_len=9, answers=clerk),
+    ]  # fmt: skip
+    go = [connection(9), connection(8, request=form), connection(7, total_outbufs_len=9, answers=stranger)]
+    idle = [connection(6) for _ in range(MANY_CONNECTIONS - len(stay) - 1)]
+    assert ended(*stay, *go, *idle) == go
+    assert not ended(*stay, *idle)
+
+
+def test_answers_of_one_person() -> None:
+    """Whoever takes none of many answers has so many connections for that; others have theirs."""
+    carl, ines = Head(Kind.READING, "Carl"), Head(Kind.READING, "Ines")
+    own = [connection(at, total_outbufs_len=9, answers=carl) for at in range(2 * MOST_ANSWERS_OF_PERSON, 0, -1)]
+    others = [connection(1, total_outbufs_len=9, answers=ines), connection(1, answers=carl)]
+    assert ended(*own, *others) == own[MOST_ANSWERS_OF_PERSON:]
+
+
+def test_files_at_once(server: Server) -> None:
+    """One person sends few files at once; a further one is refused as it begins, also where it asks before whether it
+    may, and others send theirs. Of all there are so many."""
+    carl, clara = Browser(server, "Carl"), Browser(server, "Clara")
+
+    def begun(browser: Browser, more: str = "") -> socket.socket:
+        sending = socket.create_connection(("127.0.0.1", server.port), timeout=SECONDS)
+        head = f"POST /sheet HTTP/1.1\r\nHost: {server.host}\r\nCookie: {browser.cookie}\r\nAccept-Language: de\r\n"
+        body = "Content-Length: 20000000\r\nContent-Type: multipart/form-data; boundary=x\r\n\r\n--x"
+        sending.sendall(f"{head}{more}{body}".encode())
+        return sending
+
+    sent = [begun(carl) for _ in range(MOST_FILES_OF_PERSON)]
+    time.sleep(0.5)
+    for more in "", "Expect: 100-continue\r\n":
+        with begun(carl, more) as refused, refused.makefile(encoding="utf-8") as answer:
+            told = answer.read()
+        assert told.startswith("HTTP/1.1 429") and in_each(MANY_FILES.text)[1] in told
+    with begun(clara) as other:
+        other.settimeout(0.5)
+        with pytest.raises(TimeoutError):
+            other.recv(1)
+    for one in sent:
+        one.close()
+    assert seconds(carl, "/animals") < AT_ONCE
+    heads = [Head(has_file=True, sender=f"{at}") for at in range(MOST_FILES)]
+    many = {at: SimpleNamespace(request=SimpleNamespace(head=one)) for at, one in enumerate(heads)}
+    assert are_many_files("Carl", many)
+    many.popitem()
+    assert not are_many_files("Carl", many)

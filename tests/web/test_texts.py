@@ -144,7 +144,7 @@ def in_tables() -> Iterator[str]:
     yield from (*app.MENU.values(), *page_wording.REASONS.values(), *animals.HALF_SIBS.values())
     yield from (*mistakes.REFUSED.values(), *mistakes.REFUSED_BY_STATUS.values(), *mistakes.TOO_LARGE.values())
     yield from (mistakes.OTHER, mistakes.TOO_LONG, mistakes.FAULT, login.LOGIN_OVER, settings.SET_MEANWHILE)
-    yield from (connections.NO_ROOM.text, connections.TOO_LARGE.text)
+    yield from (connections.NO_ROOM.text, connections.TOO_LARGE.text, connections.MANY_FILES.text)
     yield from (sheet.BOOK_CHANGED, sheet.READ_OTHERWISE, login.WRONG_LOGIN, login.WRONG_PASSWORD, login.MANY)
     yield from (*change_messages.DID.values(), change_messages.EMPTY_AGAIN)
     yield from (*changes.FIELDS.values(), *changes.DAYS.values(), changes.REFUSED)

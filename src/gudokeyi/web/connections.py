@@ -6,6 +6,7 @@ import contextlib
 import copy
 import socket
 import time
+from collections import Counter
 from collections.abc import Callable
 from dataclasses import dataclass, replace
 from typing import Any
@@ -29,9 +30,14 @@ from gudokeyi.web.files import CONNECTION
 from gudokeyi.web.language import language_liked
 from gudokeyi.web.request_threads import Kind
 
-# How many connections there are, and how long they may take. What is idle goes first where there are many.
+# How many connections there are, and how long they may take. What is idle goes first where there are many, and somebody
+# who sends many files at once, or takes none of many answers, has few.
 
 MOST_CONNECTIONS, MANY_CONNECTIONS, MOST_HEADER_BYTES = 400, 300, 32 << 10
+# so many files one person sends at once, and so many all do; so many answers one person takes slowly at once
+MOST_FILES_OF_PERSON, MOST_FILES, MOST_ANSWERS_OF_PERSON = 3, 60, 12
+# whoever has just come has so long, in seconds, to send a request, however many there are
+SECONDS_AT_FIRST = 0.25
 # so long a connection may be idle, and the head of a request may take, in seconds
 SECONDS_IDLE, SECONDS_FOR_HEAD = 60, 10
 # so much longer than its bytes need at the least rate a body may take, or the taking of an answer
@@ -46,16 +52,28 @@ SETTINGS = {
 
 
 def end_slow(channels: dict[int, Any]) -> None:
-    """Ends the connections that take too long; where there are many also those that have been idle, or at the head of
-    a request, for longest."""
+    """Ends the connections that take too long, or are too many."""
     now = time.monotonic()
-    waiting = sorted((one for one in channels.values() if is_at_head(one)), key=lambda one: float(one.since))
-    for one in waiting[: max(0, len(channels) - MANY_CONNECTIONS)]:
-        end(one)
-    for one in channels.values():
-        if one.connected and is_too_slow(one, now):
+    make_room(channels)
+    taking = Counter[str]()
+    for one in sorted(channels.values(), key=lambda one: float(one.since)):
+        sender = one.answers.sender
+        if one.connected and one.total_outbufs_len and one.answers.is_known:
+            taking[sender] += 1
+        if one.connected and (is_too_slow(one, now) or taking[sender] > MOST_ANSWERS_OF_PERSON and one.total_outbufs_len):
             # whoever takes nothing isn't told of it
             end(one)
+
+
+def make_room(channels: dict[int, Any]) -> None:
+    """Where there are many connections, those are ended that have been idle, or at a request that isn't whole, for
+    longest; or that take no answer, and aren't of somebody who is logged in."""
+    now, there = time.monotonic(), [one for one in channels.values() if not one.will_close]
+    if len(there) < MANY_CONNECTIONS:
+        return
+    may_go = [one for one in there if is_unfinished(one) and now - one.since > SECONDS_AT_FIRST]
+    for one in sorted(may_go, key=lambda one: float(one.since))[: len(there) - MANY_CONNECTIONS + 1]:
+        end(one)
 
 
 def end(channel: Any) -> None:
@@ -66,10 +84,11 @@ def end(channel: Any) -> None:
         channel.socket.shutdown(socket.SHUT_RDWR)
 
 
-def is_at_head(channel: Any) -> bool:
-    """Has it no request of which the head is there?"""
-    is_busy = channel.requests or channel.total_outbufs_len
-    return not is_busy and not (channel.request and channel.request.headers_finished)
+def is_unfinished(channel: Any) -> bool:
+    """Is nothing done for it, nor a file sent?"""
+    if channel.requests or channel.total_outbufs_len and channel.answers.is_known:
+        return False
+    return not (channel.request and channel.request.head.has_file)
 
 
 def is_too_slow(channel: Any, now: float) -> bool:
@@ -110,6 +129,13 @@ class Head:
     sender: str = ""
     most_bytes: int = MOST_FORM_BYTES
     wait: int = 0
+    # does somebody send more than a form has?
+    has_file: bool = False
+
+    @property
+    def is_known(self) -> bool:
+        """Is whoever sends it logged in?"""
+        return self.kind not in (Kind.STRANGER, Kind.LOGIN)
 
 
 def head_of(app: Flask, parser: Any, peer: str) -> Head:
@@ -130,8 +156,14 @@ def head_of(app: Flask, parser: Any, peer: str) -> Head:
         if person is None:
             return Head(Kind.STRANGER, logins.network())
         kind = Kind.PASSWORD if endpoint in LOOK_AT_OWN_PASSWORD else Kind.WRITING
-        most = MOST_TOLD + most_of_file(endpoint)
-        return Head(Kind.READING if method in READS else kind, person.name, most)
+        most, has_file = MOST_TOLD + most_of_file(endpoint), parser.chunked or parser.content_length > MOST_FORM_BYTES
+        return Head(Kind.READING if method in READS else kind, person.name, most, has_file=has_file)
+
+
+def are_many_files(sender: str, channels: dict[int, Any]) -> bool:
+    """Does somebody send many files already, or do all together?"""
+    senders = [one.request.head.sender for one in channels.values() if one.request and one.request.head.has_file]
+    return senders.count(sender) >= MOST_FILES_OF_PERSON or len(senders) >= MOST_FILES
 
 
 def bounded_channel(app: Callable[[], Flask]) -> Any:
@@ -140,7 +172,10 @@ def bounded_channel(app: Callable[[], Flask]) -> Any:
 
     def parse_header(self: Any, header: bytes) -> None:
         HTTPRequestParser.parse_header(self, header)
-        self.head = head_of(app(), self, self.peer)
+        head = head_of(app(), self, self.peer)
+        if head.has_file and are_many_files(head.sender, self.others):
+            self.error, self.completed, self.expect_continue = MANY_FILES, True, False
+        self.head = head
         if self.content_length or self.chunked:
             # others have these bounds too; waitress refuses what is as long as its bound
             self.adj = copy.copy(self.adj)
@@ -158,7 +193,9 @@ def bounded_channel(app: Callable[[], Flask]) -> Any:
         return environ
 
     # waitress has no types from which a class may be made
-    said: dict[str, Any] = {"head": Head(), "peer": "", "arrived": 0.0, "until": 0.0, "refused": 0}
+    said: dict[str, Any] = {
+        "head": Head(), "peer": "", "others": {}, "arrived": 0.0, "until": 0.0, "refused": 0,
+    }  # fmt: skip
     parser: Any = type("BoundedParser", (HTTPRequestParser,), {"parse_header": parse_header, **said})
     task: Any = type("ConnectedTask", (WSGITask,), {"get_environment": get_environment})
     own = {"parser_class": parser, "task_class": task, "error_task_class": refusing_task()}
@@ -191,6 +228,10 @@ TOO_LARGE = Refused(
     "413 Request Entity Too Large",
     "This is too large, or you aren't logged in any more: nothing is changed. Log in, and send a smaller file.",
 )
+MANY_FILES = Refused(
+    "429 Too Many Requests",
+    "Many files are being sent at this moment: nothing is changed. Wait until yours are there, then send this one again.",
+)
 
 
 def refusing_task() -> Any:
@@ -222,12 +263,12 @@ def refusing_channel() -> dict[str, Any]:
     return {"refuses": False, "refused": 0.0, "is_ending": False, "close_when_flushed": property(ends, set_ending)}
 
 
-def of_peer(parser: Callable[[Any], Any], peer: str) -> Callable[[Any], Any]:
-    """What reads requests that come from somewhere."""
+def of_peer(parser: Callable[[Any], Any], peer: str, others: dict[int, Any]) -> Callable[[Any], Any]:
+    """What reads requests that come from somewhere, beside those of others."""
 
     def made(adj: Any) -> Any:
         reads = parser(adj)
-        reads.peer = peer
+        reads.peer, reads.others = peer, others
         return reads
 
     return made
@@ -237,10 +278,11 @@ def timed_channel() -> dict[str, Any]:
     """What of a connection says how long it takes: since when it is idle, or a request comes, with its bytes; and since
     when an answer is taken, with those."""
 
-    def begin(self: Any, *given: Any, **named: Any) -> None:
+    def begin(self: Any, server: Any, *given: Any, **named: Any) -> None:
         self.since, self.got, self.sent, self.taking, self.answered = time.monotonic(), 0, 0, None, False
-        HTTPChannel.__init__(self, *given, **named)
-        self.parser_class = of_peer(self.parser_class, str(self.addr[0]))
+        make_room(server.active_channels)
+        HTTPChannel.__init__(self, server, *given, **named)
+        self.parser_class = of_peer(self.parser_class, str(self.addr[0]), server.active_channels)
 
     def received(self: Any, data: bytes) -> Any:
         if self.refused:
@@ -266,10 +308,11 @@ def timed_channel() -> dict[str, Any]:
         return count
 
     def service(self: Any) -> None:
+        self.answers = self.requests[0].head if self.requests else self.answers
         HTTPChannel.service(self)
         self.since, self.got, self.answered = time.monotonic(), 0, True
 
-    return {"__init__": begin, "received": received, "send": send, "service": service}
+    return {"__init__": begin, "received": received, "send": send, "service": service, "answers": Head()}
 
 
 def bound(server: Any, app: Callable[[], Flask]) -> None:

@@ -40,7 +40,7 @@ class Kind(enum.Enum):
 
 
 @enum.unique
-class Refused(enum.IntEnum):
+class Refusal(enum.IntEnum):
     """What isn't looked at as it comes, by its status: very many logins wait, of one network or in all."""
 
     MANY_OF_NETWORK = 429
@@ -66,7 +66,7 @@ class Asked:
     def cancel(self) -> None:
         self.channel.cancel()
 
-    def refuse(self, why: Refused) -> None:
+    def refuse(self, why: Refusal) -> None:
         self.request.refused = why
 
 
@@ -155,14 +155,14 @@ class LoginTurns(ByTurns):
         """Has it wait; what is refused for that, where very many wait: it, or one of the network that has most."""
         own = len(self.waiting.get(asked.sender, ()))
         if own >= MOST_OF_NETWORK:
-            asked.refuse(Refused.MANY_OF_NETWORK)
+            asked.refuse(Refusal.MANY_OF_NETWORK)
             return asked
         self.append(asked)
         if self.all <= MOST_LOGINS:
             return None
         most = max(self.waiting, key=lambda one: len(self.waiting[one]))
         refused = self.taken_out(most if len(self.waiting[most]) > own + 1 else asked.sender, is_last=True)
-        refused.refuse(Refused.MANY)
+        refused.refuse(Refusal.MANY)
         return refused
 
 
