@@ -1,13 +1,20 @@
 """Texts that are filed have bounds: the same for words, for sheets and for pedigrees."""
 from __future__ import annotations
 
+import contextlib
+import pathlib
+import sqlite3
+
 import pytest
 
 from front_desk.desk import Desk
 from gudokeyi.domain.findings import Report
+from gudokeyi.domain.mistakes import InvalidValue
+from gudokeyi.domain.own_columns import OwnColumn, OwnKind
 from gudokeyi.domain.requests import MOST_IN_ID, MOST_IN_NAME, MOST_IN_OWNER, NotSuch
 from gudokeyi.ingest.rows_as_meant import as_seen
 from gudokeyi.ingest.sheets import Sheet, SheetRow
+from gudokeyi.services.own_columns import checked
 
 SHEET = "id,name,sex,born,sire,dam,owner\na,Bella,F,2001-01-01,,,Mill\n"
 BIRTH = ["--sex", "f", "--day", "2003-01-01"]
@@ -70,3 +77,32 @@ def test_unseen(desk: Desk) -> None:
     assert as_seen(sheet, {"id": 0, "dam": 1}, {"b\x7f"}, report).rows == [(2, ["b\x7f", ""]), (3, ["c", "b\x7f"])]
     assert not report.entries
     desk.good("verify")
+
+
+def test_unseen_in_free_texts(desk: Desk, tmp_path: pathlib.Path) -> None:
+    """No free text is kept that has a sign which does something to a terminal, so that no backup has one; what earlier
+    versions took is restored."""
+    desk.take(SHEET.replace("owner", "owner,Colour").replace("Mill", "Mill,red"), "--own", "Colour=text")
+    told = NotSuch.UNSEEN.said(text="xy")
+    for text in "x\x1by", "x\x7fy", "x\x80y", "x\x07y":
+        for words in (
+            ["note", "a", text], ["own", "a", f"Colour={text}"], ["settings", "--name", text], ["settings", "--unknown", text],
+            ["owner", "Mill", "--address", text], ["owner", "Mill", "--mail", text], ["owner", "Mill", "--number", text],
+        ):  # fmt: skip
+            desk.wrong(told, *words)
+        column = OwnColumn(1, text, OwnKind.TEXT)
+        for one in column, column._replace(title="Colour", kind=OwnKind.CHOICE, choices=("red", text)):
+            with pytest.raises(InvalidValue, match="has a sign within that no one sees"):
+                checked(one, [])
+    desk.wrong(NotSuch.UNSEEN.said(text="x" * 60 + "…"), "note", "a", "x" * 100 + "\x1b")
+    desk.wrong(NotSuch.LONG_SETTING.said(letters=2_001, most=2_000), "settings", "--address", "x" * 2_001)
+    for words in ["note", "a", "x\ny\tz\u2028"], ["settings", "--name", "Holgrave", "--address", "1 Mill Lane\nHolgrave"]:
+        desk.good(*words)
+    with contextlib.closing(sqlite3.connect(desk.room / "book/book.sqlite")) as connection:
+        for table, column_name in ("note", "text"), ("own_column", "title"), ("member", "address"), ("setting", "value"):
+            connection.execute(f"UPDATE {table} SET {column_name} = char(27, 0) || {column_name}")
+        connection.commit()
+    copy = str(tmp_path / "copy.sqlite")
+    desk.good("backup", copy)
+    desk.good("restore", copy, "--book", str(tmp_path / "other"))
+    assert "\x1b" not in desk.good("note", "a", "--book", str(tmp_path / "other")).out

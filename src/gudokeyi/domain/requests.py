@@ -3,10 +3,11 @@ how long texts may be."""
 from __future__ import annotations
 
 import enum
+import re
 import unicodedata
 
 from gudokeyi.domain.kinds import Field
-from gudokeyi.domain.messages import Message
+from gudokeyi.domain.messages import Message, MessageText
 from gudokeyi.domain.mistakes import InvalidValue
 
 
@@ -50,6 +51,7 @@ class NotSuch(Message):
     WORDS = "a search has {most} words at most, and this one has {count:,}: write fewer"
     LONG_ID = "an id has {most} letters at most, and this one has {letters:,}: write a shorter one"
     LONG_NAME = "a name has {most} letters at most, and this one has {letters:,}: write a shorter one"
+    LONG_SETTING = "a setting has {most} letters at most, and this one has {letters:,}: write a shorter one"
     LONG_OWNER = "an owner's name has {most} letters at most, and this one has {letters:,}: write a shorter one"
     UNSEEN = "'{text}' has a sign within that no one sees: write it by hand, and don't copy it"
     # a birth
@@ -111,6 +113,28 @@ def seen_of(text: str) -> str:
     if text.isprintable():
         return text
     return "".join(one for one in text if unicodedata.category(one) not in UNSEEN)
+
+
+# what stands in no text that is kept, of whatever kind: all that controls something but lines and tabs
+CONTROL = re.compile(r"[\x00-\x08\x0b-\x1f\x7f-\x9f\u2028\u2029]")
+# so much of a long text is told
+MOST_TOLD = 60
+
+
+def unseen_in(text: str) -> MessageText | None:
+    """What is told of a note, or another free text, that has such a sign."""
+    if not CONTROL.search(text):
+        return None
+    seen = CONTROL.sub("", text)
+    return NotSuch.UNSEEN.said(text=seen if len(seen) <= MOST_TOLD else f"{seen[:MOST_TOLD]}…")
+
+
+def refuse_unseen(*texts: str) -> None:
+    """A mistake where a free text has such a sign."""
+    for text in texts:
+        told = unseen_in(text)
+        if told:
+            raise InvalidValue(told)
 
 
 def refuse_text(field: Field, text: str) -> None:

@@ -6,7 +6,7 @@ import re
 from gudokeyi.domain.messages import MessageText, Mistake
 from gudokeyi.domain.mistakes import InvalidValue
 from gudokeyi.domain.own_columns import MOST_IN_VALUE, NO, YES, OwnColumn, OwnKind
-from gudokeyi.domain.requests import OwnFault
+from gudokeyi.domain.requests import OwnFault, unseen_in
 from gudokeyi.ingest.days import Unreadable, read_span
 from gudokeyi.ingest.texts import clean, listed
 from gudokeyi.ingest.words import KNOWN_YES, NO as NO_WORDS
@@ -29,6 +29,9 @@ def fault_of(column: OwnColumn, text: str, month_first: bool) -> MessageText | N
     said = {"title": column.title, "text": text}
     if len(text) > MOST_IN_VALUE:
         return OwnFault.LONG_VALUE.said(title=column.title, most=MOST_IN_VALUE, count=len(text))
+    unseen = unseen_in(text)
+    if unseen:
+        return unseen
     if not text or kept(column, text, month_first):
         return None
     if column.kind is OwnKind.CHOICE:

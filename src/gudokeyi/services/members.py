@@ -12,7 +12,7 @@ from gudokeyi.domain.kinds import ChangeKind, Field
 from gudokeyi.domain.members import MOST_IN_MEMBER, Member as Member
 from gudokeyi.domain.messages import Mistake
 from gudokeyi.domain.mistakes import InvalidValue, OwnerNotFound
-from gudokeyi.domain.requests import OwnFault, refuse_text
+from gudokeyi.domain.requests import OwnFault, refuse_text, refuse_unseen
 from gudokeyi.engine.answers import records_of
 from gudokeyi.ingest.unknown_parents import names_no_owner
 from gudokeyi.ingest.texts import clean
@@ -111,6 +111,7 @@ def checked(member: Member) -> Member:
     if not name or names_no_owner(name):
         raise InvalidValue(OwnFault.NO_OWNER_NAME.said())
     refuse_text(Field.OWNER, name)
+    refuse_unseen(*texts)
     longest = max(map(len, texts))
     if longest > MOST_IN_MEMBER:
         raise InvalidValue(OwnFault.LONG_MEMBER.said(most=MOST_IN_MEMBER, count=longest))

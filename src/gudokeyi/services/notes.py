@@ -10,7 +10,7 @@ from gudokeyi.domain.kinds import ChangeKind
 from gudokeyi.domain.messages import Mistake
 from gudokeyi.domain.mistakes import InvalidValue
 from gudokeyi.domain.own_columns import MOST_IN_NOTE, Note as Note
-from gudokeyi.domain.requests import OwnFault
+from gudokeyi.domain.requests import OwnFault, refuse_unseen
 from gudokeyi.ingest.texts import clean
 from gudokeyi.reconcile.findings.animals import NoteWritten
 from gudokeyi.reconcile.stored_findings import told_of
@@ -37,6 +37,7 @@ def text_of_note(text: str) -> str:
     """A text as it is kept: its lines without blanks around them."""
     lines = [clean(line) for line in text.strip().splitlines()]
     found = "\n".join(lines).strip()
+    refuse_unseen(found)
     if len(found) > MOST_IN_NOTE:
         raise InvalidValue(OwnFault.LONG_NOTE.said(most=MOST_IN_NOTE, count=len(found)))
     return found

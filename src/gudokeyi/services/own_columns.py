@@ -10,7 +10,7 @@ from gudokeyi.domain.kinds import ChangeKind
 from gudokeyi.domain.messages import Mistake
 from gudokeyi.domain.mistakes import InvalidValue
 from gudokeyi.domain.own_columns import MOST_CHOICES, MOST_COLUMNS, MOST_IN_TITLE, OwnColumn, OwnKind, OwnValue
-from gudokeyi.domain.requests import OwnFault
+from gudokeyi.domain.requests import OwnFault, refuse_unseen
 from gudokeyi.ingest.texts import clean, plain
 from gudokeyi.services.book_program import BookProgram
 from gudokeyi.store import own_data
@@ -85,6 +85,7 @@ def set_columns(book: Book, program: BookProgram, columns: Sequence[OwnColumn], 
 
 def checked(column: OwnColumn, columns: Sequence[OwnColumn]) -> OwnColumn:
     """A column as it can be kept; a mistake where it can't."""
+    refuse_unseen(column.title, *column.choices)
     if not column.title:
         raise InvalidValue(OwnFault.NO_TITLE.said())
     if len(column.title) > MOST_IN_TITLE:

@@ -9,21 +9,21 @@ import sqlite3
 from collections.abc import Iterator
 
 from gudokeyi.domain.messages import Mistake
+from gudokeyi.domain.requests import CONTROL
 from gudokeyi.store.database import empty
 from gudokeyi.store.messages import BackupFault
 
 COMMENT = re.compile(r"--[^\n]*")
-CONTROL = re.compile(r"[\x00-\x08\x0b-\x1f\x7f-\x9f\u2028\u2029]")
 # so long names and actors are at most: books of earlier versions have longer ones than are filed now
 MOST_LETTERS = 2_000
 # in microseconds since 1970 began: the times that a clock tells, which may have been wrong as a book was changed, up to
 # the last day that a book has, in 2199
 FIRST_TIME, LAST_TIME = 1, 7_258_118_399_999_999
-# what is shown of a book, by its tables and columns
-TEXTS = {
-    "change": ("login", "file", "path", "form"), "animal": ("id", "name", "exit_text", "written_sire", "written_dam"),
-    "owner": ("name",), "setting": ("setting", "value"), "former_id": ("id",), "note": ("author", "text"),
-    "own_column": ("title",), "own_value": ("value",), "member": ("member_number", "address", "mail", "telephone"),
+# what names somebody or something in a book, by its tables and columns. Free texts, as notes, may have what earlier
+# versions took, and a backup of such a book is restored: pages and terminals show no text but escaped
+NAMES = {
+    "change": ("login",), "animal": ("id", "name"), "owner": ("name",), "setting": ("setting",), "former_id": ("id",),
+    "note": ("author",),
 }  # fmt: skip
 
 
@@ -37,7 +37,7 @@ def refuse_foreign(connection: sqlite3.Connection, path: pathlib.Path) -> None:
     ).fetchone()
     if number:
         raise Mistake(BackupFault.NO_TIME.said(path=path, change=number[0]))
-    if any(is_foreign(text) for text in texts_of(connection)):
+    if any(is_foreign(text) for text in names_of(connection)):
         raise Mistake(BackupFault.ODD_NAMES.said(path=path))
     if connection.execute("SELECT 1 FROM change WHERE trim(login) = '' LIMIT 1").fetchone():
         raise Mistake(BackupFault.ODD_NAMES.said(path=path))
@@ -50,8 +50,8 @@ def tables_of(connection: sqlite3.Connection) -> set[tuple[str, str, str]]:
     return {(kind, name, "".join(COMMENT.sub("", sql).split())) for kind, name, sql in rows}
 
 
-def texts_of(connection: sqlite3.Connection) -> Iterator[str]:
-    for table, columns in TEXTS.items():
+def names_of(connection: sqlite3.Connection) -> Iterator[str]:
+    for table, columns in NAMES.items():
         for column in columns:
             for (text,) in connection.execute(f"SELECT DISTINCT {column} FROM {table} WHERE {column} IS NOT NULL"):
                 yield text

@@ -9,13 +9,16 @@ import sqlite3
 from collections.abc import Iterator, Mapping
 
 from gudokeyi.domain.mistakes import InvalidValue
-from gudokeyi.domain.requests import NotSuch
+from gudokeyi.domain.requests import NotSuch, refuse_unseen
 from gudokeyi.domain.settings import LANGUAGES, Picture, Setting
 from gudokeyi.process import stop_no_more
 from gudokeyi.store.book import Book
 from gudokeyi.store.transactions import changing, checkpoint, no_book
 
 # What a society says of itself, which its certificates show. It is kept with the book and isn't a part of its history.
+
+# so many letters each has
+MOST_IN_SETTING = 2_000
 
 
 def settings_of(book: Book) -> dict[Setting, str]:
@@ -70,6 +73,9 @@ def lines_of(text: str) -> str:
 def checked(setting: Setting, text: str) -> str:
     """The value as it is kept; a mistake where it can't be such a one."""
     text = lines_of(text)
+    refuse_unseen(text)
+    if len(text) > MOST_IN_SETTING:
+        raise InvalidValue(NotSuch.LONG_SETTING.said(letters=len(text), most=MOST_IN_SETTING))
     if setting in (Setting.BREED, Setting.COUNTRY) and text:
         if not (len(text) == 3 and text.isascii() and text.isalpha()):
             raise InvalidValue(NotSuch.LETTERS_OF.said(text=text, setting=setting))
