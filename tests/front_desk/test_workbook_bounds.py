@@ -34,6 +34,7 @@ TITLES, ANIMAL = ["Ohrmarke", "Geschlecht", "Geburtsdatum"], ["a", "m", "2001-01
 SHEET, BOOK = "xl/worksheets/sheet1.xml", "xl/workbook.xml"
 END = "</sheetData>"
 FAR = '<row r="1048576"><c r="{}1048576" t="inlineStr"><is><t>x</t></is></c></row>' + END
+LONG = '<row r="3"><c r="A3" t="inlineStr"><is>{}</is></c></row>' + END
 TOO_MANY = SheetFault.TOO_MANY_CELLS.said(path=PATH, most=MOST_CELLS)
 ODD = SheetFault.NO_WORKBOOK.said(path=PATH, error="it is written as no spreadsheet writes it")
 
@@ -87,6 +88,16 @@ def test_far_apart(monkeypatch: pytest.MonkeyPatch) -> None:
     assert told.value.sentences == (SheetFault.TOO_MANY_CELLS.said(path=PATH, most=3 * 16384 - 1),)
 
 
+def test_long_texts() -> None:
+    """A text that is longer than a sheet of a society has is told with its line; what isn't of a cell isn't counted."""
+    text = "x" * 60_000
+    beside = f"</sheetData><headerFooter><oddHeader>{text * 2}</oddHeader></headerFooter>"
+    data = with_part(END, LONG.format(f"<t>{text}</t>").replace(END, beside))
+    with pytest.raises(Mistake) as told:
+        check_bounds(PATH, read_workbook(PATH, data, len, 5, "").rows, 1)
+    assert told.value.sentences == (SheetFault.LONG_CELL.said(line=3, most=files.MOST_LETTERS),)
+
+
 @pytest.mark.parametrize(
     "before, after, told",
     [
@@ -96,8 +107,9 @@ def test_far_apart(monkeypatch: pytest.MonkeyPatch) -> None:
         ('<row r="1"', f'<row x="{">" * 40_000_000}" r="1"', ODD),
         ("<sheetData>", f"<!--{'<y>' * 1_000_000}--><sheetData>", ODD),
         ("<worksheet", '<!DOCTYPE x [<!ENTITY a "b">]><worksheet', ODD),
+        (END, LONG.format(f"<r><t>{'x' * 60_000}</t></r>" * 2), ODD),
     ],
-    ids=["merged", "linked", "linked without an end", "attribute", "comment", "entities"],
+    ids=["merged", "linked", "linked without an end", "attribute", "comment", "entities", "long text"],
 )
 def test_hostile_parts(before: str, after: str, told: str) -> None:
     """What would make very many cells, or is read again and again, isn't opened."""

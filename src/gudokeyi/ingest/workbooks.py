@@ -47,6 +47,8 @@ WEIGHTS = {
     "c": 1, "si": 1, "row": MOST_CELLS // MOST_LINES, "xf": 10, "definedName": 10, "Relationship": 10, "tablePart": 100,
     "sheet": 100,
 }  # fmt: skip
+# elements with the text of a cell, which many cells may have together, and how many letters one has at most
+OF_TEXT, MOST_IN_TEXT = ("si", "c"), 100_000
 # elements that make all cells of a range
 OF_RANGE = ("mergeCell", "hyperlink", "comment")
 RANGE = re.compile(r"\$?([A-Z]{1,3})\$?([0-9]{1,7}):\$?([A-Z]{1,3})\$?([0-9]{1,7})")
@@ -73,12 +75,15 @@ class Cells:
 
     def __init__(self, path: pathlib.Path) -> None:
         self.path, self.found = path, Counter[str]()
+        # how many letters the text has that is read; none where it isn't a cell's
+        self.letters: int | None = None
 
     def count(self, archive: zipfile.ZipFile, part: zipfile.ZipInfo) -> None:
         parser = xml.parsers.expat.ParserCreate(namespace_separator=" ")
-        parser.StartElementHandler = self.begin
+        parser.StartElementHandler, parser.EndElementHandler = self.begin, self.end
+        parser.CharacterDataHandler, parser.buffer_text = self.read_text, True
         parser.StartDoctypeDeclHandler = self.refuse
-        given = 0
+        given, self.letters = 0, None
         try:
             with archive.open(part) as file:
                 while text := file.read(AT_ONCE):
@@ -92,6 +97,8 @@ class Cells:
 
     def begin(self, name: str, attributes: dict[str, str]) -> None:
         kind = name.rpartition(" ")[2]
+        if kind in OF_TEXT:
+            self.letters = 0
         if kind in WEIGHTS:
             self.add(kind, WEIGHTS[kind])
         elif kind in OF_RANGE:
@@ -100,6 +107,16 @@ class Cells:
                 self.refuse()
             else:
                 self.add("c", count)
+
+    def end(self, name: str) -> None:
+        if name.rpartition(" ")[2] in OF_TEXT:
+            self.letters = None
+
+    def read_text(self, text: str) -> None:
+        if self.letters is not None:
+            self.letters += len(text)
+            if self.letters > MOST_IN_TEXT:
+                self.refuse()
 
     def add(self, kind: str, count: int) -> None:
         self.found[kind] += count
