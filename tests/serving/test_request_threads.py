@@ -18,6 +18,7 @@ from web.server import SECONDS
 from web.site import HOST, shown
 from front_desk.desk import Desk
 from gudokeyi.domain.people import AccountRole
+from gudokeyi.domain.waiting import SECONDS_OF_PAGE
 from gudokeyi.store.accounts import Accounts
 from gudokeyi.web.access import REFUSED_AS_IT_CAME, WAIT_AS_IT_CAME
 from gudokeyi.web.connections import Head, head_of
@@ -96,6 +97,21 @@ def test_turns() -> None:
         waiting.append(channel(Kind.LOGIN, f"network {at}"))
         waiting.popleft().service()
     assert len(turns.had) == MOST_SENDERS
+
+
+def test_turns_of_people() -> None:
+    """Whoever asks for very many pages, or files very much, doesn't keep others waiting for all of that; what one person
+    files is done in its order, and the time of a page begins as it comes."""
+    for kind, threads in (Kind.READING, 2), (Kind.WRITING, 4):
+        waiting = with_requests(threads, *[(kind, "Carl")] * 30)
+        at_work = begun(waiting)
+        waiting.append(channel(kind, "Clara"))
+        came = [one.request for one in waiting.places[kind].waiting["Carl"]]
+        at_work[0].service()
+        assert [one.sender for one in begun(waiting)] == ["Clara"]
+        at_work[1].service()
+        assert [one.request for one in begun(waiting)] == came[:1]
+        assert came[0].until == came[0].arrived + SECONDS_OF_PAGE
 
 
 def test_bounds_of_logins() -> None:

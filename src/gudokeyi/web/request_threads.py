@@ -1,6 +1,6 @@
 """The threads that answer requests, and what waits for them. Those who change something have half of them, so that
 whoever only reads waits for nobody; whoever isn't logged in has a few; passwords, each of which takes long, have three.
-So nobody who isn't logged in delays somebody who is."""
+So nobody who isn't logged in delays somebody who is, and whoever asks for much waits behind others."""
 from __future__ import annotations
 
 import enum
@@ -54,7 +54,7 @@ class Asked:
     channel: Any
     request: Any
     sender: str
-    place: InOrder | ByTurns | None = None
+    place: ByTurns | None = None
 
     def service(self) -> None:
         try:
@@ -70,42 +70,12 @@ class Asked:
         self.request.refused = why
 
 
-class InOrder:
-    """What waits in the order in which it came; so many are answered at once."""
-
-    def __init__(self, most: int) -> None:
-        self.most, self.at_work, self.lock = most, 0, threading.Lock()
-        self.waiting = deque[Asked]()
-
-    def append(self, asked: Asked) -> None:
-        self.waiting.append(asked)
-
-    def __len__(self) -> int:
-        """How many may be answered now."""
-        return min(len(self.waiting), self.most - self.at_work)
-
-    def first(self) -> Asked:
-        return self.waiting[0]
-
-    def begin(self) -> Asked:
-        """The next, which is answered from now on."""
-        with self.lock:
-            self.at_work += 1
-        asked = self.waiting.popleft()
-        asked.place, asked.request.until = self, asked.request.arrived + SECONDS_OF_PAGE
-        return asked
-
-    def end(self) -> None:
-        with self.lock:
-            self.at_work -= 1
-
-
 class ByTurns:
     """What waits by its senders, who take turns: next is whoever has fewest that wait, and of those whoever had a turn
-    longest ago."""
+    longest ago. So many are answered at once. The time of a page begins as it comes, or else with its turn."""
 
-    def __init__(self, most: int) -> None:
-        self.most, self.at_work, self.lock = most, 0, threading.Lock()
+    def __init__(self, most: int, begins_with_turn: bool = False) -> None:
+        self.most, self.begins_with_turn, self.at_work, self.lock = most, begins_with_turn, 0, threading.Lock()
         self.waiting, self.all = dict[str, deque[Asked]](), 0
         # when each sender had a turn last, by a count of all
         self.had, self.count = OrderedDict[str, int](), itertools.count(1)
@@ -115,6 +85,7 @@ class ByTurns:
         self.all += 1
 
     def __len__(self) -> int:
+        """How many may be answered now."""
         return min(self.all, self.most - self.at_work)
 
     def next_sender(self) -> str:
@@ -124,6 +95,7 @@ class ByTurns:
         return self.waiting[self.next_sender()][0]
 
     def begin(self) -> Asked:
+        """The next, which is answered from now on."""
         with self.lock:
             self.at_work += 1
         asked = self.taken_out(self.next_sender(), is_last=False)
@@ -131,8 +103,8 @@ class ByTurns:
         self.had.move_to_end(asked.sender)
         while len(self.had) > MOST_SENDERS:
             self.had.popitem(last=False)
-        # it waited for others, and begins now
-        asked.place, asked.request.until = self, time.monotonic() + SECONDS_OF_PAGE
+        begins = time.monotonic() if self.begins_with_turn else asked.request.arrived
+        asked.place, asked.request.until = self, begins + SECONDS_OF_PAGE
         return asked
 
     def end(self) -> None:
@@ -167,16 +139,17 @@ class LoginTurns(ByTurns):
 
 
 class Waiting:
-    """The requests that wait for one of so many threads."""
+    """The requests that wait for one of so many threads, each kind for itself."""
 
     def __init__(self, threads: int) -> None:
-        self.logins = LoginTurns(LOGINS_AT_ONCE)
-        self.places: dict[Kind, InOrder | ByTurns] = {
-            Kind.READING: InOrder(threads),
-            Kind.WRITING: InOrder(threads // 2),
-            Kind.STRANGER: ByTurns(max(LEAST_FOR_STRANGERS, threads // ONE_OF_THREADS)),
+        self.logins = LoginTurns(LOGINS_AT_ONCE, begins_with_turn=True)
+        for_strangers = max(LEAST_FOR_STRANGERS, threads // ONE_OF_THREADS)
+        self.places: dict[Kind, ByTurns] = {
+            Kind.READING: ByTurns(threads),
+            Kind.WRITING: ByTurns(threads // 2),
+            Kind.STRANGER: ByTurns(for_strangers, begins_with_turn=True),
             Kind.LOGIN: self.logins,
-            Kind.PASSWORD: ByTurns(PASSWORDS_AT_ONCE),
+            Kind.PASSWORD: ByTurns(PASSWORDS_AT_ONCE, begins_with_turn=True),
         }
 
     def append(self, channel: Any) -> None:
