@@ -20,9 +20,10 @@ from gudokeyi.domain.messages import Mistake
 from gudokeyi.domain.settings import Setting
 from gudokeyi.process import stop_no_more
 from gudokeyi.reconcile.outcome import Outcome
-from gudokeyi.services import restoring, saving
+from gudokeyi.services import behind_others, restoring, saving
 from gudokeyi.services.book_program import BookProgram
-from gudokeyi.services.saving import Prepared, save_import
+from gudokeyi.services.prepared_changes import Prepared
+from gudokeyi.services.saving import save_import
 from gudokeyi.services.writing import write
 from gudokeyi.store import backup
 from gudokeyi.store.book import Book
@@ -40,7 +41,7 @@ def test_folder_that_goes_away(flock_desk: Desk, monkeypatch: pytest.MonkeyPatch
     def prepare(book: Book) -> tuple[Outcome, Prepared | None]:
         seen.append(book.change)
         folder.rename(flock_desk.room / "moved")
-        return cast(Outcome, None), None
+        return cast(Outcome, None), cast(Prepared, SimpleNamespace(before=book.change, basis=None))
 
     with pytest.raises(Mistake, match="there is no book in the folder"):
         save_import(folder, BookProgram(), prepare)
@@ -52,14 +53,16 @@ def test_what_is_told_besides(flock_desk: Desk, monkeypatch: pytest.MonkeyPatch)
     """What is found while a taking is prepared, and then of its exports; where it is prepared once more, what is found
     then."""
     monkeypatch.setenv("HERDBOOK", flock_desk.program)
-    monkeypatch.setattr(saving, "save", lambda *_: SimpleNamespace(number=7))
+    for module in saving, behind_others:
+        monkeypatch.setattr(module, "save", lambda *_: SimpleNamespace(number=7))
     monkeypatch.setattr(saving, "export", lambda *_: ["of the exports"])
     folder, notes, outcome = flock_desk.room / "book", list[str](), Outcome(pathlib.Path(), Call((), pathlib.Path()))
 
     def prepare(book: Book) -> tuple[Outcome, Prepared | None]:
         notes.append(f"{len(notes)}")
         book.notes.append(notes[-1])
-        return outcome, cast(Prepared, SimpleNamespace(filed=SimpleNamespace(text="")))
+        prepared = SimpleNamespace(before=book.change, basis=None, filed=SimpleNamespace(text=""))
+        return outcome, cast(Prepared, prepared)
 
     def prepare_beside_another(book: Book) -> tuple[Outcome, Prepared | None]:
         if not notes:

@@ -14,6 +14,7 @@ import pytest
 
 from front_desk.desk import TOP, Desk
 from gudokeyi.ingest.files import read_file
+from gudokeyi.reconcile.findings.by_hand import NewAnimal
 from gudokeyi.reconcile.import_options import ImportOptions
 from gudokeyi.services import folder_files, restoring, sheet_imports
 from gudokeyi.services.book_program import BookProgram
@@ -27,7 +28,7 @@ from gudokeyi.store.book import Book
 from gudokeyi.store.transactions import Overtaken, reading
 from gudokeyi.web import sheet_work
 from gudokeyi.web.forms import new_form
-from gudokeyi.web.sheet_work import TRIES_BESIDE, Asked, Chosen, Imported, Seen, imported, looked_at, seen_of
+from gudokeyi.web.sheet_work import Asked, Chosen, Imported, Look, Seen, imported, looked_at, seen_of
 
 DAM, OTHER, DAY = "GK-17/472c", "GK-16/433c", "2024-05-01"
 ANYWAY = Chosen(options=(("anyway", "1"),))
@@ -90,56 +91,93 @@ def taken_now(folder: pathlib.Path, path: pathlib.Path) -> Imported:
     return imported(folder, path, ANYWAY, Asked(look.seen, look.by_animal, new_form()), lambda _: None)
 
 
-def filed_meanwhile(monkeypatch: pytest.MonkeyPatch, folder: pathlib.Path, desk: Desk) -> list[bool]:
-    """Somebody files a birth behind each preparation of a sheet that others don't wait for; whether they don't."""
+def filed_meanwhile(
+    monkeypatch: pytest.MonkeyPatch, folder: pathlib.Path, file: Callable[[int], object]
+) -> list[bool]:
+    """Somebody files something behind each preparation of a sheet that others don't wait for; whether they don't."""
     free, prepare = list[bool](), getattr(sheet_work, "import_sheet_into")
 
     def prepared(*values: object, **named: object) -> object:
         found: object = prepare(*values, **named)
         free.append(is_free(folder))
         if free[-1]:
-            at = len(free)
-            desk.good("birth", f"OTHER-{at}", "--sex", "f", "--day", "2024-01-01", "--owner", "Lower Mill")
+            file(len(free))
         return found
 
     monkeypatch.setattr(sheet_work, "import_sheet_into", prepared)
     return free
 
 
-def test_sheet_of_a_desk(folder: pathlib.Path, society_desk: Desk, monkeypatch: pytest.MonkeyPatch) -> None:
-    """Others file while a sheet is prepared, and then it is prepared anew behind that, until they wait for it."""
+def taken_as_looked(folder: pathlib.Path, path: pathlib.Path, look: Look) -> Imported:
+    return imported(folder, path, ANYWAY, Asked(look.seen, look.by_animal, new_form()), lambda _: None)
+
+
+def birth_of(desk: Desk, id: str, *more: str) -> None:
+    desk.good("birth", id, "--sex", "f", "--day", "2024-01-01", "--owner", "Lower Mill", *more)
+
+
+def test_sheet_behind_others(folder: pathlib.Path, society_desk: Desk, monkeypatch: pytest.MonkeyPatch) -> None:
+    """What others file while a sheet is prepared doesn't have it prepared anew where it touches none of its animals: it
+    stands behind that, with numbers behind those that were given meanwhile."""
     path = sheet(society_desk)
     look = looked_at(folder, path, ANYWAY, (), lambda _: None)
-    free = filed_meanwhile(monkeypatch, folder, society_desk)
-    # however long this machine takes for a few births
-    monkeypatch.setattr(sheet_work, "SECONDS_OTHERS_WAIT", 600.0)
-    made = imported(folder, path, ANYWAY, Asked(look.seen, look.by_animal, new_form()), lambda _: None)
-    assert free == [True] * TRIES_BESIDE + [False]
-    assert made.change == TRIES_BESIDE + 2 and kinds(folder) == ["take", *["birth"] * TRIES_BESIDE, "take"]
+
+    def file(at: int) -> None:
+        birth_of(society_desk, f"OTHER-{at}", "--dam", DAM)
+        society_desk.good("exit", OTHER, "--day", DAY)
+        assert society_desk.run("exit", OTHER, "--day", DAY).status == 3
+
+    free = filed_meanwhile(monkeypatch, folder, file)
+    made = taken_as_looked(folder, path, look)
+    assert free == [True] and made.change == 5 and kinds(folder) == ["take", "birth", "exit", "exit", "take"]
+    with contextlib.closing(sqlite3.connect(folder / "book.sqlite")) as connection:
+        asked = "SELECT number, since FROM animal WHERE id IN ('NEW-1', 'OTHER-1') AND until IS NULL ORDER BY since"
+        (other, _), (new, since) = connection.execute(asked)
+        told = connection.execute("SELECT fields FROM told WHERE change = 5 AND id = 'NEW-1'").fetchall()
+        animals = connection.execute("SELECT count FROM counted WHERE (change, what) = (5, 'animals')").fetchone()[0]
+    assert since == 5 and int(new[7:]) == int(other[7:]) + 1 and any(new in fields for (fields,) in told)
+    assert animals == len(society_desk.listed("list"))
+    society_desk.good("verify")
+
+
+@pytest.mark.parametrize("file", ["birth", "near", "transfer", "calf", "owner", "settings"])
+def test_touched_while_prepared(
+    folder: pathlib.Path, society_desk: Desk, monkeypatch: pytest.MonkeyPatch, file: str
+) -> None:
+    """Where others filed something of an animal that the sheet changes, or that it stands on, it is prepared anew: then
+    that animal is asked about anew, if the sheet would change it otherwise now."""
+    path = society_desk.room / "more.csv"
+    path.write_text(f"id,name,sex,birth,sire,dam,owner\nNEW-1,,f,2024-01-01,,{DAM},New Mill\n", encoding="utf-8")
+    look = looked_at(folder, path, ANYWAY, (), lambda _: None)
+    calls = {
+        "birth": ("birth", "NEW-1", "--sex", "f", "--day", "2023-01-01", "--owner", "Lower Mill"),
+        "near": ("birth", "new-01", "--sex", "f", "--day", "2023-01-01", "--owner", "Lower Mill"),
+        "transfer": ("transfer", DAM, "--day", DAY, "--to", "Lower Mill"),
+        "calf": ("birth", "OTHER-1", "--sex", "f", "--day", "2023-11-01", "--dam", DAM, "--owner", "Lower Mill"),
+        "owner": ("birth", "OTHER-1", "--sex", "f", "--day", "2024-01-03", "--owner", "New Mill"),
+        "settings": ("settings", "--country", "GBR"),
+    }
+    free = filed_meanwhile(monkeypatch, folder, lambda at: society_desk.good(*calls[file]) if at == 1 else None)
+    made = taken_as_looked(folder, path, look)
+    is_asked = file in ("birth", "near", "calf")
+    assert made.otherwise == ("NEW-1",) * is_asked and free == [True] * (1 if file == "settings" else 2)
+    assert (made.change > 0) is (file in ("transfer", "owner")) and made.read_otherwise is (file == "settings")
     society_desk.good("verify")
 
 
 def test_others_wait_for_the_last_try(
     folder: pathlib.Path, society_desk: Desk, monkeypatch: pytest.MonkeyPatch
 ) -> None:
-    """Where a sheet takes longer than others wait it is tried beside them, and at last they wait: it is taken."""
-    path = sheet(society_desk)
+    """Where others file something of a sheet's animals each time they wait at last, and it is taken; of what was
+    prepared in vain nothing is kept."""
+    path, books = society_desk.room / "more.csv", list[weakref.ref[Book]]()
+    path.write_text(f"id,name,sex,birth,sire,dam\nNEW-1,,f,2020-01-01,,{DAM}\n", encoding="utf-8")
     look = looked_at(folder, path, ANYWAY, (), lambda _: None)
-    free = filed_meanwhile(monkeypatch, folder, society_desk)
-    monkeypatch.setattr(sheet_work, "SECONDS_OTHERS_WAIT", 0.0)
-    monkeypatch.setattr(sheet_work, "MOST_TRIES", TRIES_BESIDE + 2)
-    made = imported(folder, path, ANYWAY, Asked(look.seen, look.by_animal, new_form()), lambda _: None)
-    assert free == [True] * (TRIES_BESIDE + 1) + [False]
-    assert made.change == TRIES_BESIDE + 3 and kinds(folder)[-1] == "take"
 
+    def file(at: int) -> None:
+        society_desk.good("transfer", DAM, "--day", f"2024-05-{at:02}", "--to", f"Mill {at}")
 
-def test_nothing_of_a_try_is_kept(
-    folder: pathlib.Path, society_desk: Desk, monkeypatch: pytest.MonkeyPatch
-) -> None:
-    """What was prepared in vain is gone before the next try: a large sheet is tried many times beside others."""
-    path, books = sheet(society_desk), list[weakref.ref[Book]]()
-    look = looked_at(folder, path, ANYWAY, (), lambda _: None)
-    filed_meanwhile(monkeypatch, folder, society_desk)
+    free = filed_meanwhile(monkeypatch, folder, file)
     prepare = getattr(sheet_work, "import_sheet_into")
 
     def prepared(book: Book, *values: object) -> object:
@@ -148,14 +186,38 @@ def test_nothing_of_a_try_is_kept(
         return prepare(book, *values)
 
     monkeypatch.setattr(sheet_work, "import_sheet_into", prepared)
-    monkeypatch.setattr(sheet_work, "SECONDS_OTHERS_WAIT", 0.0)
-    monkeypatch.setattr(sheet_work, "MOST_TRIES", TRIES_BESIDE)
+    monkeypatch.setattr(sheet_work, "MOST_TRIES", 2)
     gc.disable()
     try:
-        imported(folder, path, ANYWAY, Asked(look.seen, look.by_animal, new_form()), lambda _: None)
+        made = taken_as_looked(folder, path, look)
     finally:
         gc.enable()
-    assert len(books) == TRIES_BESIDE
+    assert free == [True, True, False] and len(books) == 3
+    assert made.change == 4 and kinds(folder) == ["take", "transfer", "transfer", "take"]
+
+
+def test_corrected_behind_others(folder: pathlib.Path, society_desk: Desk, monkeypatch: pytest.MonkeyPatch) -> None:
+    """A sheet for which the journal is begun anew, and that corrects parents, stands behind others too: what they filed
+    is in the new journal, and coefficients are those of all."""
+    text, path = (TOP / "examples/society.csv").read_text(encoding="utf-8"), society_desk.room / "more.csv"
+    assert text.count("GK-13/374c,F,2013-02-12,GK-06/217b") == 1
+    corrected = text.replace("GK-13/374c,F,2013-02-12,GK-06/217b", "GK-13/374c,F,2013-02-13,")
+    path.write_text(f"{corrected}Lower Mill,NEW-1,F,2024-01-01,,GK-13/374c,\n", encoding="utf-8")
+    look = looked_at(folder, path, ANYWAY, (), lambda _: None)
+
+    def file(at: int) -> None:
+        birth_of(society_desk, f"OTHER-{at}", "--dam", DAM)
+        society_desk.good("exit", OTHER, "--day", DAY)
+        assert society_desk.run("exit", OTHER, "--day", DAY).status == 3
+
+    free = filed_meanwhile(monkeypatch, folder, file)
+    made = taken_as_looked(folder, path, look)
+    assert free == [True] and made.change == 5
+    with contextlib.closing(sqlite3.connect(folder / "book.sqlite")) as connection:
+        assert connection.execute("SELECT edition FROM change WHERE change = 5").fetchone() == (2,)
+    living = {row["id"] for row in society_desk.listed("list", "--living")}
+    assert "OTHER-1" in living and OTHER not in living
+    society_desk.good("verify")
 
 
 def test_filed_by_hand_stays(folder: pathlib.Path, society_desk: Desk) -> None:
@@ -211,20 +273,27 @@ def test_touched_by_others(folder: pathlib.Path, society_desk: Desk) -> None:
 
 
 def test_sheet_of_a_terminal(folder: pathlib.Path, society_desk: Desk, monkeypatch: pytest.MonkeyPatch) -> None:
-    """There it is prepared anew behind what another filed meanwhile, and then others wait for it."""
-    path, free = sheet(society_desk), list[bool]()
+    """There it stands behind what another filed meanwhile too, and is told with its numbers there. Where that touches
+    it, it is prepared anew, and then others wait for it."""
+    for id, other, dam, waits in ("NEW-1", OTHER, "", False), ("NEW-2", DAM, DAM, True):
+        path, free = society_desk.room / "more.csv", list[bool]()
+        path.write_text(f"id,name,sex,birth,sire,dam\n{id},,f,2024-01-01,,{dam}\n", encoding="utf-8")
 
-    def file() -> None:
-        free.append(is_free(folder))
-        exit_of(society_desk)
-        behind(monkeypatch, sheet_imports, "finish", lambda: free.append(is_free(folder)))
+        def file() -> None:
+            free.append(is_free(folder))
+            birth_of(society_desk, f"OTHER-{id}")
+            society_desk.good("exit", other, "--day", DAY)
+            behind(patched, sheet_imports, "finish", lambda: free.append(is_free(folder)))
 
-    behind(monkeypatch, sheet_imports, "finish", file)
-    import_sheet(read_file(path), ImportOptions(folder, anyway=True), BookProgram())
-    assert free == [True, False] and kinds(folder) == ["take", "exit", "take"]
-    living = {row["id"] for row in society_desk.listed("list", "--living")}
-    assert "NEW-1" in living and DAM not in living
-    society_desk.good("verify")
+        with monkeypatch.context() as patched:
+            behind(patched, sheet_imports, "finish", file)
+            outcome, _ = import_sheet(read_file(path), ImportOptions(folder, anyway=True), BookProgram())
+        assert free == [True, False][: 1 + waits] and kinds(folder)[-3:] == ["birth", "exit", "take"]
+        society_desk.good("verify")
+        rows = {row["id"]: row for row in society_desk.listed("list")}
+        told = [one.finding for one in outcome.report.entries if isinstance(one.finding, NewAnimal)]
+        assert [one.number for one in told] == [rows[id]["number"]] and outcome.after
+        assert outcome.after.animals == len(rows) and f"{rows[id]['number']},{id}," in (folder / "ids.csv").read_text("utf-8")
 
 
 def test_exports(folder: pathlib.Path, society_desk: Desk, monkeypatch: pytest.MonkeyPatch) -> None:

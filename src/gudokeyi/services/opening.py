@@ -7,7 +7,6 @@ import pathlib
 from collections.abc import Iterator
 from typing import TYPE_CHECKING
 
-from gudokeyi.domain.changes import Change
 from gudokeyi.services.book_program import BookProgram
 from gudokeyi.store.book import Book as Book
 from gudokeyi.store.database import DATABASE as DATABASE, busy as busy
@@ -112,16 +111,6 @@ def to_prepare(folder: pathlib.Path, program: BookProgram) -> Iterator[Book]:
     with reading_up_to_date(folder) as connection:
         book = Book(folder, connection)
         verify(book, program, quickly=True)
-        yield book
-
-
-@contextlib.contextmanager
-def still_to_change(folder: pathlib.Path, before: Change | None) -> Iterator[Book]:
-    """The book to be changed as it was prepared, after the change `before`; raises `Overtaken`."""
-    with changing(folder) as connection:
-        book = Book(folder, connection)
-        if book.change != before:
-            raise Overtaken
         yield book
 
 

@@ -27,7 +27,8 @@ from gudokeyi.reconcile.pedigree_links import (
 from gudokeyi.reconcile.sexes import find_sexes, invent_sexes
 from gudokeyi.services.book_program import BookProgram
 from gudokeyi.services.output_files import check_place
-from gudokeyi.services.saving import Prepared, outcome_of
+from gudokeyi.services.prepared_changes import Prepared
+from gudokeyi.services.saving import outcome_of
 from gudokeyi.services.sheet_imports import About, Bounds, finish
 from gudokeyi.store.book import Book
 from gudokeyi.store.files import source_of

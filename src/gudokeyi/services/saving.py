@@ -2,44 +2,37 @@
 from __future__ import annotations
 
 import contextlib
+import copy
 import pathlib
 from collections.abc import Callable
-from dataclasses import dataclass, replace
+from dataclasses import replace
 
 from gudokeyi.background import Background
 from gudokeyi.domain.animals import SocietyRecord
 from gudokeyi.domain.changes import Change, ChangeDetails, Source
 from gudokeyi.domain.commands import RegisterRecord, givers_of, lines_of, text_of
 from gudokeyi.domain.findings import What
-from gudokeyi.domain.kinds import CELL_FIELDS, ChangeKind, Field
+from gudokeyi.domain.kinds import CELL_FIELDS, ChangeKind, Field, Remembered
 from gudokeyi.engine.answers import records_of
 from gudokeyi.process import give_back_freed, keep
 from gudokeyi.reconcile.import_options import ImportOptions
 from gudokeyi.reconcile.next_book import NextBook, known_after
 from gudokeyi.reconcile.outcome import Outcome
-from gudokeyi.reconcile.stored_findings import told_of
+from gudokeyi.reconcile.stored_findings import entry_of, told_of
+from gudokeyi.services.behind_others import Saved, save_in_turn
 from gudokeyi.services.book_program import BookProgram
 from gudokeyi.services.folder_files import ChangeJustMade
-from gudokeyi.services.opening import export, still_to_change, to_change, to_look_at, to_prepare
-from gudokeyi.services.writing import FindState, write
+from gudokeyi.services.opening import export, to_change, to_look_at, to_prepare
+from gudokeyi.services.prepared_changes import Basis, Prepared, save
 from gudokeyi.store.book import Book
 from gudokeyi.store.former_ids import rows_of_renamed
 from gudokeyi.store.journal import Filed, accepted_commands
-from gudokeyi.store.state import Rows, State, Values, animal_rows
+from gudokeyi.store.settings import settings_of
+from gudokeyi.store.state import Meaning, Rows, State, Values, animal_rows, read_remembered
 from gudokeyi.store.transactions import Overtaken, no_book
 
 # the cells of an animal that had none
 NOTHING = (None,) * len(CELL_FIELDS)
-
-
-@dataclass(frozen=True)
-class Prepared:
-    """A change that is to be made of the book after the change `before`, or of one that isn't there."""
-
-    before: Change | None
-    filed: Filed
-    state: FindState
-    made: ChangeDetails
 
 
 # what an import would make of a book, and the change that is to be made, none for a preview
@@ -55,37 +48,43 @@ def outcome_of(import_options: ImportOptions, program: BookProgram, prepare: Pre
 
 
 def save_import(folder: pathlib.Path, program: BookProgram, prepare: Prepare) -> tuple[Outcome, list[str]]:
-    """Takes what is prepared; answers what is to be told besides. Where somebody else changes the book meanwhile it is
-    prepared once more, and then others wait for that. Where the book goes away meanwhile no other is begun."""
+    """Takes what is prepared; answers what is to be told besides. It is put behind what others file meanwhile; where
+    that touches it, it is prepared once more, and then others wait for that. Where the book goes away meanwhile no
+    other is begun."""
     before: Change | None = None
     with contextlib.suppress(Overtaken):
         with to_prepare(folder, program) as book:
             before = book.change
             outcome, prepared = prepare(book)
-        with still_to_change(folder, book.change) as now:
-            return saved(now, program, outcome, prepared, book.notes)
+        assert prepared is not None
+        found = save_in_turn(folder, program, prepared)
+        return told(folder, found.change, as_saved(outcome, found), found.prepared, book.notes)
     with to_change(folder, program) as book:
         if before is not None and not book.is_there:
             raise no_book(folder)
         outcome, prepared = prepare(book)
-        return saved(book, program, outcome, prepared, book.notes)
+        assert prepared is not None
+        return told(folder, save(book, program, prepared), outcome, prepared, book.notes)
 
 
-def saved(
-    book: Book, program: BookProgram, outcome: Outcome, prepared: Prepared | None, notes: list[str]
+def told(
+    folder: pathlib.Path, change: Change, outcome: Outcome, prepared: Prepared, notes: list[str]
 ) -> tuple[Outcome, list[str]]:
-    assert prepared is not None
-    change = save(book, program, prepared)
     outcome = replace(outcome, call=replace(outcome.call, change=change.number))
     keep(prepared, outcome)
     give_back_freed()
     made = ChangeJustMade(change, outcome.report.in_order(), prepared.filed.text)
-    return outcome, notes + export(book.folder, made)
+    return outcome, notes + export(folder, made)
 
 
-def save(book: Book, program: BookProgram, prepared: Prepared) -> Change:
-    """The change, after which `book`, the book before it, is read no more."""
-    return write(book, program, prepared.filed, prepared.state, prepared.made)
+def as_saved(outcome: Outcome, found: Saved) -> Outcome:
+    """What an import told, with the numbers and the animals of a book in which others filed meanwhile."""
+    if found.behind is None or not outcome.after:
+        return outcome
+    report = copy.copy(outcome.report)
+    report.entries = [*map(entry_of, found.prepared.made.told)]
+    animals = dict(found.prepared.made.counts)["animals"]
+    return replace(outcome, report=report, after=replace(outcome.after, animals=animals))
 
 
 def prepared_of(
@@ -128,17 +127,41 @@ def prepared_of(
             former_ids=former_ids_after(book),
         )
 
-    return Prepared(book.change, filed, before_others_wait(book, find_state), made)
-
-
-def before_others_wait(book: Book, find: Callable[[], State]) -> FindState:
-    """The state after a change is found out before the change begins, for which others wait. For a book that isn't
-    there yet nobody waits: it is found out beside the writing of its journal."""
     if not book.is_there:
-        found = Background(find)
-        return lambda _: found.value()
-    state = find()
-    return lambda _: state
+        # nobody waits for it: it is found out beside the writing of its journal
+        found = Background(find_state)
+        return Prepared(None, filed, lambda _: found.value(), made)
+    # it is found out before the change begins, for which others wait
+    state = with_changed_rows(find_state())
+    basis = None if import_options.drop_gone else basis_of(book, state, len(next_book.animals))
+    return Prepared(book.change, filed, lambda _: state, made, basis)
+
+
+def with_changed_rows(state: State) -> State:
+    """The state with those rows alone that a change begins or ends."""
+    assert state.cells
+    others = tuple((table, changed_rows(rows)) for table, rows in state.others)
+    return replace(state, animals=changed_rows(state.animals), cells=changed_rows(state.cells), others=others)
+
+
+def changed_rows(rows: Rows) -> Rows:
+    before, after = rows
+    return Rows(
+        {key: row for key, row in before.items() if after.get(key) != row},
+        {key: row for key, row in after.items() if before.get(key) != row},
+    )
+
+
+def basis_of(book: Book, state: State, animals: int) -> Basis:
+    owners = [[one for one in some or [] if one.what is Remembered.OWNER] for some in remembered_around(book, state)]
+    names_owners = bool(state.new_owners) or owners[0] != owners[1]
+    settings, came = settings_of(book), book.owners_came()
+    return Basis(state, book.greatest_digits(), animals, settings, came, names_owners)
+
+
+def remembered_around(book: Book, state: State) -> tuple[list[Meaning], list[Meaning] | None]:
+    """What is remembered before a change and after it."""
+    return read_remembered(book.connection), state.remembered
 
 
 def text_after(book: Book, filed: Filed) -> bytes:

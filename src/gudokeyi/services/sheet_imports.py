@@ -38,7 +38,8 @@ from gudokeyi.reconcile.pedigree_links import refuse_lost_links
 from gudokeyi.reconcile.plausibility import PlausibilityChecks, tell_swapped_columns
 from gudokeyi.services.book_program import BookProgram
 from gudokeyi.services.output_files import check_place
-from gudokeyi.services.saving import Prepared, outcome_of, prepared_of
+from gudokeyi.services.prepared_changes import Prepared
+from gudokeyi.services.saving import outcome_of, prepared_of
 from gudokeyi.services.sheet_reading import LastReading, ReadSheet, read_animals, titles_before
 from gudokeyi.store.book import Book
 from gudokeyi.store.files import source_of

@@ -10,7 +10,7 @@ from gudokeyi.domain.waiting import seconds_left
 from gudokeyi.services.cache import Stamp, stamp_of
 from gudokeyi.services.opening import Book, alone_to_change, busy, no_book
 from gudokeyi.web.served_book import ServedBook
-from gudokeyi.web.verification import begin_to_see, verified
+from gudokeyi.web.verification import begin_to_see, being_told, verified
 
 
 @contextlib.contextmanager
@@ -35,8 +35,9 @@ def to_change(served: ServedBook) -> Iterator[Book]:
         with alone_to_change(served.folder) as book:
             yield from whole(served, book)
         with served.opened() as changed:
-            # it was whole before
-            served.trusted = stamp_of(changed) if changed else ()
+            # it was whole before; a process beside may have told of a later change by now
+            stamp = stamp_of(changed) if changed else ()
+            served.trusted = served.trusted if served.trusted[:1] > stamp[:1] else stamp
 
 
 def whole(served: ServedBook, book: Book) -> Iterator[Book]:
@@ -44,6 +45,8 @@ def whole(served: ServedBook, book: Book) -> Iterator[Book]:
         raise Mistake(WebFault.CLOSING.said())
     if not book.is_there:
         raise no_book(served.folder)
+    if stamp_of(book) != served.trusted and (job := being_told(served, book)):
+        job.is_told.wait(seconds_left())
     if stamp_of(book) != served.trusted:
         verified(served, book)
     try:

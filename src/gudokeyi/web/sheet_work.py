@@ -8,8 +8,7 @@ import gc
 import hashlib
 import io
 import pathlib
-import time
-from collections.abc import Callable, Collection, Iterator, Mapping
+from collections.abc import Callable, Collection, Mapping
 from dataclasses import dataclass, field, replace
 from typing import TypeVar
 
@@ -21,16 +20,16 @@ from gudokeyi.domain.messages import Mistake
 from gudokeyi.domain.options import Kind
 from gudokeyi.domain.settings import Setting
 from gudokeyi.process import take_as_others, take_what_is_left
+from gudokeyi.services.behind_others import save_in_turn
 from gudokeyi.services.book_program import BookProgram
 from gudokeyi.services.cache import Stamp, StateKept, mark_of, stamp_of
 from gudokeyi.services.imports import BookAfter, ImportOptions, LettersUnsaid, Outcome, read_file
-from gudokeyi.services.opening import Book, Overtaken, book_in, still_to_change, to_change, to_look_at, to_prepare
+from gudokeyi.services.opening import Book, Overtaken, book_in, to_change, to_look_at, to_prepare
 from gudokeyi.services.option_values import day, days, three_letters
-from gudokeyi.services.saving import save
 from gudokeyi.services.settings import settings_of
 from gudokeyi.services.sheet_imports import import_sheet_into
 from gudokeyi.services.recent import may_be_wrong
-from gudokeyi.services.saving import Prepared
+from gudokeyi.services.prepared_changes import Prepared, save
 from gudokeyi.services.sheet_reading import LastReading
 from gudokeyi.services.sheet_previews import (
     ColumnsView, Sheet, animals_otherwise, cells_of, changes_by_animal, columns_shown, severity_of,
@@ -46,9 +45,9 @@ from gudokeyi.web.workers import Tell
 Value = TypeVar("Value")
 # the field that drops what has no row
 DROPS = "drop_gone"
-# so often a sheet is prepared while others file, and so often at most where they would wait longer than this for it, in
-# seconds: for a large sheet these are some minutes in which others file without a pause
-TRIES_BESIDE, MOST_TRIES, SECONDS_OTHERS_WAIT = 3, 40, 2.5
+# so often a sheet is prepared beside others who file something of its animals each time: for a large one these are some
+# minutes
+MOST_TRIES = 20
 # the book and the sheet that this process looked at last
 STATE, READING = StateKept(), LastReading()
 # the settings by which sheets are read
@@ -123,14 +122,16 @@ class Look:
 class Imported:
     """The change that an import made, or that the book isn't any more the one that was looked at, or the sheet would be
     read otherwise. `mark` is that of the book behind it; `whole` is the book and its file then, if they are seen to be
-    whole; `meanwhile` counts the changes since the look that gave way to a backup; `otherwise` are the animals that
-    others changed since the look, so that the sheet would change them otherwise."""
+    whole, or would be if the book of the mark `behind` is, which others filed meanwhile; `meanwhile` counts the changes
+    since the look that gave way to a backup; `otherwise` are the animals that others changed since the look, so that
+    the sheet would change them otherwise."""
 
     change: int
     book_changed: bool = False
     read_otherwise: bool = False
     mark: Mark = NO_MARK
     whole: Stamp = ()
+    behind: Mark = NO_MARK
     meanwhile: int = 0
     otherwise: tuple[str, ...] = ()
 
@@ -204,55 +205,49 @@ class Asked:
 
 def imported(folder: pathlib.Path, path: pathlib.Path, chosen: Chosen, asked: Asked, tell: Tell) -> Imported:
     """Takes a sheet, if it is read as at its look, if what others changed since then changes nothing of what it does to
-    any animal, and if its form didn't take it. Others file while that is prepared; who waits for it waits for the
-    writing alone, but where somebody files again and again meanwhile."""
+    any animal, and if its form didn't take it. Others file while that is prepared, and it is put behind what they
+    filed; where they filed something of its animals it is prepared anew. At the last try they wait, so that nobody who
+    files keeps a sheet from being taken."""
     program = BookProgram()
     tell(Doing.TAKING)
-    for may_wait in tries():
+    for _ in range(MOST_TRIES):
         with contextlib.suppress(Overtaken):
-            return taken(folder, path, chosen, asked, program, may_wait)
+            return taken(folder, path, chosen, asked, program)
         # what was prepared in vain isn't kept beside what is prepared anew: by itself it would be looked for later
         gc.collect()
-    return Imported(0, True)
+    return taken_alone(folder, path, chosen, asked, program)
 
 
-def taken(
-    folder: pathlib.Path, path: pathlib.Path, chosen: Chosen, asked: Asked, program: BookProgram, may_wait: bool
-) -> Imported:
-    """What comes of one try; raises `Overtaken`. With `may_wait` others wait for all of it."""
-    with book_for(folder, program, may_wait) as book:
+def taken(folder: pathlib.Path, path: pathlib.Path, chosen: Chosen, asked: Asked, program: BookProgram) -> Imported:
+    """What comes of one try beside others, who wait for the writing alone; raises `Overtaken`."""
+    take_what_is_left(BOUNDS[TAKING].niceness)
+    with to_prepare(folder, program) as book:
         stamp = stamp_of(book)
         found = prepared_for(book, path, chosen, asked, program)
         if isinstance(found, Imported):
             return found
         # from here on others wait for it
         take_as_others()
-        with contextlib.nullcontext(book) if may_wait else still_to_change(folder, book.change) as now:
-            is_same = stamp_of(now) == stamp
-            change = save(now, program, found)
-        return Imported(change.number, mark=change.mark, whole=stamp_behind(folder, change) if is_same else ())
+        saved = save_in_turn(folder, program, found)
+        change, behind = saved.change, saved.behind.mark if saved.behind else NO_MARK
+        is_seen = saved.behind is not None or saved.stamp == stamp
+        whole = stamp_behind(folder, change) if is_seen else ()
+        return Imported(change.number, mark=change.mark, whole=whole, behind=behind)
 
 
-def tries() -> Iterator[bool]:
-    """For each try whether others are to wait for it. They are once several were overtaken, if the last one was ready
-    before others would give up who wait; else it is tried beside them further. At the last one they always are, so that
-    nobody who files keeps a sheet from being taken."""
-    took = 0.0
-    for at in range(MOST_TRIES):
-        is_short, begun = took <= SECONDS_OTHERS_WAIT, time.monotonic()
-        yield at >= TRIES_BESIDE and is_short or at == MOST_TRIES - 1
-        took = time.monotonic() - begun
-
-
-@contextlib.contextmanager
-def book_for(folder: pathlib.Path, program: BookProgram, may_wait: bool) -> Iterator[Book]:
-    """The book for what is prepared; where others are to wait for that nobody else changes it."""
-    if may_wait:
-        take_as_others()
-    else:
-        take_what_is_left(BOUNDS[TAKING].niceness)
-    with to_change(folder, program) if may_wait else to_prepare(folder, program) as book:
-        yield book
+def taken_alone(
+    folder: pathlib.Path, path: pathlib.Path, chosen: Chosen, asked: Asked, program: BookProgram
+) -> Imported:
+    """The same while others wait for all of it."""
+    take_as_others()
+    with to_change(folder, program) as book:
+        stamp = stamp_of(book)
+        found = prepared_for(book, path, chosen, asked, program)
+        if isinstance(found, Imported):
+            return found
+        is_seen = stamp_of(book) == stamp
+        change = save(book, program, found)
+        return Imported(change.number, mark=change.mark, whole=stamp_behind(folder, change) if is_seen else ())
 
 
 def prepared_for(

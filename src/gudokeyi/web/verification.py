@@ -14,10 +14,11 @@ from gudokeyi.process import take_what_is_left
 from gudokeyi.services.book_program import BookProgram
 from gudokeyi.services.book_session import BookMoved, SessionEnded
 from gudokeyi.services.cache import mark_of, stamp_of
+from gudokeyi.services.history import change_made_by
 from gudokeyi.services.opening import Book, book_in
 from gudokeyi.services.verification import NotWhole, faults_by_parts, told_of_coefficients, verify
 from gudokeyi.web.served_book import ServedBook
-from gudokeyi.web.workers import Job, Stage, Tell
+from gudokeyi.web.workers import TAKING, Job, Stage, Tell
 
 # so often a desk that is open sees it, in seconds, and so little such a process takes from others
 SECONDS_BETWEEN = 3600
@@ -132,7 +133,7 @@ def not_whole(served: ServedBook, book: Book, may_wait: bool = False) -> tuple[s
         return ()
     stamp = stamp_of(book)
     if book.journal.length > MOST_LOOKED_AT_HERE and not may_wait:
-        if served.is_seen.is_set() and not served.jobs.turn.locked():
+        if served.is_seen.is_set() and not served.jobs.turn.locked() and not being_told(served, book):
             begin_to_see(served)
         return ()
     try:
@@ -148,9 +149,17 @@ def is_trusted(served: ServedBook, book: Book, may_wait: bool) -> bool:
     moment."""
     if served.trusted == stamp_of(book):
         return True
+    if may_wait and (job := being_told(served, book)):
+        job.is_told.wait(seconds_left())
     if may_wait and served.jobs.turn.acquire(timeout=seconds_left()):
         served.jobs.turn.release()
     return may_wait and served.trusted == stamp_of(book)
+
+
+def being_told(served: ServedBook, book: Book) -> Job | None:
+    """The taking of a sheet by a process beside that made the last change of a book, and is about to tell it."""
+    jobs = [job for job in served.jobs.not_over() if job.kind == TAKING and not job.is_told.is_set()]
+    return next((job for job in jobs if book.change and change_made_by(book, str(job.key[1])) == book.change), None)
 
 
 def refuse_to_certify(served: ServedBook, book: Book) -> None:

@@ -63,6 +63,8 @@ class Job:
         self.value: object = None
         self.failed = Failed(())
         self.is_over = threading.Event()
+        # what came of it is known, though its process may not have ended yet
+        self.is_told = threading.Event()
         self.process: WorkerProcess | None = None
         # why it is ended before it is done
         self.stopped = ""
@@ -139,6 +141,7 @@ class Job:
 
     def over(self) -> None:
         self.ended = time.monotonic()
+        self.is_told.set()
         self.is_over.set()
 
     def stop(self, sentence: str) -> None:
@@ -154,8 +157,10 @@ class Job:
             if self.then:
                 self.then(message.value)
             self.value, self.stage = message.value, Stage.DONE
+            self.is_told.set()
         elif isinstance(message, Failed):
             self.failed, self.stage = Failed((self.stopped,)) if self.stopped else message, Stage.FAILED
+            self.is_told.set()
 
 
 class Jobs:

@@ -231,7 +231,9 @@ def take(token: str) -> Answer:
 def is_taken(served: ServedBook, value: object) -> None:
     """What an import made is gone on with, before its page asks for it."""
     if isinstance(value, Imported) and value.mark != NO_MARK:
-        go_on(served, value.whole)
+        # what others filed meanwhile is whole where this server saw that
+        seen = {mark for mark in (value.behind, value.mark) if served.trusted[:1] == (mark,)}
+        go_on(served, value.whole if value.behind == NO_MARK or seen else ())
 
 
 def taken_by(form: str) -> int:
