@@ -4,18 +4,21 @@ from __future__ import annotations
 
 import contextlib
 import datetime
+import functools
 import html
 import io
 import pathlib
 import re
 import sqlite3
 import threading
+import time
 
 import pytest
 
 from web.said import SENTENCES
 from web.site import HOST, looked_in, shown
 from front_desk.desk import Desk
+from gudokeyi.background import Background
 from gudokeyi.store.accounts import A_DAY
 from gudokeyi.store.messages import BackupFault
 from gudokeyi.web.forms import new_form
@@ -55,6 +58,40 @@ def test_two_sheets(served: Served) -> None:
     assert names(clara)[1:] == ["Carl", "Clara"]
     with served.desk.opened() as book:
         assert book and {"NEW-1", "NEW-2"} <= book.society_records.keys()
+
+
+def file_births(visitor: Visitor, at: int, is_over: threading.Event, waits: list[float]) -> list[str]:
+    """Files one birth after the other; answers where each led."""
+    token, found = visitor.token(), list[str]()
+    while not is_over.wait(0.4):
+        born = {"id": f"OTHER-{at}-{len(found)}", "sex": "F", "day": "2024-02-01"}
+        began = time.monotonic()
+        data = {"csrf_token": token, "form": new_form(), **born}
+        found.append(visitor.client.post("/file/birth", data=data, headers={"Host": HOST}).headers["Location"])
+        waits.append(time.monotonic() - began)
+    return found
+
+
+def test_sheet_beside_clerks(served: Served) -> None:
+    """A sheet comes through where eight file without a pause: nobody waits long for it, and each of what they filed
+    stands once."""
+    carl, is_over, waits = Visitor(served, "Carl"), threading.Event(), list[float]()
+    clerks = [Visitor(served, name) for name in ("Clara", "Kim") * 4]
+    files = [functools.partial(file_births, one, at, is_over, waits) for at, one in enumerate(clerks)]
+    filing, began = [Background(file) for file in files], time.monotonic()
+    address = looked_at(carl, 1)
+    carl.take(address)
+    took = time.monotonic() - began
+    is_over.set()
+    answers = [answer for one in filing for answer in one.value()]
+    with served.desk.opened() as book:
+        assert book
+        kinds = [kind for (kind,) in book.connection.execute("SELECT kind FROM change ORDER BY change")]
+        ids = {row.id for row in book.all_rows if row.id.startswith("OTHER-")}
+    # the sheet isn't the last: others went on
+    assert kinds.count("take") == 2 and kinds[1] == kinds[-1] == "birth" and took < 60
+    assert len(waits) == len({*answers}) == len(ids) == kinds.count("birth") and max(waits) < 3
+    Desk(served.desk.folder.parent, str(served.desk.program.path)).good("verify")
 
 
 def test_own_sheets(served: Served) -> None:

@@ -46,13 +46,14 @@ class Saved(NamedTuple):
 def save_in_turn(folder: pathlib.Path, program: BookProgram, prepared: Prepared) -> Saved:
     """Saves a prepared change, behind what others filed meanwhile; raises `Overtaken` where that touches it, or where it
     can't stand there."""
+    basis = prepared.basis
     with alone_to_change(folder) as now:
-        if now.change == prepared.before and not (prepared.basis and has_other_settings(now, prepared.basis)):
+        if now.change == prepared.before and not (basis and has_other_settings(now, basis)):
             stamp = stamp_of(now)
             return Saved(save(now, program, prepared), prepared, stamp)
-    if prepared.basis is None:
+    if basis is None:
         raise Overtaken
-    reach = reach_of(prepared, prepared.basis)
+    reach = reach_of(prepared, basis)
     with closing(BookSession.for_one()) as session:
         try:
             with book_in(folder) as book:
