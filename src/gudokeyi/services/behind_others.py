@@ -2,8 +2,9 @@
 the replies to its commands, the records of its animals and all coefficients there, and others wait for that alone."""
 from __future__ import annotations
 
+import bisect
 import pathlib
-from collections.abc import Iterable, Mapping
+from collections.abc import Iterable, Mapping, Sequence
 from contextlib import closing
 from dataclasses import dataclass, replace
 from typing import NamedTuple, cast
@@ -22,6 +23,7 @@ from gudokeyi.services.opening import Overtaken, alone_to_change, book_in
 from gudokeyi.services.prepared_changes import Basis, Prepared, save
 from gudokeyi.store.animal_rows import AnimalRow, digits_of, fields_of
 from gudokeyi.store.book import Book
+from gudokeyi.store.coefficients import born_of, coefficients_among
 from gudokeyi.store.filed_meanwhile import FiledMeanwhile, filed_since
 from gudokeyi.store.history import change_by_form
 from gudokeyi.store.journal import Filed, Step
@@ -44,8 +46,8 @@ class Saved(NamedTuple):
 
 
 def save_in_turn(folder: pathlib.Path, program: BookProgram, prepared: Prepared) -> Saved:
-    """Saves a prepared change, behind what others filed meanwhile; raises `Overtaken` where that touches it, or where it
-    can't stand there."""
+    """Saves a prepared change, behind what others filed meanwhile; raises `Overtaken` where that touches it, or where
+    it can't stand there."""
     basis = prepared.basis
     with alone_to_change(folder) as now:
         if now.change == prepared.before and not (basis and has_other_settings(now, basis)):
@@ -174,11 +176,24 @@ def put_behind(now: Book, prepared: Prepared, reach: Reach, session: BookSession
     if prepared.filed.keeps is not None:
         # a journal that is begun anew has no command that was refused
         steps += [step for step in others.steps if not step.refusal]
-    state = numbers.state(with_rows_of(others, basis.state))
+    state = with_rows_of(others, basis.state)
+    if prepared.filed.keeps is not None or corrects_parents(state, others):
+        # they are those of another pedigree
+        state = replace(state, coefficients=None)
+    state = numbers.state(state)
     return replace(
         prepared, before=now.change, filed=Filed(steps, prepared.filed.keeps), made=details(made, numbers, born),
-        state=lambda after: asked_for(after, session, state), basis=None,
+        state=lambda after: asked_for(after, session, state, others.rows), basis=None,
     )  # fmt: skip
+
+
+def corrects_parents(state: State, others: FiledMeanwhile) -> bool:
+    """Has an animal that was in the book other parents then, by the change or by others? Else those that are born on
+    either side change no coefficient of the other."""
+    before = rows_of(state.animals.before)
+    pairs = ((before[key], row) for key, row in rows_of(state.animals.after).items() if key in before)
+    is_corrected = any(parents_of(one) != parents_of(row) for one, row in pairs)
+    return is_corrected or any(step.command.kind == CommandKind.PARENTS.value for step in others.steps)
 
 
 def with_rows_of(others: FiledMeanwhile, state: State) -> State:
@@ -206,17 +221,37 @@ def details(made: ChangeDetails, numbers: NewNumbers, born: int) -> ChangeDetail
     return made._replace(counts=counts, told=tuple(map(numbers.told, made.told)))
 
 
-def asked_for(after: Book, session: BookSession, state: State) -> State:
-    """The state with the coefficients that the program has behind the journal, once its replies to the commands are
-    those that are stored, and its records those of the animals; raises `Overtaken`."""
+def asked_for(after: Book, session: BookSession, state: State, of_others: Sequence[AnimalRow]) -> State:
+    """The state with the coefficients of all, once the program's replies to the commands behind the journal are those
+    that are stored, and its records those of the animals, and of others' too; raises `Overtaken`."""
     session.at(after)
-    rows = {row.registration_number: row for row in rows_of(state.animals.after).values() if row.born}
+    rows = {row.id: row for row in of_others} | {row.id: row for row in rows_of(state.animals.after).values()}
+    rows = {row.registration_number: row for row in rows.values() if row.born}
     few = len(rows) <= MOST_ONE_BY_ONE
     lines = session.records([*rows], after) if few and rows else session.ask(["records"], after) if rows else []
     told = {line.partition(",")[0]: line for line in lines}
     if any(told.get(number) != record_line(row) for number, row in rows.items()):
         raise Overtaken
-    return replace(state, coefficients=session.ask(["inbreeding"], after))
+    if state.coefficients is None:
+        return replace(state, coefficients=session.ask(["inbreeding"], after))
+    return replace(state, coefficients=with_born(after, state, state.coefficients, of_others))
+
+
+def with_born(after: Book, state: State, lines: list[str], of_others: Sequence[AnimalRow]) -> list[str]:
+    """The coefficients as the program wrote them, with those that it wrote of others' newborns, each at its place in
+    age order."""
+    born = {row.registration_number: row.born for row in (*of_others, *rows_of(state.animals.after).values())}
+
+    def age(line: str) -> tuple[str, str]:
+        number = line.partition(",")[0]
+        return born.get(number) or born_of(after.connection, number), number
+
+    there, found = {line.partition(",")[0] for line in lines}, [*lines]
+    newborn = [row.registration_number for row in of_others if row.registration_number not in there and row.born]
+    kept = coefficients_among(after, newborn)
+    for number in newborn:
+        bisect.insort(found, ",".join([number, *kept[number]]), key=age)
+    return found
 
 
 def record_line(row: AnimalRow) -> str:
@@ -259,8 +294,15 @@ class NewNumbers:
         if not self.numbers:
             return state
         animals = {key: self.row(row) for key, row in rows_of(state.animals.after).items()}
+        lines = None if state.coefficients is None else [*map(self.line, state.coefficients)]
         others = [(table, self.rows(rows) if table in (NOTES, OWN_VALUES) else rows) for table, rows in state.others]
-        return replace(state, animals=Rows(state.animals.before, {**animals}), others=tuple(others))
+        return replace(
+            state, animals=Rows(state.animals.before, {**animals}), others=tuple(others), coefficients=lines
+        )  # fmt: skip
+
+    def line(self, line: str) -> str:
+        number, _, rest = line.partition(",")
+        return f"{self.of(number)},{rest}"
 
     def row(self, row: AnimalRow) -> AnimalRow:
         sire, dam = (self.of(number) if number else number for number in (row.sire, row.dam))

@@ -20,6 +20,7 @@ if TYPE_CHECKING:
 UNIT_BITS = 120
 # a fraction in what stands above, the stroke and what stands below
 PARTS = operator.methodcaller("partition", "/")
+PLACES = "SELECT place FROM coefficient ORDER BY place"
 # so many coefficients are asked for one by one: of more it is quicker to ask for all
 MOST_ONE_BY_ONE = 20
 
@@ -155,6 +156,12 @@ def place_of(connection: sqlite3.Connection, number: str) -> int:
     return int(first)
 
 
+def born_of(connection: sqlite3.Connection, number: str) -> str:
+    """The day on which an animal of the last state was born."""
+    found = connection.execute("SELECT born FROM animal WHERE number = ? AND until IS NULL", (number,)).fetchone()
+    return str(found[0])
+
+
 def few_descendants(connection: sqlite3.Connection, number: str) -> list[str]:
     """The numbers of an animal and of all that descend from it; none where these are too many to be asked for one by
     one."""
@@ -184,9 +191,10 @@ def write_coefficients(connection: sqlite3.Connection, lines: list[str]) -> None
         if all(before.partition(",")[0] == now.partition(",")[0] for before, now in differing):
             change_coefficients(connection, (now for _, now in differing))
             return
-    # those of animals that are born last stand behind the others
-    behind = len(kept) if kept == lines[: len(kept)] else 0
-    if not behind:
-        connection.execute("DELETE FROM coefficient")
-    rows = ((place, *line.split(",")) for place, line in enumerate(lines[behind:], behind + 1))
+    # those of animals that are born last stand behind the others, which stay
+    pairs = enumerate(zip(kept, lines))
+    behind = next((at for at, (before, now) in pairs if before != now), min(len(kept), len(lines)))
+    connection.execute(f"DELETE FROM coefficient WHERE place IN ({PLACES} LIMIT -1 OFFSET ?)", (behind,))
+    last = connection.execute("SELECT ifnull(max(place), 0) FROM coefficient").fetchone()[0]
+    rows = ((place, *line.split(",")) for place, line in enumerate(lines[behind:], last + 1))
     insert_many(connection, "coefficient", rows)
