@@ -23,6 +23,8 @@ from gudokeyi.store.accounts import A_DAY
 from gudokeyi.store.messages import BackupFault
 from gudokeyi.web import changing, verification
 from gudokeyi.web.forms import new_form
+from gudokeyi.web.sheet_work import Asked, Chosen, imported, looked_at as looked_at_sheet
+from gudokeyi.web.workers import TAKING, Job
 from serving.visitor import Served, Visitor
 
 DAM = "GK-17/472c"
@@ -97,6 +99,25 @@ def test_sheet_beside_clerks(served: Served, monkeypatch: pytest.MonkeyPatch) ->
     assert kinds.count("take") == 2 and kinds[2] == kinds[-1] == "birth" and took < 60
     assert len(waits) == len({*answers}) == len(ids) == kinds.count("birth") - 1 and max(waits) < 3 and not seen
     Desk(served.desk.folder.parent, str(served.desk.program.path)).good("verify")
+
+
+def test_filing_behind_a_sheet(served: Served, tmp_path: pathlib.Path, monkeypatch: pytest.MonkeyPatch) -> None:
+    """Who files behind a sheet that a process beside took at this moment waits for what that tells of the book, and
+    not for seeing anew whether it is whole."""
+    carl, form, folder, path = Visitor(served, "Carl"), new_form(), served.desk.folder, tmp_path / "one.csv"
+    path.write_bytes(SHEET % 1)
+    chosen = Chosen(options=(("anyway", "1"),))
+    look = looked_at_sheet(folder, path, chosen, (), lambda _: None)
+    job = served.desk.jobs.jobs[TAKING, form] = Job((TAKING, form))
+    made = imported(folder, path, chosen, Asked(look.seen, look.by_animal, form), lambda _: None)
+    monkeypatch.setattr(changing, "verified", lambda *_: pytest.fail("it is seen anew"))
+    filing = Background(lambda: carl.post("/file/exit", id=DAM, day="2024-05-01"))
+    filing.thread.join(1)
+    assert filing.thread.is_alive() and made.whole
+    served.desk.trusted = made.whole
+    job.is_told.set()
+    assert filing.value().headers["Location"] == "/answer/3"
+    job.over()
 
 
 def test_own_sheets(served: Served) -> None:

@@ -105,16 +105,15 @@ def test_a_day(served: Served, clerk: Visitor) -> None:
 def test_ended_by_a_change(served: Served, clerk: Visitor, change: str) -> None:
     """Another password, another role and the end of an account end its logins; those of others stay."""
     other, keeper = Visitor(served, "Clara"), Visitor(served, "Kim")
-    if change == "removed":
-        keeper.post("/accounts/remove", name="Carl")
-    elif change == "role":
-        keeper.post("/accounts/change", name="Carl", role="inspector")
-    else:
-        given = {"password": "quite another word", "again": "quite another word"}
-        for own in "", "wrong":
-            answer = keeper.post("/accounts/change", name="Carl", own=own, **given)
-            assert "our own password is wrong: nothing is changed" in shown(answer.get_data(as_text=True)) and clerk.is_in()
-        keeper.post("/accounts/change", name="Carl", own=WORD, **given)
+    path = "/accounts/remove" if change == "removed" else "/accounts/change"
+    given: dict[str, str] = {
+        "removed": dict[str, str](), "role": {"role": "inspector"},
+        "password": {"password": "quite another word", "again": "quite another word"},
+    }[change]  # fmt: skip
+    for own in "", "wrong":
+        answer = keeper.post(path, name="Carl", own=own, **given)
+        assert "our own password is wrong: nothing is changed" in shown(answer.get_data(as_text=True)) and clerk.is_in()
+    keeper.post(path, name="Carl", own=WORD, **given)
     assert not clerk.is_in() and other.is_in() and keeper.is_in()
     assert clerk.log_in("Carl").status_code == (302 if change == "role" else 401)
     assert clerk.get("/sheet").status_code == (403 if change == "role" else 302)
@@ -167,7 +166,8 @@ def test_certificates_of_strangers(served: Served) -> None:
 def test_removal_is_asked(served: Served) -> None:
     keeper = Visitor(served, "Kim")
     assert 'href="/accounts/remove?name=Carl"' in keeper.page("/accounts")
-    assert "Remove the account of Carl?" in shown(keeper.page("/accounts/remove?name=Carl"))
+    page = keeper.page("/accounts/remove?name=Carl")
+    assert "Remove the account of Carl?" in shown(page) and 'name="own" type="password"' in page
     answer = keeper.get("/accounts/remove?name=Nobody")
     assert answer.status_code == 404 and "there is no account 'Nobody'" in shown(answer.get_data(as_text=True))
     assert Visitor(served).log_in("Carl").status_code == 302

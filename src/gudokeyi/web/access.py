@@ -51,7 +51,8 @@ OPEN_TO_ALL = ("door.enter", "login.page", "login.enter", "static", "start.icon"
 # what whoever has a password that a keeper gave may ask for before it is changed
 OF_OWN_PASSWORD = ("login.password", "login.change_password", "login.leave")
 # where one logs in, and where somebody who is logged in is asked for the own password: each takes long to look at
-LOG_IN, LOOK_AT_OWN_PASSWORD = "login.enter", ("login.change_password", "accounts.add", "accounts.change")
+LOG_IN = "login.enter"
+LOOK_AT_OWN_PASSWORD = ("login.change_password", "accounts.add", "accounts.change", "accounts.remove")
 # whoever may ask for the others has this role at least
 LEAST = {
     "start.page": INSPECTOR, "animals.page": INSPECTOR, "animals.file": INSPECTOR, "animals.search": INSPECTOR,

@@ -48,7 +48,7 @@ def role_given() -> AccountRole:
 
 
 def refuse_other_keeper() -> None:
-    """A mistake where whoever gives somebody a password doesn't know the own one, as who finds a browser that a keeper
+    """A mistake where whoever changes accounts doesn't know the own password, as who finds a browser that a keeper
     left."""
     person = the_person()
     assert person
@@ -76,8 +76,8 @@ def change() -> Answer:
     is_password = bool(given.get("password"))
 
     def changed(accounts: Accounts) -> None:
+        refuse_other_keeper()
         if is_password:
-            refuse_other_keeper()
             accounts.change_password(name, given["password"], given.get("again", ""), for_one_login=True)
         else:
             accounts.change_role(name, role_given())
@@ -100,5 +100,9 @@ def ask_removal() -> Answer:
 @page.post("/accounts/remove")
 def remove() -> Answer:
     name = request.form.get("name", "")
-    told = gettext("The account of {} is removed.", name)
-    return done(lambda accounts: accounts.remove(name), told, f"account of {name} removed")
+
+    def removed(accounts: Accounts) -> None:
+        refuse_other_keeper()
+        accounts.remove(name)
+
+    return done(removed, gettext("The account of {} is removed.", name), f"account of {name} removed")
