@@ -26,6 +26,7 @@ from gudokeyi.web.connections import (
     SECONDS_FOR_HEAD, Head, are_many_files, end_slow,
 )  # fmt: skip
 from gudokeyi.web.request_threads import Kind
+from gudokeyi.web.routes import animal
 from gudokeyi.web.work_places import MOST_PAGES, MOST_PAGES_WAITING
 from serving.server import Browser, Server
 from serving.visitor import Served, Visitor, with_accounts
@@ -111,6 +112,18 @@ def test_very_many_pages_of_one_person(served: Served, clerk: Visitor) -> None:
     assert clerk.get("/animals").status_code == 200 and ines.get("/static/desk.css").status_code == 200
     pages.at_work["Ines"] = pages.waiting["Ines"] = 0
     assert ines.get("/animals").status_code == 200
+
+
+def test_very_many_certificates(served: Served, clerk: Visitor, monkeypatch: pytest.MonkeyPatch) -> None:
+    """Pages of very many certificates are made one at a time; whoever prints few waits for nobody."""
+    path = "/certificates?owner=Lower+Mill"
+    monkeypatch.setattr("gudokeyi.web.access.SECONDS_OF_PAGE", 0.5)
+    with served.desk.printing.one("Ines"):
+        assert clerk.get(path).status_code == 200
+        monkeypatch.setattr(animal, "MANY", 1)
+        answer = clerk.get(path)
+        assert answer.status_code == 400 and "0 seconds" in shown(answer.get_data(as_text=True))
+    assert clerk.get(path).status_code == 200
 
 
 def test_settings(served: Served, monkeypatch: pytest.MonkeyPatch) -> None:

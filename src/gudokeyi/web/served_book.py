@@ -20,6 +20,7 @@ from gudokeyi.services.opening import DATABASE, Book, HeldOpen, book_in
 from gudokeyi.services.overview import Overviews
 from gudokeyi.web.certificate_work import SealedCertificates
 from gudokeyi.web.files import Uploads
+from gudokeyi.web.work_places import Turns
 from gudokeyi.web.workers import Exports, Job, Jobs
 
 EXTENSION = "desk"
@@ -60,6 +61,8 @@ class ServedBook:
     # nobody changes the book any more
     is_closing: bool = False
     closes: threading.Event = field(default_factory=threading.Event)
+    # pages of very many certificates
+    printing: Turns = field(default_factory=Turns)
 
     def __post_init__(self) -> None:
         self.held = HeldOpen(self.folder)

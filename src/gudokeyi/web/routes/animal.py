@@ -1,6 +1,7 @@
 """The page of an animal, and what is printed of it: certificates of one or many, and its pedigree."""
 from __future__ import annotations
 
+import contextlib
 import datetime
 from collections.abc import Mapping
 
@@ -22,7 +23,7 @@ from gudokeyi.services.opening import Book
 from gudokeyi.services.selection import Choice, chosen
 from gudokeyi.services.seals import last_sealed
 from gudokeyi.services.settings import picture_of
-from gudokeyi.web.access import printed
+from gudokeyi.web.access import printed, the_name
 from gudokeyi.web.breed_work import kinship_of
 from gudokeyi.web.verification import refuse_to_certify
 from gudokeyi.web.language import page_language
@@ -35,6 +36,8 @@ from gudokeyi.web.views.own_columns import own_values_shown
 page = Blueprint("animal", __name__)
 # so many generations are drawn on the page of an animal, and so many are printed at most
 DRAWN, MOST_GENERATIONS = 4, 10
+# pages of more certificates are made one at a time
+MANY = 500
 
 
 @page.get("/animal/<number>", endpoint="page")
@@ -95,7 +98,9 @@ def certificates_of_many(book: Book) -> Answer:
     animals = [society_record_of(row) for row in chosen(book, Choice(True, "", owner))]
     if not animals:
         abort(404)
-    return certificates(book, animals)
+    # one who prints very many keeps others from their pages for a moment, and several would for long
+    with served_book().printing.one(the_name()) if len(animals) > MANY else contextlib.nullcontext():
+        return certificates(book, animals)
 
 
 @page.get("/animal/<number>/certificate.txt")
