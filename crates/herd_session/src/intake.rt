@@ -1,6 +1,7 @@
 //! Reading requests and handing them on.
 ghost use Rattle.std.specs.Prelude.{◌≡◌, ◌+◌, ◌-◌, ◌<◌, ◌≤◌, ◌^◌, IfSome, length, min, true};
 ghost use Rattle.csv.specs.Records.{fields_of};
+ghost use Rattle.csv_records.specs.Upcoming.{IsSetUp, upcoming};
 ghost use Rattle.herd_command_file.specs.LineCause.{is_interruption};
 ghost use Rattle.herd_session.specs.Requests.{IsRecordAt, records_in};
 
@@ -14,7 +15,7 @@ use crate::shared::Shared;
 use crate::staff::Queues;
 use crate::stop::Stop;
 use crate::tasks::{FaultTask, Task, Wish};
-use csv::ByteRecord;
+use csv::{ByteRecord, Reader};
 use csv_records::{Interruption, open_records, read_record};
 use herd_command_file::{LineCause, LineFault};
 use herd_report::ReportFault;
@@ -46,7 +47,6 @@ pub(crate) fn take_requests<N: SessionName, H: Wait, R: Wait + Drop, I: Read + D
 }
 
 // The same, where a record has what is allowed at most.
-#[tactic(auto, using(crate::proofs::IntakeFacts::begun, crate::proofs::IntakeFacts::within_if_known))]
 fn take_each<N: SessionName, H: Wait, R: Wait + Drop, I: Read + Drop, W: Write>(
     rt: &H,
     alloc: Global,
@@ -59,15 +59,33 @@ fn take_each<N: SessionName, H: Wait, R: Wait + Drop, I: Read + Drop, W: Write>(
 {
     let mut records = open_records(alloc, reader);
     let mut row = ByteRecord::new(alloc);
+    take_records(rt, alloc, shared, queues, &mut records, &mut row, allowance)
+}
+
+// The same of records that were opened, in this row. It borrows what `take_each` owns, since the two together take the
+// prover longer.
+#[tactic(auto, using(crate::proofs::IntakeFacts::begun, crate::proofs::IntakeFacts::within_if_known))]
+fn take_records<N: SessionName, H: Wait, R: Wait + Drop, I: Read, W: Write>(
+    rt: &H,
+    alloc: Global,
+    shared: &Shared<N, R, W>,
+    queues: &Queues<N>,
+    records: &mut Reader<I>,
+    row: &mut ByteRecord,
+    allowance: &Allowance,
+) -> Result<(), Stop<N>>
+    requires set_up { IsSetUp records.old }
+    requires to_come { upcoming I.remaining records.old ≡ N.records }
+{
     for before in 0..u64::MAX {
         allowance.renew();
-        match read_record(&mut records, &mut row) {
-            Ok(true) => hand_on(rt, alloc, shared, queues, before, &row)?,
+        match read_record(records, row) {
+            Ok(true) => hand_on(rt, alloc, shared, queues, before, row)?,
             Ok(false) => break,
             Err(interruption) => return Err(broken_off(before, interruption)),
         }
         if row.as_slice().len() > LONG || row.len() > LONG {
-            row = ByteRecord::new(alloc);
+            *row = ByteRecord::new(alloc);
         }
     }
     Ok(())

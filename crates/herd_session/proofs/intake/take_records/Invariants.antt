@@ -1,7 +1,7 @@
 -- So many records were read, and the others are still to come.
 use Rattle.csv_records.specs.Upcoming.{IsSetUp, upcoming}
 use Rattle.herd_session.proofs.IntakeFacts.{IfSomeIs}
-use Rattle.herd_session.proofs.intake.take_each.Given as goal
+use Rattle.herd_session.proofs.intake.take_records.Given as goal
 
 abbrev pub invariant-loop-before : goal.invariant-loop-before
 invariant-loop-before g l = record {

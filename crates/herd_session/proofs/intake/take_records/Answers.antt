@@ -2,7 +2,7 @@
 use Rattle.csv.specs.Records.{fields_of}
 use Rattle.csv_records.specs.Upcoming.{upcoming}
 use Rattle.herd_session.proofs.IntakeFacts.{taken_if_known}
-use Rattle.herd_session.proofs.intake.take_each.Goals as goal
+use Rattle.herd_session.proofs.intake.take_records.Goals as goal
 
 pub hand_on-requires-clause-there : goal.hand_on-requires-clause-there
 hand_on-requires-clause-there g c =
