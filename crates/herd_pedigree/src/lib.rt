@@ -13,7 +13,7 @@
 //! What a book may be stands in `herd_frozen` (`rules`). The folder **`store`** says how the book is kept, changed and
 //! taken back, by places; it names no fault of parents.
 //!
-//! The tests in `herd_pedigree_tests` have whole calls.
+//! The tests in `herd_office_tests` have whole calls.
 #![tactic(auto)]
 
 mod found;
