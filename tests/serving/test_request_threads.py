@@ -100,8 +100,8 @@ def test_turns() -> None:
 
 
 def test_turns_of_people() -> None:
-    """Whoever asks for very many pages, or files very much, doesn't keep others waiting for all of that; what one person
-    files is done in its order, and the time of a page begins as it comes."""
+    """Whoever asks for very many pages, or files very much, doesn't keep others waiting for all of that; what one
+    person files is done in its order, and the time of a page begins as it comes."""
     for kind, threads in (Kind.READING, 2), (Kind.WRITING, 4):
         waiting = with_requests(threads, *[(kind, "Carl")] * 30)
         at_work = begun(waiting)
