@@ -88,8 +88,8 @@ ID_OF, LINE_OF, NAME_OF = operator.attrgetter("id"), operator.attrgetter("line")
 SEX_OF, SIRE_OF, DAM_OF = operator.attrgetter("sex"), operator.attrgetter("sire"), operator.attrgetter("dam")
 OWNER_OF, UNREAD_OF, CASTRATED_OF = (operator.attrgetter(name) for name in ("owner", "unread", "castrated"))
 BORN_OF, NUMBER_OF = operator.attrgetter("born"), operator.attrgetter("registration_number")
-EMBRYO_OF = operator.attrgetter("embryo")
-FIRST_OF, LAST_OF = operator.attrgetter("birth.first"), operator.attrgetter("birth.last")
+EMBRYO_OF, LEFT_OF, BIRTH_OF = operator.attrgetter("embryo"), operator.attrgetter("left"), operator.attrgetter("birth")
+FIRST_OF = operator.attrgetter("birth.first")
 
 
 def by_age(animals: Iterable[SheetAnimal]) -> list[SheetAnimal]:

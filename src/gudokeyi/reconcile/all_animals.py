@@ -8,7 +8,7 @@ from gudokeyi.domain.findings import ImportRefused, Report
 from gudokeyi.domain.kinds import Role, Standing
 from gudokeyi.domain.messages import Mistake
 from gudokeyi.domain.pedigree_order import ancestors
-from gudokeyi.ingest.animals import SheetAnimal, birth_in_book, links_outside
+from gudokeyi.ingest.animals import DAM_OF, SIRE_OF, SheetAnimal, birth_in_book, links_outside
 from gudokeyi.ingest.columns import Columns
 from gudokeyi.reconcile.birth_days import find_days
 from gudokeyi.reconcile.exits import exit_in_book
@@ -59,7 +59,8 @@ def add_gone(
     # those that were filed by hand had no row in any sheet yet
     filed = {id for id in gone if book.society_records[id].standing is Standing.FILED}
     kept = filed | ancestors([*animals, *filed], gone_parents) if drop else set(gone)
-    parents = {parent for animal in (*animals.values(), *gone.values()) for _, parent in animal.parents()}
+    those = [*animals.values(), *gone.values()]
+    parents = {*map(SIRE_OF, those), *map(DAM_OF, those)}
     for id, animal in gone.items():
         if id in kept:
             animals[id] = animal

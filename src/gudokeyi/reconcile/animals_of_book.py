@@ -32,6 +32,11 @@ class AnimalsOfBook:
         return {"": "", **{number: id for id, number in self.numbers.items()}}
 
     @functools.cached_property
+    def by_name(self) -> dict[str, str]:
+        """The last one of each name, in small letters."""
+        return {in_book.name.casefold(): in_book.id for in_book in self.society_records.values() if in_book.name}
+
+    @functools.cached_property
     def had_row(self) -> dict[str, None]:
         """The ids of those that had a row in some sheet, in their order."""
         standings = {standing for standing in Standing if standing.had_row()}

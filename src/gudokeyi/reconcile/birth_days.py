@@ -37,7 +37,7 @@ def unread_cell(animal: SheetAnimal) -> str:
 def find_days(next_book: NextBook) -> None:
     """Birth days of all animals, of which none is its own ancestor any more."""
     animals, report = next_book.animals, next_book.report
-    undated = cut_cycles(animals, report, next_book.has_in_book)
+    undated = cut_cycles(animals, report, next_book.has_in_book, next_book.last_found)
     Days(animals, undated, next_book.in_book.inferred).infer(report)
 
 

@@ -125,7 +125,7 @@ class Filing:
             return None
         new, first_herds = list[SheetAnimal](), list[int]()
         corrections, transfers, exits = list[Command](), list[Command](), list[Command]()
-        numbers = self.next_book.numbers()
+        numbers = self.next_book.numbers
         for animal in self.may_be_filed():
             record, owners = self.next_book.record(animal.id), self.owners.of(animal)
             if record is None:

@@ -87,8 +87,7 @@ class OtherAnimals:
         named = [
             (row, in_book) for row, in_book, _ in self.otherwise if row.name.casefold() != in_book.name.casefold()
         ]  # fmt: skip
-        all_named = (in_book for in_book in self.book.society_records.values() if named and in_book.name)
-        ids = {in_book.name.casefold(): in_book.id for in_book in all_named}
+        ids = self.in_book.by_name if named else {}
         return [row for row, in_book in named if ids.get(row.name.casefold(), in_book.id) != in_book.id]
 
     def other_sexes(self) -> Guard | None:

@@ -208,8 +208,11 @@ def give_numbers(next_book: NextBook, breed: str, country: str) -> None:
         elif are_kept and animal.sex == number[6]:
             animal.registration_number = number
         else:
-            next_book.renumbered.add(animal.id)
             animal.registration_number = (breed or number[:3]) + (country or number[3:6]) + animal.sex + number[7:]
+            if animal.registration_number == number:
+                animal.registration_number = number
+            else:
+                next_book.renumbered.add(animal.id)
     begin = letters_for(book, breed, country)
     for digits, animal in enumerate(by_age(sorted(new, key=ID_OF)), book.greatest_digits() + 1):
         animal.registration_number = f"{begin}{animal.sex}{digits:012}"

@@ -13,14 +13,19 @@ from gudokeyi.domain.messages import MessageText, Mistake, Some, why
 from gudokeyi.domain.pedigree_order import ancestors, in_order, longest_paths, offspring_by_parent, round_from
 from gudokeyi.domain.refusals import Refusal
 from gudokeyi.engine.program import Herdbook
-from gudokeyi.ingest.animals import LAST_OF, SheetAnimal, parents_of_all
+from gudokeyi.ingest.animals import (
+    BIRTH_OF, BORN_OF, DAM_OF, EMBRYO_OF, ID_OF, LEFT_OF, NUMBER_OF, SIRE_OF, SheetAnimal, parents_of_all,
+)  # fmt: skip
 from gudokeyi.ingest.days import Precision
 from gudokeyi.ingest.messages import Where
 from gudokeyi.reconcile.findings.parents import DayFact, OwnAncestor, ParentRefused
+from gudokeyi.reconcile.last_found import FoundBy, Kept, LastFound, NothingKept
 from gudokeyi.reconcile.messages import ImportFault
 from gudokeyi.reconcile.next_book import NextBook
 from gudokeyi.reconcile.parents import take_back
 from gudokeyi.store.book import Book
+
+FIRST, LAST = operator.attrgetter("first"), operator.attrgetter("last")
 
 # Animals that would be their own ancestors: of each cycle one parent is left out.
 
@@ -33,12 +38,14 @@ def in_no_book(offspring: str, parent: str) -> bool:
     return False
 
 
-def cut_cycles(animals: dict[str, SheetAnimal], report: Report, in_book: InBook = in_no_book) -> list[str]:
+def cut_cycles(
+    animals: dict[str, SheetAnimal], report: Report, in_book: InBook = in_no_book, found: LastFound | None = None
+) -> list[str]:
     """Leaves out one parent of each animal that would be its own ancestor: of a cycle a link that the book doesn't
     have, one whose days can't be, or else that of the latest row. Answers the animals without a day, parents before
     their offspring."""
     undated = {id: animal for id, animal in animals.items() if animal.birth.precision is not Precision.DAY}
-    younger = not_surely_older(animals)
+    younger = not_surely_older(animals, found or NothingKept())
     if not younger:
         return by_age(undated)
     # these stand in one order, whether the others do or not
@@ -68,12 +75,18 @@ def cut_all(animals: dict[str, SheetAnimal], left: set[str], report: Report, in_
         left -= set(in_order(parents_of_all({id: animals[id] for id in left})))
 
 
-def not_surely_older(animals: dict[str, SheetAnimal]) -> list[str]:
+def not_surely_older(animals: dict[str, SheetAnimal], found: LastFound) -> list[str]:
     """The animals with a parent that may not be older by the days of both: in each cycle there is one."""
-    last = dict(zip(animals, map(LAST_OF, animals.values())))
-    last[""] = datetime.date.min
-    births = map(operator.attrgetter("id", "birth.first", "sire", "dam"), animals.values())
-    return [id for id, first, sire, dam in births if last[sire] >= first or last[dam] >= first]
+    those = animals.values()
+    births, sires, dams = [*map(BIRTH_OF, those)], [*map(SIRE_OF, those)], [*map(DAM_OF, those)]
+
+    def find() -> list[str]:
+        last = dict(zip(animals, map(LAST, births)))
+        last[""] = datetime.date.min
+        all_values = zip(animals, map(FIRST, births), sires, dams)
+        return [id for id, first, sire, dam in all_values if last[sire] >= first or last[dam] >= first]
+
+    return found.of(Kept.NOT_OLDER, ([*animals], births, sires, dams), find)
 
 
 def by_age(animals: dict[str, SheetAnimal]) -> list[str]:
@@ -210,8 +223,20 @@ def leave_out_faulty_parents(next_book: NextBook, program: Herdbook, is_refused:
 Fault = tuple[SheetAnimal, Refusal]
 
 
+def values_of(animals: Sequence[SheetAnimal]) -> FoundBy:
+    """What the program is told of animals."""
+    all_values = (NUMBER_OF, BORN_OF, EMBRYO_OF, LEFT_OF, SIRE_OF, DAM_OF)
+    return tuple([*map(value, animals)] for value in all_values)
+
+
 def is_any_refused(next_book: NextBook, program: Herdbook) -> bool:
     """Does the program refuse any birth with its parents, or an exit?"""
+    last, by_age = next_book.last_found, next_book.by_birth
+    by = values_of(by_age) if last.keeps else ()
+    return last.of(Kept.ANY_FAULT, by, lambda: refuses_any(next_book, program))
+
+
+def refuses_any(next_book: NextBook, program: Herdbook) -> bool:
     by_age = next_book.by_birth
     exits = [leave(animal.registration_number, animal.left) for animal in by_age if animal.left]
     births = HEADER + next_book.births_text(by_age) + lines_of(exits)
@@ -220,11 +245,21 @@ def is_any_refused(next_book: NextBook, program: Herdbook) -> bool:
 
 def refused_parents(next_book: NextBook, program: Herdbook, progeny: Sequence[SheetAnimal]) -> list[Fault]:
     """Which of these have parents that the program refuses, once they and all whom they name are filed without."""
-    numbers = next_book.numbers()
-    those = next_book.by_birth
+    last, those = next_book.last_found, next_book.by_birth
+    what = Kept.FAULTS if progeny is those else Kept.FAULTS_OF_SOME
     if progeny is not those:
         named = {id for animal in progeny for id in (animal.id, animal.sire, animal.dam)}
         those = [animal for animal in those if animal.id in named]
+    by = (*values_of(those), [*map(ID_OF, progeny)]) if last.keeps else ()
+    refused = last.of(what, by, lambda: asked_about(next_book, program, those, progeny))
+    return [(next_book.animals[id], refusal) for id, refusal in refused]
+
+
+def asked_about(
+    next_book: NextBook, program: Herdbook, those: Sequence[SheetAnimal], progeny: Sequence[SheetAnimal]
+) -> list[tuple[str, Refusal]]:
+    """The ids of offspring whose parents the program refuses, where those are filed without."""
+    numbers = next_book.numbers
     exits = [leave(animal.registration_number, animal.left) for animal in those if animal.left]
     asked = [animal for animal in progeny if animal.sire or animal.dam]
     births = (f"birth,{one.registration_number},{day_text(one.born)},0,0,,1,{'1' * one.embryo}\n" for one in those)
@@ -233,7 +268,7 @@ def refused_parents(next_book: NextBook, program: Herdbook, progeny: Sequence[Sh
     first = len(those) + len(exits)
     refused = program.file_text(text, first + len(asked))
     # an exit may be refused too: that is told when the book itself is filed
-    return [(asked[place - first], refusal) for place, refusal in refused.items() if place >= first]
+    return [(asked[place - first].id, refusal) for place, refusal in refused.items() if place >= first]
 
 
 def leave_out_parents(next_book: NextBook, program: Herdbook, faults: list[Fault]) -> None:

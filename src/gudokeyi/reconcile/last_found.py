@@ -2,6 +2,7 @@
 anew where any of that is another."""
 from __future__ import annotations
 
+import collections
 import enum
 from collections.abc import Callable, Sequence
 from typing import TypeVar, cast
@@ -26,10 +27,20 @@ class Kept(enum.Enum):
     BIRTHS_OF_ONE = enum.auto()
     REFUSED = enum.auto()
     REFUSED_ANEW = enum.auto()
+    # whose parents it refuses, of all and of some of them, and whether it refuses any
+    FAULTS = enum.auto()
+    FAULTS_OF_SOME = enum.auto()
+    ANY_FAULT = enum.auto()
+    # the animals with a parent that may not be older
+    NOT_OLDER = enum.auto()
     # what is told of parents' ages, of births of one dam, and of animals that are there twice
     YOUNG_PARENTS = enum.auto()
     BIRTHS_OF_DAMS = enum.auto()
     TWICE = enum.auto()
+
+
+# a look asks for some kinds twice: with parents that can't be, and once these are left out
+MOST_KEPT = 2
 
 
 class LastFound:
@@ -39,15 +50,20 @@ class LastFound:
     keeps = True
 
     def __init__(self) -> None:
-        self.kept: dict[Kept, tuple[FoundBy, object]] = {}
+        self.kept = collections.defaultdict[Kept, list[tuple[FoundBy, object]]](list)
         self.names: NamesEver | None = None
 
     def of(self, what: Kept, by: FoundBy, find: Callable[[], Value]) -> Value:
-        last = self.kept.get(what)
-        if last is None or last[0] != by:
-            self.kept.pop(what, None)
-            self.kept[what] = last = by, find()
-        return cast(Value, last[1])
+        last = self.kept[what]
+        for one in last:
+            if one[0] == by:
+                last.remove(one)
+                last.append(one)
+                return cast(Value, one[1])
+        del last[: len(last) + 1 - MOST_KEPT]
+        found = find()
+        last.append((by, found))
+        return found
 
     def by_name(self, ids: Sequence[str], names: Sequence[str]) -> IdsByName:
         """The animals that are there by their names."""

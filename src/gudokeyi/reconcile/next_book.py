@@ -166,7 +166,7 @@ class NextBook:
         self, animals: Sequence[SheetAnimal], owner_codes: Sequence[int], kept: Kept = Kept.BIRTHS
     ) -> list[Command]:
         """The births of animals with the parents of today, each in a herd."""
-        number_of = self.numbers().__getitem__
+        number_of = self.numbers.__getitem__
         sires, dams = map(number_of, map(SIRE_OF, animals)), map(number_of, map(DAM_OF, animals))
         values = (
             map(NUMBER_OF, animals), map(day_text, map(BORN_OF, animals)), sires, dams, map(str, owner_codes),
@@ -181,9 +181,9 @@ class NextBook:
         """The births of animals in the first herd, as records of a command file."""
         return lines_of(self.births_of(animals, [1] * len(animals), Kept.BIRTHS_OF_ONE))
 
+    @functools.cached_property
     def numbers(self) -> dict[str, str]:
-        """The numbers of all animals by their ids, once they have them, and that of an unknown parent: made where they
-        are needed, and not kept, as much as they take."""
+        """The numbers of all animals by their ids, once they have them, and that of an unknown parent."""
         return {"": "0", **dict(zip(self.animals, map(NUMBER_OF, self.animals.values())))}
 
     def parents_of(self, animal: SheetAnimal, numbers: Mapping[str, str]) -> Command:

@@ -264,6 +264,8 @@ def first_of_each(entries: Iterable[Entry]) -> Iterator[Entry]:
     """The first entries of each kind, as many as are shown."""
     counts = collections.Counter[What]()
     for entry in entries:
-        counts.update(places_of(entry))
-        if any(counts[what] <= MOST_SHOWN for what in places_of(entry)):
+        places = places_of(entry)
+        for what in places:
+            counts[what] += 1
+        if any(counts[what] <= MOST_SHOWN for what in places):
             yield entry
