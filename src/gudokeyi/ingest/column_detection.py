@@ -88,7 +88,8 @@ class IdColumn:
         free = [at for at in free if at not in parents]
         of_name = columns.found.get(Field.NAME)
         free += [of_name] if of_name is not None and plain(columns.title(of_name)) == plain(self.before) else []
-        matches = {at: len({*columns.cells(at)} & {*self.ids}) for at in free}
+        ids = frozenset(self.ids)
+        matches = {at: len(ids.intersection(columns.cells(at))) for at in free}
         titled = [at for at in free if plain(columns.title(at)) == plain(self.before)]
         best = max(free, key=lambda at: (matches[at], at in titled), default=None)
         if best is not None and 2 * matches[best] >= min(len(columns.sheet.rows), len(self.ids)):

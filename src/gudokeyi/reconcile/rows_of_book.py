@@ -52,11 +52,14 @@ class RowsOfBook:
         self.society_records, self.records, self.ids = in_book.society_records, in_book.records, in_book.ids
         self.names = {NO_OWNER: "", **{code: owner for owner, code in self.owners.items()}}
         self.values: dict[str, tuple[object, ...]] = {}
+        # the rows before, and which of them say something else now
+        self.before, self.found_anew = before, frozenset[str]()
         those: Iterable[SocietyRecord] = self.society_records.values()
         if before:
-            self.values = before.values
+            self.values, before.before = before.values, None
             renamed = {code for code, _ in self.names.items() ^ before.names.items()}
             those = [one for one in those if self.records[one.registration_number].owner_code in renamed]
+            self.found_anew = frozenset(one.id for one in those)
             if "folded" in vars(before):
                 self.folded = before.folded
         self.find_values(those)

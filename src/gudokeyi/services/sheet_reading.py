@@ -240,8 +240,13 @@ class LastReading:
         plain, rows_of_book = self.animals.rows.plain, self.rows_of(book)
         last = self.same
         if last is None or last.animals is not plain.animals or last.rows_of_book is not rows_of_book:
-            rows = plain.by_id()
-            self.same = last = SameRows(plain.animals, rows_of_book, rows.keys() - rows_of_book.others(rows).keys())
+            rows, ids = plain.by_id(), set[str]()
+            if last and last.animals is plain.animals and last.rows_of_book is rows_of_book.before:
+                # owners alone have other names: rows with others say what they said
+                ids = last.ids - rows_of_book.found_anew
+                rows = {id: rows[id] for id in rows_of_book.found_anew & rows.keys()}
+            ids |= rows.keys() - rows_of_book.others(rows).keys()
+            self.same = last = SameRows(plain.animals, rows_of_book, ids)
         return last.ids - plain.odd_ids()
 
 
