@@ -10,14 +10,16 @@ from typing import cast
 
 import pytest
 
+from front_desk.desk import Desk
 from gudokeyi.domain.findings import Finding, Report
 from gudokeyi.ingest.animals import SheetAnimal
 from gudokeyi.ingest.texts import plain
 from gudokeyi.reconcile.findings.animals import OwnerMistyped, OwnerRespelt, OwnersAlike, Spelling
-from gudokeyi.reconcile.findings.plausibility import OwnerOfSeveral
+from gudokeyi.reconcile.findings.plausibility import OwnerOfSeveral, OwnerWithMore
 from gudokeyi.reconcile.next_book import NextBook
 from gudokeyi.reconcile.owners import (
-    MORE, differ_by_one, is_no_name, tell_doubtful_owners, tell_mistyped_owners, tell_owners_alike, tell_respelt_owners,
+    MORE, differ_by_one, is_no_name, tell_doubtful_owners, tell_mistyped_owners, tell_owners_alike,
+    tell_owners_with_more, tell_respelt_owners,
 )  # fmt: skip
 
 
@@ -105,6 +107,36 @@ def test_owners_alike_have_rows() -> None:
     report = Report()
     tell_owners_alike(cast(NextBook, SimpleNamespace(animals=animals, report=report)))
     assert [entry.finding for entry in report.entries] == [OwnersAlike((Spelling("Groß A", 1), Spelling("gross a", 2)))]
+
+@pytest.mark.parametrize(("rows", "before", "found"), [
+    (["Huber", "K. Huber"], set(), [OwnerWithMore("Huber", ("K. Huber",))]),
+    (["Huber", "Huber, Karl"], set(), [OwnerWithMore("Huber", ("Huber, Karl",))]),
+    (["Müller", "Mueller K."], {"Müller"}, [OwnerWithMore("Müller", ("Mueller K.",))]),
+    (["Huber", "K. Huber", "M. Huber"], set(), [OwnerWithMore("Huber", ("K. Huber", "M. Huber"))]),
+    (["Karl Huber"], {"Huber"}, [OwnerWithMore("Huber", ("Karl Huber",), "Huber", "Karl Huber")]),
+    (["Huber"], {"K. Huber"}, [OwnerWithMore("Huber", ("K. Huber",), "K. Huber", "Huber")]),
+    (["Huber", "K. Huber"], {"Huber", "K. Huber"}, []), (["K. Huber", "M. Huber"], set(), []),
+    (["Huber", "K. Hubert", "Hof Huber", "Hof B", "Hof", "Huber 2", "K. O. M. Huber", "K"], set(), []),
+])  # fmt: skip
+def test_owners_with_more(rows: list[str], before: set[str], found: list[OwnerWithMore]) -> None:
+    """One has an initial or a first name more: two initials tell owners apart, and so do a farm's name and numbers. A
+    name of the book that no row has any more may be written otherwise now."""
+    assert report_of(dict.fromkeys(rows, 1), lambda next_book: tell_owners_with_more(next_book, before)) == found
+
+
+def test_owner_with_a_first_name(desk: Desk) -> None:
+    """He is told beside the one without, and is joined by what is suggested alone."""
+    text = "id;sex;birth;sire;dam;owner\n001;m;2001-01-01;;;Huber\n002;w;2001-02-01;;;Meier\n"
+    desk.take(text)
+    now = text.replace("Huber", "Karl Huber")
+    done = desk.take(now, "--preview")
+    assert "the owner 'Huber' may be Karl Huber" in done.out and "owner: Karl Huber, before Huber" in done.out
+    assert "--owner 'Huber=Karl Huber'" in done.out
+    assert "owner: " not in desk.take(now, "--owner", "Huber=Karl Huber").out
+    assert "may be Karl" not in desk.take(now).out
+    assert not any(line.startswith("transfer,") for line in desk.commands())
+
+
 # Few names are compared of many that are nearly alike, and what is told is what all pairs say.
 
 

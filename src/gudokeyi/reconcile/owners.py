@@ -13,7 +13,7 @@ from gudokeyi.ingest.words import BEGINS_BORN_DEAD, KNOWN_BORN_DEAD, TELLING_EXI
 from gudokeyi.reconcile.findings.animals import (
     OwnerMistyped, OwnerRenamed, OwnerRespelt, OwnersAlike, OwnersOtherwise, Spelling,
 )  # fmt: skip
-from gudokeyi.reconcile.findings.plausibility import BornDead, OwnerIsNoName, OwnerOfSeveral
+from gudokeyi.reconcile.findings.plausibility import BornDead, OwnerIsNoName, OwnerOfSeveral, OwnerWithMore
 from gudokeyi.reconcile.next_book import NextBook
 from gudokeyi.store.book import Book
 
@@ -112,6 +112,53 @@ def tell_otherwise(next_book: NextBook, animals: Mapping[str, int]) -> None:
     for key in sorted(found):
         if key and len(usual[key]) > 1:
             next_book.report.add(0, "", OwnersOtherwise(tuple(found[key])))
+
+
+# Owners of whom one has an initial or a first name more.
+
+# so many initials and first names stand beside a last name; and words that are none
+MOST_FIRST_NAMES = 2
+A_NAME = re.compile(r"[^\W\d_]+(?:-[^\W\d_]+)*\.?")
+NO_FIRST_NAMES = {"hof", "farm", "ferme", "gut", "betrieb", "stall", "zucht"}
+
+
+def tell_owners_with_more(next_book: NextBook, owners_before: set[str]) -> None:
+    """Names that are the last name of others who have an initial or a first name more. Two of whom the book had both
+    before were told when they came."""
+    rows, longer = owners_of_rows(next_book), collections.defaultdict[str, list[str]](list)
+    if rows.keys() <= owners_before:
+        return
+    owners = sorted({*rows, *owners_before})
+    for owner in owners:
+        for last in last_names(owner):
+            longer[last].append(owner)
+    findings = [entry.finding for entry in next_book.report.entries]
+    told = {(one.before, one.now) for one in findings if isinstance(one, OwnerRespelt)}
+    for owner in owners:
+        others = [
+            one for one in longer.get(last_name(owner), ())
+            if not owners_before.issuperset((owner, one)) and (owner, one) not in told and (one, owner) not in told
+        ]  # fmt: skip
+        if others:
+            in_book = [one for one in (owner, *others) if one in owners_before and one not in rows]
+            new = [one for one in (owner, *others) if one not in owners_before]
+            renamed = (in_book[0], new[0]) if len(others) == len(in_book) == len(new) == 1 else ("", "")
+            next_book.report.add(0, "", OwnerWithMore(owner, tuple(others[:MOST_WITHIN]), *renamed))
+
+
+def last_name(text: str) -> str:
+    return plain(text.casefold().translate(UMLAUTS))
+
+
+def last_names(owner: str) -> set[str]:
+    """What may be the last name of an owner with initials or first names: it stands first or last."""
+    words = owner.replace(",", " ").split()
+    if not 1 < len(words) <= 1 + MOST_FIRST_NAMES or not all(map(A_NAME.fullmatch, words)) or FAMILY.search(owner):
+        return set()
+    if not NO_FIRST_NAMES.isdisjoint(map(str.casefold, words)):
+        return set()
+    likely = words[:1] if "," in owner else (words[0], words[-1])
+    return {last_name(word) for word in likely if len(word.rstrip(".")) > 1}
 
 
 # Owners whose cell has more than a name, and names of animals that never lived.

@@ -31,7 +31,8 @@ from gudokeyi.reconcile.own_sheet_columns import OwnSheetColumns, find_own_colum
 from gudokeyi.reconcile.outcome import BookAfter, ColumnRead, Outcome, Understood
 from gudokeyi.reconcile.owner_days import OwnerDays
 from gudokeyi.reconcile.owners import (
-    tell_born_dead, tell_doubtful_owners, tell_mistyped_owners, tell_owners_alike, tell_renamed_owners, tell_respelt_owners,
+    tell_born_dead, tell_doubtful_owners, tell_mistyped_owners, tell_owners_alike, tell_owners_with_more,
+    tell_renamed_owners, tell_respelt_owners,
 )  # fmt: skip
 from gudokeyi.reconcile.parents import may_be_unknown
 from gudokeyi.reconcile.pedigree_links import refuse_lost_links
@@ -105,6 +106,7 @@ def file(
     tell_respelt_owners(next_book, owners_before)
     tell_owners_alike(next_book)
     tell_mistyped_owners(next_book, owners_before)
+    tell_owners_with_more(next_book, owners_before)
     tell_doubtful_owners(next_book, owners_before)
     tell_born_dead(next_book)
     tell_withdrawn_exits(next_book)

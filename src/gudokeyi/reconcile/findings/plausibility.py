@@ -9,6 +9,7 @@ from dataclasses import dataclass
 from gudokeyi.domain.changes import Option
 from gudokeyi.domain.findings import DROP_GONE, PlausibilityWarning, Severity, Suggestion, columns
 from gudokeyi.domain.kinds import Field
+from gudokeyi.domain.messages import AnyOf
 from gudokeyi.domain.wording import AllOf, Counted, OptionalPart, Text, Told
 
 
@@ -61,6 +62,31 @@ class OwnerOfSeveral(PlausibilityWarning):
 
     def values(self) -> Mapping[str, object]:
         return {"which": AllOf(self.others)}
+
+
+@dataclass(frozen=True, slots=True)
+class OwnerWithMore(PlausibilityWarning):
+    """An owner has the last name of others alone, who have an initial or a first name more. `before` is written `now`
+    where one of them is the book's, and the other the sheet's."""
+
+    owner: str
+    others: tuple[str, ...]
+    before: str = ""
+    now: str = ""
+
+    code = "owner with more"
+    message = Text(
+        "the owner '{owner}' may be {which}, with an initial or a first name more: if they are one, write the name alike "
+        "in all rows, and take the sheet again"
+    )
+
+    def values(self) -> Mapping[str, object]:
+        return {"which": AnyOf(self.others)}
+
+    def suggestions(self) -> tuple[Suggestion, ...]:
+        option = Option("--owner", f"{self.before}={self.now}")
+        is_renamed = (Suggestion("if the name is only written otherwise", (option,), undoes=True),)
+        return is_renamed if self.before else ()
 
 
 @dataclass(frozen=True, slots=True)
