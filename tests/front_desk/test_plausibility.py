@@ -120,6 +120,41 @@ def test_births_of_one_dam(desk: Desk) -> None:
     assert "to look at" not in desk.take(TITLES + rows, "--apart", "60").out
 
 
+def herd(*days: int, dams: int = 12) -> str:
+    """Dams with a foal behind each of these days."""
+    text = PARENTS
+    for at in range(dams):
+        born = datetime.date(2003, 3, 1) + datetime.timedelta(at)
+        text += f"dam{at};F;2000-03-01;;;\nf{at}.0;M;{born};s;dam{at};\n"
+        for place, day in enumerate(days, 1):
+            born += datetime.timedelta(day + at % 3)
+            text += f"f{at}.{place};M;{born};s;dam{at};\n"
+    return text
+
+
+LATE = "x0;M;2003-03-01;s;d;\nx1;M;2003-06-29;s;d;\n"
+
+
+@pytest.mark.parametrize("days, more, told", [
+    ((350, 420), LATE, "x1: to look at: its dam d bore x0 (line {line}) 120 days before, where nearly all births"),
+    # two years are usual, and the next one comes within the half
+    ((700, 730), LATE.replace("2003-06-29", "2004-02-01"), "x1: to look at: its dam d bore x0 (line {line}) 337 days"),
+    ((350, 420), LATE.replace("06-29", "09-01"), ""),
+    # two litters a year, thrice in two years, at most two a year of many
+    ((185, 190), LATE.replace("06-29", "06-19"), ""), ((240, 250), LATE.replace("06-29", "07-10"), ""),
+    ((365, 160, 365), "", ""),
+])  # fmt: skip
+def test_births_nearer_than_usual(desk: Desk, days: tuple[int, ...], more: str, told: str) -> None:
+    """How far births of one dam are apart is seen by all that are there: one that is less than half as far from the
+    one before is told, beside it, unless somebody says from how many days on."""
+    text = herd(*days)
+    done = desk.take(TITLES + text + more, "--preview")
+    assert told.format(line=text.count("\n") + 2) in done.out and done.out.count(" bore ") == bool(told)
+    few = herd(*days, dams=9)
+    assert " bore " not in desk.take(TITLES + few + more, "--preview").out
+    assert " bore " not in desk.take(TITLES + text + more, "--apart", "100").out
+
+
 def test_sire_that_left(desk: Desk) -> None:
     done = desk.take(TITLES + "s;M;2001-03-01;;;2005-01-01\nc1;F;2005-12-31;s;;\nc2;F;2006-01-02;s;;\n")
     done.tells(

@@ -169,7 +169,7 @@ def again(words: RememberedWords, import_options: ImportOptions) -> list[Option]
 def limits_of(words: RememberedWords) -> Limits:
     """What parents' ages and births of one dam are looked at for."""
     youngest, apart = words[Remembered.YOUNGEST], words[Remembered.APART]
-    return Limits(int(youngest[0]) if youngest else YOUNGEST, int(apart[0]) if apart else APART)
+    return Limits(int(youngest[0]) if youngest else YOUNGEST, int(apart[0]) if apart else APART, bool(apart))
 
 
 def rename_owners(book: Book, import_options: ImportOptions) -> None:

@@ -8,7 +8,9 @@ YOUNGEST, APART = 180, 100
 
 @dataclass(frozen=True, slots=True)
 class Limits:
-    """How many days old a parent is at least, and how far the births of one dam are from one another."""
+    """How many days old a parent is at least, and how far the births of one dam are from one another; whether somebody
+    said that: else it is also seen by what is usual among the births."""
 
     youngest: int = YOUNGEST
     apart: int = APART
+    is_apart_said: bool = False

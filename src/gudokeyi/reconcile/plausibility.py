@@ -19,7 +19,7 @@ from gudokeyi.ingest.animals import (
 from gudokeyi.ingest.days import Precision
 from gudokeyi.reconcile.findings.by_hand import YoungParent
 from gudokeyi.reconcile.findings.plausibility import (
-    BirthsTooNear, CastratedSire, ColumnsSwapped, ManyOldAsLiving, NameAndDayTwice, OldAsLiving, SireLeftLongBefore,
+    BirthsNearerThanUsual, BirthsTooNear, CastratedSire, ColumnsSwapped, ManyOldAsLiving, NameAndDayTwice, OldAsLiving, SireLeftLongBefore,
 )  # fmt: skip
 from gudokeyi.reconcile.last_found import FoundBy, Kept, LastFound, NothingKept
 from gudokeyi.reconcile.limits import Limits
@@ -31,6 +31,9 @@ if TYPE_CHECKING:
 
 # births of one litter or of twins may be so many days from one another
 LITTER = 3
+# of so many births behind another one of their dam it is seen how far they are apart: all but one of so many are as far
+# as is usual, and not more than one of so many is less than half as far
+FEW_BIRTHS, NEARLY_ALL, RARE = 20, 20, 50
 YEAR = 365
 # the day of birth of a parent that isn't known is long before all others
 NEVER = -(10**9)
@@ -92,7 +95,7 @@ class PlausibilityChecks:
         return *values_of(self.dated, SIRE_OF, DAM_OF), left, self.limits.youngest
 
     def values_of_dams(self) -> FoundBy:
-        return *values_of(self.borne, DAM_OF), self.limits.apart
+        return *values_of(self.borne, DAM_OF), self.limits
 
     def tell_found(self, what: Kept, by: Callable[[], FoundBy], look: Callable[[], None]) -> None:
         """Tells what a look tells of all animals, which is kept for the next one if anything is."""
@@ -161,21 +164,24 @@ class PlausibilityChecks:
         born, progeny = self.days, collections.defaultdict[str, list[SheetAnimal]](list)
         for animal in self.borne:
             progeny[animal.dam].append(animal)
-        by_age = operator.attrgetter("born", "line")
-        for dam, its in progeny.items():
-            if len(its) == 1 or not self.are_near(sorted([born[animal.id] for animal in its])):
+        by_age, limit = operator.attrgetter("born", "line"), self.limits.apart
+        several = {dam: its for dam, its in progeny.items() if len(its) > 1}
+        between = {dam: days_between([born[animal.id] for animal in its]) for dam, its in several.items()}
+        usual = 0 if self.limits.is_apart_said else usual_days(between.values())
+        for dam, its in several.items():
+            if not any(days < limit or 2 * days < usual for days in between[dam]):
                 continue
             its.sort(key=by_age)
             for before, offspring in zip(its, its[1:]):
                 days = born[offspring.id] - born[before.id]
-                if LITTER < days < self.limits.apart and (self.is_new(offspring) or self.is_new(before)):
-                    found = BirthsTooNear(dam, before.id, before.line, days, self.limits.apart)
+                if days <= LITTER or not (self.is_new(offspring) or self.is_new(before)):
+                    continue
+                if days < limit:
+                    found = BirthsTooNear(dam, before.id, before.line, days, limit)
                     self.report.add(offspring.line, offspring.id, found)
-
-    def are_near(self, days: Sequence[int]) -> bool:
-        """Are any two births that follow one another too near for two litters?"""
-        apart = self.limits.apart
-        return bool([1 for before, after in zip(days, days[1:]) if LITTER < after - before < apart])
+                elif 2 * days < usual:
+                    likely = BirthsNearerThanUsual(dam, before.id, before.line, days, usual)
+                    self.report.add(offspring.line, offspring.id, likely)
 
     def look_at_castrated(self) -> None:
         castrated = {*itertools.compress(self.animals, map(CASTRATED_OF, self.animals.values()))}
@@ -217,6 +223,23 @@ class PlausibilityChecks:
         for animal in old:
             found = OldAsLiving(animal.born, median - animal.born.year, median)
             self.report.add(animal.line, animal.id, found)
+
+
+def days_between(births: Iterable[int]) -> list[int]:
+    """The days between litters of one dam that follow one another."""
+    days = sorted(births)
+    return [after - before for before, after in zip(days, days[1:]) if after - before > LITTER]
+
+
+def usual_days(between: Iterable[Sequence[int]]) -> int:
+    """How far nearly all litters of one dam are from one another, as the births tell that are there; 0 where they are
+    few, or where some are much nearer, as of kinds that bear twice a year."""
+    days = sorted(itertools.chain.from_iterable(between))
+    if len(days) < FEW_BIRTHS:
+        return 0
+    usual = days[len(days) // NEARLY_ALL]
+    near = sum(2 * one < usual for one in days[: len(days) // NEARLY_ALL])
+    return usual if near <= max(1, len(days) // RARE) else 0
 
 
 # Sires and dams in each other's columns: most parents would be of the wrong sex.

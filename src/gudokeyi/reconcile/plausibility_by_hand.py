@@ -101,7 +101,8 @@ def alike(book: Book, number: str, role: Role) -> Iterator[Entry]:
 def limits_in(book: Book) -> Limits:
     """The limits that a book remembers."""
     said = {one.what: int(one.word) for one in book.remembered if one.what in (Remembered.YOUNGEST, Remembered.APART)}
-    return Limits(said.get(Remembered.YOUNGEST, YOUNGEST), said.get(Remembered.APART, APART))
+    is_apart_said = Remembered.APART in said
+    return Limits(said.get(Remembered.YOUNGEST, YOUNGEST), said.get(Remembered.APART, APART), is_apart_said)
 
 
 class Family:

@@ -21,7 +21,7 @@ from gudokeyi.ingest.findings.exits import ExitsWithoutDay
 from gudokeyi.ingest.findings.sheets import CellsUnread, ErrorCells
 from gudokeyi.reconcile.findings.parents import WRONG, ParentRefused
 from gudokeyi.reconcile.findings.by_hand import YoungParent
-from gudokeyi.reconcile.findings.plausibility import BirthsTooNear
+from gudokeyi.reconcile.findings.plausibility import BirthsNearerThanUsual, BirthsTooNear
 from gudokeyi.reconcile.outcome import Outcome
 from gudokeyi.store.exports import COMMANDS
 
@@ -69,7 +69,7 @@ def sentences_of(entries: list[Entry]) -> Iterator[GroupMessage]:
 def lowest(entries: list[Entry]) -> tuple[Suggestion, ...]:
     """Where entries are told for a limit of days, one that none of them is below."""
     found = [entry.finding for entry in entries]
-    below = [one for one in found if isinstance(one, (YoungParent, BirthsTooNear))]
+    below = [one for one in found if isinstance(one, (YoungParent, BirthsTooNear, BirthsNearerThanUsual))]
     return min(below, key=lambda one: one.days).suggestions() if below else ()
 
 

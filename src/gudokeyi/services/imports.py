@@ -13,6 +13,7 @@ from gudokeyi.ingest.titles import parts_of as parts_of, read_given as read_give
 from gudokeyi.ingest.unknown_parents import unknown_words
 from gudokeyi.reconcile.findings.obstacles import LettersUnsaid as LettersUnsaid
 from gudokeyi.reconcile.findings.by_hand import YoungParent as YoungParent
+from gudokeyi.reconcile.findings.plausibility import BirthsNearerThanUsual as BirthsNearerThanUsual
 from gudokeyi.reconcile.findings.plausibility import BirthsTooNear as BirthsTooNear
 from gudokeyi.reconcile.import_options import ImportOptions as ImportOptions, rename_owners as rename_owners
 from gudokeyi.reconcile.outcome import BookAfter as BookAfter, Outcome as Outcome

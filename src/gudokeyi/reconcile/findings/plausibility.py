@@ -125,6 +125,30 @@ class BirthsTooNear(PlausibilityWarning):
 
 
 @dataclass(frozen=True, slots=True)
+class BirthsNearerThanUsual(PlausibilityWarning):
+    """Two births of one dam that are much nearer to one another than nearly all others of the sheet and the book."""
+
+    dam: str
+    other: str
+    line: int
+    days: int
+    usual: int
+
+    severity = Severity.PARENTS
+    code = "births nearer than usual"
+    message = Text(
+        "its dam {dam} bore {other}{maybe_line} {days} days before, where nearly all births of one dam are {usual} days "
+        "apart and more: is a day or the dam another?"
+    )
+    parts = {
+        "maybe_line": OptionalPart(" (line {line})"),
+    }
+
+    def suggestions(self) -> tuple[Suggestion, ...]:
+        return (Suggestion("if that can be", (Option("--apart", str(self.days)),)),)
+
+
+@dataclass(frozen=True, slots=True)
 class SireLeftLongBefore(PlausibilityWarning):
     sire: str
     line: int

@@ -13,7 +13,9 @@ from gudokeyi.domain.kinds import Field
 from gudokeyi.domain.options import IMPORT
 from gudokeyi.render.page_language import PageLanguage, name_of
 from gudokeyi.render.page_wording import MessageView, sentence_of
-from gudokeyi.services.imports import BirthsTooNear, YoungParent, parts_of, read_given, read_sexes
+from gudokeyi.services.imports import (
+    BirthsNearerThanUsual, BirthsTooNear, YoungParent, parts_of, read_given, read_sexes,
+)  # fmt: skip
 from gudokeyi.web.files import Upload
 from gudokeyi.web.forms import BETWEEN
 
@@ -53,7 +55,7 @@ def days_of(findings: Iterable[Finding]) -> dict[str, list[int]]:
     found: dict[str, list[int]] = {bound: [] for bound in BOUNDS}
     # a large sheet has thousands, and few kinds suggest a bound
     for finding in findings:
-        if isinstance(finding, BirthsTooNear | YoungParent):
+        if isinstance(finding, BirthsTooNear | BirthsNearerThanUsual | YoungParent):
             for option in (option for one in finding.suggestions() for option in one.options if option.option in found):
                 found[option.option].append(int(option.word))
     return found
