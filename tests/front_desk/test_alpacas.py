@@ -53,6 +53,17 @@ def test_cells_that_name_no_parent(desk: Desk, cell: str) -> None:
     assert desk.parents()["AZV-020"] == ("", "") and len(desk.numbers()) == 4
 
 
+@pytest.mark.parametrize("sign", ["x", "X", "×"])
+def test_names_of_two_parents(desk: Desk, sign: str) -> None:
+    """An animal may have the names of both as its own, with a sign between them or a letter: a cell that names it isn't
+    taken for the two, which a mating names. The sign alone names nobody."""
+    text = TITLES + rows("H", "S", "W") + "AZV-020;A1 X A2;H;H;1.6.2010;;;Hof\nAZV-021;Z;S;H;1.6.2015;{};×;Hof\n"
+    done = desk.take(text.format(f"A1 {sign} A2"), "--preview")
+    assert ("'A1 X A2' is AZV-020" if sign != "×" else "(is AZV-020 meant?)") in done.out.replace(f"A1 {sign} A2", "A1 X A2")
+    assert "it names two animals" not in done.out and "line 6: ×" not in done.out
+    assert "it names two animals" in desk.take(text.replace("A1 X A2", "Zoe").format(f"A1 {sign} A2"), "--preview").out
+
+
 def test_owners_in_two_ways(desk: Desk) -> None:
     """A first name before or behind the last one, and words for a family."""
     owners = ["Müller, Petra", "Petra Müller", "Familie Brandt", "Fam. Brandt", "Huber", "Brandt, Ida"]

@@ -11,8 +11,8 @@ from gudokeyi.ingest.words import UNKNOWN, is_error_value
 
 # signs alone, as `?`, `*` and `---`, zeros alone, as `00` and `0.0`, and the usual numbers as pandas writes them, as
 # `-9.0`
-SIGNS = re.compile(r"[-–—?.*/_~+†✝]+|[-+]?0[0.,]*|-(?:1|9{1,4})[.,]0+")
-BEGIN_OF_SIGNS = frozenset("-–—?.*/_~+†✝0")
+SIGNS = re.compile(r"[-–—?.*/_~+†✝×]+|[-+]?0[0.,]*|-(?:1|9{1,4})[.,]0+")
+BEGIN_OF_SIGNS = frozenset("-–—?.*/_~+†✝×0")
 POINTS = re.compile(r"\.\s*")
 # the words of a geneticist's pedigree
 PEDIGREE = (

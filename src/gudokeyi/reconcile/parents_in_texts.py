@@ -5,6 +5,7 @@ import re
 from collections.abc import Iterator, Mapping, Sequence, Set
 
 from gudokeyi.domain.findings import Report
+from gudokeyi.domain.spelling import TIMES
 from gudokeyi.ingest.animals import NAME_OF, SheetAnimal, links_outside
 from gudokeyi.ingest.texts import nearly, nearly_all
 from gudokeyi.reconcile.findings.parents import BothParents, EitherParent, FoundWithin, NamedByRelation
@@ -28,8 +29,13 @@ BETWEEN = re.compile(r"\s*[/;,()\[\]|]\s*|\s+[-–—]\s+")
 
 
 def compared(ids: Sequence[str], names: Sequence[str]) -> tuple[dict[str, str], set[str]]:
-    """Ids by what is compared of them, and names in small letters."""
-    return dict(zip(nearly_all(ids), ids)), {*map(str.casefold, names)} - {""}
+    """Ids by what is compared of them, and names."""
+    return dict(zip(nearly_all(ids), ids)), {*map(name_key, names)} - {""}
+
+
+def name_key(text: str) -> str:
+    """A name in small letters; one of two parents' names may have a sign or a letter between them."""
+    return text.casefold().translate(TIMES)
 
 
 class ParentsInTexts:
@@ -49,7 +55,7 @@ class ParentsInTexts:
         by = ids, names = [*filter(self.with_id.__contains__, self.animals)], [*map(NAME_OF, self.animals.values())]
         self.ids, self.names = self.last.of(Kept.IDS_IN_TEXTS, by, lambda: compared(ids, names))
         for offspring, role, text in links:
-            if nearly(text) in self.ids or text.casefold() in self.names:
+            if nearly(text) in self.ids or name_key(text) in self.names:
                 continue
             if RELATED.search(text) and [*self.named(text)]:
                 offspring.set_parent(role, "")
@@ -74,7 +80,7 @@ class ParentsInTexts:
     def are_pair(self, text: str) -> bool:
         """Does it name two animals that are known, as `Max x Rosi`?"""
         parts = WITH.split(text)
-        return len(parts) == 2 and all(nearly(one) in self.ids or one.casefold() in self.names for one in parts)
+        return len(parts) == 2 and all(nearly(one) in self.ids or name_key(one) in self.names for one in parts)
 
     def named(self, text: str) -> Iterator[str]:
         """The animals whose ids are parts of a text, or stand before or behind some of its words: there an id has
