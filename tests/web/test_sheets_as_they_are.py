@@ -2,7 +2,11 @@
 languages, and each choice is one button that says what it does."""
 from __future__ import annotations
 
+import io
+
+import openpyxl
 import pytest
+from openpyxl.styles import PatternFill
 
 from web.looks import buttons_of, look_at, part, press
 from web.site import Site, shown
@@ -60,6 +64,70 @@ def test_new_tag(empty_site: Site, language: str) -> None:
     site.take(address)
     with site.desk.opened() as book:
         assert book and "777" in book.society_records and "003" not in book.society_records
+
+
+KIDS = "041;E;w;1.2.2012;001;002;Huber Hans;;lebt\n042;Kid;w;1.2.2019;001;041;Huber Hans;;lebt\n"
+FAMILY = LIST + KIDS + "043;Kit;w;1.2.2021;001;042;Huber Hans;;lebt\n"
+
+
+@pytest.mark.parametrize("language", LANGUAGES)
+def test_new_tags_of_a_family(empty_site: Site, language: str) -> None:
+    """A dam, her kid and that one's, who are in the sheet by their new tags alone, are proposed at once; each button is
+    one decision, and with all of them none is new."""
+    site, words = empty_site, PageLanguage(language)
+    address, _ = look_at(site, FAMILY)
+    site.take(address)
+    site.get(f"/language/{language}")
+    tags = {"041": "741", "042": "742", "043": "743"}
+    later = FAMILY
+    for before, now in tags.items():
+        later = later.replace(before, now)
+    address, page = look_at(site, later)
+    first = shown(part(page, "May be wrong", language)).replace("\u00a0", " ")
+    said = words.gettext(
+        "it has the name, the birth day and the parents of {before}, which has no row any more: it is taken as another "
+        "animal"
+    ).replace("\u00a0", " ")
+    assert [one for one in tags if said.format(before=one) not in first] == []
+    labels = {before: words.gettext("{} has the tag {} from now on", before, now) for before, now in tags.items()}
+    for pressed, label in enumerate(labels.values(), 1):
+        page = press(site, address, page, label)
+        left = [one for one in labels.values() if one in buttons_of(page)]
+        assert left == [*labels.values()][pressed:]
+    site.take(address)
+    with site.desk.opened() as book:
+        assert book and tags.keys().isdisjoint(book.society_records)
+        numbers = [book.society_records[one].registration_number for one in tags.values()]
+        assert [book.records[one].dam for one in numbers[1:]] == numbers[:-1]
+
+
+@pytest.mark.parametrize(
+    "language, told",
+    [
+        ("en", "2 rows have a grey fill, the first is line 4: nothing is read from it"),
+        ("de", "2 Zeilen, zuerst 4, sind grau hinterlegt: daraus wird nichts gelesen"),
+        ("fr", "2 lignes, d'abord la 4, ont un fond gris : rien n'en est lu"),
+    ],
+)
+def test_grey_rows(empty_site: Site, language: str, told: str) -> None:
+    """That some rows are filled grey is told, with the first of them. Nobody knows what it means, so there is no button
+    for it, and their animals are taken as living ones."""
+    site = empty_site
+    site.get(f"/language/{language}")
+    workbook, file = openpyxl.Workbook(), io.BytesIO()
+    sheet = workbook.active
+    sheet.append("Ohrmarke;Geschlecht;geb;Vater;Mutter".split(";"))
+    for at in range(1, 9):
+        sheet.append([f"{at:03}", "w", f"1.2.{2010 + at}", "", ""])
+    for cell in [*sheet[4], *sheet[6]]:
+        cell.fill = PatternFill("solid", fgColor="FFBFBFBF")
+    workbook.save(file)
+    address = site.drop("liste.xlsx", file.getvalue())
+    page = site.page(address)
+    assert told in shown(part(page, "May be wrong", language)).replace("\u00a0", " ") and buttons_of(page) == []
+    site.take(address)
+    with site.desk.opened() as book:
+        assert book and len(book.society_records) == 8 and not any(map(book.has_left, book.society_records.values()))
 
 
 def test_one_decision_for_a_button(empty_site: Site) -> None:
