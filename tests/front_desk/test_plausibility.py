@@ -155,6 +155,14 @@ def test_births_nearer_than_usual(desk: Desk, days: tuple[int, ...], more: str, 
     assert " bore " not in desk.take(TITLES + text + more, "--apart", "100").out
 
 
+def test_birth_nearer_than_usual_by_hand(desk: Desk) -> None:
+    desk.take(TITLES + herd(350, 420))
+    born = ("birth", "n", "--sex", "f", "--dam", "dam0", "--sire", "s", "--day")
+    told = "n: to look at: its dam dam0 bore f0.2 120 days before, where nearly all births of one dam are 350 days"
+    desk.wrong(told, *born, "2005-08-07")
+    desk.good(*born, "2006-08-08")
+
+
 def test_sire_that_left(desk: Desk) -> None:
     done = desk.take(TITLES + "s;M;2001-03-01;;;2005-01-01\nc1;F;2005-12-31;s;;\nc2;F;2006-01-02;s;;\n")
     done.tells(

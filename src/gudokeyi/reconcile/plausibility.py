@@ -57,11 +57,12 @@ class PlausibilityChecks:
 
     def __init__(
         self, animals: dict[str, SheetAnimal], limits: Limits, report: Report, filed: Collection[str] = (),
-        last: LastFound | None = None,
+        last: LastFound | None = None, usual: Callable[[Collection[Sequence[int]]], int] | None = None,
     ) -> None:  # fmt: skip
-        """`last` is what was found of the same sheet at the last look."""
+        """`last` is what was found of the same sheet at the last look; `usual` says how far nearly all litters of one
+        dam are from one another, where others tell that than those of these animals."""
         self.animals, self.limits, self.report, self.filed = animals, limits, report, filed
-        self.last = last or NothingKept()
+        self.last, self.usual = last or NothingKept(), usual or usual_days
 
     def is_new(self, animal: SheetAnimal) -> bool:
         return bool(animal.line) or animal.id in self.filed
@@ -167,7 +168,7 @@ class PlausibilityChecks:
         by_age, limit = operator.attrgetter("born", "line"), self.limits.apart
         several = {dam: its for dam, its in progeny.items() if len(its) > 1}
         between = {dam: days_between([born[animal.id] for animal in its]) for dam, its in several.items()}
-        usual = 0 if self.limits.is_apart_said else usual_days(between.values())
+        usual = 0 if self.limits.is_apart_said else self.usual(between.values())
         for dam, its in several.items():
             if not any(days < limit or 2 * days < usual for days in between[dam]):
                 continue
@@ -231,7 +232,7 @@ def days_between(births: Iterable[int]) -> list[int]:
     return [after - before for before, after in zip(days, days[1:]) if after - before > LITTER]
 
 
-def usual_days(between: Iterable[Sequence[int]]) -> int:
+def usual_days(between: Collection[Sequence[int]]) -> int:
     """How far nearly all litters of one dam are from one another, as the births tell that are there; 0 where they are
     few, or where some are much nearer, as of kinds that bear twice a year."""
     days = sorted(itertools.chain.from_iterable(between))

@@ -3,6 +3,7 @@ sheets, which look at the animals and their families."""
 from __future__ import annotations
 
 import hashlib
+import itertools
 from collections.abc import Collection, Iterable, Iterator, Sequence
 from typing import NamedTuple
 
@@ -16,11 +17,12 @@ from gudokeyi.ingest.animals import SheetAnimal, birth_in_book
 from gudokeyi.reconcile.by_hand import id_alike, new_owner
 from gudokeyi.reconcile.findings.plausibility import NameAlike
 from gudokeyi.reconcile.limits import APART, YOUNGEST, Limits
-from gudokeyi.reconcile.plausibility import PlausibilityChecks
+from gudokeyi.reconcile.plausibility import YEAR, PlausibilityChecks, days_between, usual_days
 from gudokeyi.reconcile.stored_findings import told_of
 from gudokeyi.store.animal_rows import record_of, society_record_of
 from gudokeyi.store.book import Book
 from gudokeyi.store.conditions import Condition, born_between, named, named_like, of_sex, offspring_of
+from gudokeyi.store.queries import births_of_dams
 
 # what a terminal tells behind them
 ANYWAY = "nothing is filed: look at what may be wrong, and say --anyway to file it all the same"
@@ -124,8 +126,16 @@ class Family:
     def entries(self) -> list[Entry]:
         """What is told of them."""
         report = Report()
-        PlausibilityChecks(self.animals, limits_in(self.book), report, self.filed).tell_families()
+        checks = PlausibilityChecks(self.animals, limits_in(self.book), report, self.filed, usual=self.usual)
+        checks.tell_families()
         return report.entries
+
+    def usual(self, between: Collection[Sequence[int]]) -> int:
+        """How far nearly all litters of one dam in the book are from one another, where any of these could be near by
+        that."""
+        if min(itertools.chain.from_iterable(between), default=YEAR) >= YEAR:
+            return 0
+        return usual_days([days_between(births) for births in births_of_dams(self.book)])
 
     def add(self, known: SocietyRecord, record: RegisterRecord) -> SheetAnimal:
         if known.id in self.animals:

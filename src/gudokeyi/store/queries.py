@@ -1,11 +1,14 @@
-"""What is asked of many animals at once: columns of all of them in age order, and how many ancestors one has."""
+"""What is asked of many animals at once: columns of all of them in age order, when each dam bore her offspring, and how
+many ancestors one has."""
 from __future__ import annotations
 
+import json
 from collections.abc import Sequence
 from typing import Any
 
 from gudokeyi.domain.messages import CALLED, Count
 from gudokeyi.domain.mistakes import BookNotWhole
+from gudokeyi.domain.provenance import BirthSource
 from gudokeyi.store.book import Book
 from gudokeyi.store.conditions import ANY, IN_BOOK, Condition
 from gudokeyi.store.messages import BookFault
@@ -77,3 +80,20 @@ def count_of_ancestors(book: Book, number: str) -> int:
     """How many known ancestors it has. They are counted there: of thousands of rows each would wait for the other
     threads of a desk, for seconds together."""
     return int(book.connection.execute(ANCESTORS, {"number": number}).fetchone()[0])
+
+
+# The births of each dam that bore several offspring, on days that were given: as one text, for the same reason.
+
+BIRTHS = f"""
+    SELECT json_group_array(json(births)) FROM (
+        SELECT json_group_array(CAST(julianday(born) AS INTEGER)) AS births FROM animal
+        WHERE {NOW} AND {IN_BOOK} AND dam IS NOT NULL AND embryo = 0 AND birth_source = '{BirthSource.GIVEN.value}'
+        GROUP BY dam HAVING count(*) > 1
+    )
+"""
+
+
+def births_of_dams(book: Book) -> list[list[int]]:
+    """For each dam the days of births, counted from one day."""
+    births: list[list[int]] = json.loads(book.connection.execute(BIRTHS).fetchone()[0])
+    return births
