@@ -134,14 +134,13 @@ def refuse_unsaid_letters(next_book: NextBook, import_options: ImportOptions) ->
 
 def book_after(next_book: NextBook, filed: Filed, import_options: ImportOptions, about: About) -> BookAfter:
     book, animals = next_book.book, next_book.animals
-    with_row = [*itertools.compress(animals, map(LINE_OF, animals.values()))]
-    new = len([*itertools.filterfalse(book.society_records.__contains__, with_row)])
-    added = len([*itertools.filterfalse(book.society_records.__contains__, animals)]) - new
+    with_row = sum(map(bool, map(LINE_OF, animals.values())))
+    unknown = [animals[id].line for id in itertools.filterfalse(book.society_records.__contains__, animals)]
+    added = unknown.count(0)
+    new = len(unknown) - added
     return BookAfter(
         len(animals), new, about.invented, bool(book.records) and filed.keeps is not None,
-        numbers_begin(next_book, import_options.breed, import_options.country), import_options.drop_gone, len(
-            with_row
-        ), added,
+        numbers_begin(next_book, import_options.breed, import_options.country), import_options.drop_gone, with_row, added,
     )  # fmt: skip
 
 
