@@ -219,30 +219,38 @@ pub fn write_report<H: Threads + Wait + Sync, W: Write>(
     match *order {
         Order::Inbreeding(plan) => {
             let coefficients = shared_coefficients(rt, alloc, frozen, plan)?;
-            Ok(write_inbreeding(alloc, frozen, &coefficients, writer)?)
+            write_inbreeding(alloc, frozen, &coefficients, writer).map_err(RunFault::from)
         }
         Order::Certificates(numbers) => {
             if !are_registered(frozen, numbers) {
                 return Err(RunFault::NotRegistered);
             }
             let coefficients = coefficients_of(alloc, frozen, numbers)?;
-            Ok(write_certificates(alloc, frozen, &coefficients, numbers, writer)?)
+            write_certificates(alloc, frozen, &coefficients, numbers, writer).map_err(
+                RunFault::from,
+            )
         }
         Order::Mating { dam, sires } => {
             let coefficients = coefficients_of(alloc, frozen, &[dam])?;
-            Ok(write_mating(alloc, frozen, &coefficients, dam, sires, writer)?)
+            write_mating(alloc, frozen, &coefficients, dam, sires, writer).map_err(RunFault::from)
         }
         Order::Inverse => {
             let coefficients = coefficients_plain(alloc, frozen)?;
-            Ok(write_inverse(alloc, frozen, &coefficients, writer)?)
+            write_inverse(alloc, frozen, &coefficients, writer).map_err(RunFault::from)
         }
         Order::Relationships { numbers, others } => {
             let coefficients = coefficients_of(alloc, frozen, numbers)?;
-            Ok(write_relationships(alloc, frozen, &coefficients, numbers, others, writer)?)
+            write_relationships(alloc, frozen, &coefficients, numbers, others, writer).map_err(
+                RunFault::from,
+            )
         }
-        Order::Records(numbers) => Ok(write_records(alloc, frozen, numbers, writer)?),
-        Order::Seal => Ok(write_seal(alloc, frozen, steps, writer)?),
-        Order::Sealed(number) => Ok(write_sealed(alloc, frozen, steps, number, writer)?),
+        Order::Records(numbers) => write_records(alloc, frozen, numbers, writer).map_err(
+            RunFault::from,
+        ),
+        Order::Seal => write_seal(alloc, frozen, steps, writer).map_err(RunFault::from),
+        Order::Sealed(number) => write_sealed(alloc, frozen, steps, number, writer).map_err(
+            RunFault::from,
+        ),
     }
 }
 
