@@ -86,8 +86,9 @@ def test_unseen_in_free_texts(desk: Desk, tmp_path: pathlib.Path) -> None:
     told = NotSuch.UNSEEN.said(text="xy")
     for text in "x\x1by", "x\x7fy", "x\x80y", "x\x07y":
         for words in (
-            ["note", "a", text], ["own", "a", f"Colour={text}"], ["settings", "--name", text], ["settings", "--unknown", text],
-            ["owner", "Mill", "--address", text], ["owner", "Mill", "--mail", text], ["owner", "Mill", "--number", text],
+            ["note", "a", text], ["own", "a", f"Colour={text}"], ["settings", "--name", text],
+            ["settings", "--unknown", text], ["owner", "Mill", "--address", text], ["owner", "Mill", "--mail", text],
+            ["owner", "Mill", "--number", text],
         ):  # fmt: skip
             desk.wrong(told, *words)
         column = OwnColumn(1, text, OwnKind.TEXT)
@@ -96,11 +97,11 @@ def test_unseen_in_free_texts(desk: Desk, tmp_path: pathlib.Path) -> None:
                 checked(one, [])
     desk.wrong(NotSuch.UNSEEN.said(text="x" * 60 + "…"), "note", "a", "x" * 100 + "\x1b")
     desk.wrong(NotSuch.LONG_SETTING.said(letters=2_001, most=2_000), "settings", "--address", "x" * 2_001)
-    for words in ["note", "a", "x\ny\tz\u2028"], ["settings", "--name", "Holgrave", "--address", "1 Mill Lane\nHolgrave"]:
-        desk.good(*words)
+    desk.good("note", "a", "x\ny\tz\u2028")
+    desk.good("settings", "--name", "Holgrave", "--address", "1 Mill Lane\nHolgrave")
     with contextlib.closing(sqlite3.connect(desk.room / "book/book.sqlite")) as connection:
-        for table, column_name in ("note", "text"), ("own_column", "title"), ("member", "address"), ("setting", "value"):
-            connection.execute(f"UPDATE {table} SET {column_name} = char(27, 0) || {column_name}")
+        for table, its in ("note", "text"), ("own_column", "title"), ("member", "address"), ("setting", "value"):
+            connection.execute(f"UPDATE {table} SET {its} = char(27, 0) || {its}")
         connection.commit()
     copy = str(tmp_path / "copy.sqlite")
     desk.good("backup", copy)

@@ -177,8 +177,8 @@ def test_many(server: Server) -> None:
 def connection(since: float, **said: object) -> SimpleNamespace:
     """One that was heard of last so many seconds ago, as far as it matters for how long it stays."""
     usual: dict[str, object] = {
-        "requests": [], "request": None, "answers": Head(), "total_outbufs_len": 0, "connected": True, "sent": 0, "got": 0,
-        "will_close": False, "refused": 0.0, "taking": None, "answered": True, "since": time.monotonic() - since,
+        "requests": [], "request": None, "answers": Head(), "total_outbufs_len": 0, "connected": True, "sent": 0,
+        "got": 0, "will_close": False, "refused": 0.0, "taking": None, "answered": True, "since": time.monotonic() - since,
     }  # fmt: skip
     return SimpleNamespace(**(usual | {"socket": SimpleNamespace(shutdown=lambda _: None)} | said))
 

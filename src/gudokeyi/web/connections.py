@@ -60,7 +60,8 @@ def end_slow(channels: dict[int, Any]) -> None:
         sender = one.answers.sender
         if one.connected and one.total_outbufs_len and one.answers.is_known:
             taking[sender] += 1
-        if one.connected and (is_too_slow(one, now) or taking[sender] > MOST_ANSWERS_OF_PERSON and one.total_outbufs_len):
+        has_many = one.total_outbufs_len and taking[sender] > MOST_ANSWERS_OF_PERSON
+        if one.connected and (has_many or is_too_slow(one, now)):
             # whoever takes nothing isn't told of it
             end(one)
 
@@ -230,7 +231,8 @@ TOO_LARGE = Refused(
 )
 MANY_FILES = Refused(
     "429 Too Many Requests",
-    "Many files are being sent at this moment: nothing is changed. Wait until yours are there, then send this one again.",
+    "Many files are being sent at this moment: nothing is changed. "
+    "Wait until yours are there, then send this one again.",
 )
 
 
