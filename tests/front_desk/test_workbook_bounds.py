@@ -78,6 +78,12 @@ def test_very_many_columns() -> None:
     began = time.process_time()
     columns = find_columns(sheet, {}, {}, UnknownParents())
     assert time.process_time() - began < 2 and columns.found["sex"] == 1
+    # a file of text may have more, in which nothing is looked for
+    check_bounds(PATH, [(1, ["x"] * files.MOST_COLUMNS)], 1)
+    for width in files.MOST_COLUMNS + 1, 1_000_000:
+        with pytest.raises(Mistake) as told:
+            check_bounds(PATH, [(1, ["x"] * width)], 1)
+        assert told.value.sentences == (TOO_MANY,)
 
 
 def test_far_apart(monkeypatch: pytest.MonkeyPatch) -> None:
@@ -214,9 +220,10 @@ def test_counted() -> None:
     """All cells of all worksheets are counted, and those of a text too."""
     assert cells_of("A1:C5") == cells_of("$C$5:$A$1") == cells_of("a1:c5") == 15 and cells_of("B2") == 1
     assert cells_of("A:C") is None
+    rows = [SheetRow(at, ["a"] + [""] * 15_999) for at in range(MOST_CELLS // 16_000)]
+    check_bounds(PATH, rows, 0)
     with pytest.raises(Mistake, match="cells"):
-        check_bounds(PATH, [SheetRow(1, ["a"] + [""] * MOST_CELLS)], 0)
-    check_bounds(PATH, [SheetRow(1, ["a"] + [""] * (MOST_CELLS - 1))], 0)
+        check_bounds(PATH, [*rows, SheetRow(len(rows), ["a"])], 0)
 
 
 def looking(work: str) -> subprocess.CompletedProcess[str]:

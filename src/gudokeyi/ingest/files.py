@@ -15,8 +15,8 @@ from gudokeyi.ingest.messages import SheetFault
 
 # bytes of the file, rows, and letters of a cell
 MOST_BYTES, MOST_ROWS, MOST_LETTERS = 50_000_000, 200_000, 10_000
-# cells of a workbook or of a text, also empty ones between others
-MOST_CELLS = 4_000_000
+# cells of a workbook or of a text, also empty ones between others, and those of a row, as many as a spreadsheet has
+MOST_CELLS, MOST_COLUMNS = 4_000_000, 16_384
 # bytes of a backup, which has a book's whole history: 64 MB of 60,000 animals that were taken once
 MOST_BACKUP_BYTES = 500_000_000
 
@@ -55,7 +55,8 @@ def check_bounds(path: pathlib.Path, rows: Sequence[tuple[int, list[str]]], titl
     titles, don't count."""
     if len(rows) - titles > MOST_ROWS:
         raise Mistake(SheetFault.TOO_MANY_ROWS.said(path=path, rows=len(rows) - titles, most=MOST_ROWS))
-    if sum(len(cells) for _, cells in rows) > MOST_CELLS:
+    widths = [len(cells) for _, cells in rows]
+    if sum(widths) > MOST_CELLS or max(widths, default=0) > MOST_COLUMNS:
         raise Mistake(SheetFault.TOO_MANY_CELLS.said(path=path, most=MOST_CELLS))
     if max(map(len, itertools.chain.from_iterable(cells for _, cells in rows)), default=0) > MOST_LETTERS:
         line = next(line for line, cells in rows if max(map(len, cells), default=0) > MOST_LETTERS)
