@@ -21,7 +21,7 @@ from front_desk.desk import Desk
 from gudokeyi.background import Background
 from gudokeyi.store.accounts import A_DAY
 from gudokeyi.store.messages import BackupFault
-from gudokeyi.web import changing, verification
+from gudokeyi.web import changing, sheet_work, verification
 from gudokeyi.web.forms import new_form
 from gudokeyi.web.sheet_work import Asked, Chosen, imported, looked_at as looked_at_sheet
 from gudokeyi.web.workers import TAKING, Job
@@ -107,6 +107,8 @@ def test_filing_behind_a_sheet(served: Served, tmp_path: pathlib.Path, monkeypat
     carl, form, folder, path = Visitor(served, "Carl"), new_form(), served.desk.folder, tmp_path / "one.csv"
     path.write_bytes(SHEET % 1)
     chosen = Chosen(options=(("anyway", "1"),))
+    # a look is for a process of its own
+    monkeypatch.setattr(sheet_work, "bound_look", lambda: None)
     look = looked_at_sheet(folder, path, chosen, (), lambda _: None)
     job = served.desk.jobs.jobs[TAKING, form] = Job((TAKING, form))
     made = imported(folder, path, chosen, Asked(look.seen, look.by_animal, form), lambda _: None)

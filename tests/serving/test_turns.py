@@ -37,6 +37,8 @@ ANYWAY = Chosen(options=(("anyway", "1"),))
 @pytest.fixture
 def folder(society_desk: Desk, program: str, monkeypatch: pytest.MonkeyPatch) -> pathlib.Path:
     monkeypatch.setenv("HERDBOOK", program)
+    # a look is for a process of its own
+    monkeypatch.setattr(sheet_work, "bound_look", lambda: None)
     return society_desk.room / "book"
 
 

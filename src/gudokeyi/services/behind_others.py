@@ -84,6 +84,9 @@ class Reach:
     dams: set[str]
     words: set[str]
     cells: Mapping[str, tuple[Values | None, Values]]
+    # has an animal that was in the book other parents then? Else those that are born on either side change no
+    # coefficient of the other
+    corrects_parents: bool
 
     def meets(self, others: FiledMeanwhile, greatest: int) -> bool:
         """Does what others filed touch it?"""
@@ -139,6 +142,7 @@ def reach_of(prepared: Prepared, basis: Basis) -> Reach:
         {row.sire[LETTERS:] for row in named if row.sire}, {row.dam[LETTERS:] for row in named if row.dam},
         words_of(*texts),
         {str(key[0]): (cells.before.get(key), row) for key, row in cells.after.items() if key[0] not in ids},
+        prepared.filed.keeps is not None or bool(state.former_ids) or any((row.id,) in before for row in named),
     )  # fmt: skip
 
 
@@ -177,7 +181,7 @@ def put_behind(now: Book, prepared: Prepared, reach: Reach, session: BookSession
         # a journal that is begun anew has no command that was refused
         steps += [step for step in others.steps if not step.refusal]
     state = with_rows_of(others, basis.state)
-    if prepared.filed.keeps is not None or corrects_parents(state, others):
+    if reach.corrects_parents or any(step.command.kind == CommandKind.PARENTS.value for step in others.steps):
         # they are those of another pedigree
         state = replace(state, coefficients=None)
     state = numbers.state(state)
@@ -185,15 +189,6 @@ def put_behind(now: Book, prepared: Prepared, reach: Reach, session: BookSession
         prepared, before=now.change, filed=Filed(steps, prepared.filed.keeps), made=details(made, numbers, born),
         state=lambda after: asked_for(after, session, state, others.rows), basis=None,
     )  # fmt: skip
-
-
-def corrects_parents(state: State, others: FiledMeanwhile) -> bool:
-    """Has an animal that was in the book other parents then, by the change or by others? Else those that are born on
-    either side change no coefficient of the other."""
-    before = rows_of(state.animals.before)
-    pairs = ((before[key], row) for key, row in rows_of(state.animals.after).items() if key in before)
-    is_corrected = any(parents_of(one) != parents_of(row) for one, row in pairs)
-    return is_corrected or any(step.command.kind == CommandKind.PARENTS.value for step in others.steps)
 
 
 def with_rows_of(others: FiledMeanwhile, state: State) -> State:
@@ -286,7 +281,7 @@ class NewNumbers:
         return step._replace(command=command._replace(animal=animal, sire=sire, dam=dam))
 
     def told(self, told: StoredFinding) -> StoredFinding:
-        if not self.numbers:
+        if not any(text in self.numbers for _, text in told.fields):
             return told
         return told._replace(fields=tuple((name, self.of(text)) for name, text in told.fields))
 
@@ -305,6 +300,8 @@ class NewNumbers:
         return f"{self.of(number)},{rest}"
 
     def row(self, row: AnimalRow) -> AnimalRow:
+        if self.numbers.keys().isdisjoint((row.registration_number, row.sire, row.dam)):
+            return row
         sire, dam = (self.of(number) if number else number for number in (row.sire, row.dam))
         return row._replace(registration_number=self.of(row.registration_number), sire=sire, dam=dam)
 

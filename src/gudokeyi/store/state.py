@@ -92,8 +92,9 @@ def write_rows(
     where = " AND ".join(f"{name} = ?" for name in names[: table.keys])
     if again:
         connection.executemany(f"DELETE FROM {table.name} WHERE since = ? AND {where} AND {NOW}", ended)
-    connection.executemany(f"UPDATE {table.name} SET until = ? WHERE {where} AND {NOW}", ended)
     with indexes_behind(connection, table.name, len(begun)):
+        # by the key of all its rows a table finds them without its indexes too
+        connection.executemany(f"UPDATE {table.name} SET until = ? WHERE {where} AND {NOW}", ended)
         insert_many(connection, f"{table.name} (since, {table.columns})", begun, [change])
 
 
