@@ -29,8 +29,9 @@ from typing import Iterator
 TICKS = os.sysconf("SC_CLK_TCK")
 KINDS = ("proof", "tests", "edits")
 SECONDS_BETWEEN_LOOKS = 0.5
-# a module's file, as in Rattle-herd_pool-proofs.crew.start_all.Lts.oantt
-MODULE = re.compile(r"Rattle-\w+-proofs\.(.+?)\.([A-Z]\w*(?:\.[A-Z]\w*)*)\.oantt")
+# a module's files, as in Rattle-herd_pool-proofs.crew.start_all.Proof.oantt and .Proof.decls.oantt: the first that is
+# written took the time
+MODULE = re.compile(r"Rattle-\w+-proofs\.(.+?)\.([A-Z]\w*(?:\.[A-Z]\w*)*)(?:\.decls)?\.oantt")
 
 
 def below(pid: int) -> Iterator[int]:
