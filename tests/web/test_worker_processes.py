@@ -106,6 +106,7 @@ def test_nothing_old(empty_site: Site, desk: Desk) -> None:
 
 CHOICES: tuple[dict[str, str], ...] = (
     {}, {"anyway": "1"}, {"unknown": "Chäspi"}, {"drop_gone": "1", "known": "Chäspi"}, {"month_first": "1"}, {},
+    {"owner": "Caduff=Kaduff"}, {"owner": "Caduff=Kadufff"}, {"owner": "Queloz=Kaloz"}, {"breed": "SKU"}, {},
 )  # fmt: skip
 
 
