@@ -140,7 +140,8 @@ def book_after(next_book: NextBook, filed: Filed, import_options: ImportOptions,
     new = len(unknown) - added
     return BookAfter(
         len(animals), new, about.invented, bool(book.records) and filed.keeps is not None,
-        numbers_begin(next_book, import_options.breed, import_options.country), import_options.drop_gone, with_row, added,
+        numbers_begin(next_book, import_options.breed, import_options.country), import_options.drop_gone, with_row,
+        added,
     )  # fmt: skip
 
 

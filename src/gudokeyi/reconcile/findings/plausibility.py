@@ -76,8 +76,8 @@ class OwnerWithMore(PlausibilityWarning):
 
     code = "owner with more"
     message = Text(
-        "the owner '{owner}' may be {which}, with an initial or a first name more: if they are one, write the name alike "
-        "in all rows, and take the sheet again"
+        "the owner '{owner}' may be {which}, with an initial or a first name more: if they are one, write the name "
+        "alike in all rows, and take the sheet again"
     )
 
     def values(self) -> Mapping[str, object]:
@@ -137,8 +137,8 @@ class BirthsNearerThanUsual(PlausibilityWarning):
     severity = Severity.PARENTS
     code = "births nearer than usual"
     message = Text(
-        "its dam {dam} bore {other}{maybe_line} {days} days before, where nearly all births of one dam are {usual} days "
-        "apart and more: is a day or the dam another?"
+        "its dam {dam} bore {other}{maybe_line} {days} days before, where nearly all births of one dam are {usual} "
+        "days apart and more: is a day or the dam another?"
     )
     parts = {
         "maybe_line": OptionalPart(" (line {line})"),
