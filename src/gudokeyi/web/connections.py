@@ -173,16 +173,21 @@ def bounded_channel(app: Callable[[], Flask]) -> Any:
 
     def parse_header(self: Any, header: bytes) -> None:
         HTTPRequestParser.parse_header(self, header)
-        head = head_of(app(), self, self.peer)
-        if head.has_file and are_many_files(head.sender, self.others):
-            self.error, self.completed, self.expect_continue = MANY_FILES, True, False
-        self.head = head
         if self.content_length or self.chunked:
+            head = head_of(app(), self, self.peer)
+            if head.has_file and are_many_files(head.sender, self.others):
+                self.error, self.completed, self.expect_continue = MANY_FILES, True, False
+            self.head, self.has_head = head, True
             # others have these bounds too; waitress refuses what is as long as its bound
             self.adj = copy.copy(self.adj)
             self.adj.max_request_body_size = self.head.most_bytes + 1
         if self.path in SENT_TO_END:
             self.headers["CONNECTION"] = "close"
+
+    def find_head(self: Any) -> None:
+        # of many that a browser sends at once without bodies it is asked for as each comes to be answered
+        if not self.has_head and not self.error:
+            self.head, self.has_head = head_of(app(), self, self.peer), True
 
     def get_environment(self: Any) -> dict[str, Any]:
         environ: dict[str, Any] = WSGITask.get_environment(self)
@@ -195,7 +200,8 @@ def bounded_channel(app: Callable[[], Flask]) -> Any:
 
     # waitress has no types from which a class may be made
     said: dict[str, Any] = {
-        "head": Head(), "peer": "", "others": {}, "arrived": 0.0, "until": 0.0, "refused": 0,
+        "head": Head(), "has_head": False, "find_head": find_head, "peer": "", "others": {}, "arrived": 0.0,
+        "until": 0.0, "refused": 0,
     }  # fmt: skip
     parser: Any = type("BoundedParser", (HTTPRequestParser,), {"parse_header": parse_header, **said})
     task: Any = type("ConnectedTask", (WSGITask,), {"get_environment": get_environment})

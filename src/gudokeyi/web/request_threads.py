@@ -176,9 +176,15 @@ class Waiting:
         return min(ready, key=lambda place: float(place.first().request.arrived)).begin()
 
 
+def add_task(dispatcher: Any, channel: Any) -> None:
+    # nobody else waits while it is looked for who sends it
+    channel.requests[0].find_head()
+    ThreadedTaskDispatcher.add_task(dispatcher, channel)
+
+
 def threads(count: int) -> Any:
     """So many, with what waits for them."""
-    dispatcher: Any = ThreadedTaskDispatcher()
+    dispatcher: Any = type("Dispatcher", (ThreadedTaskDispatcher,), {"add_task": add_task})()
     dispatcher.queue = Waiting(count)
     dispatcher.set_thread_count(count)
     return dispatcher
