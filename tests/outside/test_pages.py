@@ -96,7 +96,7 @@ class TestPages(Rooms):
         edits = {path.stem for path in TOP.glob("crates/*/must-fail/*.edit")}
         sources = "".join(path.read_text() for path in TOP.glob("crates/*_tests/src/*.rt"))
         lost = [name for name in named if name not in edits and f"fn {name}(" not in sources]
-        self.count(len(named) > 15 and not lost, f"of {len(named)} wrong bodies these aren't there: {lost}")
+        self.count(len(named) > 9 and not lost, f"of {len(named)} wrong bodies these aren't there: {lost}")
 
     def test_list_of_statuses(self) -> None:
         """Each line of the list has a group of checks, and each group's line is there."""
