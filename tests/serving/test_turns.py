@@ -4,6 +4,7 @@ from __future__ import annotations
 import contextlib
 import gc
 import pathlib
+import re
 import sqlite3
 import threading
 import time
@@ -13,6 +14,7 @@ from collections.abc import Callable
 import pytest
 
 from front_desk.desk import TOP, Desk
+from gudokeyi.domain.kinds import Standing
 from gudokeyi.ingest.files import read_file
 from gudokeyi.reconcile.findings.by_hand import NewAnimal
 from gudokeyi.reconcile.import_options import ImportOptions
@@ -118,10 +120,18 @@ def birth_of(desk: Desk, id: str, *more: str) -> None:
     desk.good("birth", id, "--sex", "f", "--day", "2024-01-01", "--owner", "Lower Mill", *more)
 
 
-def test_sheet_behind_others(folder: pathlib.Path, society_desk: Desk, monkeypatch: pytest.MonkeyPatch) -> None:
-    """What others file while a sheet is prepared doesn't have it prepared anew where it touches none of its animals: it
-    stands behind that, with numbers behind those that were given meanwhile."""
+@pytest.mark.parametrize("has_all", [False, True])
+def test_sheet_behind_others(
+    folder: pathlib.Path, society_desk: Desk, monkeypatch: pytest.MonkeyPatch, has_all: bool
+) -> None:
+    """What others file while a sheet is prepared doesn't have it prepared anew where it touches none of its animals,
+    but for their standing or their cells: it stands behind that, with numbers behind those that were given
+    meanwhile."""
     path = sheet(society_desk)
+    if has_all:
+        text = (TOP / "examples/society.csv").read_text(encoding="utf-8")
+        rows = re.sub(r",(\d{4})-(\d\d)-(\d\d),", r",\3.\2.\1,", text)
+        path.write_text(f"{rows}Lower Mill,NEW-1,F,01.01.2024,,,\n", encoding="utf-8")
     look = looked_at(folder, path, ANYWAY, (), lambda _: None)
 
     def file(at: int) -> None:
@@ -139,6 +149,10 @@ def test_sheet_behind_others(folder: pathlib.Path, society_desk: Desk, monkeypat
         animals = connection.execute("SELECT count FROM counted WHERE (change, what) = (5, 'animals')").fetchone()[0]
     assert since == 5 and int(new[7:]) == int(other[7:]) + 1 and any(new in fields for (fields,) in told)
     assert animals == len(society_desk.listed("list"))
+    with reading(folder) as connection:
+        other = Book(folder, connection)
+        assert other.society_records[OTHER].standing is (Standing.ROW if has_all else Standing.GONE)
+        assert str(other.records[other.society_records[OTHER].registration_number].left) == DAY
     society_desk.good("verify")
 
 
