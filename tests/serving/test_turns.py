@@ -150,9 +150,9 @@ def test_sheet_behind_others(
     assert since == 5 and int(new[7:]) == int(other[7:]) + 1 and any(new in fields for (fields,) in told)
     assert animals == len(society_desk.listed("list"))
     with reading(folder) as connection:
-        other = Book(folder, connection)
-        assert other.society_records[OTHER].standing is (Standing.ROW if has_all else Standing.GONE)
-        assert str(other.records[other.society_records[OTHER].registration_number].left) == DAY
+        now = Book(folder, connection)
+        assert now.society_records[OTHER].standing is (Standing.ROW if has_all else Standing.GONE)
+        assert str(now.records[now.society_records[OTHER].registration_number].left) == DAY
     society_desk.good("verify")
 
 
