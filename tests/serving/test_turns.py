@@ -149,8 +149,8 @@ def test_sheet_behind_others(
         animals = connection.execute("SELECT count FROM counted WHERE (change, what) = (5, 'animals')").fetchone()[0]
     assert since == 5 and int(new[7:]) == int(other[7:]) + 1 and any(new in fields for (fields,) in told)
     assert animals == len(society_desk.listed("list"))
-    with reading(folder) as connection:
-        now = Book(folder, connection)
+    with reading(folder) as opened:
+        now = Book(folder, opened)
         assert now.society_records[OTHER].standing is (Standing.ROW if has_all else Standing.GONE)
         assert str(now.records[now.society_records[OTHER].registration_number].left) == DAY
     society_desk.good("verify")
