@@ -1,5 +1,5 @@
 """Puts a prepared change behind what others filed meanwhile: where that touches nothing of it the program is asked for
-the replies to its commands, the records of its animals and all coefficients there, and others wait for that alone."""
+the replies to its commands and the records of its animals there, and others wait for that and the writing alone."""
 from __future__ import annotations
 
 import bisect
@@ -28,7 +28,7 @@ from gudokeyi.store.filed_meanwhile import FiledMeanwhile, filed_since
 from gudokeyi.store.history import change_by_form
 from gudokeyi.store.journal import Filed, Step
 from gudokeyi.store.settings import settings_of
-from gudokeyi.store.state import FORMER_IDS, NOTES, OWN_VALUES, Rows, State, Values
+from gudokeyi.store.state import NOTES, OWN_VALUES, Rows, State, Values
 
 # so many records are asked for one by one
 MOST_ONE_BY_ONE = 500
@@ -88,7 +88,7 @@ class Reach:
     # coefficient of the other
     corrects_parents: bool
 
-    def meets(self, others: FiledMeanwhile, greatest: int) -> bool:
+    def meets(self, others: FiledMeanwhile) -> bool:
         """Does what others filed touch it?"""
         accepted = [step.command for step in others.steps if not step.refusal]
         rows, digits = others.rows, others.digits | {one.animal[LETTERS:] for one in accepted}
@@ -170,7 +170,7 @@ def put_behind(now: Book, prepared: Prepared, reach: Reach, session: BookSession
     """The change behind what others filed since it was prepared; raises `Overtaken`."""
     basis, before, made = prepared.basis, prepared.before, prepared.made
     others = filed_since(now, before) if before and basis else None
-    if basis is None or others is None or reach.meets(others, basis.greatest) or is_read_otherwise(now, basis):
+    if basis is None or others is None or reach.meets(others) or is_read_otherwise(now, basis):
         raise Overtaken
     born = sum(one.command.kind == CommandKind.BIRTH.value and not one.refusal for one in others.steps)
     if basis.animals + born > MOST_ANIMALS or (made.form and change_by_form(now.connection, made.form)):
@@ -218,7 +218,8 @@ def details(made: ChangeDetails, numbers: NewNumbers, born: int) -> ChangeDetail
 
 def asked_for(after: Book, session: BookSession, state: State, of_others: Sequence[AnimalRow]) -> State:
     """The state with the coefficients of all, once the program's replies to the commands behind the journal are those
-    that are stored, and its records those of the animals, and of others' too; raises `Overtaken`."""
+    that are stored, and its records those of the animals, and of others' too; raises `Overtaken`. Where parents were
+    corrected it is asked for the coefficients anew."""
     session.at(after)
     rows = {row.id: row for row in of_others} | {row.id: row for row in rows_of(state.animals.after).values()}
     rows = {row.registration_number: row for row in rows.values() if row.born}
