@@ -2,6 +2,7 @@
 use Rattle.std.specs.Prelude.{◌≡◌, ℕ, ◌≤◌, ◌⊎◌, List, [], Option, Some, None, unwrap_or, option_map, codes}
 use Rattle.std.specs.Str.Parse.{IsNumeral, digits_value, without_leading_plus}
 use Rattle.clap.specs.Words.{Row, Text, all_of, first_of, one_of}
+use Rattle.herd_clerks.specs.declared.deal.DeskPlan.{DeskPlan}
 use Rattle.herd_office.specs.declared.limits.TheConstants.{MOST_DESKS, MOST_INSPECTORS}
 use Rattle.herd_frozen.specs.declared.TheConstants.{MOST_ANIMALS}
 use Rattle.herd_pool.specs.declared.limits.TheConstants.{DEFAULT_BLOCK, MOST_WORKERS}
@@ -9,7 +10,6 @@ use Rattle.herd_pool.specs.declared.work_plan.WorkPlan.{WorkPlan}
 use Rattle.herd_register.specs.declared.limits.TheConstants.{MOST_STEPS}
 use Rattle.herd_register.specs.Limits.{Limits}
 use Rattle.herd_command_line.specs.declared.limits.TheConstants.{DEFAULT_ANIMALS, DEFAULT_STEPS}
-use Rattle.herd_command_line.specs.declared.plans.ClerksPlan.{ClerksPlan}
 use Rattle.herd_command_line.specs.declared.plans.OfficePlan.{OfficePlan}
 
 -- a subcommand's name, and what was found of its arguments
@@ -49,8 +49,8 @@ IsWorkPlanOf rows plan =
     IsNumberOr 1 MOST_WORKERS 1 (one_of (codes "workers") rows) plan.workers
     × IsNumberOr 1 MOST_ANIMALS DEFAULT_BLOCK (one_of (codes "block") rows) plan.block
 
-abbrev pub IsClerksPlanOf : List Row → ClerksPlan → Type 0
-IsClerksPlanOf rows plan =
+abbrev pub IsDeskPlanOf : List Row → DeskPlan → Type 0
+IsDeskPlanOf rows plan =
     IsNumberOr 1 MOST_DESKS 2 (one_of (codes "desks") rows) plan.desks
     × IsNumberOr 0 MOST_STEPS 0 (one_of (codes "base") rows) plan.base
 

@@ -7,8 +7,8 @@ use Rattle.clap.specs.declared.error.kind.ErrorKind.TheVariants.{OutOfMemory}
 use Rattle.herd_animal.specs.AnimalNumber.{IsAnimalNumber}
 use Rattle.herd_animal.specs.NumberFault.{IsNumberFault}
 use Rattle.herd_animal.specs.declared.number.NumberFault.{NumberFault}
-use Rattle.herd_command_line.specs.declared.book_order.BookOrder.{BookOrder}
-use Rattle.herd_command_line.specs.declared.book_order.BookOrder.TheVariants.{Inbreeding, Certificates, Mating, Inverse, Relationships, Records, Seal, Sealed}
+use Rattle.herd_orders.specs.declared.orders.Order.{Order}
+use Rattle.herd_orders.specs.declared.orders.Order.TheVariants.{Inbreeding, Certificates, Mating, Inverse, Relationships, Records, Seal, Sealed}
 use Rattle.herd_command_line.specs.CommandLine.{command_line}
 use Rattle.herd_command_line.specs.Subcommand.{subcommand_named}
 use Rattle.herd_command_line.specs.declared.arguments.Request.{Request}
@@ -16,7 +16,7 @@ use Rattle.herd_command_line.specs.declared.arguments.Request.TheVariants.{File,
 use Rattle.herd_command_line.specs.declared.arguments.WordsFault.{WordsFault}
 use Rattle.herd_command_line.specs.declared.arguments.WordsFault.TheVariants.{Words, Number, Misplaced, NoSeal}
 use Rattle.herd_command_line.specs.PedigreeWords.{AreMisplaced, IsPedigreeOrdered, IsPedigreePlanOf}
-pub use Rattle.herd_command_line.specs.Texts.{AreLimitsOf, Found, IsClerksPlanOf, IsNumberOr, IsOfficePlanOf, IsWorkPlanOf}
+pub use Rattle.herd_command_line.specs.Texts.{AreLimitsOf, Found, IsDeskPlanOf, IsNumberOr, IsOfficePlanOf, IsWorkPlanOf}
 pub use Rattle.herd_command_line.specs.Texts.{name_in, rows_in, text_of, texts_of}
 use Rattle.herd_command_line.specs.declared.subcommand.Subcommand.{Subcommand}
 use Rattle.herd_command_line.specs.declared.subcommand.Subcommand.TheVariants as sub
@@ -26,7 +26,7 @@ abbrev pub subcommand_in : Found → Subcommand
 subcommand_in found = option_map_or subcommand_named (name_in found) sub.File
 
 -- what is asked of the book
-abbrev pub IsOrdered : Found → BookOrder → Type 0
+abbrev pub IsOrdered : Found → Order → Type 0
 IsOrdered found (Inbreeding plan) =
     (subcommand_in found ≡ sub.Inbreeding) × IsWorkPlanOf (rows_in found) plan
 IsOrdered found (Certificates numbers) =
@@ -54,7 +54,7 @@ IsAsked found (Check plan) =
 IsAsked found (Pedigree plan order) =
     (subcommand_in found ≡ sub.Pedigree) × IsPedigreePlanOf (rows_in found) plan × IsPedigreeOrdered (rows_in found) order
 IsAsked found (Clerks book plan) =
-    (subcommand_in found ≡ sub.Clerks) × IsClerksPlanOf (rows_in found) plan × AreLimitsOf (rows_in found) book.limits
+    (subcommand_in found ≡ sub.Clerks) × IsDeskPlanOf (rows_in found) plan × AreLimitsOf (rows_in found) book.limits
 IsAsked found (Session plan) = (subcommand_in found ≡ sub.Session) × IsOfficePlanOf (rows_in found) plan
 
 -- the fault is that of the first text that is no animal number

@@ -9,20 +9,21 @@ ghost use Rattle.clap.specs.Words.{fault_of, found_of, one_of, rows_of, subcomma
 ghost use Rattle.herd_animal.specs.AnimalNumber.{IsAnimalNumber};
 ghost use Rattle.herd_animal.specs.NumberFault.{IsNumberFault};
 ghost use Rattle.herd_command_line.specs.CommandLine.{command_line};
-ghost use Rattle.herd_command_line.specs.Words.{AreLimitsOf, IsAsked, IsClerksPlanOf, IsFirstFault, IsNumberOr, IsOfficePlanOf};
-ghost use Rattle.herd_command_line.specs.Words.{IsRefused, IsUnread, IsUnreadOf, IsWorkPlanOf, rows_in};
-ghost use Rattle.herd_command_line.specs.Words.{text_of, texts_of};
+ghost use Rattle.herd_command_line.specs.Words.{AreLimitsOf, IsAsked, IsDeskPlanOf, IsFirstFault, IsNumberOr};
+ghost use Rattle.herd_command_line.specs.Words.{IsOfficePlanOf, IsRefused, IsUnread, IsUnreadOf, IsWorkPlanOf};
+ghost use Rattle.herd_command_line.specs.Words.{rows_in, text_of, texts_of};
 
-use crate::book_order::BookOrder;
 use crate::command_line::command;
 use crate::limits::{DEFAULT_ANIMALS, DEFAULT_STEPS};
 use crate::pedigree_words::{pedigree_order_of, pedigree_plan_of};
-use crate::plans::{BookPlan, CheckPlan, ClerksPlan, OfficePlan, PedigreePlan};
+use crate::plans::{BookPlan, CheckPlan, OfficePlan, PedigreePlan};
 use crate::subcommand::Subcommand;
 use clap::ArgMatches;
 use herd_animal::{AnimalNumber, NumberFault};
+use herd_clerks::DeskPlan;
 use herd_frozen::MOST_ANIMALS;
 use herd_office::{MOST_DESKS, MOST_INSPECTORS};
+use herd_orders::Order;
 use herd_pedigree_report::PedigreeOrder;
 use herd_pool::{DEFAULT_BLOCK, MOST_WORKERS, WorkPlan};
 use herd_register::{Limits, MOST_STEPS};
@@ -35,13 +36,13 @@ pub enum Request<'a> {
     /// The reply to each command.
     File(BookPlan),
     /// What is ordered of the book.
-    Report(BookPlan, BookOrder<'a>),
+    Report(BookPlan, Order<'a>),
     /// Whether a certificate holds under a seal.
     Check(CheckPlan),
     /// What is ordered of a pedigree.
     Pedigree(PedigreePlan, PedigreeOrder<'a>),
     /// The commands are filed at several desks, each with a clerk in a thread of its own.
-    Clerks(BookPlan, ClerksPlan),
+    Clerks(BookPlan, DeskPlan),
     /// Requests are answered until the input ends.
     Session(OfficePlan),
 }
@@ -125,41 +126,41 @@ fn request_of<'a>(
     match Subcommand::named(name) {
         Subcommand::File => Ok(Request::File(book)),
         Subcommand::Inbreeding => {
-            Ok(Request::Report(book, BookOrder::Inbreeding(work_plan_of(given))))
+            Ok(Request::Report(book, Order::Inbreeding(work_plan_of(given))))
         }
         Subcommand::Certificate => {
             add_numbers(given, "NUMBER", list)?;
-            Ok(Request::Report(book, BookOrder::Certificates(list.as_slice())))
+            Ok(Request::Report(book, Order::Certificates(list.as_slice())))
         }
         Subcommand::Mating => {
             let dam = number_argument(given, "dam")?;
             add_numbers(given, "SIRE", list)?;
             let sires = list.as_slice();
-            Ok(Request::Report(book, BookOrder::Mating { dam, sires }))
+            Ok(Request::Report(book, Order::Mating { dam, sires }))
         }
-        Subcommand::Inverse => Ok(Request::Report(book, BookOrder::Inverse)),
+        Subcommand::Inverse => Ok(Request::Report(book, Order::Inverse)),
         Subcommand::Relationships => {
             add_numbers(given, "NUMBER", list)?;
             let count = list.len();
             add_numbers(given, "with", list)?;
             let (numbers, others) = list.as_slice().split_at(count);
-            Ok(Request::Report(book, BookOrder::Relationships { numbers, others }))
+            Ok(Request::Report(book, Order::Relationships { numbers, others }))
         }
         Subcommand::Records => {
             add_numbers(given, "NUMBER", list)?;
-            Ok(Request::Report(book, BookOrder::Records(list.as_slice())))
+            Ok(Request::Report(book, Order::Records(list.as_slice())))
         }
-        Subcommand::Seal => Ok(Request::Report(book, BookOrder::Seal)),
+        Subcommand::Seal => Ok(Request::Report(book, Order::Seal)),
         Subcommand::Sealed => {
             let number = number_argument(given, "NUMBER")?;
-            Ok(Request::Report(book, BookOrder::Sealed(number)))
+            Ok(Request::Report(book, Order::Sealed(number)))
         }
         Subcommand::Check => Ok(Request::Check(check_plan_of(given)?)),
         Subcommand::Pedigree => {
             let order = pedigree_order_of(given, animals, others)?;
             Ok(Request::Pedigree(pedigree_plan_of(given), order))
         }
-        Subcommand::Clerks => Ok(Request::Clerks(book, clerks_plan_of(given))),
+        Subcommand::Clerks => Ok(Request::Clerks(book, desk_plan_of(given))),
         Subcommand::Session => Ok(Request::Session(office_plan_of(given))),
     }
 }
@@ -174,10 +175,10 @@ pub(crate) fn work_plan_of(given: &ArgMatches<'_>) -> WorkPlan
     }
 }
 
-fn clerks_plan_of(given: &ArgMatches<'_>) -> ClerksPlan
-    ensures { IsClerksPlanOf (rows_of (found_of given.now)) result }
+fn desk_plan_of(given: &ArgMatches<'_>) -> DeskPlan
+    ensures { IsDeskPlanOf (rows_of (found_of given.now)) result }
 {
-    ClerksPlan {
+    DeskPlan {
         desks: option_or(given, "desks", 1, MOST_DESKS as u32, 2) as u16,
         base: option_or(given, "base", 0, MOST_STEPS, 0),
     }

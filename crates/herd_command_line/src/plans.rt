@@ -1,4 +1,4 @@
-//! What the words say of a book, a certificate, a pedigree, of clerks and of a session.
+//! What the words say of a book, a certificate, a pedigree and a session.
 
 ghost use Rattle.std.specs.Prelude.{◌≤◌};
 ghost use Rattle.herd_frozen.specs.declared.TheConstants.{MOST_ANIMALS};
@@ -25,18 +25,8 @@ pub struct PedigreePlan {
     pub ghost few: { animals ≤ MOST_ANIMALS },
 }
 
-/// What the words say of clerks: how their desks share the commands of a file.
-#[derive(Clone, Copy)]
-pub struct ClerksPlan {
-    /// From 1 to `MOST_DESKS`.
-    pub desks: u16,
-    /// How many of the first commands desk 1 files before any other.
-    pub base: u32,
-    pub ghost some: { 1 ≤ desks },
-    pub ghost most: { desks ≤ MOST_DESKS },
-}
-
-/// What the words say of a session: how large its office is.
+/// What the words say of a session: how large its office is. It is the words' own, so that reading them waits for no
+/// session.
 #[derive(Clone, Copy)]
 pub struct OfficePlan {
     /// From 1 to `MOST_DESKS`.

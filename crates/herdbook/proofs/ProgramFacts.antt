@@ -15,6 +15,7 @@ use Rattle.herd_session.specs.declared.session_fault.SessionFault.TheVariants as
 use Rattle.herd_clerks.specs.Clerks.{EndsClerks, IsFiledBy}
 use Rattle.herd_clerks.specs.declared.clerks_fault.ClerksFault.{ClerksFault}
 use Rattle.herd_clerks.specs.declared.clerks_fault.ClerksFault.TheVariants as clerks
+use Rattle.herd_clerks.specs.declared.deal.DeskPlan.{DeskPlan}
 use Rattle.herd_command_file.specs.CommandFile.{commands}
 use Rattle.herd_command_line.specs.CommandLine.{command_line}
 use Rattle.herd_command_line.specs.Words.{IsAsked, IsRefused}
@@ -24,7 +25,6 @@ use Rattle.herd_command_line.specs.declared.arguments.WordsFault.{WordsFault}
 use Rattle.herd_command_line.specs.declared.arguments.WordsFault.TheVariants as words_fault
 use Rattle.herd_command_line.specs.declared.plans.BookPlan.{BookPlan}
 use Rattle.herd_command_line.specs.declared.plans.CheckPlan.{CheckPlan}
-use Rattle.herd_command_line.specs.declared.plans.ClerksPlan.{ClerksPlan}
 use Rattle.herd_command_line.specs.declared.plans.OfficePlan.{OfficePlan}
 use Rattle.herd_command_line.specs.declared.plans.PedigreePlan.{PedigreePlan}
 use Rattle.herdbook.specs.Clerks.{CanEndClerks, fault_of_clerks}
@@ -81,7 +81,7 @@ possible-pedigree plan order (Ok done) possible = tt
 possible-pedigree plan order (Err fault) possible = record { fault = fault; is = refl; holds = possible }
 
 -- clerks who filed a command file
-pub served-clerks : {T : Type 0} (known : Option (List ℕ)) (old new : Option (List ℕ)) (book : BookPlan) (plan : ClerksPlan) (result : Result T ClerksFault)
+pub served-clerks : {T : Type 0} (known : Option (List ℕ)) (old new : Option (List ℕ)) (book : BookPlan) (plan : DeskPlan) (result : Result T ClerksFault)
     → OnOk result (IfSome known (λ bytes. IsFiledBy book.limits plan.desks plan.base (commands bytes book.limits.steps) old new))
     → IfErr result (λ fault. IfSome known (λ bytes. EndsClerks book.limits plan.desks plan.base (commands bytes book.limits.steps) old new fault))
     → IfSome known (λ bytes. EndsRequest (Clerks book plan) bytes old new (end_of_clerks result))
@@ -97,7 +97,7 @@ can_end_clerks clerks.Memory = tt
 can_end_clerks clerks.Write = tt
 can_end_clerks clerks.NoPlace = tt
 
-pub possible-clerks : {T : Type 0} (book : BookPlan) (plan : ClerksPlan) (result : Result T ClerksFault) → CanEndRequest (Clerks book plan) (end_of_clerks result)
+pub possible-clerks : {T : Type 0} (book : BookPlan) (plan : DeskPlan) (result : Result T ClerksFault) → CanEndRequest (Clerks book plan) (end_of_clerks result)
 possible-clerks book plan (Ok done) = tt
 possible-clerks book plan (Err fault) = can_end_clerks fault
 

@@ -2,7 +2,6 @@ pub mod Checks
 pub mod Clerks
 pub mod Ending
 pub mod FaultText
-pub mod Orders
 pub mod Pedigrees
 pub mod Program
 pub mod Sessions

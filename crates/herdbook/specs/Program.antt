@@ -16,7 +16,6 @@ use Rattle.herd_command_line.specs.declared.arguments.Request.TheVariants as req
 use Rattle.herd_command_line.specs.declared.arguments.WordsFault.{WordsFault}
 use Rattle.herdbook.specs.Clerks.{CanEndClerks, TellsOfClerks}
 use Rattle.herdbook.specs.Ending.{Explains}
-use Rattle.herdbook.specs.Orders.{order_of}
 use Rattle.herdbook.specs.Pedigrees.{TellsOf}
 use Rattle.herdbook.specs.Sessions.{CanEndSession, TellsOfSession}
 use Rattle.herdbook.specs.declared.ending.Ending.{Ending}
@@ -27,7 +26,7 @@ use Rattle.herdbook.specs.declared.request_fault.RequestFault.TheVariants.{Run, 
 -- what a request asks for was carried out on the bytes of a command file, of a pedigree file, or of requests
 abbrev pub IsServed : Request → List ℕ → Option (List ℕ) → Option (List ℕ) → Type 0
 IsServed (request.File book) bytes old new = IsReplied book.limits (commands bytes book.limits.steps) old new
-IsServed (request.Report book order) bytes old new = IsAnswered book.limits (order_of order) (commands bytes book.limits.steps) old new
+IsServed (request.Report book order) bytes old new = IsAnswered book.limits order (commands bytes book.limits.steps) old new
 IsServed (request.Check plan) bytes old new = IsTold plan.seal bytes old new true
 IsServed (request.Pedigree plan order) bytes old new = IsPedigreeAnswered plan.animals order bytes old new
 IsServed (request.Clerks book plan) bytes old new =
@@ -52,7 +51,7 @@ EndsServing (request.File book) bytes old new (Run fault) =
 EndsServing (request.File book) bytes old new (Pedigree fault) = ⊥
 EndsServing (request.File book) bytes old new NoPlace = ⊥
 EndsServing (request.Report book order) bytes old new (Run fault) =
-    EndsBy book.limits (order_of order) (commands bytes book.limits.steps) old new fault
+    EndsBy book.limits order (commands bytes book.limits.steps) old new fault
 EndsServing (request.Report book order) bytes old new (Pedigree fault) = ⊥
 EndsServing (request.Report book order) bytes old new NoPlace = ⊥
 EndsServing (request.Check plan) bytes old new fault = TellsOfReport (EndsTelling plan.seal bytes old new) fault
@@ -68,7 +67,7 @@ abbrev pub CanEndServing : Request → RequestFault → Type 0
 CanEndServing (request.File book) (Run fault) = CanEndReplying fault
 CanEndServing (request.File book) (Pedigree fault) = ⊥
 CanEndServing (request.File book) NoPlace = ⊥
-CanEndServing (request.Report book order) (Run fault) = CanEndBy (order_of order) fault
+CanEndServing (request.Report book order) (Run fault) = CanEndBy order fault
 CanEndServing (request.Report book order) (Pedigree fault) = ⊥
 CanEndServing (request.Report book order) NoPlace = ⊥
 CanEndServing (request.Check plan) fault = TellsOfReport (λ _. Unit {0}) fault

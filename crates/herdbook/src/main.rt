@@ -1,15 +1,15 @@
 //! The herd book of a breed society, as a program over standard input and output.
 //!
-//! The words of the command line are read first (`herd_command_line`). They ask for help or the version, for the replies
-//! to a command file or an order of its book, which `herd_orders` carries out; for a report of a pedigree, which
-//! `herd_pedigree_report` writes; for the check of a certificate, which `herd_seal` makes; for `clerks`: the commands of
-//! a file, filed at the desks of an office by clerks side by side, as `herd_clerks` has them do; or for a session, which
-//! `herd_session` holds. How the program ends is a value, made from what was asked and what came of it (`Ending`); only
-//! `main` prints it, or tells it on standard error.
+//! The words of the command line are read first (`herd_command_line`). They ask for help or the version, for the
+//! replies to a command file or an order of its book, which `herd_orders` carries out; for a report of a pedigree,
+//! which `herd_pedigree_report` writes; for the check of a certificate, which `herd_seal` makes; for `clerks`: the
+//! commands of a file, filed at the desks of an office by clerks side by side, as `herd_clerks` has them do; or for a
+//! session, which `herd_session` holds. How the program ends is a value, made from what was asked and what came of it
+//! (`Ending`); only `main` prints it, or tells it on standard error.
 //!
 //! | | definition (`specs/`) | code (`src/`) | proof (`proofs/`) |
 //! |---|---|---|---|
-//! | what the program does for its words | `Program`, `Orders` | `program` | `ProgramFacts` |
+//! | what the program does for its words | `Program` | `program` | `ProgramFacts` |
 //! | how it ends, what is told on standard error | `Ending`, `FaultText` | `ending`, `request_fault`, `fault_text` | |
 //! | how reports of a pedigree end it | `Pedigrees` | `ending`, `request_fault` | `ProgramFacts` |
 //! | how a check of a certificate ends it | `Checks` | `ending` | `ProgramFacts` |

@@ -1,13 +1,12 @@
 //! What the program does, but for printing help and what it tells on standard error.
 
 ghost use Rattle.std.specs.Prelude.{◌≡◌, IfSome, map, string_bytes};
-ghost use Rattle.herdbook.specs.Orders.{order_of};
 ghost use Rattle.herdbook.specs.Program.{CanEnd, IsEnded, IsUntouchedUnlessAsked};
 
 use crate::ending::Ending;
-use herd_clerks::{DeskPlan, clerks};
-use herd_command_line::{BookOrder, Request, read_words};
-use herd_orders::{Order, answer_file, run};
+use herd_clerks::clerks;
+use herd_command_line::{Request, read_words};
+use herd_orders::{answer_file, run};
 use herd_pedigree_report::answer_pedigree;
 use herd_seal::answer_certificate;
 use herd_session::{SessionPlan, session};
@@ -37,8 +36,7 @@ pub fn carry_out<H: Threads + Wait + Sync, R: Read + Drop, W: Write + Send + Dro
     match read_words(alloc, words, &mut list, &mut animals, &mut others) {
         Ok(Request::File(book)) => Ending::of_run(answer_file(alloc, book.limits, reader, writer)),
         Ok(Request::Report(book, order)) => {
-            let carried = order_of(order);
-            Ending::of_run(run(rt, alloc, book.limits, &carried, reader, writer))
+            Ending::of_run(run(rt, alloc, book.limits, &order, reader, writer))
         }
         Ok(Request::Check(plan)) => {
             Ending::of_check(answer_certificate(alloc, &plan.seal, reader, writer))
@@ -47,11 +45,7 @@ pub fn carry_out<H: Threads + Wait + Sync, R: Read + Drop, W: Write + Send + Dro
             Ending::of_pedigree(answer_pedigree(rt, alloc, plan.animals, &order, reader, writer))
         }
         Ok(Request::Clerks(book, plan)) => {
-            let shared = DeskPlan {
-                desks: plan.desks,
-                base: plan.base,
-            };
-            Ending::of_clerks(clerks(rt, alloc, book.limits, shared, reader, writer))
+            Ending::of_clerks(clerks(rt, alloc, book.limits, plan, reader, writer))
         }
         Ok(Request::Session(plan)) => {
             let office = SessionPlan {
@@ -62,21 +56,5 @@ pub fn carry_out<H: Threads + Wait + Sync, R: Read + Drop, W: Write + Send + Dro
             Ending::of_session(session(rt, alloc, office, reader, writer))
         }
         Err(fault) => Ending::of_words(fault),
-    }
-}
-
-// An order of the words, as it is carried out.
-fn order_of<'a>(order: BookOrder<'a>) -> Order<'a>
-    ensures { result ≡ order_of order.entry }
-{
-    match order {
-        BookOrder::Inbreeding(plan) => Order::Inbreeding(plan),
-        BookOrder::Certificates(numbers) => Order::Certificates(numbers),
-        BookOrder::Mating { dam, sires } => Order::Mating { dam, sires },
-        BookOrder::Inverse => Order::Inverse,
-        BookOrder::Relationships { numbers, others } => Order::Relationships { numbers, others },
-        BookOrder::Records(numbers) => Order::Records(numbers),
-        BookOrder::Seal => Order::Seal,
-        BookOrder::Sealed(number) => Order::Sealed(number),
     }
 }

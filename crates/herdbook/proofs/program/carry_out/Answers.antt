@@ -20,12 +20,12 @@ pub returns-in-Ok-Report-clause-ended : goal.returns-in-Ok-Report-clause-ended
 returns-in-Ok-Report-clause-ended g c =
     let known = g.R.Read.remaining c.args.reader in
     let asked = rw c.in-Ok-Report.field-0-is at c.in-Ok-Report.ensures.asked in
-    rw c.of_run-in-Ok-Report.ensures (ended-asked known _ _ _ (Report c.in-Ok-Report.book c.in-Ok-Report.order) _ c.in-Ok-Report.ensures.taken asked (served-run known _ _ (Report c.in-Ok-Report.book c.in-Ok-Report.order) c.run.result (rw c.order_of-carried.ensures at c.run.ensures.ok) (rw c.order_of-carried.ensures at c.run.ensures.err)))
+    rw c.of_run-in-Ok-Report.ensures (ended-asked known _ _ _ (Report c.in-Ok-Report.book c.in-Ok-Report.order) _ c.in-Ok-Report.ensures.taken asked (served-run known _ _ (Report c.in-Ok-Report.book c.in-Ok-Report.order) c.run.result c.run.ensures.ok c.run.ensures.err))
 
 pub returns-in-Ok-Report-clause-possible : goal.returns-in-Ok-Report-clause-possible
 returns-in-Ok-Report-clause-possible g c =
     let asked = rw c.in-Ok-Report.field-0-is at c.in-Ok-Report.ensures.asked in
-    rw c.of_run-in-Ok-Report.ensures (possible-asked _ (Report c.in-Ok-Report.book c.in-Ok-Report.order) _ c.in-Ok-Report.ensures.taken asked (possible-run (Report c.in-Ok-Report.book c.in-Ok-Report.order) c.run.result (rw c.order_of-carried.ensures at c.run.ensures.fault)))
+    rw c.of_run-in-Ok-Report.ensures (possible-asked _ (Report c.in-Ok-Report.book c.in-Ok-Report.order) _ c.in-Ok-Report.ensures.taken asked (possible-run (Report c.in-Ok-Report.book c.in-Ok-Report.order) c.run.result c.run.ensures.fault))
 
 pub returns-in-Ok-Check-clause-ended : goal.returns-in-Ok-Check-clause-ended
 returns-in-Ok-Check-clause-ended g c =
