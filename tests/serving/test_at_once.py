@@ -278,6 +278,8 @@ CHANGED = {
     BackupFault.ODD_NAMES: [
         "UPDATE change SET login = char(27) || '[2J'", "UPDATE change SET login = ' '", "UPDATE animal SET name = char(10, 0)",
         "UPDATE owner SET name = printf('%.*c', 5000, 'x') WHERE herd = (SELECT min(herd) FROM owner)",
+        "INSERT OR REPLACE INTO setting VALUES ('language', '../..')",
+        "INSERT OR REPLACE INTO setting VALUES ('breed', 'four')",
     ],
 }  # fmt: skip
 

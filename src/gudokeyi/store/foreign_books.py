@@ -9,9 +9,12 @@ import sqlite3
 from collections.abc import Iterator
 
 from gudokeyi.domain.messages import Mistake
+from gudokeyi.domain.mistakes import InvalidValue
 from gudokeyi.domain.requests import CONTROL
+from gudokeyi.domain.settings import Setting
 from gudokeyi.store.database import empty
 from gudokeyi.store.messages import BackupFault
+from gudokeyi.store.settings import checked
 
 COMMENT = re.compile(r"--[^\n]*")
 # so long names and actors are at most: books of earlier versions have longer ones than are filed now
@@ -25,6 +28,8 @@ NAMES = {
     "change": ("login",), "animal": ("id", "name"), "owner": ("name",), "setting": ("setting",), "former_id": ("id",),
     "note": ("author",),
 }  # fmt: skip
+# the settings that aren't free texts
+CHOSEN = (Setting.BREED, Setting.COUNTRY, Setting.LANGUAGE)
 
 
 def refuse_foreign(connection: sqlite3.Connection, path: pathlib.Path) -> None:
@@ -39,8 +44,20 @@ def refuse_foreign(connection: sqlite3.Connection, path: pathlib.Path) -> None:
         raise Mistake(BackupFault.NO_TIME.said(path=path, change=number[0]))
     if any(is_foreign(text) for text in names_of(connection)):
         raise Mistake(BackupFault.ODD_NAMES.said(path=path))
-    if connection.execute("SELECT 1 FROM change WHERE trim(login) = '' LIMIT 1").fetchone():
+    is_nobodys = connection.execute("SELECT 1 FROM change WHERE trim(login) = '' LIMIT 1").fetchone()
+    if is_nobodys or has_odd_settings(connection):
         raise Mistake(BackupFault.ODD_NAMES.said(path=path))
+
+
+def has_odd_settings(connection: sqlite3.Connection) -> bool:
+    """Has it letters or a language that nobody can choose?"""
+    kept = dict(connection.execute("SELECT setting, value FROM setting"))
+    try:
+        for setting in CHOSEN:
+            checked(setting, kept.get(setting.value, ""))
+    except InvalidValue:
+        return True
+    return False
 
 
 def tables_of(connection: sqlite3.Connection) -> set[tuple[str, str, str]]:
