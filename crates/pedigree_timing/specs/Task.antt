@@ -1,16 +1,22 @@
 -- What the words of the command line ask for, the program's own name first.
-use Rattle.std.specs.Prelude.{◌≡◌, ℕ, max, List, slice_get, codes, Some}
-use Rattle.herd_fixtures.specs.Name.{IsSerial}
+use Rattle.std.specs.Prelude.{◌≡◌, ◌<◌, ◌^◌, ℕ, max, List, slice_get, codes, Some}
+use Rattle.std.specs.Str.Parse.{IsNumeral, digits_value, without_leading_plus}
 use Rattle.herd_frozen.specs.rules.Book.{Book}
 use Rattle.pedigree_timing.specs.Books.{first_of, paired_birth, lined_birth, corrected}
 use Rattle.pedigree_timing.specs.declared.task.Task.{Task}
 use Rattle.pedigree_timing.specs.declared.task.Task.TheVariants.{Births, Freeze, Corrections}
 
+-- the digits, perhaps with a plus before them, are a number below 2 ^ 32
+pub record AreDigitsOf (digits : List ℕ) (number : ℕ) : Type 0 where
+  pub numeral : IsNumeral 10 (without_leading_plus digits)
+  pub value : digits_value 10 (without_leading_plus digits) ≡ number
+  pub fits : number < 2 ^ 32
+
 -- this number is the word at the place
 pub record HasNumber (words : List (List ℕ)) (place number : ℕ) : Type 0 where
   pub word : List ℕ
   pub there : slice_get words place ≡ Some word
-  pub serial : IsSerial word number
+  pub digits : AreDigitsOf word number
 
 abbrev pub AsksFor : List (List ℕ) → Task → Type 0
 AsksFor words (Births animals) = (slice_get words 1 ≡ Some (codes "births")) × HasNumber words 2 animals
