@@ -29,13 +29,27 @@ use Rattle.herd_command_line.specs.declared.plans.OfficePlan.{OfficePlan}
 use Rattle.herd_command_line.specs.declared.plans.PedigreePlan.{PedigreePlan}
 use Rattle.herdbook.specs.Clerks.{CanEndClerks, fault_of_clerks}
 use Rattle.herdbook.specs.Ending.{Explains, end_of_check, end_of_clerks, end_of_pedigree, end_of_run, end_of_session}
-use Rattle.herdbook.specs.Program.{CanEnd, CanEndRequest, CanEndServing, EndsRequest, EndsServing, IsEnded, IsServed}
+use Rattle.herdbook.specs.Program.{CanEnd, CanEndServing, CanRefuse, EndsServing, IsEnded, IsRefusedBy, IsServed}
 use Rattle.herdbook.specs.Sessions.{CanEndSession, fault_of_session}
 use Rattle.herdbook.specs.declared.ending.Ending.{Ending}
 use Rattle.herdbook.specs.declared.ending.Ending.TheVariants.{Done, Shown, Usage, NotText, Number, Misplaced, NotSeal, Refused, Early}
 use Rattle.herdbook.specs.declared.request_fault.RequestFault.TheVariants.{Run}
 
 -- ---- what was done for a request
+
+-- what a request asks for was done with these bytes, or it was refused, or ended early
+abbrev pub EndsRequest : Request → List ℕ → Option (List ℕ) → Option (List ℕ) → Ending → Type 0
+EndsRequest request bytes old new Done = IsServed request bytes old new
+EndsRequest request bytes old new Refused = IsRefusedBy request bytes old new
+EndsRequest request bytes old new (Early fault) = EndsServing request bytes old new fault
+EndsRequest request bytes old new ending = ⊥
+
+-- the ends that a request leaves open, whatever is read
+abbrev pub CanEndRequest : Request → Ending → Type 0
+CanEndRequest request Done = Unit {0}
+CanEndRequest request Refused = CanRefuse request
+CanEndRequest request (Early fault) = CanEndServing request fault
+CanEndRequest request ending = ⊥
 
 -- a run that was begun
 pub served-run : {T : Type 0} (known : Option (List ℕ)) (old new : Option (List ℕ)) (request : Request) (result : Result T RunFault)

@@ -75,20 +75,6 @@ CanEndServing (request.Pedigree plan order) fault = TellsOf (CanEndPedigreeBy or
 CanEndServing (request.Clerks book plan) fault = CanEndClerks fault
 CanEndServing (request.Session plan) fault = CanEndSession fault
 
--- what a request asks for was done with these bytes, or it was refused, or ended early
-abbrev pub EndsRequest : Request → List ℕ → Option (List ℕ) → Option (List ℕ) → Ending → Type 0
-EndsRequest request bytes old new Done = IsServed request bytes old new
-EndsRequest request bytes old new Refused = IsRefusedBy request bytes old new
-EndsRequest request bytes old new (Early fault) = EndsServing request bytes old new fault
-EndsRequest request bytes old new ending = ⊥
-
--- the ends that a request leaves open, whatever is read
-abbrev pub CanEndRequest : Request → Ending → Type 0
-CanEndRequest request Done = Unit {0}
-CanEndRequest request Refused = CanRefuse request
-CanEndRequest request (Early fault) = CanEndServing request fault
-CanEndRequest request ending = ⊥
-
 -- `clap` takes the words, and a fact holds of the request that they make
 pub record Asks (words : List (List ℕ)) (Holds : Request → Type 0) : Type 0 where
   pub request : Request
