@@ -138,6 +138,51 @@ def test_parents_with_more_than_an_id(desk: Desk) -> None:
     assert "line 5: 003: inferred: its sire '001 / Chäspi' is 001, whose id stands there" in done.told
 
 
+# words by which the animal beside them isn't the parent, in three languages
+DENIED = (
+    "nicht 002", "DNA: nicht 002", "002 (falsch!)", "002 gestrichen", "wie 002", "s. 002", "siehe 002", "statt 002",
+    "kein 002", "not 002", "002 (wrong)", "002 crossed out", "same as 002", "see 002", "pas 002", "002 (erreur)",
+    "faux 002", "comme 002", "002 à vérifier", "nicht Eva", "Eva (falsch)", "not Eva", "wie Eva", "pas Eva",
+)  # fmt: skip
+# words by which it may be, or is; `Seeblick vom See` is its name
+NOT_DENIED = ("002 nicht eingetr.", "002 (not registered)", "002 lt. DNA", "Seeblick vom See 009", "009 (siehe Pass)")
+# one or the other, of which one has no row
+ONE_OF_TWO = (
+    "002 & 099", "002 099", "002/099", "002, 099", "002; 099", "002 - 099", "002 (099)", "099 ex 002", "002 (or 099)",
+    "either 002", "entweder 002", "Eva/Bruna", "Bruna / Eva",
+)  # fmt: skip
+NOT_ONE_OF_TWO = ("002 (2010)", "002 / Evi", "002 (früher 099)", "002 ex 099", "002, 1. Wurf")
+
+
+def test_words_beside_a_parent(desk: Desk) -> None:
+    """A cell that denies an animal, or names one beside another that has no row, or one's sister, has no parent, and
+    that is told; what says only more of the animal is that one."""
+    young = [*DENIED, *NOT_DENIED, *ONE_OF_TWO, *NOT_ONE_OF_TWO, "Schwester von Eva", "Evas Schwester", "sœur d'Eva"]
+    rows = "".join(f'{at};K{at};w;1.2.2014;;"{dam}";Huber;\n' for at, dam in enumerate(young, 100))
+    pair = PAIR.replace("Max;m", "Seeblick vom See;w").replace("001", "009")
+    done = desk.take(TITLES + pair + rows)
+    found = {dam: desk.parents()[f"{at}"][1] for at, dam in enumerate(young, 100)}
+    assert {dam: id for dam, id in found.items() if id} == {
+        dam: "009" if "009" in dam else "002" for dam in (*NOT_DENIED, *NOT_ONE_OF_TWO)
+    }  # fmt: skip
+    assert " 0 added" in done.last
+    line = 4 + young.index("nicht 002")
+    assert f"line {line}: 100: its dam 'nicht 002' is left out: it doesn't say that 002 is the dam, and counts" in done.told
+    told = {*done.told.splitlines()}
+    for words, count in (("it may be one or the other", len(ONE_OF_TWO)), ("says how another animal is related", 3)):
+        assert sum(words in one for one in told) == count
+
+
+def test_id_and_name_that_contradict(desk: Desk) -> None:
+    """The id is taken, and told with whom the name is."""
+    rows = "003;A;w;1.2.2014;001 / Rex;;Huber;\n004;B;w;1.2.2014;Rex (001);;Huber;\n005;C;w;1.2.2014;001 Max;;Huber;\n"
+    done = desk.take(TITLES + PAIR + "009;Rex;m;03.02.2010;;;Huber;\n" + rows)
+    assert [desk.parents()[id][0] for id in ("003", "004", "005")] == ["001"] * 3
+    told = "is 001 by its id, and by its name 009: 001 is taken; if another is meant, write the id of that one"
+    done.tells(f"line 5: 003: to look at: its sire '001 / Rex' {told}", f"line 6: 004: to look at: its sire 'Rex (001)' {told}")
+    assert sum("by its id, and by its name" in one for one in {*done.told.splitlines()}) == 2
+
+
 def test_two_parents_in_a_cell(desk: Desk) -> None:
     """A pair in one cell, and one or the other by their names, are told; a name with an `x` in it is a name."""
     rows = "003;A;w;1.2.2014;Max x Eva;;Huber;\n004;B;w;1.2.2015;001 × 002;002;Huber;\n"

@@ -1,19 +1,29 @@
-"""Parents whose cell has more than an id: one with its name, as `012 / Max`, or one animal or another."""
+"""Parents whose cell has more than an id: one with its name, as `012 / Max`, one animal or another, or words by which
+it is none of those that it names."""
 from __future__ import annotations
 
+import functools
 import re
-from collections.abc import Iterator, Mapping, Sequence, Set
+from collections.abc import Collection, Iterator, Mapping, Sequence, Set
 
-from gudokeyi.domain.findings import Report
+from gudokeyi.domain.findings import Finding, Report
+from gudokeyi.domain.kinds import Role
+from gudokeyi.domain.messages import MOST_NAMED
 from gudokeyi.domain.spelling import TIMES
 from gudokeyi.ingest.animals import NAME_OF, SheetAnimal, links_outside
 from gudokeyi.ingest.texts import nearly, nearly_all
-from gudokeyi.reconcile.findings.parents import BothParents, EitherParent, FoundWithin, NamedByRelation
+from gudokeyi.reconcile.findings.parents import (
+    BothParents, EitherParent, FoundWithin, NamedByRelation, NamedOtherwiseBeside, NotSaidToBeParent,
+)  # fmt: skip
 from gudokeyi.reconcile.last_found import Kept, LastFound
+from gudokeyi.reconcile.near_names import LEAST_LETTERS
 from gudokeyi.reconcile.parents import can_be
 
 # what stands between two animals of which one is the parent, and between an id and a name
-EITHER = re.compile(r"\s+(?:oder|od\.?|o\.|or|ou|bzw\.?|resp\.?)\s+|\s*/\s*oder\s*|\s+\?\s+", re.IGNORECASE)
+EITHER = re.compile(
+    r"[\s(]+(?:oder|od\.?|o\.|or|ou|bzw\.?|resp\.?)\s+|\s*/\s*oder\s*|\s+\?\s+", re.IGNORECASE
+)  # fmt: skip
+ONE_OF = re.compile(r"(?:either|entweder|soit|ou bien)\b", re.IGNORECASE)
 # what stands between a sire and a dam
 WITH = re.compile(r"\s+[x×]\s+", re.IGNORECASE)
 # so many words of a text are looked at
@@ -25,7 +35,47 @@ RELATED = re.compile(
     r"leihmutter|empfänger\w*|amme|foster)\b",
     re.IGNORECASE,
 )
+# the same of whom a name follows, or stands before it
+RELATED_TO = re.compile(RELATED.pattern + r"(?:\s+(?:von|vom|der|des|of|to|zu|de|du|à)\s+|\s+d['’])", re.IGNORECASE)
+RELATED_BEHIND = re.compile(r"['’]?s?['’]?\s+(?:" + RELATED.pattern + ")", re.IGNORECASE)
+# what says that an animal isn't the parent, or may not be it; one that isn't registered or tested may be it
+DENIED = re.compile(
+    r"\b(?:(?:nicht|not|non|pas|kein(?:e[rsnm]?|esfalls)?)\b(?!\W+(?:eingetr|reg|hb\b|im\b|in\b|getest|gentest|test|typ|"
+    r"verif|vérif|yet\b|gekört|inscri|enregistr|dans\b|au\b))|(?:nie|never|isn['’]t|falsch\w*|gestrichen|streichen|irrtum|"
+    r"irrtümlich|fehler\w*|ausgeschlossen|widerlegt|prüfen|unklar|ungeklärt|fraglich|zweifelhaft|wrong\w*|incorrect\w*|"
+    r"error|crossed out|struck (?:out|through)|deleted|excluded|ruled out|disproved|doubtful|disputed|to (?:be )?checked|"
+    r"to check|faux|fausse|erreur|erronée?|barrée?|rayée?|exclue?|douteu(?:x|se)|à (?:vérifier|contrôler|confirmer))\b)",
+    re.IGNORECASE,
+)
+# what stands before an animal that has the same parent, or in whose place another is the parent
+REFERS = re.compile(
+    r"\b(?:wie|siehe|(?:an)?statt|same(?: as)?|instead of|comme|voir|idem|au lieu d[eu]|vgl\b\.?|cf\b\.?)(?=\s)|"
+    r"(?:^\W*|:\s*|\()(?:s\.|see\b)",
+    re.IGNORECASE,
+)
 BETWEEN = re.compile(r"\s*[/;,()\[\]|]\s*|\s+[-–—]\s+")
+# what may stand between the ids of two animals besides, and what stands between an id of now and one of before
+JOINED = re.compile(BETWEEN.pattern + r"|\s*[&+]\s*|\s+(?:und|u\.|and|et|ex)\s+", re.IGNORECASE)
+FORMERLY = re.compile(
+    r"^\W*(?:formerly|former|was|old|ex|früher|ehemals|ehem|vormals|vorher|alt|war|anciennement|anc|ancien)\b", re.IGNORECASE
+)
+# what stands between two names; others are within one, as in `Salz und Pfeffer`
+OF_NAMES = re.compile(r"\s*/\s*")
+YEAR = re.compile(r"(?:19|20)\d\d")
+LETTERS, DIGITS = re.compile(r"[^\W\d_]"), re.compile(r"\d")
+
+
+def without(text: str, names: Sequence[str]) -> str:
+    """A text in small letters without some names."""
+    rest = text.casefold()
+    for name in sorted(filter(None, names), key=len, reverse=True):
+        rest = rest.replace(name.casefold(), " ")
+    return rest
+
+
+def shape(id: str) -> str:
+    """What ids have in common that are written alike to the letter: `T001` is `A999`."""
+    return DIGITS.sub("9", LETTERS.sub("A", id))
 
 
 def compared(ids: Sequence[str], names: Sequence[str]) -> tuple[dict[str, str], set[str]]:
@@ -57,25 +107,96 @@ class ParentsInTexts:
         for offspring, role, text in links:
             if nearly(text) in self.ids or name_key(text) in self.names:
                 continue
-            if RELATED.search(text) and [*self.named(text)]:
+            if left_out := self.left_out(role, text):
                 offspring.set_parent(role, "")
-                report.add(offspring.line, offspring.id, NamedByRelation(role, text))
+                report.add(offspring.line, offspring.id, left_out)
                 continue
-            if self.are_pair(text):
-                offspring.set_parent(role, "")
-                report.add(offspring.line, offspring.id, BothParents(role, text))
-                continue
-            if len([part for part in EITHER.split(text) if part.strip()]) > 1:
-                offspring.set_parent(role, "")
-                report.add(offspring.line, offspring.id, EitherParent(role, text))
-                continue
-            found = {*self.named(text)}
-            if len(found) > 1:
-                offspring.set_parent(role, "")
-                report.add(offspring.line, offspring.id, EitherParent(role, text))
-            elif found and (id := found.pop()) != offspring.id and can_be(self.animals[id], role, offspring):
-                offspring.set_parent(role, id)
-                report.add(offspring.line, offspring.id, FoundWithin(role, text, id))
+            for id in self.named(text):
+                if id != offspring.id and can_be(self.animals[id], role, offspring):
+                    offspring.set_parent(role, id)
+                    report.add(offspring.line, offspring.id, FoundWithin(role, text, id))
+                    if others := self.named_beside(id, text):
+                        found = NamedOtherwiseBeside(role, text, id, self.animals[id].name, others)
+                        report.add(offspring.line, offspring.id, found)
+                break
+
+    def left_out(self, role: Role, text: str) -> Finding | None:
+        """Why a text names no parent alone, if it doesn't."""
+        found = list(dict.fromkeys(self.named(text)))
+        if found and RELATED.search(text) or self.is_relation_by_name(text):
+            return NamedByRelation(role, text)
+        if self.are_pair(text):
+            return BothParents(role, text)
+        if denied := self.denied(text, found):
+            return NotSaidToBeParent(role, text, denied)
+        if len([part for part in EITHER.split(text) if part.strip()]) > 1 or len(found) > 1:
+            return EitherParent(role, text)
+        if found and (ONE_OF.match(text) or self.has_another_id(text, found[0])) or self.are_names(text):
+            return EitherParent(role, text)
+        return None
+
+    # -- words beside an id or a name
+
+    def denied(self, text: str, ids: Sequence[str]) -> str:
+        """The animal beside which words stand by which it may not be the parent; its own name is none of them."""
+        refers = REFERS.search(text)
+        if ids:
+            rest = without(text, [self.animals[id].name for id in ids])
+            is_other = refers and [*self.named(text[refers.end() :])]
+            return ids[0] if is_other or DENIED.search(rest) else ""
+        if not refers and not DENIED.search(text):
+            return ""
+        rest = DENIED.sub(" ", text[refers.end() :] if refers else text).strip(" ()[]!?.,;:-–—")
+        return rest if self.is_name(rest) else ""
+
+    def is_relation_by_name(self, text: str) -> bool:
+        """Does it say how another animal is related that it has by its name?"""
+        if not RELATED.search(text):
+            return False
+        behind, before = RELATED_TO.match(text), RELATED_BEHIND.search(text)
+        if behind and self.is_name(text[behind.end() :]):
+            return True
+        # a name may end with the letter of the genitive
+        return before is not None and any(self.is_name(text[: before.start() + more]) for more in range(2))
+
+    def is_name(self, text: str) -> bool:
+        return sum(map(str.isalpha, text)) >= LEAST_LETTERS and name_key(text) in self.names
+
+    # -- two animals, of which one or none has a row
+
+    def has_another_id(self, text: str, id: str) -> bool:
+        """Does it have another text that is written as ids are, and isn't that of before of the same animal?"""
+        parts = [part for part in JOINED.split(text) if part]
+        if nearly(parts[0]) == nearly(id) and len(parts) > 1 and FORMERLY.match(text[len(parts[0]) :]):
+            return False
+        words = text.split()
+        if len(parts) == 1 and len(words) == 2:
+            parts = words
+        return any(nearly(part) != nearly(id) and self.is_like_id(part) for part in parts)
+
+    def is_like_id(self, text: str) -> bool:
+        return DIGITS.search(text) is not None and not YEAR.fullmatch(text) and shape(text) in self.shapes
+
+    @functools.cached_property
+    def shapes(self) -> Collection[str]:
+        """How the ids are written."""
+        return {*map(shape, self.with_id)}
+
+    def are_names(self, text: str) -> bool:
+        """Does it have two names, of which one at least is an animal's?"""
+        parts = OF_NAMES.split(text)
+        if len(parts) != 2 or any(map(str.isdigit, text)) or min(map(len, parts)) < LEAST_LETTERS:
+            return False
+        return any(map(self.is_name, parts))
+
+    def named_beside(self, id: str, text: str) -> tuple[str, ...]:
+        """Other animals, whose name stands beside an id: the ids of the first of them."""
+        parts = [name_key(part) for part in (*BETWEEN.split(text), *text.split(" ", 1)[1:]) if part]
+        parts = [part for part in parts if part in self.names and nearly(part) != nearly(id)]
+        if not parts or name_key(self.animals[id].name) in parts:
+            return ()
+        found = [one for one, animal in self.animals.items() if name_key(animal.name) in parts]
+        return tuple(found[:MOST_NAMED])
 
     def are_pair(self, text: str) -> bool:
         """Does it name two animals that are known, as `Max x Rosi`?"""

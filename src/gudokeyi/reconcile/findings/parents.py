@@ -7,7 +7,7 @@ from dataclasses import dataclass
 
 from gudokeyi.domain.findings import Finding, LeftOut, Part, Severity, What
 from gudokeyi.domain.kinds import Role
-from gudokeyi.domain.messages import MOST_NAMED
+from gudokeyi.domain.messages import MOST_NAMED, AnyOf
 from gudokeyi.domain.provenance import SexSource
 from gudokeyi.domain.refusals import Refusal
 from gudokeyi.domain.wording import SEXES, Counted, Joined, OptionalPart, Text, Told, Word
@@ -158,6 +158,43 @@ class NamedByRelation(ParentLeftOut):
         "its {role} '{written}' is left out: it says how another animal is related, and counts as unknown; write the "
         "{role}'s own id"
     )
+
+
+@dataclass(frozen=True, slots=True)
+class NotSaidToBeParent(ParentLeftOut):
+    """A cell with words beside an animal by which it isn't the parent, may not be it, or has the same one."""
+
+    role: Role
+    written: str
+    named: str
+
+    code = "not said to be parent"
+    message = Text(
+        "its {role} '{written}' is left out: it doesn't say that {named} is the {role}, and counts as unknown; write the "
+        "{role}'s id alone"
+    )
+
+
+@dataclass(frozen=True, slots=True)
+class NamedOtherwiseBeside(Finding):
+    """A parent whose id is taken, beside which the cell has the name of one or several others."""
+
+    role: Role
+    written: str
+    parent: str
+    name: str
+    others: tuple[str, ...]
+
+    what = What.WARNING
+    severity = Severity.PARENTS
+    code = "named otherwise beside"
+    message = Text(
+        "its {role} '{written}' is {parent} by its id, and by its name {which}: {parent} is taken; if another is meant, "
+        "write the id of that one"
+    )
+
+    def values(self) -> Mapping[str, object]:
+        return {"which": AnyOf(self.others)}
 
 
 @dataclass(frozen=True, slots=True)
