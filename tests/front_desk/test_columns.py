@@ -44,6 +44,15 @@ def test_further_column_of_ids(desk: Desk) -> None:
     assert "the ids of the book are in the column 'LOM': they were in 'Tag'" in done.out
 
 
+def test_ids_of_french_horses(desk: Desk) -> None:
+    """Their number is called `SIRE`, as in the first sheet so in all later ones."""
+    desk.take(sheet_of("SIRE", 1))
+    before = desk.numbers()
+    done = desk.take(sheet_of("SIRE", 1) + "DE05;2005-01-01;DE01;DE02\n")
+    assert " 1 new" in done.last and before.items() <= desk.numbers().items()
+    assert desk.parents()["DE05"] == ("DE01", "DE02")
+
+
 def test_likelier_column_comes_later(desk: Desk) -> None:
     """What the book remembers of the other columns is used again, and a likelier one is told."""
     desk.take("id;birth;sire;dam;Abgang\na;2001-01-01;;;01.02.2010\n")

@@ -76,6 +76,20 @@ def test_numbers_as_ids(desk: Desk, workbook: openpyxl.Workbook) -> None:
                "import", "sheet.xlsx", "--book", "other")  # fmt: skip
 
 
+@pytest.mark.parametrize(
+    "number_format, id",
+    [('"DE 01 "0000000', "DE 01 0000017"), ('"DE "00\\ 00\\ 000', "DE 00 00 017"), ("\\D\\E #", "DE 17"), ('0" kg"', "17"),
+     ('"A"0.00', "17"), ("000 000", "17")],
+)  # fmt: skip
+def test_text_of_a_format(desk: Desk, workbook: openpyxl.Workbook, number_format: str, id: str) -> None:
+    """A number is shown with the text before it; an amount, or a unit behind it, is no part of an id."""
+    workbook["Tiere"]["A3"] = 17
+    workbook["Tiere"]["A3"].number_format = number_format
+    save(desk, workbook)
+    desk.good("import", "sheet.xlsx")
+    assert id in desk.parents()
+
+
 def test_days_that_show_less(desk: Desk, workbook: openpyxl.Workbook) -> None:
     """A day whose format shows the year alone is no full day."""
     sheet = workbook["Tiere"]

@@ -84,6 +84,8 @@ class IdColumn:
         title that the book's has."""
         columns = self.columns
         parents = {at for role in (Field.SIRE, Field.DAM) for at in columns.titled(KNOWN_TITLES[role])}
+        # the number that French horses have is called `SIRE`
+        parents = {at for at in parents if plain(columns.title(at)) != plain(self.before)}
         free = [at for at, title in enumerate(columns.sheet.titles) if title and columns.is_free(at)]
         free = [at for at in free if at not in parents]
         of_name = columns.found.get(Field.NAME)

@@ -26,6 +26,7 @@ from gudokeyi.ingest.findings.files import (
     DigitsLost, FormulasWithoutValue, NotesAtCells, StruckThrough, WorksheetLacks, WorksheetUnclear,
 )  # fmt: skip
 from gudokeyi.ingest.messages import SheetFault
+from gudokeyi.ingest.number_formats import number_text
 from gudokeyi.ingest.texts import clean
 
 # What the parts of a workbook would become: their cells are counted before they are made, since a file of few bytes may
@@ -336,9 +337,7 @@ def cell_text(cell: Any) -> str:
     if isinstance(value, float) and value.is_integer():
         value = int(value)
     if isinstance(value, int):
-        # the format 00000 shows zeros before a number
-        zeros = re.fullmatch(r"0+", str(cell.number_format or ""))
-        return f"{value:0{len(zeros.group())}}" if zeros else str(value)
+        return number_text(value, str(cell.number_format or ""))
     return from_spreadsheets(clean(str(value)))
 
 
