@@ -24,7 +24,14 @@ unknown_words <- c(
   "keine angaben", "fehlt", "inconnu", "inconnue", "non connu", "non connue", "pas connu", "non renseign\u00e9",
   "non renseign\u00e9e", "nc", "nr", "n/k", "nbek", "fremd", "zukauf", "zugekauft", "unregistered", "not registered",
   "not yet registered", "not yet reg", "vater unbekannt", "mutter unbekannt", "p\u00e8re inconnu", "m\u00e8re inconnue",
-  "onc", "origine non constat\u00e9e", "origine inconnue", "-1", "-9", "-99", "-999", "-9999"
+  "onc", "origine non constat\u00e9e", "origine inconnue", "sire unknown", "dam unknown", "father unknown",
+  "mother unknown", "unknown father", "unknown mother", "vater unbek", "mutter unbek", "unbekannter vater",
+  "unbekannte mutter", "vater nicht bekannt", "mutter nicht bekannt", "p\u00e8re non d\u00e9clar\u00e9",
+  "m\u00e8re non d\u00e9clar\u00e9e", "non d\u00e9clar\u00e9", "non d\u00e9clar\u00e9e", "non enregistr\u00e9",
+  "non enregistr\u00e9e", "non inscrit", "non inscrite", "nicht eingetragen", "nicht eingetr", "nicht registriert",
+  "nicht erfasst", "fremdbock", "fremdwidder", "fremdhengst", "fremdbulle", "fremdr\u00fcde", "fremdkater", "stray",
+  "stray tom", "mixed mating", "mixed matings", "group mating", "pending dna", "dna pending", "-1", "-9", "-99", "-999",
+  "-9999"
 )
 # signs alone, zeros alone, and the usual numbers as other programs write them
 unknown_signs <- "^([-\u2013\u2014?.*/_~+\u2020\u271d]+|[-+]?0[0.,]*|-(1|9{1,4})[.,]0+)$"

@@ -24,6 +24,8 @@ MEANT = "has no row: added without parents (is {} meant?)"
         ("Max × Moritz", "", MEANT.format("DE-003")),
         ("", "Anka", MEANT.format("DE-004")),
         ("", "Bella vom Hoff", MEANT.format("DE-002")),
+        ("", "Bela vom Hof", MEANT.format("DE-002")),
+        ("", "Bella von Hof", MEANT.format("DE-002")),
     ],
 )
 def test_near_a_name(desk: Desk, sire: str, dam: str, told: str) -> None:
@@ -33,7 +35,15 @@ def test_near_a_name(desk: Desk, sire: str, dam: str, told: str) -> None:
     assert f"line 6: {sire or dam}: added: the {'sire' if sire else 'dam'} of DE-005 {told}" in done.out
 
 
-@pytest.mark.parametrize("sire", ["KB", "Ch. Hugo 9", "Ch. Fern 17", "IA"])
+def test_misspelt_by_a_letter_among_many(desk: Desk) -> None:
+    """Also where many parents lack a row; one with another digit is another animal."""
+    rows = "".join(f"DE-{at};;f;2004-01-01;DE-001;Founder {at}\n" for at in range(100, 106))
+    done = desk.take(f"{TITLES}{ANIMALS}{rows}DE-005;;f;2004-01-01;Fern 17;Bella von Hof\n")
+    assert f"line 12: Bella von Hof: added: the dam of DE-005 {MEANT.format('DE-002')}" in done.told
+    assert len({line for line in done.told.splitlines() if "meant?" in line}) == 1
+
+
+@pytest.mark.parametrize("sire", ["KB", "Ch. Hugo 9", "Ch. Fern 17", "IA", "2020-10-01", "1.10.2020"])
 def test_like_no_id(desk: Desk, sire: str) -> None:
     """One that means no animal is told among what may be wrong, also where it stands once."""
     done = desk.take(f"{TITLES}{ANIMALS}DE-005;;f;2004-01-01;{sire};\n")
@@ -41,6 +51,16 @@ def test_like_no_id(desk: Desk, sire: str) -> None:
     assert "if it means an unknown parent:" in done.out and "meant?" not in done.out
     done = desk.take(f"{TITLES}{ANIMALS}DE-005;;f;2004-01-01;{sire};\n", "--unknown", sire, "--drop-gone")
     assert "like no id" not in done.out and desk.parents()["DE-005"] == ("", "")
+
+
+def test_without_a_digit_where_parents_have_some(desk: Desk) -> None:
+    """Where nearly all parents are written by ids with digits; where many are by names, it may be one."""
+    rows = "".join(f"DE-{at};;f;2004-01-01;DE-001;DE-002\n" for at in range(100, 110))
+    for parent, is_told in (("DE-002", True), ("Anka", False)):
+        done = desk.take(f"{TITLES}{ANIMALS}{rows}".replace("DE-001;DE-002", f"DE-001;{parent}")
+                         + "DE-005;;f;2004-01-01;Hermann vom Berg;Berta\n", "--book", parent)  # fmt: skip
+        told = "Hermann vom Berg has no row and is written like no id, and is the sire of 1"
+        assert (told in done.told) == is_told
 
 
 def test_no_word(desk: Desk) -> None:

@@ -121,3 +121,22 @@ def test_named_without_accents(desk: Desk) -> None:
         "line 11: Etoile: added: the dam of L5 has no row: added without parents (2 animals have this name, E1, E5: write "
         "the id of the one that is meant)"
     )
+
+
+def test_name_that_one_offspring_cannot_have(desk: Desk) -> None:
+    """Of many offspring the one that is older is told as where the id is written, also in later sheets, and those that
+    can have the animal keep it; one of two with a name is no word for an unknown parent."""
+    rows = "R1,Max,M,2010-01-01,,\nR2,Leo,M,2001-01-01,,\nR3,Leo,M,2001-02-01,,\n"
+    rows += "".join(f"L{at},,F,{2010 + at}-06-01,Max,\n" for at in range(1, 4)) + "L0,,F,2009-06-01,Max,\n"
+    rows += "K1,,F,2004-06-01,Leo,\nK2,,F,2005-06-01,Leo,\n"
+    for more in "", "L9,,F,2020-01-01,Max,\n":
+        done = desk.take("id,name,sex,born,sire,dam\n" + rows + more)
+        done.tells(
+            "line 8: L0: its sire R1 (line 2, born 2010-01-01) is left out: it isn't at least a day older (refusal 7); L0 was "
+            "born 2009-06-01",
+            "to look at: Leo has no row, and is the sire of 2: 2 animals have this name, R2, R3: write the id of the one that "
+            "is meant",
+        )
+        assert "unknown parent" not in done.told and "Max" not in desk.numbers()
+        assert {id: desk.parents()[id][0] for id in ("L0", "L1", "L2", "L3")} == {"L0": "", "L1": "R1", "L2": "R1", "L3": "R1"}
+    assert desk.parents()["L9"] == ("R1", "")

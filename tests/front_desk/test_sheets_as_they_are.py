@@ -138,6 +138,17 @@ def test_parents_with_more_than_an_id(desk: Desk) -> None:
     assert "line 5: 003: inferred: its sire '001 / Chäspi' is 001, whose id stands there" in done.told
 
 
+def test_do_in_a_column_of_parents(desk: Desk) -> None:
+    """It repeats the cell above, unless an animal is called so; an owner may have this name."""
+    rows = "003;A;w;3.2.2013;001;002;Huber;\n004;B;w;3.2.2014;do;Do;do;\n005;C;w;3.2.2015;dto;Eva;Huber;\n"
+    done = desk.take(TITLES + PAIR + rows)
+    assert [desk.parents()[id] for id in ("004", "005")] == [("001", "002"), ("001", "002")]
+    assert "2 cells of the column 'Vater' repeat the one above" in done.out and owner_of(desk, "004") == "do"
+    desk.take(TITLES + PAIR.replace("Eva", "Do") + rows, "--book", "other")
+    [animal] = [one for one in desk.listed("list", "--book", "other", "--columns", "id,sire,dam") if one["id"] == "004"]
+    assert (animal["sire"], animal["dam"]) == ("do", "002")
+
+
 # words by which the animal beside them isn't the parent, in three languages
 DENIED = (
     "nicht 002", "DNA: nicht 002", "002 (falsch!)", "002 gestrichen", "wie 002", "s. 002", "siehe 002", "statt 002",
@@ -199,7 +210,8 @@ def test_two_parents_in_a_cell(desk: Desk) -> None:
 
 
 @pytest.mark.parametrize(
-    "word", ["n. bek.", "N/K", "ONC", "fremd", "Zukauf", "not yet reg.", "unbekannt (Weide 3)", "inconnu (saillie en liberté)"]
+    "word", ["n. bek.", "N/K", "ONC", "fremd", "Zukauf", "not yet reg.", "unbekannt (Weide 3)", "inconnu (saillie en liberté)",
+             "Sire unknown", "stray", "pending DNA", "mixed mating", "Fremdbock", "nicht eingetr.", "non déclaré"]
 )
 def test_words_for_an_unknown_parent(desk: Desk, word: str) -> None:
     done = desk.take(TITLES + PAIR + f"003;A;w;1.2.2014;{word};002;Huber;\n")

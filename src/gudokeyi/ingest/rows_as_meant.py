@@ -119,8 +119,10 @@ DITTO = {
     "s.o.", "s. o.", "siehe oben", "wie oben", "as above", "same as above", "same", "ci-dessus", "voir ci-dessus",
     "comme ci-dessus", "le même", "la même", "the same", "derselbe", "dieselbe", "der gleiche", "die gleiche",
 }  # fmt: skip
+# the same of a parent alone; as an owner it may be a name, and as a sex `doe`
+DITTO_OF_PARENT = DITTO | {"do"}
 # how they end, as no day and few ids do
-ENDS, LAST_LETTER = frozenset(mark[-1] for mark in DITTO), operator.itemgetter(slice(-1, None))
+ENDS, LAST_LETTER = frozenset(mark[-1] for mark in DITTO_OF_PARENT), operator.itemgetter(slice(-1, None))
 # the columns in which they stand for something
 REPEATED = (
     Field.OWNER, Field.BIRTH, Field.SIRE, Field.DAM, Field.SEX, Field.SINCE, Field.EXIT, Field.STATUS,
@@ -133,7 +135,7 @@ def repeat(rows: list[SheetRow], sheet: Sheet, columns: Mapping[str, int], repor
         at = columns.get(field)
         if at is None or not has_marks(sheet.column(at)):
             continue
-        rows, told = repeated(rows, at)
+        rows, told = repeated(rows, at, marks_of(field, sheet, columns))
         if told:
             line, text, above = told[0]
             report.add(0, "", CellsRepeated(sheet.titles[at], len(told), line, text, above))
@@ -145,17 +147,27 @@ def has_marks(texts: list[str]) -> bool:
     ends = {*map(LAST_LETTER, texts)}
     if ENDS.isdisjoint(end.casefold()[-1:] for end in ends):
         return False
-    return not DITTO.isdisjoint(map(str.casefold, {*texts}))
+    return not DITTO_OF_PARENT.isdisjoint(map(str.casefold, {*texts}))
 
 
-def repeated(rows: list[SheetRow], at: int) -> tuple[list[SheetRow], list[tuple[int, str, str]]]:
+def marks_of(field: Field, sheet: Sheet, columns: Mapping[str, int]) -> set[str]:
+    """The marks of a column. An animal of the sheet may be called as one of a parent is."""
+    if field not in (Field.SIRE, Field.DAM):
+        return DITTO
+    called = {text.casefold() for name in (Field.ID, Field.NAME) if name in columns for text in sheet.column(columns[name])}
+    return DITTO_OF_PARENT - (called - DITTO)
+
+
+def repeated(
+    rows: list[SheetRow], at: int, marks: set[str]
+) -> tuple[list[SheetRow], list[tuple[int, str, str]]]:
     found, told, above = list[SheetRow](), list[tuple[int, str, str]](), ""
     for row in rows:
         text = row.cells[at] if at < len(row.cells) else ""
-        if above and text.casefold() in DITTO:
+        if above and text.casefold() in marks:
             told.append((row.line, text, above))
             row = with_cell(row, at, above)
-        elif text.casefold() in DITTO:
+        elif text.casefold() in marks:
             # it repeats nothing
             row, above = with_cell(row, at, ""), ""
         else:

@@ -15,7 +15,12 @@ UNKNOWN = (
     "dam, unbekannt, unbek, nicht bekannt, nb, ka, keine angabe, keine angaben, fehlt, inconnu, inconnue, non connu, "
     "non connue, pas connu, non renseigné, non renseignée, nc, nr, n/k, nbek, fremd, Zukauf, zugekauft, unregistered, "
     "not registered, not yet registered, not yet reg, Vater unbekannt, Mutter unbekannt, père inconnu, mère inconnue, "
-    "onc, origine non constatée, origine inconnue, -1, -9, -99, -999, -9999"
+    "onc, origine non constatée, origine inconnue, sire unknown, dam unknown, father unknown, mother unknown, unknown "
+    "father, unknown mother, Vater unbek, Mutter unbek, unbekannter Vater, unbekannte Mutter, Vater nicht bekannt, "
+    "Mutter nicht bekannt, père non déclaré, mère non déclarée, non déclaré, non déclarée, non enregistré, non "
+    "enregistrée, non inscrit, non inscrite, nicht eingetragen, nicht eingetr, nicht registriert, nicht erfasst, "
+    "Fremdbock, Fremdwidder, Fremdhengst, Fremdbulle, Fremdrüde, Fremdkater, stray, stray tom, mixed mating, mixed "
+    "matings, group mating, pending DNA, DNA pending, -1, -9, -99, -999, -9999"
 )
 # `M` is male in all three languages, and `W` is weiblich; single letters that mean two things aren't here.
 SEXES = {

@@ -89,6 +89,15 @@ class NamesEver:
         return [*map(self.forms.__getitem__, names)]
 
 
+def differ_by_one(one: str, other: str) -> bool:
+    """Is one of two texts the other with one letter more, or with another letter at one place?"""
+    short, long = sorted((one, other), key=len)
+    if len(long) - len(short) > 1 or short == long:
+        return False
+    at = next((at for at, (a, b) in enumerate(zip(short, long)) if a != b), len(short))
+    return short[at + (len(short) == len(long)) :] == long[at + 1 :]
+
+
 Ids = dict[str, list[str]]
 
 
@@ -203,6 +212,18 @@ class IdsByName:
             return set()
         near = closest(key, [*self.of_same_digits(key)], 1, ALIKE)
         return {*self.there(self.ever.of_names[near[0]])} if near else set()
+
+    def with_one_letter(self, text: str) -> set[str]:
+        """The ids of the names that a text becomes where one letter of it is another, is left out or stands besides;
+        none of a short text, nor with another digit."""
+        key = folded(text)
+        half = len(key) // 2
+        if len(key) < SHORT or not half:
+            return set()
+        begins, ends, digits = key[:half], key[half + 1 :], DIGITS.findall(key)
+        likely = (one for one in self.ever.of_names if one.startswith(begins) or one.endswith(ends))
+        near = [one for one in likely if differ_by_one(key, one) and DIGITS.findall(one) == digits]
+        return {id for one in near for id in self.there(self.ever.of_names[one])}
 
     def of_same_digits(self, key: str) -> Iterator[str]:
         digits = DIGITS.findall(key)

@@ -12,6 +12,8 @@ from gudokeyi.ingest.words import KNOWN_NO_PARENTS, has_word
 MOST_WORDS, LEAST_LETTERS = 8, 3
 # a word of few letters, as `KB`, or one behind an abbreviation, as `Ch. Fern 16`
 LIKE_WORD = re.compile(r"[^\W\d_]{1,4}|(?:[^\W\d_]{1,6}\.\s*)+.*")
+# how a day is written
+DAY = re.compile(r"(?:19|20)\d\d-\d\d?-\d\d?|\d\d?([./-])\d\d?\1(?:(?:19|20)\d\d|\d\d)")
 # one in so many ids may have no digit where ids have some
 TENTH, LEAST_IDS = 10, 3
 DIGITS = re.compile(r"\d+")

@@ -5,7 +5,7 @@ from __future__ import annotations
 import collections
 import functools
 import itertools
-from collections.abc import Collection, Mapping
+from collections.abc import Collection, Mapping, Sequence
 
 from gudokeyi.domain.findings import Finding, Report
 from gudokeyi.domain.kinds import Field, Role, Standing
@@ -15,10 +15,10 @@ from gudokeyi.ingest.animals import LINE_OF, NAME_OF, Link, SheetAnimal, links_o
 from gudokeyi.ingest.findings.cells import TextTooLong
 from gudokeyi.ingest.texts import nearly, without_accents
 from gudokeyi.reconcile.findings.parents import AddedAsParent, FoundByName, FoundByNearId, FoundInBook, FoundWithin
-from gudokeyi.reconcile.findings.plausibility import LikeNoId, MayBeUnknown, MoreMayBeUnknown
+from gudokeyi.reconcile.findings.plausibility import LikeNoId, MayBeUnknown, MoreMayBeUnknown, NameOfAnimals
 from gudokeyi.reconcile.ids_by_name import IdsByName
 from gudokeyi.reconcile.last_found import LastFound
-from gudokeyi.reconcile.near_names import have_digits, is_like_word
+from gudokeyi.reconcile.near_names import DAY, have_digits, is_like_word
 from gudokeyi.reconcile.next_book import NextBook
 from gudokeyi.store.book import Book
 
@@ -32,6 +32,8 @@ SEVERAL, MOST_WORDS = 2, 9
 FEW = 5
 # and so few may be names with more or less than these
 FEW_NAMED = 50
+# one in so many offspring of a name may be one that its animal can't have
+FEW_OF_NAME = 2
 FIELDS = {Role.SIRE: Field.SIRE, Role.DAM: Field.DAM}
 
 
@@ -58,21 +60,35 @@ class Names:
         book, ids = next_book.book, next_book.in_book.ids
         links = links_outside(rows.values(), with_id)
         links = [(offspring, role, text) for offspring, role, text in links if self.same(text)]
-        others = {
-            (role, text.casefold()) for offspring, role, text in links if not self.possible(offspring, role, text)
-        }
+        others = self.of_others(links, rows)
         for offspring, role, text in links:
             in_book = book.society_records.get(offspring.id)
             former = ids.get(book.records[in_book.registration_number].parent(role)) if in_book else None
-            possible = self.possible(offspring, role, text)
-            meant = [one for one in possible if one.id == former]
-            # where it can't be the parent of one offspring there is another animal of this name, which may be that of
-            # all
+            meant = [one for one in self.possible(offspring, role, text) if one.id == former]
             if not meant and (role, text.casefold()) not in others and len(self.others(offspring, text)) == 1:
-                meant = possible
+                # where it can't be the parent the program refuses it, and that is told
+                meant = self.others(offspring, text)
             if meant:
                 offspring.set_parent(role, meant[0].id)
                 self.report.add(offspring.line, offspring.id, FoundByName(role, text, meant[0].id))
+
+    def of_others(self, links: Sequence[Link], rows: Mapping[str, SheetAnimal]) -> set[tuple[Role, str]]:
+        """The names that may be those of other animals, each with its role: where one can't be the parent of some
+        offspring there may be another animal of its name, which may be that of all; but of few beside many others the
+        cell is what may be wrong."""
+        can, cannot = collections.Counter[tuple[Role, str]](), collections.Counter[tuple[Role, str]]()
+        own = set[tuple[Role, str]]()
+        for offspring, role, text in links:
+            if not self.others(offspring, text):
+                own.add((role, text.casefold()))
+            (can if self.possible(offspring, role, text) else cannot)[role, text.casefold()] += 1
+        # those whose parent is known from the book
+        for role in {role for role, _ in cannot}:
+            names = {text: {*self.same(text)} for of, text in cannot if of is role}
+            for row in rows.values():
+                text = row.cells.get(FIELDS[role], "").casefold()
+                can[role, text] += text in names and row.parent(role) in names[text]
+        return own | {name for name, count in cannot.items() if FEW_OF_NAME * count > can[name]}
 
     def possible(self, offspring: SheetAnimal, role: Role, name: str) -> list[SheetAnimal]:
         return [one for one in self.others(offspring, name) if can_be(one, role, offspring)]
@@ -128,20 +144,41 @@ class Names:
             if (may_be or is_odd) and "," not in parent:
                 told.append((-sum(counts.values()), parent, counts, MayBeUnknown if may_be else LikeNoId))
         for _, parent, counts, kind in sorted(told, key=lambda one: one[:2])[:MOST_WORDS]:
-            self.report.add(0, "", kind(parent, counts[Role.SIRE], counts[Role.DAM]))
+            named = [] if is_pedigree else self.named(parent)
+            values = parent, counts[Role.SIRE], counts[Role.DAM]
+            self.report.add(0, "", NameOfAnimals(*values, tuple(named)) if named else kind(*values))
         if len(told) > MOST_WORDS:
             self.report.add(0, "", MoreMayBeUnknown(len(told) - MOST_WORDS))
 
     def is_like_no_id(self, parent: str) -> bool:
-        """Is it a short word, or one behind an abbreviation, where ids have digits, and means no animal by its name?"""
-        if parent not in self.lacking or not is_like_word(parent) or not self.have_digits:
+        """Where ids have digits: is it a short word, or one behind an abbreviation, a day, or a text without a digit
+        where parents have some, and means no animal by its name?"""
+        if parent not in self.lacking or not self.have_digits:
             return False
-        offspring, role = next((one, role) for one, role, text in self.without_row if text == parent)
-        return not any(self.meant(offspring, role, parent))
+        is_odd = is_like_word(parent) or (DAY.fullmatch(parent) and not self.have_days)
+        is_odd = is_odd or not any(map(str.isdigit, parent)) and self.parents_have_digits
+        if not is_odd:
+            return False
+        return not any(next(self.meant(one, role, parent) for one, role, text in self.without_row if text == parent))
+
+    def named(self, parent: str) -> list[str]:
+        """The animals that have the text of a parent without a row as their name."""
+        return [id for id in self.same(parent) if id in self.animals and id != parent]
 
     @functools.cached_property
     def have_digits(self) -> bool:
         return have_digits([id for id, animal in self.animals.items() if animal.line])
+
+    @functools.cached_property
+    def have_days(self) -> bool:
+        """Is any id written as a day is?"""
+        return any(map(DAY.fullmatch, [id for id, animal in self.animals.items() if animal.line]))
+
+    @functools.cached_property
+    def parents_have_digits(self) -> bool:
+        """Have nearly all parents one as the rows name them?"""
+        rows = [animal for animal in self.animals.values() if animal.line]
+        return have_digits([row.cells.get(field, "") for row in rows for role, field in FIELDS.items() if row.parent(role)])
 
     def meant(self, offspring: SheetAnimal, role: Role, text: str) -> tuple[str, tuple[str, ...]]:
         """Which id may be meant by a text that is none, or several that have it as their name. Where few parents lack a
@@ -156,7 +193,7 @@ class Names:
             swapped = by_name.swapped(text)
             alike = next((id for id in swapped if can_be(self.animals[id], role, offspring)), "")
         if not alike and len(self.lacking) <= FEW_NAMED:
-            near = by_name.near(text, len(self.lacking) <= FEW) - {offspring.id}
+            near = (by_name.near(text, len(self.lacking) <= FEW) or by_name.with_one_letter(text)) - {offspring.id}
             near = {id for id in near if can_be(self.animals[id], role, offspring)}
             alike = near.pop() if len(near) == 1 else ""
         return (alike if alike != offspring.id else ""), ()

@@ -9,8 +9,8 @@ from dataclasses import dataclass
 from gudokeyi.domain.changes import Option
 from gudokeyi.domain.findings import DROP_GONE, PlausibilityWarning, Severity, Suggestion, columns
 from gudokeyi.domain.kinds import Field
-from gudokeyi.domain.messages import AnyOf
-from gudokeyi.domain.wording import AllOf, Counted, OptionalPart, Text, Told
+from gudokeyi.domain.messages import MOST_NAMED, AnyOf
+from gudokeyi.domain.wording import AllOf, Counted, Joined, OptionalPart, Text, Told
 
 
 @dataclass(frozen=True, slots=True)
@@ -347,6 +347,37 @@ class LikeNoId(MayBeUnknown):
         "'{word}' has no row, and is written like no id{maybe_sire_of_on_page}{maybe_dam_of_on_page}: is an unknown "
         "animal meant?"
     )
+
+
+@dataclass(frozen=True, slots=True)
+class NameOfAnimals(PlausibilityWarning):
+    """A parent without a row, whose text is the name of other animals."""
+
+    word: str
+    sire_of: int
+    dam_of: int
+    named: tuple[str, ...]
+
+    severity = Severity.PARENTS
+    code = "name of animals"
+    message = Text(
+        "{word} has no row, and is {maybe_sire_of}{maybe_has_both}{maybe_dam_of}{maybe_likely}{maybe_named}"
+    )  # fmt: skip
+    page_message = Text(
+        "'{word}' has no row, and stands there{maybe_sire_of_on_page}{maybe_dam_of_on_page}{maybe_likely}{maybe_named}"
+    )
+    parts = MayBeUnknown.parts | {
+        "maybe_likely": OptionalPart(": is {meant} meant? If so, write that id"),
+        "maybe_named": OptionalPart(": {have} animals have this name, {first}: write the id of the one that is meant"),
+    }
+
+    def values(self) -> Mapping[str, object]:
+        return {
+            "has_both": bool(self.sire_of and self.dam_of),
+            "meant": self.named[0] if len(self.named) == 1 else "",
+            "have": len(self.named) if len(self.named) > 1 else None,
+            "first": Joined(self.named[:MOST_NAMED]),
+        }
 
 
 @dataclass(frozen=True, slots=True)
