@@ -248,6 +248,22 @@ def test_parents_without_a_row_any_more(desk: Desk) -> None:
     assert desk.parents() == before | {"007": ("001", "002")} and " 0 added, 2 gone" in done.last
 
 
+def test_one_animal_with_two_rows(desk: Desk) -> None:
+    """A retagged animal whose former row is there too is told with what to do, which makes it one."""
+    desk.take(TITLES + NAMED)
+    later = NAMED + "777;D;w;1.2.2017;001;002;Huber;\n008;N;w;1.2.2020;001;006;Huber;\n"
+    told = (
+        "line 9: 777: to look at: 006 (line 8) has its name and its birth day too: are they one animal? If so, take the row "
+        "with the former id out; if the book had that id before this sheet, undo and say --new-tag OLD=NEW, else write the "
+        "new one where offspring name it"
+    )
+    desk.take(TITLES + later).tells(told)
+    desk.good("undo")
+    done = desk.take(TITLES + later.replace("006;D;w;1.2.2017;001;002;Huber;\n", ""), "--new-tag", "006=777")
+    assert "777" in desk.numbers() and "006" not in desk.numbers() and desk.parents()["008"] == ("001", "777")
+    assert " 0 added, 0 gone" in done.last
+
+
 def test_new_tag(desk: Desk) -> None:
     """A row with the name, the birth day and the parents of an animal that has no row any more is proposed as that one,
     and is it where somebody says so, also as a parent of others; undone, all is as before."""

@@ -52,6 +52,20 @@ def test_two_worksheets_fit(desk: Desk, workbook: openpyxl.Workbook) -> None:
     lacks = "has no worksheet 'Schafe', which --worksheet names: it has 'Deckblatt', 'Tiere', 'Stand 2019'"
     done = desk.wrong(lacks, "import", "sheet.xlsx", "--worksheet", "Schafe")
     assert "1 animal" in desk.typed(done.commands()[2]).last
+    # the one that was named is taken again, and told, unless another one came that fits
+    done = desk.good("import", "sheet.xlsx")
+    assert "as at the last time: --worksheet 'Stand 2019' (the book remembers these)" in done.out and " 0 changed" in done.last
+    assert "the worksheet 'Stand 2019' of an .xlsx file; not read: 'Deckblatt', 'Tiere'" in done.out
+    done = desk.good("import", "sheet.xlsx", "--worksheet", "Tiere")
+    assert "--worksheet" not in done.out and " 1 new" in done.last
+    assert "as at the last time: --worksheet Tiere" in desk.good("import", "sheet.xlsx").out
+    workbook.copy_worksheet(workbook["Tiere"]).title = "Stand 2020"
+    save(desk, workbook)
+    desk.wrong("3 worksheets have titles that fit ('Tiere', 'Stand 2019', 'Stand 2020')", "import", "sheet.xlsx")
+    workbook.remove(workbook["Stand 2020"])
+    workbook.remove(workbook["Stand 2019"])
+    save(desk, workbook)
+    assert "--worksheet" not in desk.good("import", "sheet.xlsx").out
 
 
 def test_formula_without_value(desk: Desk, workbook: openpyxl.Workbook) -> None:

@@ -131,6 +131,8 @@ class Remembered(enum.Enum):
     COLUMN = "column"
     # a word of rows that seem to be no animals, and that they are none: these are left out
     TOLD = "told"
+    # the worksheet that somebody named, and all that the file had
+    WORKSHEET = "worksheet"
 
 
 # The two roles of a parent.

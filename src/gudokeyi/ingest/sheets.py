@@ -23,7 +23,7 @@ from gudokeyi.ingest.findings.exits import Remark
 from gudokeyi.ingest.findings.files import GreyRows
 from gudokeyi.ingest.messages import SheetFault
 from gudokeyi.ingest.texts import clean
-from gudokeyi.ingest.workbooks import Formulas, best_of, read_workbook
+from gudokeyi.ingest.workbooks import Formulas, NamedBefore, best_of, read_workbook
 
 SEPARATORS = ";\t,"
 # blanks that cells are read without
@@ -85,6 +85,9 @@ class Sheet:
     # cells of a column that is read beside another one
     remarks: list[Remark] = field(default_factory=list)
     decision: Decision | None = None
+    # the worksheets of a workbook, and the one that is taken since it was named before
+    worksheets: tuple[str, ...] = ()
+    as_before: str = ""
 
     def is_same(self, meant: Sheet) -> bool:
         """Has another sheet that was made of the same one the same rows?"""
@@ -110,17 +113,19 @@ def column_of(rows: list[SheetRow], at: int) -> list[str]:
         return [cells[at] if at < len(cells) else "" for _, cells in rows]
 
 
-def read_sheet(file: GivenFile, score: Score, worksheet: str = "") -> Sheet:
+def read_sheet(file: GivenFile, score: Score, worksheet: str = "", before: NamedBefore = NamedBefore()) -> Sheet:
     """The rows of a file. `score` says how many titles of a row are known: the separator that gives most is taken, and
-    the worksheet where none is named."""
+    the worksheet where none is named, or was before."""
     path, data = file.path, file.data
     faults: list[SheetFinding]
     formulas: Formulas | None = None
     unread, grey = list[SheetFinding](), list[int]()
+    worksheets, as_before = tuple[str, ...](), ""
     if file.is_zipped() and not file.is_workbook():
         raise Mistake(SheetFault.ODS.said(path=path))
     if file.is_workbook():
-        found = read_workbook(path, data, score, BEGINNING, worksheet)
+        found = read_workbook(path, data, score, BEGINNING, worksheet, before)
+        worksheets, as_before = found.titles, found.title * found.as_before
         rows, how, faults = [SheetRow(*one) for one in found.rows], found.how, found.faults
         formulas, unread, grey = found.formulas, found.unread, found.grey
         tops, best, taken = found.tops, best_worksheet, found.title
@@ -143,7 +148,10 @@ def read_sheet(file: GivenFile, score: Score, worksheet: str = "") -> Sheet:
     below, above = rows[at + 1 :], rows[at - 1].cells if at else []
     unread += grey_rows([one for one in grey if one > line], len(below))
     decision = Decision(tops, best, taken, first, at)
-    return Sheet(line, titles, below, how, faults, {}, unseen, formulas, unread, above, decision=decision)
+    return Sheet(
+        line, titles, below, how, faults, {}, unseen, formulas, unread, above, decision=decision, worksheets=worksheets,
+        as_before=as_before,
+    )  # fmt: skip
 
 
 def best_worksheet(tops: Tops, score: Score) -> str:

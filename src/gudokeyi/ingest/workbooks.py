@@ -187,23 +187,36 @@ class Worksheet(NamedTuple):
     # its title, and the first rows of each worksheet among which it was chosen
     title: str
     tops: Tops
+    # the titles of all worksheets, and whether it was chosen since it was named before
+    titles: tuple[str, ...]
+    as_before: bool
 
 
-def read_workbook(path: pathlib.Path, data: bytes, score: Score, most: int, named: str) -> Worksheet:
+class NamedBefore(NamedTuple):
+    """The worksheet that was named at an earlier time, and all that the file had then."""
+
+    title: str = ""
+    titles: frozenset[str] = frozenset()
+
+
+def read_workbook(
+    path: pathlib.Path, data: bytes, score: Score, most: int, named: str, before: NamedBefore = NamedBefore()
+) -> Worksheet:
     """The worksheet that is named, or else the one whose titles fit: `score` says how many titles of a row are known,
-    and they stand in one of the first `most` rows."""
+    and they stand in one of the first `most` rows. Of several that fit it is the one of before."""
     check_unpacked(path, data)
     shown, written = opened(path, data, True), opened(path, data, False)
     titles: list[str] = [sheet.title for sheet in shown.worksheets]
     tops = tops_of(path, shown, most, named)
-    at = titles.index(chosen(path, tops, score))
+    title, as_before = chosen(path, tops, score, before)
+    tops, at = {title: []} if as_before else tops, titles.index(title)
     values, texts = shown.worksheets[at], written.worksheets[at]
     rows = as_texts(path, values)
     others = [f"'{title}'" for title in titles if title != titles[at]]
     how = f"the worksheet '{titles[at]}' of an .xlsx file" + (f"; not read: {', '.join(others)}" if others else "")
     how = how if others else "an .xlsx file"
     found = faults(texts), formulas(values, texts), unread(values), grey_lines(values)
-    return Worksheet(rows, how, *found, titles[at], tops)
+    return Worksheet(rows, how, *found, titles[at], tops, tuple(titles), as_before)
 
 
 def opened(path: pathlib.Path, data: bytes, values: bool) -> Any:
@@ -289,11 +302,14 @@ def best_of(tops: Tops, score: Score) -> tuple[list[str], int]:
     return [title for title, points in scores.items() if points == most], most
 
 
-def chosen(path: pathlib.Path, tops: Tops, score: Score) -> str:
+def chosen(path: pathlib.Path, tops: Tops, score: Score, before: NamedBefore) -> tuple[str, bool]:
+    """The title, and whether it is that of before. One that came since may be what is meant now."""
     best, most = best_of(tops, score)
+    if len(best) > 1 and before.title in best and before.titles.issuperset(best):
+        return before.title, True
     if len(best) > 1:
         raise ImportRefused(WorksheetUnclear(str(path), tuple(best), most > 0))
-    return best[0]
+    return best[0], False
 
 
 def faults(texts: Any) -> list[SheetFinding]:

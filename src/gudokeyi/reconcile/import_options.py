@@ -17,6 +17,7 @@ from gudokeyi.domain.requests import refuse_text
 from gudokeyi.domain.settings import Setting
 from gudokeyi.ingest.titles import parts_of
 from gudokeyi.ingest.texts import clean, listed, plain
+from gudokeyi.ingest.workbooks import NamedBefore
 from gudokeyi.reconcile.limits import APART, YOUNGEST, Limits
 from gudokeyi.reconcile.messages import ImportFault
 from gudokeyi.store.book import Book
@@ -136,6 +137,23 @@ def remember_columns(book: Book, titles: list[tuple[str, str]]) -> None:
     columns = {one.word: one for one in book.remembered if one.what is Remembered.COLUMN}
     columns |= {field: Meaning(Remembered.COLUMN, field, title) for field, title in titles}
     book.remembered = [one for one in book.remembered if one.what is not Remembered.COLUMN] + [*columns.values()]
+
+
+# stands in no title of a worksheet
+BETWEEN_WORKSHEETS = "/"
+
+
+def worksheet_before(book: Book) -> NamedBefore:
+    """The worksheet that somebody named last."""
+    found = [one for one in book.remembered if one.what is Remembered.WORKSHEET]
+    return NamedBefore(found[-1].word, frozenset(found[-1].meaning.split(BETWEEN_WORKSHEETS))) if found else NamedBefore()
+
+
+def remember_worksheet(book: Book, named: str, worksheets: tuple[str, ...]) -> None:
+    """The one that is named, where a file has several."""
+    if named and len(worksheets) > 1:
+        others = [one for one in book.remembered if one.what is not Remembered.WORKSHEET]
+        book.remembered = [*others, Meaning(Remembered.WORKSHEET, named, BETWEEN_WORKSHEETS.join(worksheets))]
 
 
 def without(words: list[str], taken_back: list[str]) -> list[str]:

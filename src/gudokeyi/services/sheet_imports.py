@@ -21,7 +21,7 @@ from gudokeyi.reconcile.exits import leave_out_early_exits, tell_most_changed, t
 from gudokeyi.reconcile.findings.obstacles import StrictlyNothing
 from gudokeyi.reconcile.ids import call_as_now, give_numbers, letters_unsaid, numbers_begin
 from gudokeyi.reconcile.import_options import (
-    ImportOptions, again, limits_of, remember, remember_columns, rename_owners, with_settings,
+    ImportOptions, again, limits_of, remember, remember_columns, remember_worksheet, rename_owners, with_settings,
 )  # fmt: skip
 from gudokeyi.reconcile.impossible_parents import leave_out_faulty_parents
 from gudokeyi.reconcile.limits import Limits
@@ -199,8 +199,10 @@ def import_sheet_into(
         next_book.compare(last.rows_of(book), frozenset() if are_renamed else last.same_rows(book))
     complete(next_book, read.columns, import_options)
     own = find_own_columns(book, read.columns, import_options.own)
-    understood = understood_of(path, read, again(words, import_options), titles_before(book), own)
+    used = again(words, import_options) + [Option("--worksheet", read.sheet.as_before)] * bool(read.sheet.as_before)
+    understood = understood_of(path, read, used, titles_before(book), own)
     remember_columns(book, read.columns.titles_found())
+    remember_worksheet(book, import_options.worksheet, read.sheet.worksheets)
 
     def take_own() -> None:
         take_own_values(next_book, own, read.sheet, bool(words[Remembered.MONTH_FIRST]))

@@ -27,10 +27,11 @@ from gudokeyi.ingest.sheet_animals import Rows
 from gudokeyi.ingest.sheets import Sheet, read_sheet
 from gudokeyi.ingest.titles import known_titles, parts_of, read_given, read_sexes
 from gudokeyi.ingest.unknown_parents import UnknownParents
+from gudokeyi.ingest.workbooks import NamedBefore
 from gudokeyi.reconcile.animals_of_book import AnimalsOfBook
 from gudokeyi.reconcile.findings.obstacles import NoRowTaken
 from gudokeyi.reconcile.last_found import LastFound
-from gudokeyi.reconcile.import_options import ImportOptions, RememberedWords
+from gudokeyi.reconcile.import_options import ImportOptions, RememberedWords, worksheet_before
 from gudokeyi.reconcile.rows_of_book import RowsOfBook
 from gudokeyi.store.book import Book
 from gudokeyi.store.members import members_by_code
@@ -43,20 +44,20 @@ class LastSheet:
     meanwhile decide otherwise which rows it has."""
 
     def __init__(self) -> None:
-        self.read: tuple[GivenFile, str, Sheet] | None = None
+        self.read: tuple[GivenFile, str, NamedBefore, Sheet] | None = None
 
-    def of(self, file: GivenFile, titles: frozenset[str], worksheet: str) -> Sheet:
-        """The rows of a file; the titles are those that its columns had or are named by."""
+    def of(self, file: GivenFile, titles: frozenset[str], worksheet: str, before: NamedBefore = NamedBefore()) -> Sheet:
+        """The rows of a file; the titles are those that its columns had or are named by. `worksheet` is named now."""
 
         def score(row: list[str]) -> int:
             return known_titles(row) + sum(title in titles for title in row)
 
         last = self.read
-        if last and last[:2] == (file, worksheet) and last[2].decision and last[2].decision.is_same(score):
-            return last[2]
+        if last and last[:3] == (file, worksheet, before) and last[3].decision and last[3].decision.is_same(score):
+            return last[3]
         self.read = None
-        sheet = read_sheet(file, score, worksheet)
-        self.read = file, worksheet, sheet
+        sheet = read_sheet(file, score, worksheet, before)
+        self.read = file, worksheet, before, sheet
         return sheet
 
 
@@ -271,7 +272,8 @@ def read_columns(
     """The columns of a sheet, which has its rows."""
     now = read_given(import_options.columns)
     before = titles_before(book) | read_given(words[Remembered.COLUMNS])
-    sheet = LAST_SHEET.of(file, frozenset({*before.values(), *now.values()}), import_options.worksheet)
+    titles, worksheet = frozenset({*before.values(), *now.values()}), worksheet_before(book)
+    sheet = LAST_SHEET.of(file, titles, import_options.worksheet, worksheet)
     unknown = UnknownParents(words[Remembered.UNKNOWN], words[Remembered.KNOWN])
     ids = (last.animals_of_book(book) if last else AnimalsOfBook(book)).had_row
     before = {name: title for name, title in before.items() if name not in now}

@@ -346,5 +346,15 @@ CREATE TABLE picture (
 ) STRICT;
 """
 
-MIGRATIONS = (FIRST, SECOND, THIRD, FOURTH, FIFTH, SIXTH, LITTERS, PICTURE)
+# the worksheet that was taken is remembered
+WORKSHEET = f"""
+PRAGMA writable_schema = ON;
+UPDATE sqlite_schema SET sql = replace(
+    sql, 'what = ''{Remembered.TOLD.value}''',
+    'what = ''{Remembered.TOLD.value}'' OR what = ''{Remembered.WORKSHEET.value}'''
+) WHERE name = 'remembered' AND NOT instr(sql, '''{Remembered.WORKSHEET.value}''');
+PRAGMA writable_schema = RESET;
+"""
+
+MIGRATIONS = (FIRST, SECOND, THIRD, FOURTH, FIFTH, SIXTH, LITTERS, PICTURE, WORKSHEET)
 VERSION = len(MIGRATIONS)

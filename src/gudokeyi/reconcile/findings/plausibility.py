@@ -203,10 +203,24 @@ class NameAndDayTwice(PlausibilityWarning):
 
     severity = Severity.ANIMALS
     code = "name and day twice"
-    message = Text("{other}{maybe_line} has its name and its birth day too: are they one animal?")
+    message = Text(
+        "{other}{maybe_line} has its name and its birth day too: are they one animal?{maybe_both}"
+    )
+    page_message = Text("{other}{maybe_line} has its name and its birth day too: are they one animal?{maybe_row}")
     parts = {
         "maybe_line": OptionalPart(" (line {line})"),
+        "maybe_row": OptionalPart(
+            " If so, take the row with the former id out, and write the new one where offspring name it", when="has_row"
+        ),
+        "maybe_both": OptionalPart(
+            " If so, take the row with the former id out; if the book had that id before this sheet, undo and say "
+            "--new-tag OLD=NEW, else write the new one where offspring name it",
+            when="has_row",
+        ),
     }
+
+    def values(self) -> Mapping[str, object]:
+        return {"has_row": bool(self.line)}
 
 
 @dataclass(frozen=True, slots=True)
