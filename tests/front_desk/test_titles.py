@@ -88,3 +88,9 @@ def test_titles_of_two_lines(desk: Desk) -> None:
     other = desk.take(sheet.format("am/wie"), "--book", "other")
     assert "owner from" not in other.out and "exit from" not in other.out
     assert "owner from" not in desk.take(sheet.format("Rufname"), "--book", "third").out
+
+
+def test_rows_as_a_spreadsheet_counts_them(desk: Desk) -> None:
+    """Titles and cells of several lines, and empty rows, are a row each."""
+    sheet = 'id,sex,"date of\nbirth",sire,dam,"note\non it"\na,M,2001-01-01,,,"one\ntwo\nthree"\n\nb,,2002-01-01,b,,\n'
+    desk.take(sheet).tells("line 4: b: its sire b is left out: b would be its own ancestor (b > b)")

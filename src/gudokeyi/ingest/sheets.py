@@ -56,7 +56,8 @@ class Decision:
 
 
 class SheetRow(NamedTuple):
-    """A row that has a cell with text. `line` is that of the file in which it begins, the first line is 1."""
+    """A row that has a cell with text. `line` is its row as a spreadsheet counts them, the first is 1: a cell may have
+    several lines of the file."""
 
     line: int
     cells: list[str]
@@ -251,10 +252,10 @@ def records_of(text: str, separator: str) -> list[SheetRow]:
     reader = csv.reader(io.StringIO(text, newline=""), delimiter=separator, strict=True)
     rows, begins, cleaned = [], 1, Cleaned()
     try:
-        for cells in reader:
+        for at, cells in enumerate(reader, 1):
             texts = list(map(cleaned.__getitem__, cells))
             if any(texts):
-                rows.append(made(SheetRow, (begins, texts)))
+                rows.append(made(SheetRow, (at, texts)))
             begins = reader.line_num + 1
     except csv.Error as error:
         raise unreadable(error, begins) from None
