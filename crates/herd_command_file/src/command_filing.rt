@@ -16,7 +16,8 @@ use std::io::Read;
 
 /// Files what a reader gives in an empty register, up to the end of the file, its first fault, or a want of memory.
 ///
-/// After a want of memory the command that found none is read and not filed; `fault_of_rest` reads on.
+/// After a want of memory the command that found none is read and not filed; `fault_of_rest` reads on. No clause says
+/// then what the register holds: by reading, the commands before that one.
 pub fn file_commands<R: Read>(
     commands: &mut CommandReader<R>,
     register: &mut Register<Global>,
