@@ -1,4 +1,4 @@
-//! Growths that are refused, and calls that no program makes.
+//! Growths that are refused, and when room suffices.
 
 ghost use Rattle.std.specs.Prelude.{◌<◌, length};
 ghost use Rattle.herd_frozen.specs.declared.TheConstants.{DEPTH_LIMIT};
@@ -69,6 +69,7 @@ fn expect_in_time(
     requires { AreBookCoefficients DEPTH_LIMIT frozen.now coefficients.now }
 {
     let rank = frozen.rank(&Bull(5).number()).ok_or("absent")?;
+    assert_eq!(rt; mendelian(frozen, coefficients.list(), rank), 1 << 119);
     let mut refused = 0u32;
     let mut told = [None; 3];
     for size in 1..256 {
