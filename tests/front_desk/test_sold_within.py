@@ -53,3 +53,18 @@ def test_taker_who_may_be_two(desk: Desk) -> None:
     assert told in done.out
     [animal] = [one for one in desk.table("book/ids.csv") if one["id"] == "003"]
     assert animal["exit"]
+
+
+@pytest.mark.parametrize(
+    "cell, day",
+    [
+        ("verkauft an Meier Ida", ""), ("sold to Ida Meier", ""), ("jetzt Meier", ""), ("vendue à Meier Ida", ""),
+        ("Huber, verk. an Meier, 3.4.21", "2021-04-03"),
+    ],
+)  # fmt: skip
+def test_sale_in_place_of_owner(desk: Desk, cell: str, day: str) -> None:
+    """The taker is the owner, since the day that the cell has, and that is told with the line."""
+    done = desk.take(TITLES + ROWS.replace("001;002;Huber;\n", f'001;002;"{cell}";\n'))
+    assert owner_of(desk, "003") == "Meier Ida" and desk.transfer_days() == [day][: bool(day)]
+    assert f"line 4: 003: to look at: its owner is written '{cell}': Meier Ida is taken as its owner" in done.out
+    assert " 0 changed" in desk.take(TITLES + ROWS.replace("001;002;Huber;\n", f'001;002;"{cell}";\n')).last

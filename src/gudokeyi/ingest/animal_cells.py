@@ -18,9 +18,9 @@ from gudokeyi.ingest.encodings import Letters
 from gudokeyi.ingest.findings.cells import DAYS, DayLeftOut, EmbryoUnread, ErrorValue, SexUnread, TextTooLong
 from gudokeyi.ingest.findings.columns import SheetFinding
 from gudokeyi.ingest.findings.exits import ExitInferred, ExitsInOtherWords, ExitsWithoutDay, NoExits, Remark
-from gudokeyi.ingest.findings.rows import SoldWithin, TakerUnclear
+from gudokeyi.ingest.findings.rows import OwnerSold, SoldWithin, TakerUnclear
 from gudokeyi.ingest.findings.sheets import MOST_TEXTS, Cells, CellsUnread, ErrorCells, ErrorColumn, TextCount
-from gudokeyi.ingest.rows_as_meant import Takers
+from gudokeyi.ingest.rows_as_meant import Takers, taker_of_owner
 from gudokeyi.ingest.sexes import Sexes
 from gudokeyi.ingest.sheets import Sheet
 from gudokeyi.ingest.unknown_parents import UnknownParents, names_no_owner
@@ -185,6 +185,8 @@ class AnimalCells:
             animal.birth = self.span(animal, Field.BIRTH, birth, self.days.day(Field.BIRTH, birth)) or ANY_DAY
         if since:
             animal.since = self.span(animal, Field.SINCE, since, self.days.day(Field.SINCE, since))
+        if owner and (taker := taker_of_owner(owner)):
+            self.read_taker(animal, owner, taker)
         if exit:
             self.read_exit(animal, exit)
         if embryo:
@@ -271,6 +273,18 @@ class AnimalCells:
         animal.owner, animal.owner_before, animal.since = owner, before, exit.day.span or animal.since
         self.report.add(animal.line, animal.id, SoldWithin(owner, before, text))
         return True
+
+    def read_taker(self, animal: SheetAnimal, text: str, taker: str) -> None:
+        """The owner of an animal is written as `verkauft an Meier`, who is an owner of other animals."""
+        named = self.takers.called(taker)
+        if len(named) != 1:
+            return
+        [animal.owner], day = named, self.days.day(Field.EXIT, text)
+        if day.span:
+            animal.since = day.span
+        if day.reading and day.span:
+            self.readings.add(Field.OWNER, day.reading, animal.line, text, day.span)
+        self.report.add(animal.line, animal.id, OwnerSold(text, animal.owner))
 
     def is_embryo(self, animal: SheetAnimal, text: str) -> bool:
         is_told = text not in self.unknown or text.casefold() in KNOWN_NO

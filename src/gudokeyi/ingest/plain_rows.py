@@ -18,6 +18,7 @@ from gudokeyi.ingest.animals import SheetAnimal
 from gudokeyi.ingest.day_cells import ExitCell
 from gudokeyi.ingest.days import ANY_DAY, Span
 from gudokeyi.ingest.encodings import LOST, decoded_twice
+from gudokeyi.ingest.rows_as_meant import taker_of_owner
 from gudokeyi.ingest.sheets import Sheet
 from gudokeyi.ingest.texts import plain
 from gudokeyi.ingest.unknown_parents import UnknownParents, names_no_owner
@@ -225,6 +226,7 @@ class PlainRows:
     def owners(self) -> Iterable[str]:
         if Field.OWNER not in self.texts:
             return itertools.repeat("")
+        self.leave(Field.OWNER, {*filter(taker_of_owner, self.different[Field.OWNER])})
         return self.without(Field.OWNER, {*filter(names_no_owner, self.different[Field.OWNER])} - {""})
 
     def sexes(self) -> Iterable[str]:

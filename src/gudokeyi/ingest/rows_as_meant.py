@@ -197,6 +197,10 @@ TAKER = re.compile(
 )
 # the same of a text that begins with whom
 TO_WHOM = re.compile(r"(?:an|zu|to|à|au)\s+(?P<taker>\S.*)", re.IGNORECASE)
+# the same of a text that stands for an owner
+WITH_NOW = re.compile(
+    r"(?:jetzt|nun|now|maintenant|désormais)\b[: ]*(?:bei |an |with |to |chez |à )?(?P<taker>\S.*)", re.IGNORECASE
+)
 
 
 def said_of(status: str, title: str) -> str:
@@ -284,17 +288,28 @@ MEMBER = {plain(word) for word in ("Mitglied", "Mitgl.", "Mitgliednr.", "Mitglie
 NUMBER = {plain(word) for word in ("Nr.", "Nummer", "No.", "N°", "number", "numéro")}
 
 
+def taker_of_owner(text: str) -> str:
+    """Who has an animal whose owner is written as `verkauft an Meier`; empty where the text tells of no sale."""
+    found = TAKER.search(text) or WITH_NOW.match(text)
+    return found["taker"] if found else ""
+
+
 class Takers:
     """Finds the owner who is meant where an animal is sold. `owners` are those of the list and of the book, by the
     names and the numbers of members that a text may have."""
 
     def __init__(self, owners: Mapping[str, str]) -> None:
-        self.by_words = [(words, owner) for name, owner in owners.items() if owner and (words := words_of(name))]
+        names = ((name, owner) for name, owner in owners.items() if owner and not taker_of_owner(name))
+        self.by_words = [(words, owner) for name, owner in names if (words := words_of(name))]
 
     def named(self, text: str) -> tuple[str, ...]:
-        """The owners whose names have all words that stand behind `verkauft an`, or whose name those are."""
+        """The owners who are named behind `verkauft an`, or in a text that begins with whom."""
         found = TAKER.search(text) or TO_WHOM.match(text)
-        words = words_of(found["taker"]) if found else frozenset()
+        return self.called(found["taker"]) if found else ()
+
+    def called(self, name: str) -> tuple[str, ...]:
+        """The owners whose names have all words of a name, or whose name those are."""
+        words = words_of(name)
         if not words:
             return ()
         if words & MEMBER:

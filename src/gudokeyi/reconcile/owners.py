@@ -8,8 +8,9 @@ import re
 from collections.abc import Collection, Iterator, Mapping
 
 from gudokeyi.ingest.animals import LINE_OF, NAME_OF, OWNER_OF
+from gudokeyi.ingest.rows_as_meant import taker_of_owner
 from gudokeyi.ingest.texts import plain
-from gudokeyi.ingest.words import BEGINS_BORN_DEAD, KNOWN_BORN_DEAD, TELLING_EXITS, has_word
+from gudokeyi.ingest.words import BEGINS_BORN_DEAD, DEAD, KNOWN_BORN_DEAD, PLAIN_EXITS, TELLING_EXITS, has_word
 from gudokeyi.reconcile.findings.animals import (
     OwnerMistyped, OwnerRenamed, OwnerRespelt, OwnersAlike, OwnersOtherwise, Spelling,
 )  # fmt: skip
@@ -171,6 +172,8 @@ MORE = re.compile(
 WORD, A_DAY = re.compile(r"[^\W_]+"), re.compile(r"\d{1,4}[./-]\d{1,2}[./-]\d{2,4}")
 BESIDE = {"am", "on", "le", "im", "in", "en"}
 MOST_WITHIN = 5
+# words of exits that may be a person's name
+LIKE_NAMES = {"tot", "mort", "dead"}
 
 
 def tell_doubtful_owners(next_book: NextBook, owners_before: set[str]) -> None:
@@ -183,16 +186,22 @@ def tell_doubtful_owners(next_book: NextBook, owners_before: set[str]) -> None:
         if len(named[words[owner]]) <= MOST_WITHIN:
             named[words[owner]].append(owner)
     lengths = {*map(len, named)} - {0}
+    found = dict[str, OwnerIsNoName | OwnerOfSeveral]()
     for owner, count in rows.items():
         if owner in owners_before:
             continue
-        if is_no_name(owner):
-            next_book.report.add(0, "", OwnerIsNoName(owner, count))
-        elif MORE.search(owner):
-            parts = parts_of(words[owner], lengths)
-            within = {one for part in parts for one in named.get(part, ())} - {owner}
-            if within:
-                next_book.report.add(0, "", OwnerOfSeveral(owner, tuple(sorted(within)[:MOST_WITHIN]), count))
+        within = set[str]()
+        if MORE.search(owner) or has_word(owner, PLAIN_EXITS):
+            within = {one for part in parts_of(words[owner], lengths) for one in named.get(part, ())} - {owner}
+            within = {*itertools.filterfalse(is_no_name, within)}
+        if within and not is_no_name(owner):
+            found[owner] = OwnerOfSeveral(owner, tuple(sorted(within)[:MOST_WITHIN]), count)
+        elif is_no_name(owner) or tells_of_exit(owner):
+            found[owner] = OwnerIsNoName(owner, count)
+    lines = [one for one in next_book.animals.values() if one.line] if found else []
+    first = {one.owner: one for one in reversed(lines)}
+    for owner, told in found.items():
+        next_book.report.add(first[owner].line, first[owner].id, told)
 
 
 def parts_of(words: tuple[str, ...], lengths: Collection[int]) -> set[tuple[str, ...]]:
@@ -218,7 +227,13 @@ def is_no_name(owner: str) -> bool:
     if A_DAY.fullmatch(owner):
         return True
     said = {plain(word) for word in WORD.findall(owner) if not word.isdigit()} - BESIDE
-    return bool(said) and said <= TELLING_EXITS
+    return said <= TELLING_EXITS if said else DEAD.search(owner) is not None
+
+
+def tells_of_exit(owner: str) -> bool:
+    """Does it begin with an exit, as `exportiert nach Polen`, or tell to whom the animal was sold?"""
+    first = plain(owner.split()[0])
+    return first in PLAIN_EXITS - LIKE_NAMES or bool(taker_of_owner(owner))
 
 
 def tell_mistyped_owners(next_book: NextBook, owners_before: set[str]) -> None:

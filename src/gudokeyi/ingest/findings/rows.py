@@ -191,6 +191,22 @@ class SoldWithin(Finding):
 
 
 @dataclass(frozen=True, slots=True)
+class OwnerSold(Finding):
+    """What stands for an owner tells to whom the animal was sold, or who has it now: that is an owner of others."""
+
+    text: str
+    owner: str
+
+    what = What.WARNING
+    severity = Severity.FACTS
+    code = "owner sold"
+    message = Text(
+        "its owner is written '{text}': {owner} is taken as its owner; if that isn't so, write the name alone of the one "
+        "who has it"
+    )
+
+
+@dataclass(frozen=True, slots=True)
 class ParentNamedOtherwise(Finding):
     """A parent whose id is taken, beside which another column has the name of one or several others."""
 
