@@ -108,6 +108,10 @@ def test_parent_named_by_relation(desk: Desk, cell: str) -> None:
     [
         ("12,04,2013", "2013-04-12"), ("7. III. 2013", "2013-03-07"), ("zw. 1.4. und 28.4.2013", "2013-04-16"),
         ("nuit du 26 au 27 avril 2013", "2013-04-16"), ("importé 2017", "2012-02-03"), ("≤ 2014", "2012-02-03"),
+        ("13.01.20l9", "2012-02-03"), ("13.01.20 19", "2012-02-03"), ("13.01.20?9", "2012-02-03"),
+        ("gek. 13.01.2019", "2012-02-03"), ("eingetragen am 13.1.2019", "2012-02-03"), ("reg. 13.1.19", "2012-02-03"),
+        ("acheté le 13/01/2019", "2012-02-03"), ("† 13.01.2019", "2012-02-03"), ("2013.04.12", "2013-04-12"),
+        ("Anf. 2013", "2013-03-02"),
     ],
 )  # fmt: skip
 def test_days_in_other_words(desk: Desk, cell: str, born: str) -> None:
@@ -115,6 +119,8 @@ def test_days_in_other_words(desk: Desk, cell: str, born: str) -> None:
     done = desk.take(TITLES + PAIR + f"003;A;w;{cell};001;002;Huber;\n")
     assert desk.born()["003"] == born
     assert (cell in done.out) == (born not in ("2013-04-12", "2013-03-07"))
+    events = ("gek.", "eing", "reg.", "ache", "† 13")
+    assert (f"line 4: 003: its birth day is left out: '{cell}' tells of another event" in done.out) == (cell[:4] in events)
 
 
 def test_born_dead(desk: Desk) -> None:

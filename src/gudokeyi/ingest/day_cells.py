@@ -13,7 +13,7 @@ from gudokeyi.domain.kinds import Field
 from gudokeyi.domain.provenance import GIVEN_EXIT, ExitBasis, ExitSource
 from gudokeyi.ingest.day_forms import DayForms, last_month
 from gudokeyi.ingest.days import (
-    DayFault, Precision, Span, Unreadable, behind_since, is_span, read_span, span_within, usual_day,
+    DayFault, Precision, Span, Unreadable, behind_since, is_span, read_span, span_within, tells_other_event, usual_day,
 )  # fmt: skip
 from gudokeyi.ingest.findings.cells import DayLeftOut
 from gudokeyi.ingest.findings.days import DayReading
@@ -144,6 +144,8 @@ class DayCells:
         has_left = is_exit and exit_word(text)
         if said in self.unknown and not has_left:
             return SAYS_NOTHING
+        if field is Field.BIRTH and tells_other_event(text):
+            return DayCell(fault=DayLeftOut(field, DayFault.OTHER_EVENT, text), is_unread=True)
         try:
             if (form := self.forms.read(said)) and (not is_exit or form[1] is not DayReading.WITHIN or form[0].text):
                 span, reading = form

@@ -23,7 +23,9 @@ EPOCH, SERIAL = datetime.date(1899, 12, 30), re.compile(r"(\d{5})(?:[.,]\d+)?")
 # a number below it may be a postal code, or that of a tag
 FIRST_SERIAL = datetime.date(1960, 1, 1)
 TWO = re.compile(
-    rf"(?P<day>\d{{1,2}})(?P<sign>[ ./-]+)(?:(?P<month>\d{{1,2}})|(?P<name>{NAME}))[ ./-]+'?(?P<year>\d{{2}})(?!\d)",
+    rf"(?P<day>\d{{1,2}})(?P<sign>[ ./-]+)(?:(?P<month>\d{{1,2}})|(?P<name>{NAME}))[ ./-]+'?(?P<year>\d{{2}})"
+    # a year of four digits may have a wrong sign among them, as `20l9`, `20?9` and `20 19`
+    r"(?!\w|[?*.#~]+\d| \d\d(?![\d:.]))",
     re.IGNORECASE,
 )
 # a month with such a year, as spreadsheets show a day by it: `avr.-07` and `Apr 07`
@@ -32,16 +34,16 @@ MONTH = re.compile(rf"(?P<name>{NAME})[ ./-]+'?(?P<year>\d{{2}})", re.IGNORECASE
 MARKED = re.compile(r".*\((?:inferred|invented)\)")
 # the first and the last month of a season; a winter has months of two years
 SEASONS = {
-    "frühjahr frühling spring printemps": (3, 5),
+    "frühjahr frühj frühling spring printemps": (3, 5),
     "sommer summer été ete": (6, 8),
     "herbst autumn fall automne": (9, 11),
-    "anfang beginning early début debut": (1, 4),
+    "anfang anf beginning early début debut": (1, 4),
     "mitte middle mid mi": (5, 8),
     "ende end late fin": (9, 12),
 }
 SEASON_WORDS = {word: months for words, months in SEASONS.items() for word in words.split()}
 SEASON = re.compile(
-    rf"\b({'|'.join(SEASON_WORDS)})\b[ -]*(?:of |de |d'|du )?((?:19|20|21)\d{{2}})(?!\d)", re.IGNORECASE
+    rf"\b({'|'.join(SEASON_WORDS)})\b[ .-]*(?:of |de |d'|du )?((?:19|20|21)\d{{2}})(?!\d)", re.IGNORECASE
 )
 # a week of a year, as `KW 12/2010` and `12. Woche 2010`
 WEEK = re.compile(

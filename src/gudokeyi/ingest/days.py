@@ -59,6 +59,7 @@ FORMS = (
     r"(?P<day>\d{1,2})\. ?(?P<month>\d{1,2})\. ?(?P<year>\d{4})" + TIME,
     r"(?P<day>\d{1,2})(?P<slash>[/-])(?P<month>\d{1,2})(?P=slash)(?P<year>\d{4})" + TIME,
     r"(?P<year>\d{4})/(?P<month>\d{1,2})/(?P<day>\d{1,2})" + TIME,
+    r"(?P<year>\d{4})\. ?(?P<month>\d{1,2})\. ?(?P<day>\d{1,2})\.?" + TIME,
     # `3. April 2010`, `08 January 2005`, `03-Mar-2005`, `1er mars 2005`, `2nd of May 2004`
     DAY + r"(?:\.|er|st|nd|rd|th)?[ ./-]*(?:of |de |d')?" + NAMED + "[ ./,-]*" + YEAR + TIME,
     # `12,04,2019`, `12 04 2019`, `7. III. 2019` and `7-III-2019`
@@ -83,6 +84,14 @@ NOT_THAT_YEAR = re.compile(
     r"\b(before|after|since|until|till|to|from|vor|nach|seit|bis|ab|spätestens|frühestens|avant|avt?|après|ap|depuis|"
     r"jusqu\w*|dès)\b|[<>≤≥]|"
     r"\b(adult\w*|erwachsen\w*|import\w*|bought|gekauft|achet\w*)(?!\w)",
+    re.IGNORECASE,
+)
+# another event than a birth, before the only day of a text
+OTHER_EVENT = re.compile(
+    r"\D*\b(?:gek|gekauft|Kauf|Kaufdatum|angekauft|Ankauf|zugekauft|Zukauf|Zugang|erworben|eingetr|eingetragen|Eintrag|"
+    r"Eintragung|reg|regd|registriert|registered|registration|enregistrée?|inscrite?|inscription|gekört|Körung|gechipt|"
+    r"gechippt|chipped|geimpft|gedeckt|bought|purchased?|acquired|acquise?|achetée?|achat|verk|verkauft|sold|vendue?|gest|"
+    r"gestorben|verstorben|died|décédée?)\b[.:]*\s*(?:(?:am|im|on|in|le|en|ca)\b\.?\s*)*(?=\d)|\W*[†✝]\s*(?=\d)",
     re.IGNORECASE,
 )
 # how a text begins that says since when
@@ -110,6 +119,8 @@ class DayFault(Worded):
     WITHIN_BEFORE_BIRTH = "within before birth"
     WORD_ALONE = "word alone"
     WORD_WITH_NUMBERS = "word with numbers"
+    # a birth's cell has the day of a purchase or of an entry
+    OTHER_EVENT = "other event"
 
     def words(self) -> str:
         """With a place for the text."""
@@ -127,6 +138,7 @@ FAULT_WORDS = {
     DayFault.WITHIN_BEFORE_BIRTH: "the day in '{text}' would be before its birth",
     DayFault.WORD_ALONE: "'{text}' has no day",
     DayFault.WORD_WITH_NUMBERS: "'{text}' has no single day with a year of four digits",
+    DayFault.OTHER_EVENT: "'{text}' tells of another event than a birth: write the day of birth alone",
 }
 
 
@@ -212,6 +224,11 @@ def read_span(text: str, month_first: bool = False, legible: bool = True) -> Spa
     if legible and len(years) == 1 and not NOT_THAT_YEAR.search(text):
         return year_of(int(years.pop()), text=text)
     raise Unreadable(DayFault.NO_DAY, text)
+
+
+def tells_other_event(text: str) -> bool:
+    """Does it tell of a purchase, an entry or the like, as `gekauft 13.01.2019`?"""
+    return OTHER_EVENT.match(text) is not None
 
 
 def behind_since(text: str) -> str:

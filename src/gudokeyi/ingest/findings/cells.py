@@ -298,8 +298,9 @@ class DayLeftOut(CellLeftOut):
         return self.field, self.fault
 
     def summed_up_as(self) -> Field | None:
-        """A text that can't be read is one of those of its column; a day that can't be isn't."""
-        return None if self.fault in (DayFault.AFTER_TODAY, DayFault.BEFORE_BIRTH, DayFault.YEAR) else self.field
+        """A text that can't be read is one of those of its column; a day that can't be isn't, nor is another's."""
+        alone = (DayFault.AFTER_TODAY, DayFault.BEFORE_BIRTH, DayFault.YEAR, DayFault.OTHER_EVENT)
+        return None if self.fault in alone else self.field
 
 
 @dataclass(frozen=True, slots=True)
