@@ -1,6 +1,8 @@
 """What a cell says of an exit in words: with a day, without one, or that the animal lives."""
 from __future__ import annotations
 
+import pytest
+
 from front_desk.desk import Desk
 
 
@@ -93,3 +95,47 @@ def test_exits_in_words_alone(desk: Desk) -> None:
     # a day that is filed by hand is known
     desk.good("exit", "a2", "--day", "2012-01-01")
     assert [row["exit"] for row in desk.table("book/ids.csv")][2:4] == ["", "day unknown: 'sold'"]
+
+
+@pytest.mark.parametrize(
+    "cell, left",
+    [
+        ("nicht verkauft", "stays"), ("noch da", "stays"), ("not sold", "stays"), ("still here", "stays"),
+        ("non vendue", "stays"), ("pas morte", "stays"), ("noch nicht verkauft 3.4.2020", "stays"),
+        ("Zugang 13.1.2021", "stays"), ("gekört 13.1.2021", "stays"), ("am Leben", ""), ("vorh.", ""),
+        ("im Herdbuch", ""), ("+", "gone"), ("nicht mehr am Leben", "gone"), ("nicht verkauft, verendet", "gone"),
+        ("verk. 1.5.20 (zurück 3.6.20)", "doubt"), ("sold then bought back", "doubt"), ("verkauft? 2020", "doubt"),
+        ("gest. 3.2.2020", "2020-02-03"), ("schl. 3.2.2020", "2020-02-03"), ("abg. 3.2.2020", "2020-02-03"),
+        ("before 2021", "2020-12-31"), ("vor dem 1.3.2020", "2020-02-29"), ("after 1.5.2020", "2020-05-01"),
+        ("bis 2020", "2020-12-31"), ("Anf. 2021", "2021-04-30"), ("13.01.20l9", "gone"),
+    ],
+)  # fmt: skip
+def test_words_that_deny_an_exit(desk: Desk, cell: str, left: str) -> None:
+    """A negated exit is none, and is told; one that isn't sure, or after which the animal came back, is told."""
+    done = desk.take(f"id;sex;born;sire;dam;exit\na;M;2001-01-01;;;\nb;F;2001-01-02;;;{cell}\n")
+    days = [line.split(",")[2] for line in desk.commands() if line.startswith("exit")]
+    [animal] = [one for one in desk.table("book/ids.csv") if one["id"] == "b"]
+    is_gone = bool(days) or animal["exit"].startswith("day unknown")
+    assert is_gone == (left not in ("", "stays"))
+    assert days == [left] if left[:2] == "20" else not days or left == "doubt"
+    assert ("tells of something else than an exit, in line 3" in done.out) == (left == "stays")
+    told = f"line 3: b: to look at: '{cell}' tells of an exit that isn't sure, or after which the animal came back"
+    assert (told in done.out) == (left == "doubt")
+    assert "tells of no exit" not in done.out or cell[:2] not in ("ge", "sc", "ab")
+
+
+def test_words_of_a_status_named(desk: Desk) -> None:
+    """What a status says where the exit is empty is told of the column of the status."""
+    rows = "".join(f"a{at};M;2001-01-0{at};;;;lebt\n" for at in range(1, 7))
+    rows += "b;F;2001-01-02;;;;potted\nc;F;2001-01-02;;;;tot\nd;F;2001-01-02;;;Hof;lebt\ne;F;2001-01-02;;;tot;\n"
+    done = desk.take("id;sex;born;sire;dam;Left on;Status\n" + rows, "--unknown", "x")
+    done.tells(
+        "to look at: 1 of 2 cells that tell of an exit in the column 'Status' can't be read, the first in line 8: "
+        "'potted': write days as 2001-03-01 or 01.03.2001, a word such as sold, verkauft or vendu where the day isn't "
+        "known, and nothing or alive, lebt or vivant where the animal hasn't left; or name another column by "
+        "--columns; if no column tells of exits, say --columns exit="
+    )
+    assert "1 of 2 cells that tell of an exit in the column 'Left on' can't be read, the first in line 10: 'Hof'" in done.told
+    for title, line in ("Status", 9), ("Left on", 11):
+        told = f"1 of 2 cells that tell of an exit in the column '{title}', the first in line {line}: 'tot'"
+        assert told in done.told

@@ -68,3 +68,14 @@ def test_sale_in_place_of_owner(desk: Desk, cell: str, day: str) -> None:
     assert owner_of(desk, "003") == "Meier Ida" and desk.transfer_days() == [day][: bool(day)]
     assert f"line 4: 003: to look at: its owner is written '{cell}': Meier Ida is taken as its owner" in done.out
     assert " 0 changed" in desk.take(TITLES + ROWS.replace("001;002;Huber;\n", f'001;002;"{cell}";\n')).last
+
+
+@pytest.mark.parametrize("cell", ["verkauft Meier Ida", "13.1.2021 Meier Ida", "verk. 2021 (Ida Meier)", "Meier Ida"])
+def test_owner_in_an_exit(desk: Desk, cell: str) -> None:
+    """The name of another owner in an exit is told; the animal's own is none to whom it was sold."""
+    is_within = "(" not in cell
+    done = desk.take(TITLES + ROWS.replace("001;002;Huber;\n", f"001;002;Huber;{cell}\n"))
+    told = f"line 4: 003: to look at: '{cell}' has the name of an owner in it, Meier Ida: the animal counts as gone"
+    assert (told in done.out) == is_within
+    done = desk.take(TITLES + ROWS.replace("001;002;Huber;\n", "001;002;Huber;gestorben bei Huber 13.1.2021\n"))
+    assert "name of an owner in it" not in done.out

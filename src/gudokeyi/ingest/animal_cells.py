@@ -3,7 +3,8 @@ sheet's cells can't be read."""
 from __future__ import annotations
 
 import collections
-from collections.abc import Callable, Collection
+from collections.abc import Callable, Collection, Mapping
+from dataclasses import replace
 
 from gudokeyi.domain.findings import Finding, Report
 from gudokeyi.domain.kinds import CELL_FIELDS, Field
@@ -17,14 +18,14 @@ from gudokeyi.ingest.days import ANY_DAY, DayFault, Span
 from gudokeyi.ingest.encodings import Letters
 from gudokeyi.ingest.findings.cells import DAYS, DayLeftOut, EmbryoUnread, ErrorValue, SexUnread, TextTooLong
 from gudokeyi.ingest.findings.columns import SheetFinding
-from gudokeyi.ingest.findings.exits import ExitInferred, ExitsInOtherWords, ExitsWithoutDay, NoExits, Remark
-from gudokeyi.ingest.findings.rows import OwnerSold, SoldWithin, TakerUnclear
+from gudokeyi.ingest.findings.exits import ExitInDoubt, ExitInferred, ExitsInOtherWords, ExitsWithoutDay, NoExits, Remark
+from gudokeyi.ingest.findings.rows import OwnerInExit, OwnerSold, SoldWithin, TakerUnclear
 from gudokeyi.ingest.findings.sheets import MOST_TEXTS, Cells, CellsUnread, ErrorCells, ErrorColumn, TextCount
 from gudokeyi.ingest.rows_as_meant import Takers, taker_of_owner
 from gudokeyi.ingest.sexes import Sexes
 from gudokeyi.ingest.sheets import Sheet
 from gudokeyi.ingest.unknown_parents import UnknownParents, names_no_owner
-from gudokeyi.ingest.words import KNOWN_NO, KNOWN_YES, exit_word, is_error_value
+from gudokeyi.ingest.words import KNOWN_NO, KNOWN_YES, exit_word, is_error_value, is_in_doubt
 
 # The cells of a sheet that can't be read: which texts there are, and whether they are most of a column.
 
@@ -46,27 +47,44 @@ class Unread:
         # texts that tell of something else than an exit
         self.no_exits: list[Cell] = []
         self.read: collections.Counter[str] = collections.Counter()
+        # the title of a status, by the lines whose exits are its words
+        self.of_status: Mapping[int, str] = {}
 
     def add(self, field: str, text: str, line: int) -> None:
         cells = self.exits if field == "exit" and exit_word(text) else self.cells[field]
         cells.append((text, line))
 
     def found(self) -> list[SheetFinding]:
-        told: list[SheetFinding] = [CellsUnread(self.of(field, cells)) for field, cells in self.cells.items()]
-        told += [ExitsWithoutDay(self.of(Field.EXIT, self.exits))] if self.exits else []
+        told: list[SheetFinding] = [
+            CellsUnread(one) for field, cells in self.cells.items() for one in self.of_each(field, cells)
+        ]
+        told += map(ExitsWithoutDay, self.of_each(Field.EXIT, self.exits))
         told += [NoExits.of(self.remarks())] if self.no_exits else []
-        return told + ([ExitsInOtherWords(self.of(Field.EXIT, self.other_words))] if self.other_words else [])
+        return [*told, *map(ExitsInOtherWords, self.of_each(Field.EXIT, self.other_words))]
 
     def remarks(self) -> list[Remark]:
         """The texts that tell of no exit, to be kept."""
         return [Remark(line, self.titles[Field.EXIT], text) for text, line in self.no_exits]
 
+    def of_each(self, field: str, cells: list[Cell]) -> list[Cells]:
+        """The cells of the column, and those of the status that are taken for an exit."""
+        if field != Field.EXIT or not self.of_status:
+            return [self.of(field, cells)] if cells else []
+        in_status = [one for one in cells if one[1] in self.of_status]
+        others = [one for one in cells if one[1] not in self.of_status]
+        said = self.read[field] - len(self.of_status)
+        found = [replace(self.of(field, others), said=max(said, len(others)))] if others else []
+        if in_status:
+            found.append(replace(self.of(field, in_status), said=len(self.of_status)))
+        return found
+
     def of(self, field: str, cells: list[Cell]) -> Cells:
         counts = collections.Counter(text for text, _ in cells).most_common()
         texts = tuple(TextCount(text, count) for text, count in counts[:MOST_TEXTS])
-        return Cells(
-            Field(field), self.titles[field], len(cells), self.read[field], cells[0][1], texts, len(counts) - len(texts)
-        )
+        line, title = cells[0][1], self.titles[field]
+        if field == Field.EXIT and 2 * sum(one[1] in self.of_status for one in cells) > len(cells):
+            title = next(iter(self.of_status.values()))
+        return Cells(Field(field), title, len(cells), self.read[field], line, texts, len(counts) - len(texts))
 
     def mostly(self) -> list[SheetFinding]:
         """A column is a mistake where more than half of its cells that say something, and at least three, can't be
@@ -259,6 +277,16 @@ class AnimalCells:
                 self.report.add(animal.line, animal.id, inferred)
         elif Field.EXIT in animal.unread and not exit.is_later:
             animal.exit_basis = ExitBasis(ExitSource.UNKNOWN_DAY, text=text)
+        if not exit.is_span and (left or animal.exit_basis.day_is_unknown):
+            self.tell_doubt(animal, text)
+
+    def tell_doubt(self, animal: SheetAnimal, text: str) -> None:
+        """An exit that isn't sure, or whose text has the name of another owner of the society."""
+        if is_in_doubt(text):
+            self.report.add(animal.line, animal.id, ExitInDoubt(text))
+        owners = tuple(one for one in self.takers.within(text) if one != animal.owner)
+        if owners and not self.takers.named(text):
+            self.report.add(animal.line, animal.id, OwnerInExit(text, owners[:MOST_NAMED]))
 
     def is_sold_within(self, animal: SheetAnimal, text: str, exit: ExitCell) -> bool:
         """Was it sold to an owner of the society? Then it has him, since the day that the text has."""

@@ -195,7 +195,9 @@ def tell_unread_statuses(columns: Columns, named: Mapping[str, str]) -> None:
         cells = collections.Counter(cell for cell in columns.cells(at) if cell)
         if len(cells) > MOST_DIFFERENT:
             continue
-        telling = [cell for cell in cells if has_word(cell, TELLING_EXITS | KNOWN_STAYS) or is_cross(cell)]
+        # a plus alone may be the result of a test
+        crosses = {cell for cell in cells if is_cross(cell) and "+" not in (cell, cell.strip("()"))}
+        telling = [cell for cell in cells if has_word(cell, TELLING_EXITS | KNOWN_STAYS) or cell in crosses]
         count = sum(cells[cell] for cell in telling)
         if 2 * count > cells.total() and cells.total() >= SOME:
             columns.notes.append(StatusUnread(columns.title(at), count, tuple(telling[:MOST_SHOWN]), of))

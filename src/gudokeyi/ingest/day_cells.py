@@ -13,7 +13,8 @@ from gudokeyi.domain.kinds import Field
 from gudokeyi.domain.provenance import GIVEN_EXIT, ExitBasis, ExitSource
 from gudokeyi.ingest.day_forms import DayForms, last_month
 from gudokeyi.ingest.days import (
-    DayFault, Precision, Span, Unreadable, behind_since, is_span, read_span, span_within, tells_other_event, usual_day,
+    BEFORE, DayFault, Precision, Span, Unreadable, behind_since, is_span, read_span, span_within, tells_other_event,
+    usual_day,
 )  # fmt: skip
 from gudokeyi.ingest.findings.cells import DayLeftOut
 from gudokeyi.ingest.findings.days import DayReading
@@ -153,6 +154,7 @@ class DayCells:
                 return read._replace(reading=None if is_exit and reading is DayReading.WITHIN else reading)
             within = span_within(text, self.month_first) if is_exit and not is_span(text) else None
             span = within or read_span(said, self.month_first, legible=not is_exit)
+            span = span.before() if is_exit and BEFORE.search(text) else span
         except Unreadable as error:
             # days in the wrong order keep the whole sheet from being taken, and are told once
             if error.fault is DayFault.WRONG_ORDER:

@@ -94,6 +94,10 @@ OTHER_EVENT = re.compile(
     r"gestorben|verstorben|died|décédée?)\b[.:]*\s*(?:(?:am|im|on|in|le|en|ca)\b\.?\s*)*(?=\d)|\W*[†✝]\s*(?=\d)",
     re.IGNORECASE,
 )
+# a day or a year before which something was
+BEFORE = re.compile(
+    rf"(?:\b(?:before|prior to|vor|avant)\b(?: the| dem| le)?|<)\s*(?=\d|{NAME}(?!\w))", re.IGNORECASE
+)
 # how a text begins that says since when
 SINCE = re.compile(r"(?:since|from|seit|ab|depuis|dès|à partir d[eu]):?(?: the| dem| le)? +(?=\S)", re.IGNORECASE)
 
@@ -180,6 +184,13 @@ class Span(NamedTuple):
         """The month or the year."""
         is_month = self.precision is Precision.MONTH
         return Period(f"{self.first:%Y-%m}" if is_month else str(self.first.year), self.wrong)
+
+    def before(self) -> Span:
+        """The day, month or year before it."""
+        last = self.first - datetime.timedelta(1)
+        if self.is_day:
+            return Span(last, last)
+        return month_of(last.year, last.month) if self.precision is Precision.MONTH else year_of(last.year)
 
     def until(self, last: datetime.date) -> Span:
         """The days of it that aren't after the last one; it begins before that."""

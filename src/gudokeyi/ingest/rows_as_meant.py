@@ -18,7 +18,7 @@ from gudokeyi.ingest.findings.rows import CellsRepeated, NoteRow, StatusDisagree
 from gudokeyi.ingest.findings.sheets import UnseenDropped
 from gudokeyi.ingest.sheets import Sheet, SheetRow
 from gudokeyi.ingest.texts import nearly, plain
-from gudokeyi.ingest.words import DEAD, KNOWN_SUMS, KNOWN_YES, exit_word, is_still_there, lives
+from gudokeyi.ingest.words import DEAD, KNOWN_EXITS, KNOWN_SUMS, KNOWN_YES, exit_word, is_still_there, lives
 
 # Cells with signs that no one sees: they are read without, but an id, which others write otherwise than it is seen.
 
@@ -206,7 +206,7 @@ WITH_NOW = re.compile(
 def said_of(status: str, title: str) -> str:
     """What a status says, as a cell of exits says it."""
     if plain(title) in OF_LIVING:
-        if status.casefold() in KNOWN_YES:
+        if status.casefold() in KNOWN_YES or status == "+":
             return title
         if status.casefold() in NO_WORDS:
             return f"{NO_WORDS[status.casefold()]} {title}"
@@ -220,7 +220,7 @@ class Statuses:
         self.sheet, self.unknown, self.report = sheet, unknown, report
         self.id, self.exit, self.status = (columns[one] for one in (Field.ID, Field.EXIT, Field.STATUS))
         self.titles = sheet.titles[self.exit], sheet.titles[self.status]
-        self.taken, self.remarks = 0, list[Remark]()
+        self.taken, self.remarks, self.lines = 0, list[Remark](), dict[int, str]()
 
     def rows(self, rows: list[SheetRow]) -> list[SheetRow]:
         found = [self.row(row) for row in rows]
@@ -242,15 +242,19 @@ class Statuses:
         says_exit = (exit not in self.unknown or DEAD.search(exit) is not None) and not lives(exit)
         if not exit or exit in self.unknown and not DEAD.search(exit):
             self.taken += tells or not stays
-            return with_cell(row, self.exit, said) if tells or not stays else row
+            return self.with_status(row, said) if tells or not stays else row
         if says_exit and tells and TAKER.search(said):
             return with_cell(row, self.exit, f"{said} {exit}")
         if says_exit and stays:
             self.tell(row, exit, status, True)
         elif not says_exit and tells:
             self.tell(row, exit, status, False)
-            return with_cell(row, self.exit, said)
+            return self.with_status(row, said)
         return row
+
+    def with_status(self, row: SheetRow, said: str) -> SheetRow:
+        self.lines[row.line] = self.titles[1]
+        return with_cell(row, self.exit, said)
 
     def tell(self, row: SheetRow, exit: str, status: str, has_day: bool) -> None:
         found = StatusDisagrees(self.titles[0], exit, self.titles[1], status, has_day)
@@ -272,11 +276,11 @@ def as_meant(
         report.add(line, "", NoteRow(text))
     rows = [row for row in sheet.rows if row.line not in notes] if notes else sheet.rows
     rows = repeat(rows, sheet, columns, report)
-    remarks = list[Remark]()
+    remarks, of_status = list[Remark](), dict[int, str]()
     if Field.STATUS in columns and Field.EXIT in columns:
         statuses = Statuses(sheet, columns, unknown, report)
-        rows, remarks = statuses.rows(rows), statuses.remarks
-    return sheet if rows is sheet.rows else replace(sheet, rows=rows, kept={}, remarks=remarks)
+        rows, remarks, of_status = statuses.rows(rows), statuses.remarks, statuses.lines
+    return sheet if rows is sheet.rows else replace(sheet, rows=rows, kept={}, remarks=remarks, of_status=of_status)
 
 
 # Owners to whom animals are sold within the society.
@@ -285,6 +289,8 @@ def as_meant(
 # what stands before the number of a member
 MEMBER_NAME = "Mitglied"
 MEMBER = {plain(word) for word in ("Mitglied", "Mitgl.", "Mitgliednr.", "Mitgliedsnr.", "member", "membre", "adhérent")}
+# a name with less letters may be anything in a text
+SHORTEST = 4
 NUMBER = {plain(word) for word in ("Nr.", "Nummer", "No.", "N°", "number", "numéro")}
 
 
@@ -306,6 +312,21 @@ class Takers:
         """The owners who are named behind `verkauft an`, or in a text that begins with whom."""
         found = TAKER.search(text) or TO_WHOM.match(text)
         return self.called(found["taker"]) if found else ()
+
+    def within(self, text: str) -> tuple[str, ...]:
+        """The owners whose names stand whole in a text without saying that they took the animal."""
+        words = words_of(text)
+        found = {owner for word in words for its, owner in self.by_word.get(word, ()) if its <= words}
+        return tuple(sorted(found))
+
+    @functools.cached_property
+    def by_word(self) -> dict[str, list[tuple[frozenset[str], str]]]:
+        """The names that a text may have within, by one of their words each."""
+        found: dict[str, list[tuple[frozenset[str], str]]] = {}
+        for words, owner in self.by_words:
+            if sum(map(len, words)) >= SHORTEST and not words <= KNOWN_EXITS:
+                found.setdefault(min(words), []).append((words, owner))
+        return found
 
     def called(self, name: str) -> tuple[str, ...]:
         """The owners whose names have all words of a name, or whose name those are."""

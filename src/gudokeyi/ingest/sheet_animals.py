@@ -200,6 +200,7 @@ class Rows:
         named = words_of_sexes(sheet.titles[columns[Field.SEX]]) if Field.SEX in columns else []
         self.sexes = Sexes([*self.texts(Field.SEX), *named], sexes)
         self.unread = Unread({name: sheet.titles[at] for name, at in columns.items()})
+        self.unread.of_status = sheet.of_status
         self.forms = DayForms(self.texts(Field.BIRTH), (born or {}).values(), month_first)
         self.cells = AnimalCells(unknown, self.sexes, self.unread, report, month_first, self.forms)
         self.cells.takers = Takers({one: one for one in self.texts(Field.OWNER)} | dict(owners or {}))

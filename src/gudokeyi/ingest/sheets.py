@@ -85,6 +85,8 @@ class Sheet:
     above: list[str] = field(default_factory=list)
     # cells of a column that is read beside another one
     remarks: list[Remark] = field(default_factory=list)
+    # the title of that column, by the lines whose cell for an exit is its word
+    of_status: Mapping[int, str] = field(default_factory=dict)
     decision: Decision | None = None
     # the worksheets of a workbook, and the one that is taken since it was named before
     worksheets: tuple[str, ...] = ()
@@ -92,7 +94,9 @@ class Sheet:
 
     def is_same(self, meant: Sheet) -> bool:
         """Has another sheet that was made of the same one the same rows?"""
-        return (meant.rows, meant.unseen, meant.remarks) == (self.rows, self.unseen, self.remarks)
+        return (meant.rows, meant.unseen, meant.remarks, meant.of_status) == (
+            self.rows, self.unseen, self.remarks, self.of_status
+        )  # fmt: skip
 
     def column(self, at: int) -> list[str]:
         """The cells of a column; a row that ends before it has an empty one."""

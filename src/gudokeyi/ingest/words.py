@@ -51,10 +51,11 @@ GROWN_MALES = (
 STAYS = (
     "lebt, lebend, lebendig, vorhanden, im Bestand, in Bestand, Bestand, aktiv, Zuchttier, in Zucht, alive, living, "
     "lives, active, present, in herd, in flock, current, breeding, vivant, vivante, en vie, actif, active, présent, "
-    "présente"
+    "présente, am Leben, vorh, im Herdbuch, im Zuchtbuch, in herd book, in the herd book, au livre, au troupeau"
 )
 EXITS = (
-    "ja, yes, oui, x, verkauft, verk, Verkauf, geschlachtet, Schlachtung, geschl, gestorben, verstorben, verst, verendet, "
+    "ja, yes, oui, x, verkauft, verk, Verkauf, geschlachtet, Schlachtung, geschl, schl, gestorben, gest, verstorben, "
+    "verst, verendet, verend, abg, abgeg, gestrichen, gelöscht, ausgetragen, radié, radiée, deregistered, "
     "eingegangen, tot, Tod, abgegangen, Abgang, ausgeschieden, exportiert, gekeult, euthanasiert, notgetötet, "
     "notgeschlachtet, eingeschläfert, getötet, verunglückt, abgegeben, gestohlen, gerissen, "
     "weg, inaktiv, sold, sale, slaughtered, "
@@ -76,6 +77,18 @@ STILL_THERE = (
     "prêtée, prêt, en prêt, loué, louée, castré, castrée, castration, stérilisé, stérilisée, saillie, sailli, saillies, "
     "couverte, inséminé, inséminée, insémination, gestante, pleine, gravide, sevré, sevrée, vacciné, vaccinée, tondu, "
     "tondue, pucé, pucée, revenu, revenue, de retour, retour, à vendre, réservé, réservée, exposé, exposée"
+)
+# the same of animals that came, are still there, or were looked at
+OTHER_EVENTS = (
+    "noch da, noch hier, wieder da, still here, still there, toujours là, toujours ici, encore là, Zugang, zugekauft, "
+    "Zukauf, gekauft, gek, angekauft, Ankauf, gekört, Körung, eingetragen, bought, purchased, registered, acheté, "
+    "achetée, achat, inscrit, inscrite"
+)
+# words that tell that an animal came back
+RETURNS = (
+    "zurück, zurückgekommen, zurückgekehrt, zurückgekauft, zurückgegeben, zurückgenommen, zurückgeholt, Rückkauf, "
+    "Rückgabe, wieder da, returned, came back, back, revenu, revenue, retour, retourné, retournée, repris, reprise, "
+    "racheté, rachetée"
 )
 # words in parents' cells that tell how an animal came to be, and name no parent
 NO_PARENTS = (
@@ -120,6 +133,8 @@ KNOWN_NO = {word.casefold() for word in listed(NO)}
 KNOWN_STAYS = {plain(word) for word in listed(STAYS)}
 KNOWN_EXITS = {plain(word) for word in listed(EXITS)}
 KNOWN_STILL_THERE = {plain(word) for word in listed(STILL_THERE)}
+KNOWN_NO_EXITS = KNOWN_STILL_THERE | {plain(word) for word in listed(OTHER_EVENTS)}
+KNOWN_RETURNS = {plain(word) for word in listed(RETURNS)}
 KNOWN_NO_PARENTS = {plain(word) for word in listed(NO_PARENTS)}
 KNOWN_NEGATIONS = {plain(word) for word in listed(NEGATIONS)}
 KNOWN_BORN_DEAD = {plain(word) for word in listed(BORN_DEAD)}
@@ -166,8 +181,13 @@ PLAIN_EXITS = TELLING_EXITS & {
 }  # fmt: skip
 # a word that tells of an exit tells of none here
 SALE_NOT_MADE = re.compile(r"\bfor\s+sale\b", re.IGNORECASE)
+# a word behind one that negates it
+NEGATED = re.compile(
+    r"\b(?:nicht|kein\w*|nie|niemals|not|no|never|pas|non|jamais)\s+(?:(?:yet|been|encore|noch|mehr)\s+)*(?P<word>\w+)\.?",
+    re.IGNORECASE,
+)
 # the signs of a death
-DEAD = re.compile(r"†|✝|^\+(?=\s*\d)")
+DEAD = re.compile(r"†|✝|^\+(?=\s*\d)|^\(?\+\)?$")
 
 
 def lives(text: str) -> bool:
@@ -178,11 +198,25 @@ def lives(text: str) -> bool:
 
 
 def is_still_there(text: str) -> bool:
-    """Does it tell of something else than an exit, as `retired 2019` or `on loan`?"""
+    """Does it tell of something else than an exit, as `retired 2019` or `on loan`, or that there was none, as
+    `nicht verkauft`?"""
     if not LETTER.search(text) or DEAD.search(text):
         return False
-    rest = SALE_NOT_MADE.sub(" ", text)
-    return has_word(text, KNOWN_STILL_THERE) and not has_word(rest, TELLING_EXITS)
+    sold = SALE_NOT_MADE.sub(" ", text)
+    rest = NEGATED.sub(lambda found: " " if plain(found["word"]) in TELLING_EXITS else found[0], sold)
+    if has_word(rest, TELLING_EXITS) or says_gone(rest):
+        return False
+    return rest != sold or has_word(text, KNOWN_NO_EXITS)
+
+
+def says_gone(text: str) -> bool:
+    """Does it say that the animal doesn't live any more, as `lebt nicht mehr`?"""
+    return has_word(text, KNOWN_STAYS) and has_word(text, KNOWN_NEGATIONS)
+
+
+def is_in_doubt(text: str) -> bool:
+    """Is an exit uncertain, as `verkauft? 2020`, or did the animal come back after it?"""
+    return "?" in text or (has_word(text, KNOWN_RETURNS) and has_word(text, TELLING_EXITS))
 
 
 def exit_word(text: str) -> str:
@@ -193,8 +227,7 @@ def exit_word(text: str) -> str:
         return ""
     words = text.split()
     known = next((word for word in words if plain(word) in KNOWN_EXITS), "")
-    # `lebt nicht mehr`
-    return known or (text if has_word(text, KNOWN_STAYS) and has_word(text, KNOWN_NEGATIONS) else "")
+    return known or (text if says_gone(text) else "")
 
 
 def word_fault(text: str) -> DayFault:

@@ -71,6 +71,21 @@ class ExitsInOtherWords(SheetFinding):
     }
 
 
+@dataclass(frozen=True, slots=True)
+class ExitInDoubt(Finding):
+    """A cell such as `verkauft? 2020`, or `verk. 1.5.20 (zurück 3.6.20)`."""
+
+    text: str
+
+    what = What.WARNING
+    severity = Severity.FACTS
+    code = "exit in doubt"
+    message = Text(
+        "'{text}' tells of an exit that isn't sure, or after which the animal came back: it counts as gone; if it is "
+        "there, write nothing or alive, lebt or vivant"
+    )
+
+
 class Remark(NamedTuple):
     """A cell that tells of something which no field has: it is kept as a note."""
 

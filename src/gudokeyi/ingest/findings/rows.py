@@ -174,6 +174,25 @@ class TakerUnclear(Finding):
 
 
 @dataclass(frozen=True, slots=True)
+class OwnerInExit(Finding):
+    """A cell for an exit has the name of an owner of the society, and doesn't say that this one took the animal."""
+
+    text: str
+    owners: tuple[str, ...]
+
+    what = What.WARNING
+    severity = Severity.FACTS
+    code = "owner in exit"
+    message = Text(
+        "'{text}' has the name of an owner in it, {which}: the animal counts as gone; if it is with that owner, write "
+        "sold to, verkauft an or vendu à before the name"
+    )
+
+    def values(self) -> Mapping[str, object]:
+        return {"which": AnyOf(self.owners)}
+
+
+@dataclass(frozen=True, slots=True)
 class SoldWithin(Finding):
     """An animal that was sold to an owner of the list, or of the book: it hasn't left the society."""
 
