@@ -65,14 +65,20 @@ def test_names_of_two_parents(desk: Desk, sign: str) -> None:
 
 
 def test_owners_in_two_ways(desk: Desk) -> None:
-    """A first name before or behind the last one, and words for a family."""
+    """A first name before or behind the last one, words for a family, titles, articles and words for `and`; those of a
+    man and of a woman are two."""
     owners = ["Müller, Petra", "Petra Müller", "Familie Brandt", "Fam. Brandt", "Huber", "Brandt, Ida"]
+    owners += ["M. Lefèvre Jean", "Lefèvre Jean", "GAEC Bois Joli", "GAEC du Bois Joli", "K and D Barlow", "K & D Barlow"]
+    owners += ["P Okafor", "Dr P. Okafor", "Mr A Smith", "Mrs A Smith", "de Vries", "Vries"]
     text = "".join(f"AZV-{at:03};A{at};m;H;1.6.{2000 + at};;;{one}\n" for at, one in enumerate(owners, 1))
     done = desk.take(TITLES + text)
-    way = "differ in the order of first and last name, or in how Familie is written"
+    way = "differ in the order of first and last name, in a title or an article, or in how Familie or and is written"
     for pair in "'Müller, Petra' (1 animal) and 'Petra Müller' (1 animal)", "'Fam. Brandt' (1 animal) and 'Familie Brandt' (1 animal)":
-        assert f"the owners {pair} {way}" in done.out
-    assert done.out.count(way) == 2
+        assert f"the owners {pair} {way}" in done.told
+    for one, other in ("Lefèvre Jean", "M. Lefèvre Jean"), ("GAEC Bois Joli", "GAEC du Bois Joli"), \
+            ("K & D Barlow", "K and D Barlow"), ("Dr P. Okafor", "P Okafor"):
+        assert f"the owners '{one}' (1 animal) and '{other}' (1 animal) {way}" in done.told
+    assert done.told.count(way) == 6
 
 
 def test_owner_respelt_while_an_animal_is_sold(desk: Desk) -> None:

@@ -89,12 +89,31 @@ def test_words_as_ids(desk: Desk) -> None:
         ("étalon (ex poulain)", ("M", False, "étalon")),
         ("étalon", ("M", False, "")),
         ("H", ("M", True, "hongre")),
+        ("M (neut)", ("M", True, "M")),
+        ("M kastr.", ("M", True, "M")),
+        ("F (neut)", ("F", False, "F")),
+        ("weiblich, kastriert", ("F", False, "weiblich")),
+        ("M (nicht kastriert)", ("M", False, "M")),
+        ("châtré", ("M", True, "")),
         ("X F", ("", False, "")),
         ("ex", ("", False, "")),
     ],
 )
 def test_sex_words(text: str, wanted: tuple[str, bool, str]) -> None:
     assert Sexes(["M", "F", "hongre"], {}).find(text) == wanted
+
+
+@pytest.mark.parametrize(
+    "words, wanted",
+    [
+        (("ânesse", "Eselin", "Häsin", "jennet", "spayed"), "FFFFF"), (("Rammler", "maennlich"), "MM"),
+        (("1,0", "0,1"), "MF"), (("1.0", "0.1"), "MF"), (("1.0", "2.0"), "  "), (("1,0", "2,0"), "  "),
+    ],
+)  # fmt: skip
+def test_more_sex_words(words: tuple[str, ...], wanted: str) -> None:
+    """`1,0` is a male as breeders of small animals count them, where the column has no other numbers."""
+    sexes = Sexes([*words], {})
+    assert [sexes.find(word).sex or " " for word in words] == [*wanted]
 
 
 def test_short_for_two() -> None:

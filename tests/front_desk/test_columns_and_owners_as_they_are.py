@@ -177,3 +177,10 @@ def test_parents_named_otherwise(desk: Desk) -> None:
     desk.take(titles + rows).tells(
         f"line 8: f6: to look at: its sire a1 is 'Ash', and 'Sire Name' has 'Rex', which is x9 or f6: a1 {told}",
     )
+
+
+@pytest.mark.parametrize("title", ["Depuis le", "Acquis le", "Date de mutation", "Erworben am", "Date acquired"])
+def test_titles_of_since(desk: Desk, title: str) -> None:
+    """A day beside the owner is that since when he has the animal."""
+    desk.take(TITLES.replace("\n", f";{title}\n") + PAIR.replace(";\n", ";;\n") + "003;A;w;3.2.2013;001;002;Huber;;03.10.2016\n")
+    assert desk.transfer_days() == ["2016-10-03"]

@@ -9,7 +9,9 @@ from typing import NamedTuple
 from gudokeyi.ingest.findings.columns import SheetFinding
 from gudokeyi.ingest.findings.sheets import SexWord, SexWordsShort, TextCount
 from gudokeyi.ingest.texts import plain
-from gudokeyi.ingest.words import KNOWN_CASTRATED, KNOWN_SEXES, has_word, sex_word
+from gudokeyi.ingest.words import (
+    COUNTED_SEXES, KNOWN_CASTRATED, KNOWN_NEGATIONS, KNOWN_NEUTERED, KNOWN_SEXES, has_word, sex_word,
+)  # fmt: skip
 
 
 class Meaning(NamedTuple):
@@ -21,6 +23,7 @@ class Meaning(NamedTuple):
     word: str
 
 
+NUMBER = re.compile(r"\d+[.,]\d+")
 # words of which columns have the first letters, some of which stand for another sex elsewhere
 THREE_LETTERS = (
     ("Hengst", "Stute", "Wallach"), ("stallion", "mare", "gelding"), ("étalon", "jument", "hongre"),
@@ -32,6 +35,10 @@ class Sexes:
 
     def __init__(self, texts: list[str], given: dict[str, str]) -> None:
         self.known = KNOWN_SEXES | given
+        counted = {text for text in {*texts} if NUMBER.fullmatch(text)}
+        # `1.0` may be the number of a code where no `0.1` is
+        is_counted = counted <= COUNTED_SEXES.keys() and ("1.0" not in counted or "0.1" in counted)
+        self.counted = {text: COUNTED_SEXES[text] for text in counted if is_counted and sex_word(text) not in given}
         self.short = self.short_words(texts)
         # what single letters mean in this column, whatever they mean in others
         self.letters = self.letters_of_three({sex_word(text) for text in {*texts}}, given)
@@ -69,6 +76,8 @@ class Sexes:
         return found.sex, found.is_castrated
 
     def find(self, text: str) -> Meaning:
+        if text in self.counted:
+            return Meaning(self.counted[text], False, "")
         word = sex_word(text)
         if whole := self.letters.get(word):
             sex = self.known[sex_word(whole)]
@@ -79,7 +88,7 @@ class Sexes:
             (taken_for, sex), meant = longer[0], [whole for whole, _ in longer]
         elif not sex:
             taken_for, sex = self.among_words(text)
-        return Meaning(sex, sex == "M" and all(has_word(one, KNOWN_CASTRATED) for one in meant), taken_for)
+        return Meaning(sex, sex == "M" and all(map(is_castrated, meant)), taken_for)
 
     def among_words(self, text: str) -> tuple[str, str]:
         """A word of the text and its sex, where that is the only one in it, as in `Rüde (kastriert)`; that of one that
@@ -87,6 +96,8 @@ class Sexes:
         parts = [word for word in re.split(r"[\s,;/()]+", text) if any(map(str.isalpha, word))]
         words = [word for word in parts if len(plain(word)) > 1 or word in "mwfMWF"]
         found = {word: self.known[plain(word)] for word in words if plain(word) in self.known}
+        # `F (kastr.)` isn't of two sexes
+        found = {word: sex for word, sex in found.items() if plain(word) not in KNOWN_NEUTERED} or found
         is_letter = len(words) == 1 and len(plain(words[0])) == 1
         if len(parts) < 2 or is_letter or len(set(found.values())) != 1:
             return "", ""
@@ -99,3 +110,8 @@ class Sexes:
         counts = sorted(self.taken_for.items())
         taken = tuple(SexWord(TextCount(text, count), whole) for (text, whole), count in counts)
         return [SexWordsShort(taken)] if taken else []
+
+
+def is_castrated(text: str) -> bool:
+    """Does a text for a male say that it is castrated?"""
+    return has_word(text, KNOWN_CASTRATED | KNOWN_NEUTERED) and not has_word(text, KNOWN_NEGATIONS)

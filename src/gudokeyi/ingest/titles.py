@@ -59,8 +59,9 @@ TITLES = {
     Field.SINCE: "owner since, owned since, since, date of transfer, transfer date, transferred, date of purchase, "
     "purchase date, bought, acquired, Besitzer seit, im Besitz seit, seit, Besitzwechsel, Besitzerwechsel, "
     "Besitzwechsel am, Besitzerwechsel am, Wechseldatum, Halter seit, Eigentümer seit, gekauft am, Kaufdatum, "
-    "Zugangsdatum, Zugang am, Zugang, propriétaire depuis, depuis, date d'achat, date de transfert, "
-    "date d'acquisition, acheté le",
+    "Zugangsdatum, Zugang am, Zugang, erworben am, Besitzer ab, propriétaire depuis, depuis, depuis le, date d'achat, "
+    "date de transfert, date de mutation, date d'acquisition, acheté le, achetée le, acquis le, acquise le, mutation le, "
+    "date acquired, acquired on, purchased, purchased on, bought on",
     Field.EXIT: "exit date, date of exit, Abgangsdatum, Abgang am, abgegangen am, date de sortie, date left, "
     "left on, sorti le, "
     "exit, left, departure, Abgang, abgegangen, sortie, "

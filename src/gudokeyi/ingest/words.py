@@ -25,12 +25,13 @@ UNKNOWN = (
 # `M` is male in all three languages, and `W` is weiblich; single letters that mean two things aren't here.
 SEXES = {
     "M": "m, male, bull, ram, tup, buck, billy, stallion, colt, boar, dog, stud, jack, ♂, "
-    "männlich, männl, männliche, Bulle, Jungbulle, Zuchtbulle, Deckbulle, Stier, Jungstier, Zuchtstier, Muni, Bock, "
+    "Rammler, Eselhengst, maennlich, Hahn, coq, baudet, männlich, männl, männliche, Bulle, Jungbulle, Zuchtbulle, Deckbulle, Stier, Jungstier, Zuchtstier, Muni, Bock, "
     "Schafbock, Ziegenbock, Zuchtbock, Jungbock, Altbock, Bocklamm, Widder, Hengst, Junghengst, Eber, Rüde, Kater, "
     "Bullenkalb, Stierkalb, Hengstfohlen, mâle, taureau, taurillon, bélier, bouc, étalon, poulain, chien, "
     "agneau mâle, verrat, masculin, masc",
     "F": "f, fs, fn, bs, female, fem, cow, heifer, ewe, gimmer, doe, nanny, mare, filly, sow, gilt, bitch, brood bitch, "
-    "queen, jenny, ♀, w, weiblich, weibl, "
+    "queen, jenny, jennet, ♀, w, weiblich, weibl, spayed, spayed female, Häsin, Zippe, Eselin, Eselstute, Henne, poule, "
+    "ânesse, lapine, "
     "weibliche, Kuh, Jungkuh, Mutterkuh, Färse, Kalbin, Kalbe, Sterke, Starke, Kuhkalb, Aue, Au, Jungaue, Altaue, "
     "Aulamm, Auenlamm, Mutter, Muttertier, Mutterschaf, Zibbe, Zibbenlamm, Ziege, Geiß, Geiss, Mutterziege, "
     "Jungziege, Stute, Jungstute, Zuchtstute, Stutfohlen, Sau, Hündin, Kätzin, Katze, femelle, vache, génisse, brebis, "
@@ -40,8 +41,15 @@ SEXES = {
 CASTRATED = (
     "ox, steer, bullock, wether, gelding, barrow, neutered male, castrated, castrate, male castrated, kastr, Ochse, Hammel, "
     "Schöps, Wallach, Kastrat, kastriert, männlich kastriert, Rüde kastriert, Borg, Kapaun, hongre, boeuf, bœuf, "
-    "mouton castré, castré, mâle castré, mn, mc, dn"
+    "mouton castré, castré, mâle castré, châtré, mâle châtré, mn, mc, dn"
 )
+# words that stand beside one for a sex
+NEUTERED = (
+    "neut, neutered, cast, castr, castrated, kast, kastr, kastriert, gelded, gelegt, sterilisiert, castré, castrée, "
+    "châtré, stérilisé, stérilisée"
+)
+# how breeders of small animals count males and females
+COUNTED_SEXES = {"1,0": "M", "0,1": "F", "1.0": "M", "0.1": "F"}
 # a word for a grown male that isn't castrated tells behind one of these that it was castrated since
 FORMER = "ex, former, formerly, was, früher, früherer, ehemals, ehemaliger, ehem, war, ancien, anciennement"
 GROWN_MALES = (
@@ -128,6 +136,7 @@ KNOWN_SEXES = {plain(word): sex for sex, words in SEXES.items() for word in list
 KNOWN_CASTRATED = {plain(word) for word in listed(CASTRATED)}
 KNOWN_CASTRATED |= {plain(former + word) for former in listed(FORMER) for word in listed(GROWN_MALES)}
 KNOWN_SEXES |= {word: "M" for word in KNOWN_CASTRATED}
+KNOWN_NEUTERED = {plain(word) for word in listed(NEUTERED)}
 KNOWN_YES = {word.casefold() for word in listed(YES)}
 KNOWN_NO = {word.casefold() for word in listed(NO)}
 KNOWN_STAYS = {plain(word) for word in listed(STAYS)}

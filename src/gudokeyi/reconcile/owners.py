@@ -100,19 +100,43 @@ def tell_owners_alike(next_book: NextBook) -> None:
 FAMILY = re.compile(r"\b(?:familie|family|famille|fam)\b\.?", re.IGNORECASE)
 
 
+# titles of men, of women and of both; `M.` before one name may be an initial
+OF_MEN = re.compile(r"\b(?:mr|herr|hr|monsieur)\b\.?|^m\.(?=\s*\S+\s+\S)|\bm\.$", re.IGNORECASE)
+OF_WOMEN = re.compile(r"\b(?:mrs|ms|miss|mme|mlle|madame|mademoiselle|frau)\b\.?|\bfr\.", re.IGNORECASE)
+TITLE = re.compile(rf"{OF_MEN.pattern}|{OF_WOMEN.pattern}|\b(?:dr|prof)\b\.?", re.IGNORECASE)
+# what stands between the words of a name
+JOINING = re.compile(r"\b(?:and|und|et|du|de|des|the|vom)\b|\bd['’]", re.IGNORECASE)
+
+
 def tell_otherwise(next_book: NextBook, animals: Mapping[str, int]) -> None:
-    """Names whose last name stands first, before a comma, or that have a word for a family otherwise."""
+    """Names whose last name stands first, before a comma, or that have a title, an article, or a word for a family or
+    for `and` otherwise."""
     found = collections.defaultdict[str, list[Spelling]](list)
-    usual = collections.defaultdict[str, set[str]](set)
     for owner, count in sorted(animals.items()):
-        last, comma, first = owner.partition(",")
-        name = f"{first} {last}" if comma else owner
-        key = plain(FAMILY.sub("fam", name).casefold().translate(UMLAUTS))
-        found[key].append(Spelling(owner, count))
-        usual[key].add(plain(owner.casefold().translate(UMLAUTS)))
+        found[name_alone(owner)].append(Spelling(owner, count))
     for key in sorted(found):
-        if key and len(usual[key]) > 1:
-            next_book.report.add(0, "", OwnersOtherwise(tuple(found[key])))
+        for spellings in of_one_sex(found[key]) if key and len(found[key]) > 1 else ():
+            if len({plain(one.text.casefold().translate(UMLAUTS)) for one in spellings}) > 1:
+                next_book.report.add(0, "", OwnersOtherwise(tuple(spellings)))
+
+
+def name_alone(owner: str) -> str:
+    """The name as it is compared, the last name last."""
+    untitled = TITLE.sub(" ", owner).strip()
+    last, comma, first = untitled.partition(",")
+    name = FAMILY.sub("fam", f"{first} {last}" if comma else untitled)
+    joined = JOINING.sub(" ", name)
+    # `De Vries` isn't `Vries`
+    return plain((joined if len(joined.split()) > 1 else name).casefold().translate(UMLAUTS))
+
+
+def of_one_sex(spellings: list[Spelling]) -> list[list[Spelling]]:
+    """Names alike, apart where there are some of a man and some of a woman."""
+    by_sex = collections.defaultdict[tuple[bool, bool], list[Spelling]](list)
+    for one in spellings:
+        by_sex[OF_MEN.search(one.text) is not None, OF_WOMEN.search(one.text) is not None].append(one)
+    are_both = any(man for man, _ in by_sex) and any(woman for _, woman in by_sex)
+    return [*by_sex.values()] if are_both else [spellings]
 
 
 # Owners of whom one has an initial or a first name more.
