@@ -101,3 +101,13 @@ def test_day_by_hand_stays(desk: Desk, today: datetime.date) -> None:
     desk.take(rows.format("Lang"))
     assert owners_listed(desk) == ["Meier", "Lang"]
     assert desk.transfer_days() == ["2003-01-01", "2010-01-01", str(today)]
+
+
+def test_day_of_a_sale_that_no_cell_says(desk: Desk, today: datetime.date) -> None:
+    """That of the import is taken, and that is told, but where it is named."""
+    desk.take(owners_sheet(*OWNERS))
+    told = f"line 2: a1: inferred: owner Huber since {today}, which is taken since no cell says the day"
+    desk.take(owners_sheet("Huber", "Huber", "Kunz")).tells(told)
+    assert desk.transfer_days() == [str(today)]
+    assert "no cell says" not in desk.take(owners_sheet("Huber", "Huber", "Kunz")).told
+    assert "no cell says" not in desk.take(owners_sheet("Huber", "Kunz", "Kunz"), "--day", str(today)).told

@@ -15,7 +15,7 @@ from gudokeyi.domain.provenance import OwnerDay
 from gudokeyi.ingest.animals import SheetAnimal
 from gudokeyi.ingest.days import DayFault, Span, month_of, year_of
 from gudokeyi.ingest.findings.cells import DayLeftOut
-from gudokeyi.reconcile.findings.rows import OwnerDayInferred, OwnerDayMoved
+from gudokeyi.reconcile.findings.rows import OwnerDayInferred, OwnerDayMoved, OwnerDayOfImport
 from gudokeyi.reconcile.owner_days import OwnerDays, Owners
 from gudokeyi.store.book import Book
 from gudokeyi.store.database import empty
@@ -128,4 +128,6 @@ def test_owners_of_animals(today: datetime.date) -> None:
     # once of each animal
     left_out = DayLeftOut(Field.SINCE, DayFault.AFTER_TODAY, str(tomorrow))
     of_year = OwnerDayInferred(datetime.date(2003, 12, 31), year_of(2003).period())
-    assert [entry.finding for entry in report.entries] == [left_out] * 2 + [of_year] * 2 + [left_out]
+    assert [entry.finding for entry in report.entries] == [
+        *[left_out] * 2, *[of_year] * 2, OwnerDayOfImport("Süd", today), left_out, OwnerDayOfImport("Nord", today)
+    ]  # fmt: skip

@@ -146,13 +146,15 @@ GREYS = (
 
 @pytest.mark.parametrize("grey", GREYS)
 def test_grey_rows(desk: Desk, workbook: openpyxl.Workbook, grey: openpyxl.styles.Color) -> None:
-    """Rows that are filled grey are told once, however the colour is written; grey titles and columns are none, and
-    nor is every second row."""
+    """Animals' rows that are filled grey are told once, however the colour is written; grey titles, headings and columns
+    are none, and nor is every second row."""
     sheet, fill = workbook["Tiere"], openpyxl.styles.PatternFill("solid", fgColor=grey)
     for at in range(4, 30):
         for column, text in enumerate((f"X{at}", "f", "2010-01-01", "B1", ""), 1):
             sheet.cell(at, column, text)
-    for cell in [*sheet[1], *sheet["B"], *sheet[7], *sheet[9][1:], sheet["C12"]]:
+    for cell in sheet[5]:
+        cell.value = "--- Jahrgang 2010 ---" if cell.column == 1 else None
+    for cell in [*sheet[1], *sheet["B"], *sheet[5], *sheet[7], *sheet[9][1:], sheet["C12"]]:
         cell.fill = fill
     for cell in sheet[11]:
         cell.fill = openpyxl.styles.PatternFill("solid", fgColor="FFFFCC00")

@@ -13,7 +13,7 @@ from gudokeyi.domain.findings import Report
 from gudokeyi.domain.kinds import Field, Role
 from gudokeyi.domain.requests import MOST_IN_ID
 from gudokeyi.ingest.animal_cells import AnimalCells, ErrorValues, Unread
-from gudokeyi.ingest.animals import DAM_OF, ROLES, SIRE_OF, YEARS_LATER, SheetAnimal, tell_used_again
+from gudokeyi.ingest.animals import DAM_OF, LINE_OF, ROLES, SIRE_OF, YEARS_LATER, SheetAnimal, tell_used_again
 from gudokeyi.ingest.day_cells import Order
 from gudokeyi.ingest.day_forms import DayForms
 from gudokeyi.ingest.days import Span, Unreadable, read_span
@@ -23,6 +23,7 @@ from gudokeyi.ingest.findings.cells import (
 )  # fmt: skip
 from gudokeyi.ingest.findings.columns import SheetFinding
 from gudokeyi.ingest.findings.exits import Remark
+from gudokeyi.ingest.findings.files import GreyRows
 from gudokeyi.ingest.findings.sheets import CutNumber, FormulaCell, Place
 from gudokeyi.ingest.odd_ids import Oddity, odd_ids
 from gudokeyi.ingest.plain_rows import CELLS_OF, SIGNS, PlainRows, chooser, first_sum
@@ -317,8 +318,14 @@ class Rows:
         order = Order(self.slashed_days())
         fault, note = order.fault(self.month_first), order.note(self.month_first)
         self.faults += [*([fault] if fault else []), *self.cut_numbers(), *self.unread.mostly(), *self.errors.mostly()]
-        self.notes += [*self.sheet.unread, *self.cells.letters.told(), *self.errors.told(), *([note] if note else [])]
+        self.notes += [*self.sheet.unread, *self.grey_rows(animals), *self.cells.letters.told(), *self.errors.told(), *([note] if note else [])]
         self.notes += [*self.cells.readings.told(), *self.unread.found(), *self.sexes.told()]
+
+    def grey_rows(self, animals: dict[str, SheetAnimal]) -> list[SheetFinding]:
+        """The animals' rows that are filled grey."""
+        lines = {*self.sheet.grey} and {*map(LINE_OF, animals.values())}
+        grey = [line for line in self.sheet.grey if line in lines]
+        return [GreyRows(len(grey), grey[0])] if grey else []
 
     def slashed_days(self) -> Iterator[Place]:
         """The cells of days that may show their order, each with its place."""

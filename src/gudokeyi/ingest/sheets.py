@@ -20,7 +20,6 @@ from gudokeyi.ingest.encodings import decoding
 from gudokeyi.ingest.files import MOST_LETTERS, GivenFile, check_bounds
 from gudokeyi.ingest.findings.columns import SheetFinding
 from gudokeyi.ingest.findings.exits import Remark
-from gudokeyi.ingest.findings.files import GreyRows
 from gudokeyi.ingest.messages import SheetFault
 from gudokeyi.ingest.texts import clean
 from gudokeyi.ingest.workbooks import Formulas, NamedBefore, best_of, read_workbook
@@ -91,6 +90,8 @@ class Sheet:
     # the worksheets of a workbook, and the one that is taken since it was named before
     worksheets: tuple[str, ...] = ()
     as_before: str = ""
+    # the lines of rows that are filled grey
+    grey: list[int] = field(default_factory=list)
 
     def is_same(self, meant: Sheet) -> bool:
         """Has another sheet that was made of the same one the same rows?"""
@@ -151,11 +152,13 @@ def read_sheet(file: GivenFile, score: Score, worksheet: str = "", before: Named
     line, titles = rows[at]
     check_bounds(path, rows, at + 1)
     below, above = rows[at + 1 :], rows[at - 1].cells if at else []
-    unread += grey_rows([one for one in grey if one > line], len(below))
+    grey = [one for one in grey if one > line]
+    # where so many rows are that this marks none, as every second
+    grey = grey if len(grey) <= MOST_GREY * len(below) else []
     decision = Decision(tops, best, taken, first, at)
     return Sheet(
         line, titles, below, how, faults, {}, unseen, formulas, unread, above, decision=decision, worksheets=worksheets,
-        as_before=as_before,
+        as_before=as_before, grey=grey,
     )  # fmt: skip
 
 
@@ -163,11 +166,6 @@ def best_worksheet(tops: Tops, score: Score) -> str:
     """Empty where it is unclear."""
     titles, _ = best_of(tops, score)
     return titles[0] if len(titles) == 1 else ""
-
-
-def grey_rows(lines: list[int], rows: int) -> list[SheetFinding]:
-    """What is told of rows that are filled grey; nothing where so many are that this marks none, as every second."""
-    return [GreyRows(len(lines), lines[0])] if lines and len(lines) <= MOST_GREY * rows else []
 
 
 def without_unseen(rows: list[SheetRow]) -> tuple[list[SheetRow], Unseen]:

@@ -17,7 +17,9 @@ from gudokeyi.ingest.days import DayFault, Span
 from gudokeyi.ingest.findings.cells import DayLeftOut
 from gudokeyi.ingest.unknown_parents import names_no_owner
 from gudokeyi.ingest.texts import clean, plain
-from gudokeyi.reconcile.findings.rows import OwnerDayBack, OwnerDayInferred, OwnerDayMoved, OwnerDayOfOther
+from gudokeyi.reconcile.findings.rows import (
+    OwnerDayBack, OwnerDayInferred, OwnerDayMoved, OwnerDayOfImport, OwnerDayOfOther,
+)  # fmt: skip
 from gudokeyi.reconcile.next_book import Meanings
 from gudokeyi.reconcile.owner_day_known import has_period
 from gudokeyi.store.book import Book
@@ -179,6 +181,9 @@ class OwnerDays:
     def leave_out(self, animal: SheetAnimal, found: Finding) -> None:
         self.tell(animal, found)
         self.refused.add(animal.id)
+        entries = self.report.entries
+        refused = [one for one in entries if one.id == animal.id and isinstance(one.finding, OwnerDayOfImport)]
+        self.report.entries = [one for one in entries if one not in refused] if refused else entries
 
     def herd_of(self, owner: str) -> int:
         """The owner's herd; a new owner gets the next number."""
@@ -217,6 +222,8 @@ class OwnerDays:
             else:
                 first_herd, transfers = NO_OWNER, [transfer(animal.registration_number, day, NO_OWNER, first)]
         transfers = self.in_order(animal, transfers, since, before)
+        if has_new_owner:
+            self.tell_day_of_import(animal, transfers)
         if not has_other_owner and transfers[-1].day != record.since.isoformat():
             # one that was moved is told by itself
             if since or transfers[-1].day == given[-1].day:
@@ -286,7 +293,15 @@ class OwnerDays:
         if animal.since:
             day = self.day_said(animal, animal.since)
         only = [transfer(animal.registration_number, day, first, owner_code)]
-        return Owners(first, self.in_order(animal, only, animal.since), 0, False)
+        transfers = self.in_order(animal, only, animal.since)
+        self.tell_day_of_import(animal, transfers)
+        return Owners(first, transfers, 0, False)
+
+    def tell_day_of_import(self, animal: SheetAnimal, transfers: Sequence[Command]) -> None:
+        """Where neither a cell nor a wish says the day of the last transfer."""
+        if animal.since is None and self.source.is_inferred:
+            day = datetime.date.fromisoformat(transfers[-1].day)
+            self.tell(animal, OwnerDayOfImport(animal.owner, day))
 
     def has_other_owner(self, animal: SheetAnimal, record: RegisterRecord) -> bool:
         if not animal.owner or self.herd_of(animal.owner) == record.owner_code:

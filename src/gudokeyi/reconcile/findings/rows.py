@@ -167,6 +167,18 @@ class OwnerDayInferred(Finding):
 
 
 @dataclass(frozen=True, slots=True)
+class OwnerDayOfImport(Finding):
+    """An animal has another owner, and no cell says since when: the day of the import is taken."""
+
+    owner: str
+    day: datetime.date
+
+    what = What.INFERRED
+    code = "owner day of import"
+    message = Text("owner {owner} since {day}, which is taken since no cell says the day")
+
+
+@dataclass(frozen=True, slots=True)
 class OwnerDayOfOther(Finding):
     """The cell of the day since which the owner has the animal says what it said for another owner before."""
 
