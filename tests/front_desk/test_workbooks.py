@@ -146,8 +146,8 @@ GREYS = (
 
 @pytest.mark.parametrize("grey", GREYS)
 def test_grey_rows(desk: Desk, workbook: openpyxl.Workbook, grey: openpyxl.styles.Color) -> None:
-    """Animals' rows that are filled grey are told once, however the colour is written; grey titles, headings and columns
-    are none, and nor is every second row."""
+    """Animals' rows that are filled grey are told once, however the colour is written; grey titles, headings and
+    columns are none, and nor is every second row."""
     sheet, fill = workbook["Tiere"], openpyxl.styles.PatternFill("solid", fgColor=grey)
     for at in range(4, 30):
         for column, text in enumerate((f"X{at}", "f", "2010-01-01", "B1", ""), 1):

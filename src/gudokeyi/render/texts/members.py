@@ -32,6 +32,7 @@ OF_FINDINGS: dict[enum.Enum, str] = {
     DayFault.WITHIN_BEFORE_BIRTH: "the day in '{}' would be before its birth",
     DayFault.WORD_ALONE: "'{}' has no day",
     DayFault.WORD_WITH_NUMBERS: "'{}' has no single day with a year of four digits",
+    DayFault.OTHER_EVENT: "'{}' tells of another event than a birth: write the day of birth alone",
     DayReading.TWO_DIGITS: "two digits of the year",
     DayReading.SERIAL: "a spreadsheet's number for a day",
     DayReading.WITHIN: "a day and a text",
