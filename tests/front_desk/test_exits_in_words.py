@@ -107,7 +107,8 @@ def test_exits_in_words_alone(desk: Desk) -> None:
         ("verk. 1.5.20 (zurück 3.6.20)", "doubt"), ("sold then bought back", "doubt"), ("verkauft? 2020", "doubt"),
         ("gest. 3.2.2020", "2020-02-03"), ("schl. 3.2.2020", "2020-02-03"), ("abg. 3.2.2020", "2020-02-03"),
         ("before 2021", "2020-12-31"), ("vor dem 1.3.2020", "2020-02-29"), ("after 1.5.2020", "2020-05-01"),
-        ("bis 2020", "2020-12-31"), ("Anf. 2021", "2021-04-30"), ("13.01.20l9", "gone"),
+        ("bis 2020", "2020-12-31"), ("Anf. 2021", "2021-04-30"), ("verk. 3.4.20 50 EUR", "2020-04-03"),
+        ("pas de sortie", "stays"), ("13.01.20l9", "gone"),
     ],
 )  # fmt: skip
 def test_words_that_deny_an_exit(desk: Desk, cell: str, left: str) -> None:

@@ -25,7 +25,7 @@ FIRST_SERIAL = datetime.date(1960, 1, 1)
 TWO = re.compile(
     rf"(?P<day>\d{{1,2}})(?P<sign>[ ./-]+)(?:(?P<month>\d{{1,2}})|(?P<name>{NAME}))[ ./-]+'?(?P<year>\d{{2}})"
     # a year of four digits may have a wrong sign among them, as `20l9`, `20?9` and `20 19`
-    r"(?!\w|[?*.#~]+\d| \d\d(?![\d:.]))",
+    r"(?!\w|[?*.#~]+\d| \d\d\W*$)",
     re.IGNORECASE,
 )
 # a month with such a year, as spreadsheets show a day by it: `avr.-07` and `Apr 07`

@@ -192,7 +192,7 @@ PLAIN_EXITS = TELLING_EXITS & {
 SALE_NOT_MADE = re.compile(r"\bfor\s+sale\b", re.IGNORECASE)
 # a word behind one that negates it
 NEGATED = re.compile(
-    r"\b(?:nicht|kein\w*|nie|niemals|not|no|never|pas|non|jamais)\s+(?:(?:yet|been|encore|noch|mehr)\s+)*(?P<word>\w+)\.?",
+    r"\b(?:nicht|kein\w*|nie|niemals|not|no|never|pas|non|jamais)\s+(?:(?:yet|been|encore|noch|mehr|de)\s+)*(?P<word>\w+)\.?",
     re.IGNORECASE,
 )
 # the signs of a death
