@@ -162,8 +162,10 @@ fn is_copied(
 ) -> Result<bool, Fail> {
     let mut copybook = Copybook::new(heap, LIMITS);
     if copybook.make_room().is_err() {
+        assert_eq!(rt; copybook.room(), 0);
         return Ok(false);
     }
+    assert_eq!(rt; copybook.room(), 8);
     let used = heap.used();
     take_over_all(rt.alloc(), &mut copybook, commands)?;
     assert_eq!(rt; (copybook.steps(), heap.used()), (7, used));
