@@ -64,8 +64,8 @@ pub fn file_birth<A: Allocator + Copy>(
     }
 }
 
-/// Files births one after another, up to the first that isn't filed.
-pub fn file_births<A: Allocator + Copy>(
+// Files births one after another, up to the first that isn't filed.
+fn file_births<A: Allocator + Copy>(
     pedigree: &mut Pedigree<A>,
     births: &[Birth],
 ) -> Result<(), BirthFault>

@@ -11,16 +11,16 @@ pub fn small_heap(alloc: Global) -> Result<LocalHeap, AllocError> {
     LocalHeap::new(alloc, 16_384)
 }
 
-/// What takes up a heap, if there is one, by small blocks of 16 bytes.
+/// What takes up a heap by small blocks of 16 bytes.
 #[derive(Drop)]
 pub struct Crowd<'a> {
-    heap: Option<&'a LocalHeap>,
+    heap: &'a LocalHeap,
     blocks: Vec<Vec<u8, &'a LocalHeap>, Global>,
 }
 
 impl<'a> Crowd<'a> {
     /// It takes up nothing yet.
-    pub fn of(alloc: Global, heap: Option<&'a LocalHeap>) -> Crowd<'a> {
+    pub fn of(alloc: Global, heap: &'a LocalHeap) -> Crowd<'a> {
         Crowd {
             heap,
             blocks: Vec::new(alloc),
@@ -29,11 +29,8 @@ impl<'a> Crowd<'a> {
 
     /// Takes up all that is left.
     pub fn fill(&mut self) -> Result<(), AllocError> {
-        let Some(heap) = self.heap else {
-            return Ok(());
-        };
         for _ in 0..MOST_BLOCKS {
-            match Vec::with_capacity(heap, 16) {
+            match Vec::with_capacity(self.heap, 16) {
                 Ok(block) => self.blocks.push(block)?,
                 Err(AllocError) => break,
             }

@@ -2,7 +2,7 @@
 
 use super::commands::founder;
 use herd_command_file::{Commands, read_commands};
-use herd_fixtures::BreaksAfter;
+use herd_fixtures::ByteReader;
 use herd_fixtures::Name::Bull;
 use herd_register::Command;
 use std::process::Abort;
@@ -41,7 +41,7 @@ fn no_record_is_read_after_a_fault(rt: HostRuntime) {
         (FAULT_AND_BIRTH, 3, 0, Some((1, 3)), 1),
     ];
     for (file, most, count, fault, unread) in files {
-        let mut reader = BreaksAfter::new(file, usize::MAX);
+        let mut reader = ByteReader::new(file);
         let answer = read_commands(rt.alloc(), &mut reader, most);
         expect(&rt, &answer, &births[..count], fault);
         assert_eq!(rt; reader.records_left(), unread);

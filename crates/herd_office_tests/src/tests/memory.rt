@@ -64,7 +64,7 @@ fn is_refused_memory<N: OfficeName>(heap: &LocalHeap, inspectors: &mut [Inspecto
 #[test]
 fn closing_takes_no_memory(rt: HostRuntime) -> Result<(), Fail> {
     let heap = small_heap(rt.alloc())?;
-    let mut crowd = Crowd::of(rt.alloc(), Some(&heap));
+    let mut crowd = Crowd::of(rt.alloc(), &heap);
     let parts = OfficeParts::new(&rt, rt.alloc(), LIMITS, 1, 1)?;
     fill_and_close::<Brand, _>(&rt, &heap, parts, &mut crowd)
 }

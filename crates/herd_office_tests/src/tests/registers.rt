@@ -84,7 +84,7 @@ fn file_all(
 #[test]
 fn commands_are_accepted_in_time(rt: HostRuntime) -> Result<(), Fail> {
     let heap = small_heap(rt.alloc())?;
-    let mut crowd = Crowd::of(rt.alloc(), Some(&heap));
+    let mut crowd = Crowd::of(rt.alloc(), &heap);
     let mut register = Register::new(&heap, LIMITS);
     file_all(&rt, &mut crowd, &mut register)
 }

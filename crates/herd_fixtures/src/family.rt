@@ -1,4 +1,4 @@
-//! Families that several tests ask about.
+//! A family with inbred calves.
 
 use crate::birth::{Birth, Pair, UNKNOWN};
 use crate::name::Name::{Bull, Cow};

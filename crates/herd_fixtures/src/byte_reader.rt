@@ -1,18 +1,17 @@
-//! A reader that gives its text up to a number of bytes, one byte a read, and then fails.
+//! A reader that gives one byte a read, so what it still has, nobody has read ahead.
 ghost use Rattle.std.specs.Prelude.{Some};
 
 use std::io;
 use std::io::Read;
 
 #[derive(Drop)]
-pub struct BreaksAfter<'a> {
+pub struct ByteReader<'a> {
     text: &'a [u8],
-    left: usize,
 }
 
-impl<'a> BreaksAfter<'a> {
-    pub fn new(text: &'a [u8], left: usize) -> BreaksAfter<'a> {
-        BreaksAfter { text, left }
+impl<'a> ByteReader<'a> {
+    pub fn new(text: &'a [u8]) -> ByteReader<'a> {
+        ByteReader { text }
     }
 
     /// The records that it hasn't given to their end.
@@ -21,13 +20,10 @@ impl<'a> BreaksAfter<'a> {
     }
 }
 
-impl Read for BreaksAfter<'_> {
+impl Read for ByteReader<'_> {
     ghost remaining = { λ s. Some s.text.now };
 
     fn read(&mut self, buf: &mut [u8]) -> io::Result<usize> {
-        if self.left == 0 {
-            return Err(io::Error::from(io::ErrorKind::BrokenPipe));
-        }
         let Some((first, rest)) = self.text.split_first() else {
             return Ok(0);
         };
@@ -36,7 +32,6 @@ impl Read for BreaksAfter<'_> {
         };
         *place = *first;
         self.text = rest;
-        self.left -= 1;
         Ok(1)
     }
 }
