@@ -52,6 +52,6 @@ pub(super) fn exit(rt: &impl Abort, name: Name, on: &[u8]) -> Command {
     }
 }
 
-fn day(rt: &impl Abort, text: &[u8]) -> Day {
+pub(super) fn day(rt: &impl Abort, text: &[u8]) -> Day {
     Day::parse(text).expect(rt, "a day")
 }

@@ -3,6 +3,8 @@
 use super::commands::{LIMITS, birth, exit, founder, parents, transfer};
 use herd_fixtures::Name::{Bull, Cow};
 use herd_fixtures::{Birth, Crowd, MOST_BLOCKS, Pair, UNKNOWN, small_heap};
+use herd_frozen::ParentFault;
+use herd_pedigree::Pedigree;
 use herd_register::{Command, Register, Reply};
 use linked_list_allocator::LocalHeap;
 use std::alloc::AllocError;
@@ -44,13 +46,25 @@ fn line(rt: &impl Abort) -> [Command; 7] {
 
 // What is filed after the line, and whether memory is refused for it at first: the calf's sire is unknown, for which
 // depths alone ask for memory, and then both its parents are known, at which the journal grows. No other takes memory.
-fn later(rt: &impl Abort) -> [(Command, bool); 4] {
+// Last, whether a check of both parents of the calf is refused memory before: it takes some where they make it deeper.
+fn later(rt: &impl Abort) -> [(Command, bool, bool); 4] {
     [
-        (parents(Bull(3), UNKNOWN), true),
-        (parents(Bull(3), Pair::of(Bull(1), Cow(2))), true),
-        (transfer(rt, Bull(3), b"2003-01-01"), false),
-        (exit(rt, Bull(3), b"2003-01-01"), false),
+        (parents(Bull(3), UNKNOWN), true, false),
+        (parents(Bull(3), Pair::of(Bull(1), Cow(2))), true, true),
+        (transfer(rt, Bull(3), b"2003-01-01"), false, false),
+        (exit(rt, Bull(3), b"2003-01-01"), false, false),
     ]
+}
+
+// The fault of both parents of the calf.
+fn fault_of_parents(
+    rt: &impl Abort,
+    pedigree: &Pedigree<&LocalHeap>,
+) -> Result<Option<ParentFault>, AllocError> {
+    let number = Bull(3).number();
+    let calf = pedigree.get(&number).expect(rt, "an animal");
+    let (sire, dam) = (Some(Bull(1).number()), Some(Cow(2).number()));
+    pedigree.check_parents(number, calf.birth, sire, dam, calf.embryo)
 }
 
 // How often the commands of the line weren't accepted.
@@ -73,7 +87,10 @@ fn file_all(
 ) -> Result<(), Fail> {
     let of_line = refusals_of_line(rt, crowd, register)?;
     assert!(rt; 0 < of_line && of_line < MOST_BLOCKS);
-    for (command, is_refused) in later(rt) {
+    for (command, is_refused, is_check_refused) in later(rt) {
+        crowd.fill()?;
+        let checked = fault_of_parents(rt, register.pedigree());
+        assert_eq!(rt; checked.is_err(), is_check_refused, "{command:?}");
         let refused = refusals(crowd, register, &command)?;
         assert!(rt; refused < MOST_BLOCKS);
         assert_eq!(rt; 0 < refused, is_refused, "{command:?}");
@@ -81,10 +98,22 @@ fn file_all(
     Ok(())
 }
 
+// The last step, an exit, is taken out again.
+fn expect_withdrawn(rt: &impl Abort, register: &mut Register<&LocalHeap>) {
+    assert!(rt; register.can_withdraw() && register.step(11).is_some());
+    register.withdraw();
+    assert!(rt; !register.can_withdraw() && register.step(11).is_none());
+    assert_eq!(rt; register.step(10), register.journal().last());
+    let calf = register.pedigree().get(&Bull(3).number());
+    assert!(rt; calf.expect(rt, "an animal").left.is_none());
+}
+
 #[test]
 fn commands_are_accepted_in_time(rt: HostRuntime) -> Result<(), Fail> {
     let heap = small_heap(rt.alloc())?;
     let mut crowd = Crowd::of(rt.alloc(), &heap);
     let mut register = Register::new(&heap, LIMITS);
-    file_all(&rt, &mut crowd, &mut register)
+    file_all(&rt, &mut crowd, &mut register)?;
+    expect_withdrawn(&rt, &mut register);
+    Ok(())
 }
