@@ -2,6 +2,8 @@
 on."""
 from __future__ import annotations
 
+from outside.books import full_sibs
+
 PLAIN = "kind,animal,day,sire,dam,from,to\n"
 WITH_EMBRYO = "kind,animal,day,sire,dam,from,to,embryo\n"
 
@@ -70,7 +72,7 @@ birth,F1,2000-01-01,0,0,,1, a
 birth,F2,2003-03-02,0,F1,,1,1 a
 exit,F1,2003-03-01,,,,, a
 """),
-    # an animal is no descendant of its own, whatever its recorded age; other parents of a later birth are told first
+    # the first fault of the parents is told; an offspring is no parent, since it isn't older
     (PLAIN, """\
 birth,M1,2000-01-01,0,0,,1 a
 birth,F2,2002-01-01,M1,0,,1 a
@@ -112,6 +114,11 @@ birth,F5,2002-01-01,M1,F3,,1
 birth,M8,2004-01-01,M4,F6,,1
 birth,F9,2004-01-01,M7,F5,,1
 birth,M10,2006-01-01,M8,F9,,1
+"""
+# founders and four generations of full sibs, each of the pair before; and M21, a half sib of M3 and F4
+SIBS_OF_SIBS = f"""\
+{full_sibs(5)}birth,F20,2000-01-01,0,0,,1
+birth,M21,2001-01-01,M1,F20,,1
 """
 # the six animals of Mrode (2014), of which the fourth has one known parent
 MRODE = f"""\
@@ -218,6 +225,9 @@ ANSWERS = [
     ),
     # full sibs, of which one is asked about twice, and two of one sex
     ("relationships M3 F4 F4", SIX, "M3,M3,1\nM3,F4,1/2\nM3,F4,1/2\nF4,F4,1\nF4,F4,1\nF4,F4,1\n"),
+    # full sibs whose parents have the inbreeding 3/8 and are full sibs too, and half sibs
+    ("relationships M9 F10", SIBS_OF_SIBS, "M9,M9,3/2\nM9,F10,19/16\nF10,F10,3/2\n"),
+    ("relationships M21 --with M3 F4", SIBS_OF_SIBS, "M21,M3,1/4\nM21,F4,1/4\n"),
     # parent and offspring, where no one is inbred
     ("relationships M1 --with M3 F4 M1", SIX, "M1,M3,1/2\nM1,F4,1/2\nM1,M1,1\n"),
     # numbers that aren't in the book come first, as they are given
@@ -241,11 +251,12 @@ CONTRIBUTIONS = [
         "M8,M8,M8,16/7\nM8,M8,M5,-8/7\nM8,M8,F7,-8/7\nM8,M5,M5,4/7\nM8,F7,F7,4/7\nM8,M5,F7,4/7\n"
         "F9,F9,F9,4/3\nF9,F9,M1,-2/3\nF9,M1,M1,1/3\n",
     ),
-    # two inbred parents, and one
+    # two inbred parents, a sire alone, and a dam alone
     (
-        SIX + "birth,M8,2006-01-01,M5,F6,,1\nbirth,M9,2006-01-02,M5,0,,1\n",
+        SIX + "birth,M8,2006-01-01,M5,F6,,1\nbirth,M9,2006-01-02,M5,0,,1\nbirth,F10,2006-01-03,0,F6,,1\n",
         "M8,M8,M8,8/3\nM8,M8,M5,-4/3\nM8,M8,F6,-4/3\nM8,M5,M5,2/3\nM8,F6,F6,2/3\nM8,M5,F6,2/3\n"
-        "M9,M9,M9,16/11\nM9,M9,M5,-8/11\nM9,M5,M5,4/11\n",
+        "M9,M9,M9,16/11\nM9,M9,M5,-8/11\nM9,M5,M5,4/11\n"
+        "F10,F10,F10,16/11\nF10,F10,F6,-8/11\nF10,F6,F6,4/11\n",
     ),
 ]
 
@@ -254,10 +265,14 @@ SECOND_RECORDS = [
     ("birth,HOLGBRM00000000001,2000-01-01,0,0,,1", "4 Animal"),
     ("birth,HOLGBRX000000000002,2000-01-01,0,0,,1", "4 Animal"),
     ("birth,M2,2023-02-29,0,0,,1", "5 Day"),
+    ("birth,M2,1900-02-29,0,0,,1", "5 Day"),
+    ("birth,M2,1899-12-31,0,0,,1", "5 Day"),
+    ("birth,M2,2200-01-01,0,0,,1", "5 Day"),
     ("birth,M2,2000-01-01,HOL,0,,1", "6 Sire"),
     ("birth,M2,2000-01-01,0,x,,1", "7 Dam"),
     ("transfer,M1,2000-01-01,,,0,2", "8 FromHerd"),
     ("birth,M2,2000-01-01,0,0,,100000000", "9 ToHerd"),
+    ("birth,M2,2000-01-01,0,0,,007", "9 ToHerd"),
     ("sale,M1,2000-01-01,,,1,2", "3 Kind"),
     ("birth,M2,2000-01-01,0,0,1", "2 Fields"),
     ("birth,M2,2000-01-01,0,0,1,1", "10 FieldNotUsed"),
