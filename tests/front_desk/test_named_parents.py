@@ -132,11 +132,11 @@ def test_name_that_one_offspring_cannot_have(desk: Desk) -> None:
     for more in "", "L9,,F,2020-01-01,Max,\n":
         done = desk.take("id,name,sex,born,sire,dam\n" + rows + more)
         done.tells(
-            "line 8: L0: its sire R1 (line 2, born 2010-01-01) is left out: it isn't at least a day older (refusal 7); L0 was "
-            "born 2009-06-01",
-            "to look at: Leo has no row, and is the sire of 2: 2 animals have this name, R2, R3: write the id of the one that "
-            "is meant",
+            "line 8: L0: its sire R1 (line 2, born 2010-01-01) is left out: it isn't at least a day older (refusal 7); L0 "
+            "was born 2009-06-01",
+            "to look at: Leo has no row, and is the sire of 2: 2 animals have this name, R2, R3: write the id of the one "
+            "that is meant",
         )
         assert "unknown parent" not in done.told and "Max" not in desk.numbers()
-        assert {id: desk.parents()[id][0] for id in ("L0", "L1", "L2", "L3")} == {"L0": "", "L1": "R1", "L2": "R1", "L3": "R1"}
+        assert [desk.parents()[f"L{at}"][0] for at in range(4)] == ["", "R1", "R1", "R1"]
     assert desk.parents()["L9"] == ("R1", "")

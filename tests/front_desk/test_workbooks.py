@@ -54,7 +54,8 @@ def test_two_worksheets_fit(desk: Desk, workbook: openpyxl.Workbook) -> None:
     assert "1 animal" in desk.typed(done.commands()[2]).last
     # the one that was named is taken again, and told, unless another one came that fits
     done = desk.good("import", "sheet.xlsx")
-    assert "as at the last time: --worksheet 'Stand 2019' (the book remembers these)" in done.out and " 0 changed" in done.last
+    assert "as at the last time: --worksheet 'Stand 2019' (the book remembers these)" in done.out
+    assert " 0 changed" in done.last
     assert "the worksheet 'Stand 2019' of an .xlsx file; not read: 'Deckblatt', 'Tiere'" in done.out
     done = desk.good("import", "sheet.xlsx", "--worksheet", "Tiere")
     assert "--worksheet" not in done.out and " 1 new" in done.last
@@ -92,8 +93,8 @@ def test_numbers_as_ids(desk: Desk, workbook: openpyxl.Workbook) -> None:
 
 @pytest.mark.parametrize(
     "number_format, id",
-    [('"DE 01 "0000000', "DE 01 0000017"), ('"DE "00\\ 00\\ 000', "DE 00 00 017"), ("\\D\\E #", "DE 17"), ('0" kg"', "17"),
-     ('"A"0.00', "17"), ("000 000", "17")],
+    [('"DE 01 "0000000', "DE 01 0000017"), ('"DE "00\\ 00\\ 000', "DE 00 00 017"), ("\\D\\E #", "DE 17"),
+     ('0" kg"', "17"), ('"A"0.00', "17"), ("000 000", "17")],
 )  # fmt: skip
 def test_text_of_a_format(desk: Desk, workbook: openpyxl.Workbook, number_format: str, id: str) -> None:
     """A number is shown with the text before it; an amount, or a unit behind it, is no part of an id."""

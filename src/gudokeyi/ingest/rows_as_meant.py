@@ -154,7 +154,8 @@ def marks_of(field: Field, sheet: Sheet, columns: Mapping[str, int]) -> set[str]
     """The marks of a column. An animal of the sheet may be called as one of a parent is."""
     if field not in (Field.SIRE, Field.DAM):
         return DITTO
-    called = {text.casefold() for name in (Field.ID, Field.NAME) if name in columns for text in sheet.column(columns[name])}
+    places = [columns[name] for name in (Field.ID, Field.NAME) if name in columns]
+    called = {text.casefold() for at in places for text in sheet.column(at)}
     return DITTO_OF_PARENT - (called - DITTO)
 
 

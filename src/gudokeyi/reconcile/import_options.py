@@ -146,7 +146,9 @@ BETWEEN_WORKSHEETS = "/"
 def worksheet_before(book: Book) -> NamedBefore:
     """The worksheet that somebody named last."""
     found = [one for one in book.remembered if one.what is Remembered.WORKSHEET]
-    return NamedBefore(found[-1].word, frozenset(found[-1].meaning.split(BETWEEN_WORKSHEETS))) if found else NamedBefore()
+    if not found:
+        return NamedBefore()
+    return NamedBefore(found[-1].word, frozenset(found[-1].meaning.split(BETWEEN_WORKSHEETS)))
 
 
 def remember_worksheet(book: Book, named: str, worksheets: tuple[str, ...]) -> None:

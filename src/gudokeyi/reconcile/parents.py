@@ -15,7 +15,7 @@ from gudokeyi.ingest.animals import LINE_OF, NAME_OF, Link, SheetAnimal, links_o
 from gudokeyi.ingest.findings.cells import TextTooLong
 from gudokeyi.ingest.texts import nearly, without_accents
 from gudokeyi.reconcile.findings.parents import AddedAsParent, FoundByName, FoundByNearId, FoundInBook, FoundWithin
-from gudokeyi.reconcile.findings.plausibility import LikeNoId, MayBeUnknown, MoreMayBeUnknown, NameOfAnimals
+from gudokeyi.reconcile.findings.unknown_parents import LikeNoId, MayBeUnknown, MoreMayBeUnknown, NameOfAnimals
 from gudokeyi.reconcile.ids_by_name import IdsByName
 from gudokeyi.reconcile.last_found import LastFound
 from gudokeyi.reconcile.near_names import DAY, have_digits, is_like_word
@@ -178,7 +178,8 @@ class Names:
     def parents_have_digits(self) -> bool:
         """Have nearly all parents one as the rows name them?"""
         rows = [animal for animal in self.animals.values() if animal.line]
-        return have_digits([row.cells.get(field, "") for row in rows for role, field in FIELDS.items() if row.parent(role)])
+        named = [(row, field) for row in rows for role, field in FIELDS.items() if row.parent(role)]
+        return have_digits([row.cells.get(field, "") for row, field in named])
 
     def meant(self, offspring: SheetAnimal, role: Role, text: str) -> tuple[str, tuple[str, ...]]:
         """Which id may be meant by a text that is none, or several that have it as their name. Where few parents lack a

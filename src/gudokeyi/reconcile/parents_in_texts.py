@@ -12,8 +12,9 @@ from gudokeyi.domain.messages import MOST_NAMED
 from gudokeyi.domain.spelling import TIMES
 from gudokeyi.ingest.animals import NAME_OF, SheetAnimal, links_outside
 from gudokeyi.ingest.texts import nearly, nearly_all
-from gudokeyi.reconcile.findings.parents import (
-    BothParents, EitherParent, FoundWithin, NamedByRelation, NamedOtherwiseBeside, NotSaidToBeParent,
+from gudokeyi.reconcile.findings.parents import FoundWithin
+from gudokeyi.reconcile.findings.parents_in_texts import (
+    BothParents, EitherParent, NamedByRelation, NamedOtherwiseBeside, NotSaidToBeParent,
 )  # fmt: skip
 from gudokeyi.reconcile.last_found import Kept, LastFound
 from gudokeyi.reconcile.near_names import LEAST_LETTERS
@@ -30,8 +31,8 @@ WITH = re.compile(r"\s+[x×]\s+", re.IGNORECASE)
 MOST_WORDS = 12
 # what says that another animal is named
 RELATED = re.compile(
-    r"\b(?:(?:litter|half|full)?[ -]*(?:sister|brother)s?|daughter|son|dam|sire|(?:halb|voll)?(?:schwester|bruder)|tochter|"
-    r"sohn|(?:demi-)?(?:s(?:oe|œ)ur|frère)|fille|fils|grand\w*|enkel\w*|porteuse|receveuse|recipient|surrogate|"
+    r"\b(?:(?:litter|half|full)?[ -]*(?:sister|brother)s?|daughter|son|dam|sire|(?:halb|voll)?(?:schwester|bruder)|"
+    r"tochter|sohn|(?:demi-)?(?:s(?:oe|œ)ur|frère)|fille|fils|grand\w*|enkel\w*|porteuse|receveuse|recipient|surrogate|"
     r"leihmutter|empfänger\w*|amme|foster)\b",
     re.IGNORECASE,
 )
@@ -40,11 +41,12 @@ RELATED_TO = re.compile(RELATED.pattern + r"(?:\s+(?:von|vom|der|des|of|to|zu|de
 RELATED_BEHIND = re.compile(r"['’]?s?['’]?\s+(?:" + RELATED.pattern + ")", re.IGNORECASE)
 # what says that an animal isn't the parent, or may not be it; one that isn't registered or tested may be it
 DENIED = re.compile(
-    r"\b(?:(?:nicht|not|non|pas|kein(?:e[rsnm]?|esfalls)?)\b(?!\W+(?:eingetr|reg|hb\b|im\b|in\b|getest|gentest|test|typ|"
-    r"verif|vérif|yet\b|gekört|inscri|enregistr|dans\b|au\b))|(?:nie|never|isn['’]t|falsch\w*|gestrichen|streichen|irrtum|"
-    r"irrtümlich|fehler\w*|ausgeschlossen|widerlegt|prüfen|unklar|ungeklärt|fraglich|zweifelhaft|wrong\w*|incorrect\w*|"
-    r"error|crossed out|struck (?:out|through)|deleted|excluded|ruled out|disproved|doubtful|disputed|to (?:be )?checked|"
-    r"to check|faux|fausse|erreur|erronée?|barrée?|rayée?|exclue?|douteu(?:x|se)|à (?:vérifier|contrôler|confirmer))\b)",
+    r"\b(?:(?:nicht|not|non|pas|kein(?:e[rsnm]?|esfalls)?)\b(?!\W+(?:eingetr|reg|hb\b|im\b|in\b|getest|gentest|test|"
+    r"typ|verif|vérif|yet\b|gekört|inscri|enregistr|dans\b|au\b))|(?:nie|never|isn['’]t|falsch\w*|gestrichen|"
+    r"streichen|irrtum|irrtümlich|fehler\w*|ausgeschlossen|widerlegt|prüfen|unklar|ungeklärt|fraglich|zweifelhaft|"
+    r"wrong\w*|incorrect\w*|error|crossed out|struck (?:out|through)|deleted|excluded|ruled out|disproved|doubtful|"
+    r"disputed|to (?:be )?checked|to check|faux|fausse|erreur|erronée?|barrée?|rayée?|exclue?|douteu(?:x|se)|"
+    r"à (?:vérifier|contrôler|confirmer))\b)",
     re.IGNORECASE,
 )
 # what stands before an animal that has the same parent, or in whose place another is the parent
@@ -57,7 +59,8 @@ BETWEEN = re.compile(r"\s*[/;,()\[\]|]\s*|\s+[-–—]\s+")
 # what may stand between the ids of two animals besides, and what stands between an id of now and one of before
 JOINED = re.compile(BETWEEN.pattern + r"|\s*[&+]\s*|\s+(?:und|u\.|and|et|ex)\s+", re.IGNORECASE)
 FORMERLY = re.compile(
-    r"^\W*(?:formerly|former|was|old|ex|früher|ehemals|ehem|vormals|vorher|alt|war|anciennement|anc|ancien)\b", re.IGNORECASE
+    r"^\W*(?:formerly|former|was|old|ex|früher|ehemals|ehem|vormals|vorher|alt|war|anciennement|anc|ancien)\b",
+    re.IGNORECASE,
 )
 # what stands between two names; others are within one, as in `Salz und Pfeffer`
 OF_NAMES = re.compile(r"\s*/\s*")

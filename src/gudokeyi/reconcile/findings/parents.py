@@ -7,7 +7,7 @@ from dataclasses import dataclass
 
 from gudokeyi.domain.findings import Finding, LeftOut, Part, Severity, What
 from gudokeyi.domain.kinds import Role
-from gudokeyi.domain.messages import MOST_NAMED, AnyOf
+from gudokeyi.domain.messages import MOST_NAMED
 from gudokeyi.domain.provenance import SexSource
 from gudokeyi.domain.refusals import Refusal
 from gudokeyi.domain.wording import SEXES, Counted, Joined, OptionalPart, Text, Told, Word
@@ -119,82 +119,6 @@ class AddedAsParent(Finding):
 class ParentLeftOut(LeftOut):
     part = Part.PARENT
     severity = Severity.PARENTS
-
-
-@dataclass(frozen=True, slots=True)
-class EitherParent(ParentLeftOut):
-    """A cell that names two animals, of which one is the parent."""
-
-    role: Role
-    written: str
-
-    code = "either parent"
-    message = Text("its {role} '{written}' is left out: it may be one or the other, and counts as unknown")
-
-
-@dataclass(frozen=True, slots=True)
-class BothParents(ParentLeftOut):
-    """A cell that names a sire and a dam."""
-
-    role: Role
-    written: str
-
-    code = "both parents"
-    message = Text(
-        "its {role} '{written}' is left out: it names two animals, and counts as unknown; write sire and dam each in "
-        "their own column"
-    )
-
-
-@dataclass(frozen=True, slots=True)
-class NamedByRelation(ParentLeftOut):
-    """A cell that names another animal, and says how the parent is related to it."""
-
-    role: Role
-    written: str
-
-    code = "named by relation"
-    message = Text(
-        "its {role} '{written}' is left out: it says how another animal is related, and counts as unknown; write the "
-        "{role}'s own id"
-    )
-
-
-@dataclass(frozen=True, slots=True)
-class NotSaidToBeParent(ParentLeftOut):
-    """A cell with words beside an animal by which it isn't the parent, may not be it, or has the same one."""
-
-    role: Role
-    written: str
-    named: str
-
-    code = "not said to be parent"
-    message = Text(
-        "its {role} '{written}' is left out: it doesn't say that {named} is the {role}, and counts as unknown; write the "
-        "{role}'s id alone"
-    )
-
-
-@dataclass(frozen=True, slots=True)
-class NamedOtherwiseBeside(Finding):
-    """A parent whose id is taken, beside which the cell has the name of one or several others."""
-
-    role: Role
-    written: str
-    parent: str
-    name: str
-    others: tuple[str, ...]
-
-    what = What.WARNING
-    severity = Severity.PARENTS
-    code = "named otherwise beside"
-    message = Text(
-        "its {role} '{written}' is {parent} by its id, and by its name {which}: {parent} is taken; if another is meant, "
-        "write the id of that one"
-    )
-
-    def values(self) -> Mapping[str, object]:
-        return {"which": AnyOf(self.others)}
 
 
 @dataclass(frozen=True, slots=True)
