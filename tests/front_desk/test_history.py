@@ -82,7 +82,7 @@ def test_by_hand_between_sheets(flock_desk: Desk) -> None:
     )
     assert flock_desk.parents() == parents
     changed = FLOCK.replace("a0,M,2000-01-01,,,farm 0,", "a0,M,2000-01-01,,,farm 2,")
-    assert " 1 changed, 2 inferred," in flock_desk.take(changed).last
+    assert " 1 changed, 3 inferred," in flock_desk.take(changed).last
     assert "calf" in flock_desk.numbers()
     # with a row it is one of the sheet's, and gone when that is missing again
     flock_desk.take(FLOCK + "calf,F,2012-03-04,a8,a9,Neuer Hof,\n")
@@ -159,7 +159,7 @@ def test_what_is_kept_of_a_change(flock_desk: Desk) -> None:
     login, digest = pwd.getpwuid(os.getuid()).pw_name, hashlib.sha256(GROWN.encode()).hexdigest()
     flock_desk.take(GROWN, "--sexes", "x=m", "--strict")
     shown = flock_desk.good("history", "2").out.splitlines()
-    told = f"{login}: took the sheet sheet.csv (17 animals, 1 changed, 1 new)"
+    told = f"{login}: took the sheet sheet.csv (17 animals, 1 changed, 1 inferred, 1 new)"
     assert re.fullmatch(r"2  \S+ \S+", shown[0].removesuffix(f"  {told}"))
     assert shown[1:3] == [f"file: {flock_desk.room / 'sheet.csv'}, SHA-256 {digest}", "options: --sexes x=m --strict"]
 
@@ -227,7 +227,7 @@ def test_flock_over_three_takings(desk: Desk) -> None:
     desk.good("birth", "by hand", "--sex", "m", "--day", "2015-02-01", "--sire", "n390", "--dam", "n391")
     desk.good("parents", "n399", "--sire", "0")
     rows[1][5] = "farm of the sheet"
-    assert ", 0 new, 1 changed, 7 inferred, " in desk.take(text()).last
+    assert ", 0 new, 1 changed, 8 inferred, " in desk.take(text()).last
     assert desk.parents()["n399"][0] == "" and desk.parents()["by hand"] == ("n390", "n391")
     assert desk.run("exit", "n399", "--day", "1980-01-01").status == 3
     rows[2][2] = "1990-02-01"
