@@ -79,6 +79,8 @@ def test_exits_in_remarks(desk: Desk) -> None:
         ("sold to T. Ormerod", "line 4: 003: to look at: 'sold to T. Ormerod' stands where 1 animal has its owner, and"),
         ("jetzt Fremd", "line 4: 003: to look at: 'jetzt Fremd' stands where 1 animal has its owner, and doesn't look"),
         ("† 2022", "line 4: 003: to look at: '† 2022' stands where 1 animal has its owner, and doesn't look like a name"),
+        ("bei Huber", "line 4: 003: to look at: the owner of 1 animal is written 'bei Huber', which has the name Huber in it"),
+        ("Verkauf nach Polen", "'Verkauf nach Polen' stands where 1 animal has its owner, and doesn't look like a name"),
         ("exportiert nach Polen", "'exportiert nach Polen' stands where 1 animal has its owner, and doesn't look like"),
         ("verkauft Huber", "line 4: 003: to look at: the owner of 1 animal is written 'verkauft Huber', which has the name"),
         ("Huber jun.", ""),
@@ -110,7 +112,8 @@ def test_parent_named_by_relation(desk: Desk, cell: str) -> None:
         ("nuit du 26 au 27 avril 2013", "2013-04-16"), ("importé 2017", "2012-02-03"), ("≤ 2014", "2012-02-03"),
         ("13.01.20l9", "2012-02-03"), ("13.01.20 19", "2012-02-03"), ("13.01.20?9", "2012-02-03"),
         ("gek. 13.01.2019", "2012-02-03"), ("eingetragen am 13.1.2019", "2012-02-03"), ("reg. 13.1.19", "2012-02-03"),
-        ("acheté le 13/01/2019", "2012-02-03"), ("† 13.01.2019", "2012-02-03"), ("2013.04.12", "2013-04-12"),
+        ("acheté le 13/01/2019", "2012-02-03"), ("† 13.01.2019", "2012-02-03"),
+        ("entrée le 13/01/2019", "2012-02-03"), ("geb. 12.4.2013, gek. 13.01.2019", "2012-02-03"), ("2013.04.12", "2013-04-12"),
         ("Anf. 2013", "2013-03-02"),
     ],
 )  # fmt: skip
@@ -119,7 +122,7 @@ def test_days_in_other_words(desk: Desk, cell: str, born: str) -> None:
     done = desk.take(TITLES + PAIR + f"003;A;w;{cell};001;002;Huber;\n")
     assert desk.born()["003"] == born
     assert (cell in done.out) == (born not in ("2013-04-12", "2013-03-07"))
-    events = ("gek.", "eing", "reg.", "ache", "† 13")
+    events = ("gek.", "eing", "reg.", "ache", "† 13", "entr")
     assert (f"line 4: 003: its birth day is left out: '{cell}' tells of another event" in done.out) == (cell[:4] in events)
 
 

@@ -59,7 +59,8 @@ def test_taker_who_may_be_two(desk: Desk) -> None:
     "cell, day",
     [
         ("verkauft an Meier Ida", ""), ("sold to Ida Meier", ""), ("jetzt Meier", ""), ("vendue à Meier Ida", ""),
-        ("Huber, verk. an Meier, 3.4.21", "2021-04-03"),
+        ("Huber, verk. an Meier, 3.4.21", "2021-04-03"), ("Verkauf an Meier Ida 3.4.2021", "2021-04-03"),
+        ("ging an Ida Meier", ""), ("new owner: Ida Meier", ""), ("vente à Meier", ""),
     ],
 )  # fmt: skip
 def test_sale_in_place_of_owner(desk: Desk, cell: str, day: str) -> None:

@@ -90,7 +90,8 @@ NOT_THAT_YEAR = re.compile(
 OTHER_EVENT = re.compile(
     r"\D*\b(?:gek|gekauft|Kauf|Kaufdatum|angekauft|Ankauf|zugekauft|Zukauf|Zugang|erworben|eingetr|eingetragen|Eintrag|"
     r"Eintragung|reg|regd|registriert|registered|registration|enregistrée?|inscrite?|inscription|gekört|Körung|gechipt|"
-    r"gechippt|chipped|geimpft|gedeckt|bought|purchased?|acquired|acquise?|achetée?|achat|verk|verkauft|sold|vendue?|gest|"
+    r"gechippt|chipped|geimpft|gedeckt|bought|purchased?|acquired|arrived|acquise?|achetée?|achat|entrée?|arrivée?|"
+    r"immatriculée?|insc|acq|verk|verkauft|sold|vendue?|gest|"
     r"gestorben|verstorben|died|décédée?)\b[.:]*\s*(?:(?:am|im|on|in|le|en|ca)\b\.?\s*)*(?=\d)|\W*[†✝]\s*(?=\d)",
     re.IGNORECASE,
 )

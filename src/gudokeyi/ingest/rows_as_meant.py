@@ -192,7 +192,8 @@ OF_LIVING = {
 NO_WORDS = {"nein": "nicht", "n": "nicht", "no": "not", "non": "pas", "false": "not", "falsch": "nicht", "0": "nicht"}
 # an owner who takes an animal
 TAKER = re.compile(
-    r"\b(?:verkauft|verk|abgegeben|weggegeben|umgestellt|gewechselt|sold|transferred|given|vendue?|cédée?|donnée?)\b\.?"
+    r"\b(?:verkauft|verkauf|verk|abgegeben|weggegeben|verschenkt|umgestellt|gewechselt|geht|ging|sold|sale|transferred|"
+    r"given|went|vendue?|vente|cédée?|donnée?)\b\.?"
     r".*?\b(?:an|zu|to|à|a|au|aux)\s+(?P<taker>\S.*)",
     re.IGNORECASE,
 )
@@ -200,7 +201,7 @@ TAKER = re.compile(
 TO_WHOM = re.compile(r"(?:an|zu|to|à|au)\s+(?P<taker>\S.*)", re.IGNORECASE)
 # the same of a text that stands for an owner
 WITH_NOW = re.compile(
-    r"(?:jetzt|nun|now|maintenant|désormais)\b[: ]*(?:bei |an |with |to |chez |à )?(?P<taker>\S.*)", re.IGNORECASE
+    r"(?:jetzt|nun|now|maintenant|désormais|neuer (?:besitzer|halter)|new owner|nouveau propriétaire)\b[: ]*(?:bei |an |with |to |chez |à )?(?P<taker>\S.*)", re.IGNORECASE
 )
 
 

@@ -190,14 +190,15 @@ def last_names(owner: str) -> set[str]:
 
 # what stands beside a name in such a cell
 MORE = re.compile(
-    r"[/→%†(;&+]|->|\d{4}|\b(?:und|and|et|c/o|feu|ex|früher|vorher|bis|ab|seit|until|since|from|depuis|jusqu\w*|dès)\b",
+    r"[/→%†(;&+]|->|\d{4}|\b(?:und|and|et|c/o|feu|ex|früher|vorher|bis|ab|seit|until|since|from|depuis|jusqu\w*|dès|"
+    r"jetzt|bei|neu|neuer|gekauft|now|by|new|bought|maintenant|chez|par|nouveau|achetée?)\b",
     re.IGNORECASE,
 )
 WORD, A_DAY = re.compile(r"[^\W_]+"), re.compile(r"\d{1,4}[./-]\d{1,2}[./-]\d{2,4}")
 BESIDE = {"am", "on", "le", "im", "in", "en"}
 MOST_WITHIN = 5
-# words of exits that may be a person's name
-LIKE_NAMES = {"tot", "mort", "dead"}
+# words of exits with which no name of a person begins
+BEGIN_EXITS = PLAIN_EXITS - {"tot", "mort", "dead"} | {"verkauf", "verk", "vente", "abgegeben", "abgegangen", "eingegangen"}
 
 
 def tell_doubtful_owners(next_book: NextBook, owners_before: set[str]) -> None:
@@ -256,8 +257,7 @@ def is_no_name(owner: str) -> bool:
 
 def tells_of_exit(owner: str) -> bool:
     """Does it begin with an exit, as `exportiert nach Polen`, or tell to whom the animal was sold?"""
-    first = plain(owner.split()[0])
-    return first in PLAIN_EXITS - LIKE_NAMES or bool(taker_of_owner(owner))
+    return plain(owner.split()[0]) in BEGIN_EXITS or bool(taker_of_owner(owner))
 
 
 def tell_mistyped_owners(next_book: NextBook, owners_before: set[str]) -> None:
