@@ -1,4 +1,5 @@
-"""Parents without a row that may be words for unknown ones, or names of other animals: each kind as data, and in words."""
+"""Parents without a row that may be words for unknown ones, or names of other animals: each kind as data, and in
+words."""
 from __future__ import annotations
 
 from collections.abc import Mapping
