@@ -73,15 +73,15 @@ def test_ids_that_are_like_one_filed_by_hand(desk: Desk) -> None:
 
 def test_words_for_parents(desk: Desk) -> None:
     """A word that is no id and stands for parents of several animals is told at each taking, with the option."""
-    rows = FLOCK + "c1;;F;2004-01-01;Fremdbock;DE 8\nc2;;F;2004-01-02;Fremdbock;\nc3;;F;2004-01-02;X1;\n"
+    rows = FLOCK + "c1;;F;2004-01-01;Gastbock;DE 8\nc2;;F;2004-01-02;Gastbock;\nc3;;F;2004-01-02;X1;\n"
     for _ in range(2):
         done = desk.take(TITLES + rows)
-        done.shows("to look at: Fremdbock has no row, and is the sire of 2", "  if it means an unknown parent:")
+        done.shows("to look at: Gastbock has no row, and is the sire of 2", "  if it means an unknown parent:")
     done = desk.typed(done.commands()[0])
-    assert "Fremdbock has no row" not in done.out
+    assert "Gastbock has no row" not in done.out
     assert desk.parents()["c1"] == ("", "DE 8")
-    done = desk.take(TITLES + rows, "--known", "Fremdbock")
-    assert desk.parents()["c1"] == ("Fremdbock", "DE 8")
+    done = desk.take(TITLES + rows, "--known", "Gastbock")
+    assert desk.parents()["c1"] == ("Gastbock", "DE 8")
     assert desk.take(TITLES + rows).last.startswith("book: 7 animals, 0 new, 0 changed")
 
 

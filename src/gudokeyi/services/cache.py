@@ -88,7 +88,7 @@ def stat_of(path: pathlib.Path) -> os.stat_result | None:
     """None where there is no file, or an empty one."""
     try:
         found = path.stat()
-    except FileNotFoundError:
+    except (FileNotFoundError, NotADirectoryError):
         return None
     return found if found.st_size else None
 
