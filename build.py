@@ -31,7 +31,7 @@ from building.telling import Stop, Teller, reason
 
 
 # what a first proof takes
-HOW_LONG = "20 to 35 minutes on four cores, less where an earlier one has kept something"
+HOW_LONG = "15 to 30 minutes on four cores, less where an earlier one has kept something"
 
 
 def build(program: str, teller: Teller, at_terminal_alone: bool = False) -> bool:

@@ -214,7 +214,7 @@ class TestFirstCall:
         self.count("only a person at a terminal begins that: ./build.py herdbook proves" in err, err)
         for answer in "\n", "n\n", "what?\n":
             status, told = here.call_at_terminal(answer, "herdbook", "is", "built")
-            asked = "takes 20 to 35 minutes on four cores" in told and "Begin? [y/N, in 30 seconds no]" in told
+            asked = "takes 15 to 30 minutes on four cores" in told and "Begin? [y/N, in 30 seconds no]" in told
             self.count(status == 1 and asked and "nothing is built" in told, f"{answer!r}: {status} {told!r}")
         self.count(not here.noted(), "nothing is begun without a yes")
         status, told = here.call_at_terminal("y\n", "herdbook", "is", "built")
