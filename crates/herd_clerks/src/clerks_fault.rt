@@ -18,7 +18,8 @@ pub enum ClerksFault {
     Memory,
     /// A write failed or took no byte.
     Write,
-    /// The office lacked a seat for a reader or room for a step, gave no reading, or wasn't closed. Nothing was written.
+    /// The office lacked a seat for a reader or room for a step, gave no reading, or wasn't closed. Nothing was
+    /// written.
     NoPlace,
 }
 

@@ -21,8 +21,8 @@ use std::alloc::Global;
 use std::io::Write;
 use std::sync::Wait;
 
-/// Closes the office and writes the last line, unless the work ended early: then it writes the answers that wait. Once a
-/// write has failed it writes nothing.
+/// Closes the office and writes the last line, unless the work ended early: then it writes the answers that wait.
+/// Once a write has failed it writes nothing.
 pub(crate) fn end<N: SessionName, H: Wait, R: Wait + Drop, W: Write + Drop>(
     rt: &H,
     office: Office<N, R>,

@@ -34,8 +34,8 @@ pub(crate) fn work_as_inspector<N: SessionName, H: Wait, R: Wait + Drop, W: Writ
     Ok(reporting.inspector)
 }
 
-// Answers batches of tasks, until none can be added any more or a write fails. It borrows what `work_as_inspector` owns,
-// since the two together take the prover longer.
+// Answers batches of tasks, until none can be added any more or a write fails. It borrows what `work_as_inspector`
+// owns, since the two together take the prover longer.
 fn answer_batches<N: SessionName, H: Wait, R: Wait + Drop, W: Write>(
     rt: &H,
     alloc: Global,
