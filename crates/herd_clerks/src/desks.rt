@@ -9,7 +9,8 @@ ghost use Rattle.herd_office.specs.Opening.{AreFresh};
 ghost use Rattle.herd_office.specs.Parts.{AreNamed};
 ghost use Rattle.herd_clerks.specs.Clerks.{CanEndClosing, EndsClerks, IsFiledBy, office_limits};
 ghost use Rattle.herd_clerks.specs.Deal.{HasDone, numbers_of};
-ghost use Rattle.herd_clerks.specs.Summary.{CountsOf, EndsTelling, IsSummaryOf, IsSummaryOfDeal, count_of, summary_text};
+ghost use Rattle.herd_clerks.specs.Summary.{CountsOf, EndsTelling, IsSummaryOf, IsSummaryOfDeal, count_of};
+ghost use Rattle.herd_clerks.specs.Summary.{summary_text};
 ghost use Rattle.herd_clerks.specs.declared.deal.Deal.{Deal};
 
 use crate::clerk::file_turn;

@@ -2,12 +2,15 @@
 
 ghost use Rattle.std.specs.Prelude.{◌≡◌, ℕ, IfOk, decimal};
 ghost use Rattle.clap.specs.Words.{App, Rule, app_of, new_app, with_rule};
-ghost use Rattle.herd_command_line.specs.CommandLine.{IsArgumentOf, IsCommandOf, animals_rule, any_rule, certificate_line};
+ghost use Rattle.herd_command_line.specs.CommandLine.{IsArgumentOf, IsCommandOf, animals_rule, any_rule};
+ghost use Rattle.herd_command_line.specs.CommandLine.{certificate_line};
 ghost use Rattle.herd_command_line.specs.CommandLine.{check_line, seal_rule};
 ghost use Rattle.herd_command_line.specs.CommandLine.{clerks_line, command_line, dam_rule, file_line, given_option};
 ghost use Rattle.herd_command_line.specs.CommandLine.{inbreeding_line, inverse_line, limited, line_with, mating_line};
-ghost use Rattle.herd_command_line.specs.CommandLine.{number_option, number_rule, partners_rule, pedigree_line, program};
-ghost use Rattle.herd_command_line.specs.CommandLine.{records_line, relationships_line, report_rule, runs_line, seal_line};
+ghost use Rattle.herd_command_line.specs.CommandLine.{number_option, number_rule, partners_rule, pedigree_line};
+ghost use Rattle.herd_command_line.specs.CommandLine.{program};
+ghost use Rattle.herd_command_line.specs.CommandLine.{records_line, relationships_line, report_rule, runs_line};
+ghost use Rattle.herd_command_line.specs.CommandLine.{seal_line};
 ghost use Rattle.herd_command_line.specs.CommandLine.{sealed_line, session_line, several_rule, units_rule};
 
 use crate::help;

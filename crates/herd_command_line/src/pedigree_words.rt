@@ -5,7 +5,8 @@ ghost use Rattle.clap.specs.Words.{found_of, rows_of};
 ghost use Rattle.herd_frozen.specs.declared.TheConstants.{MOST_ANIMALS};
 ghost use Rattle.herd_pedigree_file.specs.Number.{rank_in};
 ghost use Rattle.herd_command_line.specs.PedigreeWords.{IsPedigreeOrdered, IsPedigreePlanOf, IsPedigreeUnread};
-ghost use Rattle.herd_command_line.specs.PedigreeWords.{asks_inbreeding, asks_inverse, asks_relationships, has_plan, is_given};
+ghost use Rattle.herd_command_line.specs.PedigreeWords.{asks_inbreeding, asks_inverse, asks_relationships, has_plan};
+ghost use Rattle.herd_command_line.specs.PedigreeWords.{is_given};
 ghost use Rattle.herd_command_line.specs.PedigreeWords.{names_animals, says};
 ghost use Rattle.herd_command_line.specs.Words.{texts_of};
 

@@ -6,7 +6,8 @@ ghost use Rattle.herd_command_file.specs.CommandFile.{CommandFile, IsRead, comma
 ghost use Rattle.herd_command_file.specs.CommandReader.{HasGiven, IsReady};
 ghost use Rattle.herd_command_file.specs.Filing.{HasFiled};
 ghost use Rattle.herd_orders.specs.Run.{AnswersIfKnown, CanEndBy, CanEndReplying, EndsIfKnown};
-ghost use Rattle.herd_orders.specs.Run.{EndsReplying, EndsReporting, EndsUnwritten, IsFrozenFile, IsReplied, IsReported};
+ghost use Rattle.herd_orders.specs.Run.{EndsReplying, EndsReporting, EndsUnwritten, IsFrozenFile, IsReplied};
+ghost use Rattle.herd_orders.specs.Run.{IsReported};
 ghost use Rattle.herd_orders.specs.Run.{SufficeFor};
 ghost use Rattle.herd_orders.specs.declared.orders.Order.{Order};
 
