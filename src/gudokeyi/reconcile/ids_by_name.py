@@ -2,12 +2,13 @@
 so. What is compared of names and ids is found once for all looks at a sheet, whichever animals are there."""
 from __future__ import annotations
 
+import bisect
 import collections
 import functools
 import itertools
 from collections.abc import Iterable, Iterator, Mapping, Sequence
 
-from gudokeyi.domain.spelling import MOST_COMPARED, as_digits, closest, folded, folded_all
+from gudokeyi.domain.spelling import as_digits, closest, folded, folded_all
 from gudokeyi.ingest.texts import without_accents
 from gudokeyi.reconcile.near_names import DIGITS, LEAST_LETTERS, MOST_WORDS, parts_of
 
@@ -25,7 +26,6 @@ class NamesEver:
 
     def __init__(self) -> None:
         self.names: dict[str, str] = {}
-        self.forms: dict[str, str] = {}
 
     def has(self, ids: Sequence[str], names: Sequence[str]) -> bool:
         """Are these among them, or few of them new? Nothing is known of one that has another name than before."""
@@ -42,7 +42,8 @@ class NamesEver:
                 add(built[name], new)
         if new:
             self.of_letters.cache_clear()
-            built.pop("accented", None)
+        for name in ("accented", "letters", "forms") if any(new.values()) else ():
+            built.pop(name, None)
         return True
 
     @functools.cached_property
@@ -81,21 +82,42 @@ class NamesEver:
                 found["".join(sorted(key))].append(key)
         return found
 
-    def forms_of(self, names: Sequence[str]) -> list[str]:
-        """The names of several words with which their parts begin and end alike, as `as_digits` has them."""
-        new = [*itertools.filterfalse(self.forms.__contains__, names)]
-        words = (name if name.count(" ") < MOST_WORDS else " ".join(name.split()[:MOST_WORDS]) for name in new)
-        self.forms |= zip(new, map(as_digits, folded_all([*words])))
-        return [*map(self.forms.__getitem__, names)]
+    @functools.cached_property
+    def letters(self) -> str:
+        """All that stand in names, but for digits."""
+        return "".join(sorted({one for name in self.of_names for one in name if not one.isdigit()}))
+
+    @functools.cached_property
+    def forms(self) -> tuple[list[tuple[str, str]], list[tuple[str, str]]]:
+        """The names of several words with the forms with which their parts begin and end alike, as `as_digits` has
+        them, in the order of these; and the same in the order of the forms from behind."""
+        names = [*dict.fromkeys(name for name in self.names.values() if " " in name)]
+        words = (name if name.count(" ") < MOST_WORDS else " ".join(name.split()[:MOST_WORDS]) for name in names)
+        forms = [*map(as_digits, folded_all([*words]))]
+        return sorted(zip(forms, names)), sorted((form[::-1], name) for form, name in zip(forms, names))
+
+    def with_form(self, form: str) -> list[str]:
+        """The names of several words whose form begins or ends with one."""
+        ahead, behind = self.forms
+        return [*dict.fromkeys([*beginning_with(form, ahead), *beginning_with(form[::-1], behind)])]
 
 
-def differ_by_one(one: str, other: str) -> bool:
-    """Is one of two texts the other with one letter more, or with another letter at one place?"""
-    short, long = sorted((one, other), key=len)
-    if len(long) - len(short) > 1 or short == long:
-        return False
-    at = next((at for at, (a, b) in enumerate(zip(short, long)) if a != b), len(short))
-    return short[at + (len(short) == len(long)) :] == long[at + 1 :]
+def beginning_with(form: str, names: Sequence[tuple[str, str]]) -> list[str]:
+    """Those of some names, in the order of their forms, whose form begins with one."""
+    first = bisect.bisect_left(names, (form,))
+    found = itertools.takewhile(lambda one: one[0].startswith(form), itertools.islice(names, first, None))
+    return [name for _, name in found]
+
+
+def with_letter_otherwise(text: str, letters: str) -> Iterator[str]:
+    """What a text becomes where one letter of it is another one of these, is left out, or stands besides; its digits
+    stay. It doesn't become itself."""
+    for at in range(len(text) + 1):
+        before, behind = text[:at], text[at:]
+        yield from (before + letter + behind for letter in letters)
+        if behind and not behind[0].isdigit():
+            yield before + behind[1:]
+            yield from (before + letter + behind[1:] for letter in letters if letter != behind[0])
 
 
 Ids = dict[str, list[str]]
@@ -188,22 +210,11 @@ class IdsByName:
         found = {id for part in parts_of(text) for id in self.there(self.ever.of_names.get(part, ()))}
         return found or self.with_part(text) or (self.nearly(text) if also_nearly else set())
 
-    @functools.cached_property
-    def of_words(self) -> list[tuple[str, str]]:
-        """The names of several words, with their ids. Of very many nobody asks: whoever looks at a sheet would wait for
-        it."""
-        return [*itertools.islice((one for one in zip(self.names, self.ids) if " " in one[0]), MOST_COMPARED)]
-
-    @functools.cached_property
-    def forms(self) -> list[str]:
-        return self.ever.forms_of([name for name, _ in self.of_words])
-
     def with_part(self, text: str) -> set[str]:
         """The ids of those whose name begins or ends with the words of a text. Few names are looked at closer."""
         key = folded(text)
-        form = as_digits(key)
-        are_likely = (one.startswith(form) or one.endswith(form) for one in self.forms) if form else ()
-        return {id for name, id in itertools.compress(self.of_words, are_likely) if key in parts_of(name)}
+        likely = self.ever.with_form(as_digits(key)) if key else ()
+        return {id for name in likely if key in parts_of(name) for id in self.there(self.ever.named[name.casefold()])}
 
     def nearly(self, text: str) -> set[str]:
         """Two with other digits are other animals."""
@@ -217,13 +228,11 @@ class IdsByName:
         """The ids of the names that a text becomes where one letter of it is another, is left out or stands besides;
         none of a short text, nor with another digit."""
         key = folded(text)
-        half = len(key) // 2
-        if len(key) < SHORT or not half:
+        if len(key) < SHORT:
             return set()
-        begins, ends, digits = key[:half], key[half + 1 :], DIGITS.findall(key)
-        likely = (one for one in self.ever.of_names if one.startswith(begins) or one.endswith(ends))
-        near = [one for one in likely if differ_by_one(key, one) and DIGITS.findall(one) == digits]
-        return {id for one in near for id in self.there(self.ever.of_names[one])}
+        digits = DIGITS.findall(key)
+        near = filter(self.ever.of_names.__contains__, with_letter_otherwise(key, self.ever.letters))
+        return {id for one in near if DIGITS.findall(one) == digits for id in self.there(self.ever.of_names[one])}
 
     def of_same_digits(self, key: str) -> Iterator[str]:
         digits = DIGITS.findall(key)
