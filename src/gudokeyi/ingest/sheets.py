@@ -21,6 +21,7 @@ from gudokeyi.ingest.files import MOST_LETTERS, GivenFile, check_bounds
 from gudokeyi.ingest.findings.columns import SheetFinding
 from gudokeyi.ingest.findings.exits import Remark
 from gudokeyi.ingest.messages import SheetFault
+from gudokeyi.ingest.shown_cells import Shown
 from gudokeyi.ingest.texts import clean
 from gudokeyi.ingest.workbooks import Formulas, NamedBefore, best_of, read_workbook
 
@@ -92,6 +93,8 @@ class Sheet:
     as_before: str = ""
     # the lines of rows that are filled grey
     grey: list[int] = field(default_factory=list)
+    # the cells of a workbook of which it shows another text, by their lines and places
+    shown: Shown = field(default_factory=dict)
 
     def is_same(self, meant: Sheet) -> bool:
         """Has another sheet that was made of the same one the same rows?"""
@@ -125,7 +128,7 @@ def read_sheet(file: GivenFile, score: Score, worksheet: str = "", before: Named
     path, data = file.path, file.data
     faults: list[SheetFinding]
     formulas: Formulas | None = None
-    unread, grey = list[SheetFinding](), list[int]()
+    unread, grey, shown = list[SheetFinding](), list[int](), Shown()
     worksheets, as_before = tuple[str, ...](), ""
     if file.is_zipped() and not file.is_workbook():
         raise Mistake(SheetFault.ODS.said(path=path))
@@ -133,7 +136,7 @@ def read_sheet(file: GivenFile, score: Score, worksheet: str = "", before: Named
         found = read_workbook(path, data, score, BEGINNING, worksheet, before)
         worksheets, as_before = found.titles, found.title * found.as_before
         rows, how, faults = [SheetRow(*one) for one in found.rows], found.how, found.faults
-        formulas, unread, grey = found.formulas, found.unread, found.grey
+        formulas, unread, grey, shown = found.formulas, found.unread, found.grey, found.shown
         tops, best, taken = found.tops, best_worksheet, found.title
     else:
         if worksheet:
@@ -158,7 +161,7 @@ def read_sheet(file: GivenFile, score: Score, worksheet: str = "", before: Named
     decision = Decision(tops, best, taken, first, at)
     return Sheet(
         line, titles, below, how, faults, {}, unseen, formulas, unread, above, decision=decision, worksheets=worksheets,
-        as_before=as_before, grey=grey,
+        as_before=as_before, grey=grey, shown=shown,
     )  # fmt: skip
 
 

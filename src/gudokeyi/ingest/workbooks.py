@@ -27,6 +27,7 @@ from gudokeyi.ingest.findings.files import (
 )  # fmt: skip
 from gudokeyi.ingest.messages import SheetFault
 from gudokeyi.ingest.number_formats import number_text
+from gudokeyi.ingest.shown_cells import Shown, shown_cells
 from gudokeyi.ingest.texts import clean
 
 # What the parts of a workbook would become: their cells are counted before they are made, since a file of few bytes may
@@ -184,6 +185,8 @@ class Worksheet(NamedTuple):
     unread: list[SheetFinding]
     # the numbers of rows that are filled grey
     grey: list[int]
+    # the cells of which it shows another text than is read
+    shown: Shown
     # its title, and the first rows of each worksheet among which it was chosen
     title: str
     tops: Tops
@@ -215,7 +218,7 @@ def read_workbook(
     others = [f"'{title}'" for title in titles if title != titles[at]]
     how = f"the worksheet '{titles[at]}' of an .xlsx file" + (f"; not read: {', '.join(others)}" if others else "")
     how = how if others else "an .xlsx file"
-    found = faults(texts), formulas(values, texts), unread(values), grey_lines(values)
+    found = faults(texts), formulas(values, texts), unread(values), grey_lines(values), shown_cells(values)
     return Worksheet(rows, how, *found, titles[at], tops, tuple(titles), as_before)
 
 
