@@ -107,6 +107,42 @@ def test_columns_of_a_sheet(site: Site, goats: Desk) -> None:
     assert "CAE" not in goats.listed("export")[0]
 
 
+def test_values_of_a_sheet(site: Site, goats: Desk) -> None:
+    """A look and the history tell of values that are new, changed, emptied or cut what a terminal tells."""
+    ids = [line.split(",")[0] for line in SHEET.splitlines()]
+    sheets = []
+    for said in (["a,5/4", "b,981020001544265", "c,981020001544266"], [",5/4", "bb,9.8102E+14", "c,05-Apr"]):
+        rows = zip(SHEET.splitlines()[1:], [*said, *[","] * len(ids)])
+        sheets.append("".join(f"{line},{own}\n" for line, own in [(SHEET.splitlines()[0], "Farbe,Chip"), *rows]))
+    goats.take(sheets[0], "--own", "Farbe=text", "--own", "Chip=text")
+    address = site.drop("second.csv", sheets[1].encode())
+    looks = dict[str, str]()
+    for language in "de", "fr", "en":
+        site.get(f"/language/{language}")
+        looks[language] = shown(site.page(address))
+    site.take(address)
+    told = {
+        "de": ["die Spalte „Farbe“ (Text) hat 1 geänderten Wert", "die Spalte „Farbe“ (Text) hat 1 geleerten Wert",
+               "Farbe: bb; vorher: b", "Farbe: keine; vorher: a", "die Spalte „Chip“ (Text) hat 1 geänderten Wert",
+               "1 Zelle der Spalte „Chip“ ist ausgelassen, in Zeile 3: „9.8102E+14“ ist eine lange Zahl",
+               "1 Zelle der Spalte „Chip“ liest sich wie ein Tag: „05-Apr“ in Zeile 4"],
+        "fr": ["la colonne « Farbe » (texte) a 1 valeur changée", "la colonne « Farbe » (texte) a 1 valeur vidée",
+               "1 cellule de la colonne « Chip » est laissée de côté, à la ligne 3 : « 9.8102E+14 »",
+               "1 cellule de la colonne « Chip » se lit comme un jour : « 05-Apr » à la ligne 4"],
+        "en": ["the column 'Farbe' (text) has 1 changed value", "the column 'Farbe' (text) has 1 emptied value",
+               "Farbe: bb; before: b",
+               "1 cell of the column 'Chip' is left out, in line 3: '9.8102E+14' is a long number",
+               "1 cell of the column 'Chip' reads like a day: '05-Apr' in line 4"],
+    }  # fmt: skip
+    for language, sentences in told.items():
+        site.get(f"/language/{language}")
+        made = shown(site.page("/history/3"))
+        for sentence in sentences:
+            assert sentence in looks[language], (sentence, looks[language])
+            assert sentence in made, (sentence, made)
+    assert "3 changed" in made
+
+
 def test_columns_set_up(site: Site, goats: Desk) -> None:
     """A column is set up without a sheet, changed, shown on certificates, and let go; what can't be is said."""
     form = written_in(site.page("/own-columns"))

@@ -191,6 +191,10 @@ class Finding(Told):
         """Findings of one kind and theme are told together."""
         return None
 
+    def times(self) -> int:
+        """Of how many rows, cells or parents it tells."""
+        return 1
+
 
 # the kinds of findings by their codes
 KINDS: dict[str, type[Finding]] = {}
@@ -271,6 +275,8 @@ class Report:
         self.entries: list[Entry] = []
         # the animals whose owner is written otherwise from now on
         self.renamed: set[str] = set()
+        # those of the book of which values of the society's own columns are otherwise, of which the first have entries
+        self.with_own_values: set[str] = set()
 
     def add(self, line: int, id: str, finding: Finding) -> None:
         self.entries.append(Entry(line, id, finding))
@@ -283,15 +289,20 @@ class Report:
 
     def left_out(self) -> str:
         """How many rows, cells and parents are left out, in words."""
-        counts = collections.Counter(entry.part for entry in self.entries if entry.what is What.LEFT_OUT)
+        counts = collections.Counter[Part | None]()
+        for entry in self.entries:
+            if entry.what is What.LEFT_OUT:
+                counts[entry.part] += entry.finding.times()
         parts = [counted(counts[part], part) for part in Part if counts[part]]
         return f"{counts.total()} left out" + (f" ({', '.join(parts)})" if parts else "")
 
     def counts(self) -> collections.Counter[What]:
-        """How many entries there are of each kind; of what is changed, how many animals are."""
+        """How many entries there are of each kind; of what is changed, how many animals are, and of what is left out,
+        how many rows, cells and parents."""
         counts = collections.Counter(entry.what for entry in self.entries)
         changed = {entry.id for entry in self.entries if entry.what is What.CHANGED} - {""}
-        counts[What.CHANGED] = len(changed | self.renamed)
+        counts[What.CHANGED] = len(changed | self.renamed | self.with_own_values)
+        counts[What.LEFT_OUT] = sum(one.finding.times() for one in self.entries if one.what is What.LEFT_OUT)
         return counts
 
     def in_order(self) -> list[Entry]:

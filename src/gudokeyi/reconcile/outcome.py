@@ -13,6 +13,7 @@ from gudokeyi.domain.findings import Call, Entry, Finding, Report, What
 from gudokeyi.domain.kinds import Field
 from gudokeyi.domain.messages import counted, some_of
 from gudokeyi.reconcile.findings.by_hand import ValueChanged
+from gudokeyi.reconcile.findings.own_columns import OwnValuesOtherwise
 from gudokeyi.store.exports import REPORT
 
 # How a sheet was understood: its rows, and which column has what, as data.
@@ -129,6 +130,14 @@ class Outcome:
         """How many values of each field are changed."""
         findings = (entry.finding for entry in self.report.entries)
         return collections.Counter(one.name for one in findings if isinstance(one, ValueChanged))
+
+    def own_columns(self) -> dict[str, list[OwnValuesOtherwise]]:
+        """How many values of the society's own columns are otherwise, by their titles."""
+        found = collections.defaultdict[str, list[OwnValuesOtherwise]](list)
+        for entry in self.report.entries:
+            if isinstance(entry.finding, OwnValuesOtherwise):
+                found[entry.finding.title].append(entry.finding)
+        return found
 
     def summary(self) -> str:
         assert self.after

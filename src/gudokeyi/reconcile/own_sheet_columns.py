@@ -2,18 +2,27 @@
 from __future__ import annotations
 
 import collections
-from collections.abc import Sequence
+import functools
+import re
+from collections.abc import Mapping, Sequence
 from dataclasses import dataclass
+from typing import NamedTuple
 
 from gudokeyi.domain.animals import LETTERS
 from gudokeyi.domain.messages import Mistake
 from gudokeyi.domain.mistakes import InvalidValue
 from gudokeyi.domain.own_columns import MOST_CHOICES, MOST_COLUMNS, MOST_IN_TITLE, OwnColumn, OwnKind
 from gudokeyi.domain.requests import OwnFault
+from gudokeyi.ingest.animals import SheetAnimal
 from gudokeyi.ingest.columns import Columns
+from gudokeyi.ingest.days import NAME
 from gudokeyi.ingest.sheets import Sheet
+from gudokeyi.ingest.spellings import CUT
 from gudokeyi.ingest.texts import clean, plain
-from gudokeyi.reconcile.findings.own_columns import OwnCellUnread, OwnColumnRead
+from gudokeyi.reconcile.findings.animals import OwnValueWritten
+from gudokeyi.reconcile.findings.own_columns import (
+    OwnCellUnread, OwnColumnRead, OwnDaysAmongTexts, OwnNumbersCut, OwnValuesChanged, OwnValuesEmptied,
+)  # fmt: skip
 from gudokeyi.reconcile.next_book import NextBook
 from gudokeyi.reconcile.own_values import value_read
 from gudokeyi.store.book import Book
@@ -65,7 +74,7 @@ def with_choices(column: OwnColumn, sheet: Sheet, places: dict[int, int], is_kno
     """A new column of choices has those of the sheet, of several in other capitals the one that most cells have."""
     if column.kind is not OwnKind.CHOICE or column.choices or is_known or column.place not in places:
         return column
-    counts = collections.Counter(filter(None, map(clean, sheet.column(places[column.place]))))
+    counts = collections.Counter(filter(None, texts_of(sheet, places[column.place], column)))
     alike = {one.casefold(): one for one, _ in reversed(counts.most_common())}
     choices = sorted(alike.values())
     if len(choices) > MOST_CHOICES:
@@ -79,34 +88,138 @@ def take_own_values(next_book: NextBook, own: OwnSheetColumns, sheet: Sheet, mon
     if not own.places and own.before == own.after:
         return
     kept = value_rows_at(next_book.book.connection, own.places)
-    cells = {row.line: row.cells for row in sheet.rows}
+    rows = {row.line: at for at, row in enumerate(sheet.rows)}
+    those = [(one, one.registration_number[LETTERS:]) for one in next_book.animals.values() if one.line in rows]
+    at_rows = [rows[one.line] for one, _ in those]
     before: dict[Values, Values] = {}
     after: dict[Values, Values] = {}
     for column in own.after:
-        if column.place not in own.places:
-            continue
-        at, changed = own.places[column.place], 0
-        for animal in next_book.animals.values():
-            row = cells.get(animal.line) if animal.line else None
-            if row is None:
-                continue
-            cell = clean(row[at]) if at < len(row) else ""
-            key: Values = (animal.registration_number[LETTERS:], column.place)
-            was = kept.get(key)
-            if cell == str((was[4] if was else None) or ""):
-                continue
-            try:
-                value = value_read(column, cell, month_first)
-            except InvalidValue:
-                next_book.report.add(animal.line, animal.id, OwnCellUnread(column.title, cell, column.kind))
-                continue
-            value_before = str(was[2]) if was else ""
-            if value != value_before:
-                changed += 1
-                next_book.own_values.setdefault(animal.id, []).append((column.place, value_before, value))
-            before |= {key: was} if was else {}
-            after[key] = value_row(str(key[0]), column.place, value, cell)
-        if changed:
-            next_book.report.add(0, "", OwnColumnRead(column.title, column.kind, changed))
+        if column.place in own.places:
+            texts = texts_of(sheet, own.places[column.place], column)
+            taken = OwnColumnTaken(next_book, column, month_first)
+            taken.take(those, [texts[at] for at in at_rows], kept)
+            before |= taken.before
+            after |= taken.after
+    next_book.report.with_own_values.update(next_book.book.society_records.keys() & next_book.own_values.keys())
     columns = Rows(rows_of_columns(own.before), rows_of_columns(own.after))
     next_book.others += [(OWN_COLUMNS, columns), (OWN_VALUES, Rows(before, after))]
+
+
+def texts_of(sheet: Sheet, at: int, column: OwnColumn) -> list[str]:
+    """The cells of a column by rows. Of a workbook's a column of texts has what the spreadsheet shows."""
+    texts = sheet.column(at)
+    if column.kind in (OwnKind.TEXT, OwnKind.CHOICE):
+        shown = {line: text for (line, place), text in sheet.shown.items() if place == at}
+        texts = [shown.get(row.line, text) for row, text in zip(sheet.rows, texts)] if shown else texts
+    cleaned = {text: clean(text) for text in {*texts}}
+    return [*map(cleaned.__getitem__, texts)]
+
+
+# A column: what becomes of its cells.
+
+# so many values that are changed, and so many that are emptied, are told one by one
+MOST_TOLD = 25
+# a sign of each number that is cut
+PLUS = "+"
+# a day without its year, as a spreadsheet shows what it made of `5/4`, or another day or month
+DAY = rf"(?P<without_year>\d{{1,2}}[ .-]+{NAME})|(?:19|20)\d\d-(?:0\d|1[0-2])(?:-[0-3]\d)?|{NAME}[ -]\d\d"
+
+
+class CellOtherwise(NamedTuple):
+    """A cell that says otherwise than that of the last sheet, and the row that the book has of its animal's value."""
+
+    animal: SheetAnimal
+    cell: str
+    key: Values
+    was: Values | None
+
+
+class OwnColumnTaken:
+    """The values that a column of a sheet gives, and what is told of them: `before` and `after` are the rows of the
+    book that aren't as they were."""
+
+    def __init__(self, next_book: NextBook, column: OwnColumn, month_first: bool) -> None:
+        self.next_book, self.column, self.month_first = next_book, column, month_first
+        self.report = next_book.report
+        self.before: dict[Values, Values] = {}
+        self.after: dict[Values, Values] = {}
+        # how many values are new, changed and emptied
+        self.new, self.changed, self.emptied = 0, 0, 0
+        # the value of each text; none where it can't be one
+        self.read = functools.cache(self.read_of)
+
+    def take(self, rows: Sequence[tuple[SheetAnimal, str]], cells: list[str], kept: Mapping[Values, Values]) -> None:
+        """Takes the cells of animals, each of which is there with the digits of its number."""
+        place = self.column.place
+        others = [
+            CellOtherwise(animal, cell, (digits, place), was)
+            for (animal, digits), cell in zip(rows, cells)
+            if cell != ((was := kept.get((digits, place))) and was[4] or "")
+        ]
+        cut = {text for text in {*cells} if PLUS in text and CUT.fullmatch(text)}
+        if cut:
+            self.tell_cut([(animal.line, cell) for (animal, _), cell in zip(rows, cells) if cell in cut])
+            others = [one for one in others if one.cell not in cut]
+        self.tell_days(others, cells)
+        self.take_all(others)
+        self.tell_counts()
+
+    def take_all(self, others: Sequence[CellOtherwise]) -> None:
+        place, own_values = self.column.place, self.next_book.own_values
+        for animal, cell, key, was in others:
+            value = self.read(cell)
+            if value is None:
+                self.report.add(animal.line, animal.id, OwnCellUnread(self.column.title, cell, self.column.kind))
+                continue
+            before = str(was[2]) if was else ""
+            if value != before:
+                own_values.setdefault(animal.id, []).append((place, before, value))
+                self.new += not before
+                if before:
+                    self.tell_one(animal, before, value)
+            if was:
+                self.before[key] = was
+            self.after[key] = value_row(str(key[0]), place, value, cell)
+
+    def read_of(self, cell: str) -> str | None:
+        try:
+            return value_read(self.column, cell, self.month_first)
+        except InvalidValue:
+            return None
+
+    def tell_one(self, animal: SheetAnimal, before: str, value: str) -> None:
+        """Of values that were there until now the first are told."""
+        self.changed += bool(value)
+        self.emptied += not value
+        if (self.changed if value else self.emptied) <= MOST_TOLD:
+            self.report.add(animal.line, animal.id, OwnValueWritten(self.column.title, value, before))
+
+    def tell_counts(self) -> None:
+        title, kind = self.column.title, self.column.kind
+        counts = (OwnColumnRead, self.new), (OwnValuesChanged, self.changed), (OwnValuesEmptied, self.emptied)
+        for found, count in counts:
+            if count:
+                self.report.add(0, "", found(title, kind, count))
+
+    def tell_cut(self, cells: Sequence[tuple[int, str]]) -> None:
+        """Numbers that the spreadsheet has cut, each with its line: the values stay."""
+        self.report.add(0, "", OwnNumbersCut(self.column.title, len(cells), *min(cells)))
+
+    def tell_days(self, others: Sequence[CellOtherwise], cells: list[str]) -> None:
+        """Days that a spreadsheet may have made of texts: those without a year, and others where they are few."""
+        if self.column.kind not in (OwnKind.TEXT, OwnKind.CHOICE):
+            return
+        read = day_form().fullmatch
+        days = {text: day["without_year"] for text in {one.cell for one in others} if (day := read(text))}
+        if not days:
+            return
+        are_few = 2 * sum(map(bool, map(read, cells))) <= len(cells) - cells.count("")
+        found = [(one.animal.line, one.cell) for one in others if one.cell in days and (are_few or days[one.cell])]
+        if found:
+            self.report.add(0, "", OwnDaysAmongTexts(self.column.title, len(found), *min(found)))
+
+
+@functools.cache
+def day_form() -> re.Pattern[str]:
+    """Compiled for the first column of texts."""
+    return re.compile(DAY, re.IGNORECASE)

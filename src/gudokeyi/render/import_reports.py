@@ -13,7 +13,7 @@ from gudokeyi.domain.findings import (
     DROP_GONE, Call, Entry, Finding, ImportRefused, Report, Severity, StrictlyRefused, Suggestion, What,
 )  # fmt: skip
 from gudokeyi.domain.kinds import Field
-from gudokeyi.domain.messages import MOST_NAMED, Mistake
+from gudokeyi.domain.messages import MOST_NAMED, Mistake, some_of
 from gudokeyi.domain.refusals import Refusal
 from gudokeyi.domain.wording import SEXES
 from gudokeyi.ingest.findings.cells import CellLeftOut, ErrorValue
@@ -21,6 +21,7 @@ from gudokeyi.ingest.findings.exits import ExitsWithoutDay
 from gudokeyi.ingest.findings.sheets import CellsUnread, ErrorCells
 from gudokeyi.reconcile.findings.parents import WRONG, ParentRefused
 from gudokeyi.reconcile.findings.by_hand import YoungParent
+from gudokeyi.reconcile.findings.own_columns import OwnValuesOtherwise
 from gudokeyi.reconcile.findings.plausibility import BirthsNearerThanUsual, BirthsTooNear
 from gudokeyi.reconcile.outcome import Outcome
 from gudokeyi.store.exports import COMMANDS
@@ -182,6 +183,8 @@ def order_of(finding: Finding) -> tuple[Severity, bool]:
 ROWS = 24
 # so many rows are kept for what may be wrong, however long the rest is
 LEAST = 10
+# of so many own columns it is shown what has changed
+MOST_COLUMNS = 5
 # of a preview there is no report: there is room for so many rows
 EACH = 1000
 
@@ -242,6 +245,9 @@ def about(outcome: Outcome) -> list[str]:
         return lines
     if changed := outcome.changed():
         lines.append("changed: " + ", ".join(f"{name} {count}" for name, count in changed.most_common()))
+    if own := outcome.own_columns():
+        counts = [f"'{title}' ({', '.join(map(count_said, those))})" for title, those in own.items()]
+        lines.append(f"own columns: {some_of(counts, MOST_COLUMNS)}")
     if outcome.after.is_anew:
         lines.append(f"{outcome.folder / COMMANDS} is written anew, since something in it was corrected or dropped")
     if outcome.after.numbers_begin:
@@ -252,6 +258,10 @@ def about(outcome: Outcome) -> list[str]:
             "journal"
         )
     return lines
+
+
+def count_said(found: OwnValuesOtherwise) -> str:
+    return f"{found.values_otherwise()} {found.word}"
 
 
 def summary(outcome: Outcome) -> str:

@@ -15,9 +15,9 @@ from gudokeyi.ingest.columns import Columns
 from gudokeyi.ingest.files import read_file
 from gudokeyi.ingest.findings.cells import OddRow
 from gudokeyi.ingest.messages import SheetFault
-from gudokeyi.ingest.sheets import Sheet as Sheet
+from gudokeyi.ingest.sheets import Sheet as Sheet, SheetRow
 from gudokeyi.ingest.texts import plain
-from gudokeyi.reconcile.findings.animals import KeptByHand, KeptFromBook
+from gudokeyi.reconcile.findings.animals import KeptByHand, KeptFromBook, OwnValueWritten
 from gudokeyi.reconcile.findings.by_hand import NewAnimal
 from gudokeyi.reconcile.import_options import ImportOptions, remember, with_settings
 from gudokeyi.reconcile.outcome import Outcome
@@ -71,11 +71,18 @@ def columns_shown(
     view = ColumnsView(
         tuple(sheet.titles),
         tuple(fields.get(at, "") for at in range(len(sheet.titles))),
-        tuple((row.line, tuple(cell[:LETTERS] for cell in row.cells)) for row in sheet.rows[:ROWS]),
+        tuple((row.line, cells_shown(sheet, row, fields)) for row in sheet.rows[:ROWS]),
         len(sheet.rows),
         others_of(book, columns, import_options.own),
     )
     return view, sheet
+
+
+def cells_shown(sheet: Sheet, row: SheetRow, fields: Collection[int]) -> tuple[str, ...]:
+    """The cells of a row; those that no field is read from as the spreadsheet shows them."""
+    cells = enumerate(row.cells)
+    texts = (cell if at in fields else sheet.shown.get((row.line, at), cell) for at, cell in cells)
+    return tuple(text[:LETTERS] for text in texts)
 
 
 def cells_of(sheet: Sheet, lines: Collection[int]) -> dict[int, tuple[tuple[str, str], ...]]:
@@ -109,12 +116,12 @@ STAYS = (KeptByHand, KeptFromBook)
 
 
 def changes_by_animal(outcome: Outcome, drops_gone: bool) -> dict[str, bytes]:
-    """What is told of each animal, as digests, with the values of the society's own columns, of which the report tells
-    how many change alone. What has no row stays as it is, unless it is dropped, and so does what was filed by hand; a
+    """What is told of each animal, as digests, with the values of the society's own columns, of which the report has
+    some of the first alone. What has no row stays as it is, unless it is dropped, and so does what was filed by hand; a
     new animal has whichever number is free."""
     told = collections.defaultdict[str, list[str]](list)
     for entry in outcome.report.in_order():
-        stays = isinstance(entry.finding, STAYS) or (entry.what is What.GONE and not drops_gone)
+        stays = isinstance(entry.finding, (*STAYS, OwnValueWritten)) or (entry.what is What.GONE and not drops_gone)
         if entry.id and not stays:
             values = "" if isinstance(entry.finding, NewAnimal) else repr(entry.finding)
             told[entry.id].append(f"{entry.line} {entry.finding.code} {values}")
