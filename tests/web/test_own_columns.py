@@ -6,6 +6,7 @@ import pathlib
 import re
 from collections.abc import Iterator
 
+import openpyxl
 import pytest
 from selenium import webdriver
 
@@ -141,6 +142,19 @@ def test_values_of_a_sheet(site: Site, goats: Desk) -> None:
             assert sentence in looks[language], (sentence, looks[language])
             assert sentence in made, (sentence, made)
     assert "3 changed" in made
+
+
+def test_rows_of_a_workbook(site: Site, goats: Desk) -> None:
+    """The first rows of a look have what the spreadsheet shows, where a column of the society's own may be, and what is
+    read of it elsewhere."""
+    book = openpyxl.Workbook()
+    book.active.append(["id", "sex", "birth", "sire", "dam", "Farbe"])
+    book.active.append([17, "f", "2012-05-13", None, None, 123])
+    for cell, number_format in ("A2", '0" kg"'), ("F2", '0000"CK"'):
+        book.active[cell].number_format = number_format
+    book.save(goats.room / "sheet.xlsx")
+    page = shown(site.page(site.drop("sheet.xlsx", (goats.room / "sheet.xlsx").read_bytes())))
+    assert "2 17 f 13.05.2012 0123CK" in page and "17 kg" not in page
 
 
 def test_columns_set_up(site: Site, goats: Desk) -> None:
