@@ -8,9 +8,9 @@ import openpyxl
 import pytest
 
 from front_desk.desk import Desk
+from gudokeyi.domain.messages import MOST_NAMED
 from gudokeyi.ingest.number_formats import shown_number
 from gudokeyi.ingest.shown_cells import shown_day
-from gudokeyi.reconcile.own_sheet_columns import MOST_TOLD
 from gudokeyi.services.book_program import BookProgram
 from gudokeyi.services.imports import Import, ImportOptions
 from gudokeyi.services.sheet_previews import changes_by_animal
@@ -45,7 +45,7 @@ def test_numbers_that_are_cut(desk: Desk, kind: str, cut: str) -> None:
     desk.take(dogs("Chip", CHIPS), "--own", f"Chip={kind}")
     done = desk.take(dogs("Chip", [cut] * 31))
     assert values(desk, "Chip") == [*CHIPS, ""]
-    done.shows(as_cut(31, cut))
+    done.shows(as_cut(31, cut), "own columns: 'Chip' (31 cut)")
     assert done.told.count(cut) == 2 and ", 1 new, 0 changed, " in done.last and ", 31 left out (31 cells)" in done.last
     # they are told as long as they stand there, and whoever wants nothing left out is told before
     assert as_cut(31, cut) in desk.take(dogs("Chip", [cut] * 31)).out
@@ -79,17 +79,25 @@ def test_counts_of_values(desk: Desk) -> None:
 
 def test_many_values(desk: Desk) -> None:
     """Of many values that are changed the first are told, and all are counted."""
-    count = MOST_TOLD + 5
+    count = MOST_NAMED + 5
     desk.take(dogs("Hips", [f"{at}/1" for at in range(2 * count)]), "--own", "Hips=text")
+    named = dogs("Hips", [f"{at}/2" for at in range(count)] + [""] * count).replace(";Dog", ";Hound")
+    looked = desk.good("import", desk.write("sheet.csv", named), "--preview").out.splitlines()
+    # what is told of columns takes no place of what is told of animals
+    assert sum(": changed: " in line for line in looked) == 25
+    assert sum(line.startswith("changed: the column 'Hips'") for line in looked) == 2
     done = desk.take(dogs("Hips", [f"{at}/2" for at in range(count)] + [""] * count))
     done.shows(f"own columns: 'Hips' ({count} changed, {count} emptied)")
     assert f", {2 * count} changed, " in done.last
-    assert sum("/2; before: " in line for line in done.report) == MOST_TOLD
-    assert sum("Hips: none; before: " in line for line in done.report) == MOST_TOLD
+    assert sum("/2; before: " in line for line in done.report) == MOST_NAMED
+    assert sum("Hips: none; before: " in line for line in done.report) == MOST_NAMED
     # several columns in one line
     sheet = TITLES.format(";".join(f"C{at}" for at in range(7))) + "a01;Dog 1;f;2012-05-13;;;Mrs X" + ";x" * 7 + "\n"
     done = desk.take(sheet, "--anyway", *(word for at in range(7) for word in ("--own", f"C{at}=text")))
     done.shows("own columns: " + ", ".join(f"'C{at}' (1 new)" for at in range(5)) + " and 2 more")
+    # those first of which something goes
+    done = desk.take(sheet.replace(";x\n", ";\n").replace(";x;x;x", ";y;y;y", 1))
+    done.shows("own columns: 'C6' (1 emptied), 'C0' (1 changed), 'C1' (1 changed), 'C2' (1 changed)")
 
 
 def workbook(desk: Desk, cells: list[tuple[object, str]], title: str = "Score") -> str:
@@ -119,6 +127,8 @@ SHOWN: list[tuple[object, str, str, str]] = [
     (FIFTH, "dd/mm/yyyy", "2022-04-05", "2022-04-05"),
     (1234, '#,##0 "EUR"', "1234", "1234"),
     (7, "General", "7", "7"),
+    # no spreadsheet has a format of so many letters
+    (7, f'0"{"k" * 260}"', "7", "7"),
 ]  # fmt: skip
 
 
@@ -128,7 +138,7 @@ def test_cells_as_they_are_shown(desk: Desk) -> None:
     sheet = workbook(desk, cells)
     done = desk.good("import", sheet, "--own", "Score=text")
     assert values(desk, "Score") == [shown for _, _, shown, _ in SHOWN]
-    done.shows("own columns: 'Score' (11 new)")
+    done.shows("own columns: 'Score' (12 new)")
     assert "own columns" not in desk.good("import", sheet).out
     desk.good("import", sheet, "--own", "Score=choice", "--book", "other")
     choices = desk.good("own", "--book", "other").out
@@ -154,7 +164,8 @@ def test_shown_in_a_merged_cell(desk: Desk) -> None:
     [
         (25, '0"%"', "25%"), (5, "0.0%", "500.0%"), (123456, '00" "00" "00"x"', "12 34 56x"), (17, '"A"0.00', "A17.00"),
         (12, '[<10]0" x";0" y"', ""), (-3, '0"x"', ""), (float("inf"), '0"x"', ""), (17, "0000", ""), (1, "# ?/?", ""),
-        (3, 'General" kg"', "3 kg"), (0.5, '0.#"x"', ""),
+        (3, 'General" kg"', "3 kg"), (0.5, '0.#"x"', ""), (1, f'0.{"0" * 40}"x"', ""),
+        (999_999_999_999_999, f'0.{"0" * 10}"x"', f"999999999999999.{'0' * 10}x"),
     ],
 )  # fmt: skip
 def test_shown_number(value: float, number_format: str, shown: str) -> None:
@@ -204,7 +215,7 @@ def test_days_of_workbooks_among_texts(desk: Desk) -> None:
 def test_what_a_look_has_of_each_animal(desk: Desk, program: str, monkeypatch: pytest.MonkeyPatch) -> None:
     """It has all values that change, and not which of them are told: that hangs on those of other animals."""
     monkeypatch.setenv("HERDBOOK", program)
-    count = MOST_TOLD + 1
+    count = MOST_NAMED + 1
     desk.take(dogs("Hips", [f"{at}/1" for at in range(count)]), "--own", "Hips=text")
     path = desk.room / desk.write("sheet.csv", dogs("Hips", [f"{at}/2" for at in range(count)]))
 

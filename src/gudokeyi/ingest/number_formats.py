@@ -12,8 +12,9 @@ TOKENS = re.compile(r'"[^"]*"|\\.|\[[^\]]*\]|_.|\*.|[0#?]+|General|.', re.DOTALL
 # what stands for itself without quotation marks
 PLAIN = frozenset(" -/()+:")
 NONE_SHOWN, PERCENT = "[_*", "%"
-# below it a spreadsheet keeps all digits of a number
-MOST = 10**15
+# below it a spreadsheet keeps all digits of a number, of which it shows so many behind the point, and a format has so
+# many letters
+MOST, MOST_PLACES, MOST_LETTERS = 10**15, 10, 255
 # that of numbers for which a part of a format is
 CONDITION = re.compile(r"\[[<>=]")
 
@@ -101,6 +102,6 @@ def read_format(number_format: str) -> Format | None:
             is_percentage |= token == PERCENT
         elif token[0] not in NONE_SHOWN or CONDITION.match(token):
             return None
-    if not groups or (whole >= 0 and not places):
+    if not groups or (whole >= 0 and not 0 < places <= MOST_PLACES):
         return None
     return Format(tuple(texts), tuple(groups), least, places, is_percentage)

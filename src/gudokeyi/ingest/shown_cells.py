@@ -8,7 +8,7 @@ import re
 from collections.abc import Mapping
 from typing import Any
 
-from gudokeyi.ingest.number_formats import shown_number
+from gudokeyi.ingest.number_formats import MOST_LETTERS, shown_number
 from gudokeyi.ingest.texts import clean
 
 # the texts that are shown, by the rows and the places of cells
@@ -43,7 +43,8 @@ def formats_with_text(book: Any) -> Mapping[int, str]:
     own = dict(enumerate(book._number_formats, FIRST_OWN))
     used = {style.numFmtId for style in book._cell_styles}
     formats = {number: str(own.get(number) or BUILTIN_FORMATS.get(number) or "") for number in used}
-    return {number: one for number, one in formats.items() if shown_number(1, one) or shown_day(ANY_DAY, one)}
+    usual = ((number, one) for number, one in formats.items() if len(one) <= MOST_LETTERS)
+    return {number: one for number, one in usual if shown_number(1, one) or shown_day(ANY_DAY, one)}
 
 
 # a day of which no two parts are alike

@@ -13,7 +13,7 @@ from gudokeyi.domain.findings import Call, Entry, Finding, Report, What
 from gudokeyi.domain.kinds import Field
 from gudokeyi.domain.messages import counted, some_of
 from gudokeyi.reconcile.findings.by_hand import ValueChanged
-from gudokeyi.reconcile.findings.own_columns import OwnValuesOtherwise
+from gudokeyi.reconcile.findings.own_columns import OwnCells
 from gudokeyi.store.exports import REPORT
 
 # How a sheet was understood: its rows, and which column has what, as data.
@@ -131,13 +131,14 @@ class Outcome:
         findings = (entry.finding for entry in self.report.entries)
         return collections.Counter(one.name for one in findings if isinstance(one, ValueChanged))
 
-    def own_columns(self) -> dict[str, list[OwnValuesOtherwise]]:
-        """How many values of the society's own columns are otherwise, by their titles."""
-        found = collections.defaultdict[str, list[OwnValuesOtherwise]](list)
+    def own_columns(self) -> dict[str, list[OwnCells]]:
+        """How many cells of the society's own columns say something else, or aren't read, by their titles; the columns
+        of which something goes come first."""
+        found = collections.defaultdict[str, list[OwnCells]](list)
         for entry in self.report.entries:
-            if isinstance(entry.finding, OwnValuesOtherwise):
+            if isinstance(entry.finding, OwnCells):
                 found[entry.finding.title].append(entry.finding)
-        return found
+        return dict(sorted(found.items(), key=lambda one: not any(cells.what_goes for cells in one[1])))
 
     def summary(self) -> str:
         assert self.after

@@ -9,7 +9,7 @@ from dataclasses import dataclass
 from typing import NamedTuple
 
 from gudokeyi.domain.animals import LETTERS
-from gudokeyi.domain.messages import Mistake
+from gudokeyi.domain.messages import MOST_NAMED, Mistake
 from gudokeyi.domain.mistakes import InvalidValue
 from gudokeyi.domain.own_columns import MOST_CHOICES, MOST_COLUMNS, MOST_IN_TITLE, OwnColumn, OwnKind
 from gudokeyi.domain.requests import OwnFault
@@ -117,8 +117,6 @@ def texts_of(sheet: Sheet, at: int, column: OwnColumn) -> list[str]:
 
 # A column: what becomes of its cells.
 
-# so many values that are changed, and so many that are emptied, are told one by one
-MOST_TOLD = 25
 # a sign of each number that is cut
 PLUS = "+"
 # a day without its year, as a spreadsheet shows what it made of `5/4`, or another day or month
@@ -188,10 +186,11 @@ class OwnColumnTaken:
             return None
 
     def tell_one(self, animal: SheetAnimal, before: str, value: str) -> None:
-        """Of values that were there until now the first are told."""
+        """Of values that were there until now the first are told: of those that are changed, and of those that are
+        emptied."""
         self.changed += bool(value)
         self.emptied += not value
-        if (self.changed if value else self.emptied) <= MOST_TOLD:
+        if (self.changed if value else self.emptied) <= MOST_NAMED:
             self.report.add(animal.line, animal.id, OwnValueWritten(self.column.title, value, before))
 
     def tell_counts(self) -> None:

@@ -21,7 +21,7 @@ from gudokeyi.ingest.findings.exits import ExitsWithoutDay
 from gudokeyi.ingest.findings.sheets import CellsUnread, ErrorCells
 from gudokeyi.reconcile.findings.parents import WRONG, ParentRefused
 from gudokeyi.reconcile.findings.by_hand import YoungParent
-from gudokeyi.reconcile.findings.own_columns import OwnValuesOtherwise
+from gudokeyi.reconcile.findings.own_columns import OwnCells
 from gudokeyi.reconcile.findings.plausibility import BirthsNearerThanUsual, BirthsTooNear
 from gudokeyi.reconcile.outcome import Outcome
 from gudokeyi.store.exports import COMMANDS
@@ -260,8 +260,8 @@ def about(outcome: Outcome) -> list[str]:
     return lines
 
 
-def count_said(found: OwnValuesOtherwise) -> str:
-    return f"{found.values_otherwise()} {found.word}"
+def count_said(found: OwnCells) -> str:
+    return f"{found.cells()} {found.word}"
 
 
 def summary(outcome: Outcome) -> str:
@@ -273,7 +273,9 @@ def summary(outcome: Outcome) -> str:
 def changes(outcome: Outcome) -> Iterator[str]:
     """What would change, by kind."""
     for what, entries in outcome.by_kind().items():
-        those = [entry for entry in entries if entry.finding.does() is Severity.NONE]
-        yield from (entry.words() for entry in those[:MOST_SHOWN])
+        told = [entry for entry in entries if entry.finding.does() is Severity.NONE]
+        # what is of the whole sheet takes no place away
+        of_sheet, those = ([one for one in told if bool(one.line or one.id) == of_one] for of_one in (False, True))
+        yield from (entry.words() for entry in of_sheet + those[:MOST_SHOWN])
         if len(those) > MOST_SHOWN:
             yield f"and {len(those) - MOST_SHOWN} more {what}"

@@ -9,25 +9,27 @@ from gudokeyi.domain.own_columns import OwnKind
 from gudokeyi.domain.wording import Counted, Text
 
 
-class OwnValuesOtherwise(Finding):
-    """So many values of a column are otherwise than before. `word` says how on a screen."""
+class OwnCells(Finding):
+    """So many cells of a column of which a screen tells by a word. `what_goes` where what the column had isn't there
+    any more, or its cells aren't read: these are told first."""
 
     title: str
     word: ClassVar[str]
-    what = What.CHANGED
+    what_goes: ClassVar[bool] = False
 
-    def values_otherwise(self) -> int:
+    def cells(self) -> int:
         raise NotImplementedError
 
 
 @dataclass(frozen=True, slots=True)
-class OwnColumnRead(OwnValuesOtherwise):
+class OwnColumnRead(OwnCells):
     """Values where there were none; in books of earlier versions also others."""
 
     title: str
     kind: OwnKind
     values_changed: int
 
+    what = What.CHANGED
     word = "new"
     code = "own column read"
     message = Counted(
@@ -36,18 +38,19 @@ class OwnColumnRead(OwnValuesOtherwise):
         "values_changed",
     )
 
-    def values_otherwise(self) -> int:
+    def cells(self) -> int:
         return self.values_changed
 
 
 @dataclass(frozen=True, slots=True)
-class OwnValuesChanged(OwnValuesOtherwise):
+class OwnValuesChanged(OwnCells):
     """Other values in place of those that were there."""
 
     title: str
     kind: OwnKind
     values_changed: int
 
+    what = What.CHANGED
     word = "changed"
     code = "own values changed"
     message = Counted(
@@ -56,19 +59,21 @@ class OwnValuesChanged(OwnValuesOtherwise):
         "values_changed",
     )
 
-    def values_otherwise(self) -> int:
+    def cells(self) -> int:
         return self.values_changed
 
 
 @dataclass(frozen=True, slots=True)
-class OwnValuesEmptied(OwnValuesOtherwise):
+class OwnValuesEmptied(OwnCells):
     """Values that were there until now, and whose cells are empty."""
 
     title: str
     kind: OwnKind
     values_emptied: int
 
+    what = What.CHANGED
     word = "emptied"
+    what_goes = True
     code = "own values emptied"
     message = Counted(
         "the column '{title}' ({kind}) has {values_emptied} emptied value",
@@ -76,7 +81,7 @@ class OwnValuesEmptied(OwnValuesOtherwise):
         "values_emptied",
     )
 
-    def values_otherwise(self) -> int:
+    def cells(self) -> int:
         return self.values_emptied
 
 
@@ -94,7 +99,7 @@ class OwnCellUnread(LeftOut):
 
 
 @dataclass(frozen=True, slots=True)
-class OwnNumbersCut(LeftOut):
+class OwnNumbersCut(LeftOut, OwnCells):
     """Long numbers that the spreadsheet has cut, as `2,76E+14`, how many and the first of them; the values stay as they
     were."""
 
@@ -104,6 +109,8 @@ class OwnNumbersCut(LeftOut):
     text: str
 
     part = Part.CELL
+    word = "cut"
+    what_goes = True
     code = "own numbers cut"
     message = Counted(
         "{count} cell of the column '{title}' is left out, in line {line}: '{text}' is a long number that the "
@@ -116,6 +123,9 @@ class OwnNumbersCut(LeftOut):
     )
 
     def times(self) -> int:
+        return self.count
+
+    def cells(self) -> int:
         return self.count
 
 
