@@ -122,3 +122,22 @@ def asked(desk: Desk, answer: str, *words: str) -> str:
     os.close(inside)
     assert "Bring it back? [y/N]" in done.stdout
     return done.stdout
+
+
+@pytest.mark.parametrize("title", ["Breeder", "Züchter"])
+def test_column_of_breeders(desk: Desk, title: str) -> None:
+    """Whom the society's own column names bred an animal; where it names nobody nobody is invented."""
+    rows = f"id,name,sex,birth,sire,dam,owner,{title}\nD,Berta,f,2001-02-01,,,Huber,\n"
+    rows += "X,Anna,f,2003-03-01,,D,Meier,Garside\nY,Eva,f,2004-03-01,,D,Meier,\n"
+    (desk.room / "sheet.csv").write_text(rows, encoding="utf-8")
+    desk.good("import", "sheet.csv")
+    assert "  breeder       Huber\n" in desk.good("show", "X").out
+    desk.good("import", "sheet.csv", "--own", f"{title}=text")
+    shown = [line.split() for line in desk.good("show", "X").out.splitlines()]
+    assert [title, "Garside"] in shown and all("Huber" not in line for line in shown if line[:1] == ["breeder"])
+    said = {"Garside": "X", "not known": "Y"}
+    for breeder, id in said.items():
+        desk.good("certificate", id, "--out", f"{id}.html")
+        page = (desk.room / f"{id}.html").read_text(encoding="utf-8")
+        assert f'<dt>Breeder</dt><dd><div class="lines">{breeder}</div></dd>' in page
+        assert "who owned the dam" not in page

@@ -8,7 +8,7 @@ from gudokeyi.domain.kinds import Role, Standing
 from gudokeyi.domain.messages import counted
 from gudokeyi.reconcile.owner_day_known import owner_day_known
 from gudokeyi.render.history import told_of_animal
-from gudokeyi.services.animals import Relatives, breeders_of, relatives_of
+from gudokeyi.services.animals import Relatives, column_of_breeders, owners_of_dams, relatives_of
 from gudokeyi.services.own_columns import values_of
 from gudokeyi.store.animal_rows import AnimalRow, exit_of, society_record_of
 from gudokeyi.store.book import Book
@@ -56,8 +56,9 @@ class AnimalView:
             ("coefficient", f"{coefficient.fraction} = {coefficient.decimal()} ({coefficient.percent}%)"),
         ]
         found += [(role.value, self.parent(role, relatives.parents[role])) for role in Role]
-        if breeder := breeders_of(self.book, [animal.registration_number])[animal.registration_number]:
-            found.append(("breeder", breeder))
+        if breeder := owners_of_dams(self.book, [animal.registration_number])[animal.registration_number]:
+            # a column of the society's own stands below
+            found += [("breeder", breeder)] * (column_of_breeders(self.book) is None)
         found += [(one.column.title, one.value) for one in values_of(self.book, animal) if one.value]
         if animal.standing is not Standing.ROW:
             found.append(("in the book", animal.standing.words()))

@@ -18,7 +18,7 @@ from gudokeyi.render.languages import MARKS, Language, Mark, mark_of
 from gudokeyi.render.own_values import own_said
 from gudokeyi.render.pedigree_boxes import COMMON_NOTE, common_ancestors, letters_named
 from gudokeyi.render.seals import seal_view
-from gudokeyi.services.animals import breeders_of
+from gudokeyi.services.animals import breeders_of, column_of_breeders
 from gudokeyi.services.certificates import GENERATIONS, MOST_GENERATIONS, Certified, coefficient_in
 from gudokeyi.services.own_columns import certified_values
 from gudokeyi.services.seals import LastSealed
@@ -275,7 +275,7 @@ class Certificate:
         gettext = self.language.gettext
         common = [gettext(COMMON_NOTE, letters_named(self.common))] * bool(self.common)
         told = (gettext(MARK_NOTES[mark]) for mark in Mark if mark in marks)
-        bred = [gettext(BREEDER)] * (self.finds_breeder and bool(self.breeder))
+        bred = [gettext(BREEDER)] * (self.finds_breeder and bool(self.breeder) and column_of_breeders(self.book) is None)
         sealed = [gettext(SEALED)] * self.is_sealed
         return [gettext(NOTE), gettext(OF_PROGRAM), *sealed, *bred, *common, *told]
 

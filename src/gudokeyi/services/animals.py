@@ -10,6 +10,7 @@ from typing import TYPE_CHECKING
 
 from gudokeyi.domain.animals import LETTERS, SocietyRecord
 from gudokeyi.domain.kinds import Role
+from gudokeyi.domain.own_columns import OwnColumn
 from gudokeyi.store.animal_rows import (
     SEX_SOURCES as SEX_SOURCES, AnimalRow as AnimalRow, society_record_of as society_record_of,
 )  # fmt: skip
@@ -20,6 +21,7 @@ from gudokeyi.store.coefficients import (
 from gudokeyi.store.conditions import among, descends_to, offspring_of, with_digits
 from gudokeyi.store.former_ids import former_ids_of
 from gudokeyi.store.journal import commands_of
+from gudokeyi.store.own_data import columns_now, values_at
 
 if TYPE_CHECKING:
     from gudokeyi.reconcile.rewriting import Life
@@ -91,10 +93,28 @@ def by_partner(offspring: Sequence[AnimalRow], role: Role) -> dict[str, list[Ani
     return found
 
 
-# Who bred an animal: who had its dam when it was born.
+# Who bred an animal: whom the society's own column names, or else who had its dam when it was born.
+
+# how such a column is called
+OF_BREEDERS = {"breeder", "bred by", "züchter", "züchterin", "gezüchtet von", "éleveur", "naisseur"}
+
+
+def column_of_breeders(book: Book) -> OwnColumn | None:
+    """The column by which the society says who bred an animal, if it has one."""
+    columns = columns_now(book.connection)
+    return next((one for one in columns if one.is_kept and one.title.strip().casefold() in OF_BREEDERS), None)
 
 
 def breeders_of(book: Book, numbers: Iterable[str]) -> dict[str, str]:
+    """Who bred each of these animals, by their numbers; empty where that isn't known."""
+    column = column_of_breeders(book)
+    if column is None:
+        return owners_of_dams(book, numbers)
+    said = values_at(book.connection, column.place)
+    return {number: said.get(number[LETTERS:], "") for number in numbers}
+
+
+def owners_of_dams(book: Book, numbers: Iterable[str]) -> dict[str, str]:
     """Who had the dam of each of these animals on the day of its birth, by the animals' numbers; empty where the dam
     or that isn't known."""
     from gudokeyi.reconcile.rewriting import lives_of

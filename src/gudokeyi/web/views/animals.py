@@ -15,7 +15,7 @@ from gudokeyi.render.page_language import PageLanguage, name_of
 from gudokeyi.render.page_wording import PageWording
 from gudokeyi.render.pedigree_pictures import Pedigree
 from gudokeyi.services.animals import (
-    SEX_SOURCES, AnimalRow, Coefficient, Relatives, breeders_of, former_ids, society_record_of,
+    SEX_SOURCES, AnimalRow, Coefficient, Relatives, column_of_breeders, former_ids, owners_of_dams, society_record_of,
 )  # fmt: skip
 from gudokeyi.services.facts import birth_of, exit_of, owner_day_said
 from gudokeyi.services.found_animals import Asked, Order
@@ -143,8 +143,9 @@ class Shower:
             (words.gettext("Exit"), (line.exit or words.pgettext("no exit", "none")) + reason),
             (words.gettext("Owner"), f"{line.owner}{since}" if line.owner else words.gettext("not known")),
         ]
-        if breeder := breeders_of(self.book, [row.registration_number])[row.registration_number]:
-            found.append((words.gettext("Breeder"), breeder))
+        if breeder := owners_of_dams(self.book, [row.registration_number])[row.registration_number]:
+            # a column of the society's own stands below
+            found += [(words.gettext("Breeder"), breeder)] * (column_of_breeders(self.book) is None)
         if former := former_ids(self.book, animal):
             found.append((words.gettext("Id before"), ", ".join(former)))
         if animal.standing is not Standing.ROW:
