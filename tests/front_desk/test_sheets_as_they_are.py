@@ -139,14 +139,14 @@ def test_parents_with_more_than_an_id(desk: Desk) -> None:
 
 
 def test_do_in_a_column_of_parents(desk: Desk) -> None:
-    """It repeats the cell above, unless an animal is called so; an owner may have this name."""
+    """It repeats the cell above, unless an animal that can be the parent is called so; an owner may have this name."""
     rows = "003;A;w;3.2.2013;001;002;Huber;\n004;B;w;3.2.2014;do;Do;do;\n005;C;w;3.2.2015;dto;Eva;Huber;\n"
     done = desk.take(TITLES + PAIR + rows)
     assert [desk.parents()[id] for id in ("004", "005")] == [("001", "002"), ("001", "002")]
     assert "2 cells of the column 'Vater' repeat the one above" in done.out and owner_of(desk, "004") == "do"
     desk.take(TITLES + PAIR.replace("Eva", "Do") + rows, "--book", "other")
     listed = desk.listed("list", "--book", "other", "--columns", "id,sire,dam")
-    assert [(one["sire"], one["dam"]) for one in listed if one["id"] == "004"] == [("do", "002")]
+    assert [(one["sire"], one["dam"]) for one in listed if one["id"] == "004"] == [("001", "002")]
 
 
 # words by which the animal beside them isn't the parent, in three languages

@@ -6,19 +6,24 @@ import collections
 import functools
 import operator
 import re
-from collections.abc import Callable, Mapping
-from dataclasses import replace
-from typing import Container
+from collections.abc import Callable, Collection, Iterable, Mapping
+from dataclasses import dataclass, replace
+from typing import Container, NamedTuple
 
 from gudokeyi.domain.findings import Report
 from gudokeyi.domain.kinds import Field
 from gudokeyi.ingest.findings.cells import UnseenInId
 from gudokeyi.ingest.findings.exits import NoExits, Remark
-from gudokeyi.ingest.findings.rows import CellsRepeated, NoteRow, StatusDisagrees, StatusRead
+from gudokeyi.ingest.findings.rows import (
+    CellsRepeated, MarksAreNames, NoteRow, NothingRepeated, StatusDisagrees, StatusRead,
+)  # fmt: skip
 from gudokeyi.ingest.findings.sheets import UnseenDropped
 from gudokeyi.ingest.sheets import Sheet, SheetRow
 from gudokeyi.ingest.texts import nearly, plain
-from gudokeyi.ingest.words import DEAD, KNOWN_EXITS, KNOWN_SUMS, KNOWN_YES, exit_word, is_still_there, lives
+from gudokeyi.ingest.unknown_parents import UnknownParents
+from gudokeyi.ingest.words import (
+    DEAD, KNOWN_EXITS, KNOWN_SEXES, KNOWN_SUMS, KNOWN_YES, exit_word, is_still_there, lives, sex_word,
+)  # fmt: skip
 
 # Cells with signs that no one sees: they are read without, but an id, which others write otherwise than it is seen.
 
@@ -118,28 +123,76 @@ DITTO = {
     '"', "''", "”", "“", "„", "〃", "″", '-"-', '- " -', "-''-", "dito", "dto", "dto.", "ditto", "do.", "idem", "id.",
     "s.o.", "s. o.", "siehe oben", "wie oben", "as above", "same as above", "same", "ci-dessus", "voir ci-dessus",
     "comme ci-dessus", "le même", "la même", "the same", "derselbe", "dieselbe", "der gleiche", "die gleiche",
+    "»", "«", "« »", "«»", "»»", "» »", "d°", "d °", "dº", "même", "desgl.",
 }  # fmt: skip
+# the same of an owner or a parent alone: of a day they may say that it isn't known
+DITTO_OF_OWNER = DITTO | {"//", "/ /", "|", "||", "↓"}
 # the same of a parent alone; as an owner it may be a name, and as a sex `doe`
-DITTO_OF_PARENT = DITTO | {"do"}
+DITTO_OF_PARENT = DITTO_OF_OWNER | {"do"}
 # how they end, as no day and few ids do
 ENDS, LAST_LETTER = frozenset(mark[-1] for mark in DITTO_OF_PARENT), operator.itemgetter(slice(-1, None))
 # the columns in which they stand for something
 REPEATED = (
     Field.OWNER, Field.BIRTH, Field.SIRE, Field.DAM, Field.SEX, Field.SINCE, Field.EXIT, Field.STATUS,
 )  # fmt: skip
+# the sex that no such parent has
+NO_PARENT = {Field.SIRE: "F", Field.DAM: "M"}
 
 
-def repeat(rows: list[SheetRow], sheet: Sheet, columns: Mapping[str, int], report: Report) -> list[SheetRow]:
-    """The rows with the cells above in place of such marks; each column with some is told."""
-    for field in REPEATED:
-        at = columns.get(field)
-        if at is None or not has_marks(sheet.column(at)):
-            continue
-        rows, told = repeated(rows, at, marks_of(field, sheet, columns))
-        if told:
-            line, text, above = told[0]
-            report.add(0, "", CellsRepeated(sheet.titles[at], len(told), line, text, above))
-    return rows
+def marks_in(names: Iterable[str]) -> set[str]:
+    """The marks that are names of animals too."""
+    return DITTO_OF_PARENT.intersection(map(str.casefold, names))
+
+
+@dataclass(frozen=True)
+class Marks:
+    """The marks of a sheet's columns. `called` are those that are names of animals of the book, each with a sex that
+    one has, and `unknown` words that somebody says stand for what isn't known."""
+
+    sheet: Sheet
+    columns: Mapping[str, int]
+    called: Collection[tuple[str, str]]
+    unknown: Collection[str]
+
+    def repeat(self, rows: list[SheetRow], report: Report) -> list[SheetRow]:
+        """The rows with the cells above in place of such marks; each column with some is told."""
+        for field in REPEATED:
+            at = self.columns.get(field)
+            if at is None or not has_marks(self.sheet.column(at)):
+                continue
+            names = self.names_for(field)
+            found = repeated(rows, at, self.of(field) - names)
+            title, rows = self.sheet.titles[at], found.rows
+            named = [one for one in rows if cell_of(one, at).casefold() in names] if names else []
+            if found.told:
+                report.add(0, "", CellsRepeated(title, len(found.told), *found.told[0]))
+            if found.of_nothing:
+                report.add(0, "", NothingRepeated(title, len(found.of_nothing), *found.of_nothing[0]))
+            if named:
+                report.add(0, "", MarksAreNames(title, len(named), named[0].line, cell_of(named[0], at)))
+        return rows
+
+    def of(self, field: Field) -> set[str]:
+        marks = DITTO_OF_PARENT if field in NO_PARENT else DITTO_OF_OWNER if field is Field.OWNER else DITTO
+        return marks.difference(self.unknown)
+
+    def names_for(self, field: Field) -> set[str]:
+        """The marks that are ids or names of animals that may be such a parent."""
+        if field not in NO_PARENT:
+            return set()
+        sexes = self.sheet.column(self.columns[Field.SEX]) if Field.SEX in self.columns else ()
+        found = {name for name, sex in self.called if sex != NO_PARENT[field]}
+        for name in (Field.ID, Field.NAME):
+            texts = self.sheet.column(self.columns[name]) if name in self.columns else ()
+            marks = marks_in(texts)
+            for at, text in enumerate(texts if marks else ()):
+                if text.casefold() in marks and not (sexes and is_of_sex(sexes[at], NO_PARENT[field])):
+                    found.add(text.casefold())
+        return found
+
+
+def is_of_sex(text: str, sex: str) -> bool:
+    return KNOWN_SEXES.get(sex_word(text)) == sex
 
 
 def has_marks(texts: list[str]) -> bool:
@@ -150,31 +203,33 @@ def has_marks(texts: list[str]) -> bool:
     return not DITTO_OF_PARENT.isdisjoint(map(str.casefold, {*texts}))
 
 
-def marks_of(field: Field, sheet: Sheet, columns: Mapping[str, int]) -> set[str]:
-    """The marks of a column. An animal of the sheet may be called as one of a parent is."""
-    if field not in (Field.SIRE, Field.DAM):
-        return DITTO
-    places = [columns[name] for name in (Field.ID, Field.NAME) if name in columns]
-    called = {text.casefold() for at in places for text in sheet.column(at)}
-    return DITTO_OF_PARENT - (called - DITTO)
+class Repeated(NamedTuple):
+    """Rows with the cells above in place of marks: for each of these its line, its text and what stands above; and the
+    lines and texts of those above which nothing stands."""
+
+    rows: list[SheetRow]
+    told: list[tuple[int, str, str]]
+    of_nothing: list[tuple[int, str]]
 
 
-def repeated(
-    rows: list[SheetRow], at: int, marks: set[str]
-) -> tuple[list[SheetRow], list[tuple[int, str, str]]]:
-    found, told, above = list[SheetRow](), list[tuple[int, str, str]](), ""
+def repeated(rows: list[SheetRow], at: int, marks: set[str]) -> Repeated:
+    found, above = Repeated([], [], []), ""
     for row in rows:
-        text = row.cells[at] if at < len(row.cells) else ""
-        if above and text.casefold() in marks:
-            told.append((row.line, text, above))
-            row = with_cell(row, at, above)
-        elif text.casefold() in marks:
-            # it repeats nothing
-            row, above = with_cell(row, at, ""), ""
-        else:
+        text = cell_of(row, at)
+        if text.casefold() not in marks:
             above = text
-        found.append(row)
-    return found, told
+        elif above:
+            found.told.append((row.line, text, above))
+            row = with_cell(row, at, above)
+        else:
+            found.of_nothing.append((row.line, text))
+            row = with_cell(row, at, "")
+        found.rows.append(row)
+    return found
+
+
+def cell_of(row: SheetRow, at: int) -> str:
+    return row.cells[at] if at < len(row.cells) else ""
 
 
 def with_cell(row: SheetRow, at: int, text: str) -> SheetRow:
@@ -267,17 +322,17 @@ class Statuses:
 
 
 def as_meant(
-    sheet: Sheet, columns: Mapping[str, int], unknown: Container[str], animals: Container[str], report: Report,
-    notes_of: Callable[[Sheet, Mapping[str, int]], Notes] = Notes,
+    sheet: Sheet, columns: Mapping[str, int], unknown: UnknownParents, animals: Container[str], report: Report,
+    notes_of: Callable[[Sheet, Mapping[str, int]], Notes] = Notes, called: Collection[tuple[str, str]] = (),
 ) -> Sheet:  # fmt: skip
     """The sheet with its rows as they are meant; what is read so is told. `animals` are the ids of animals for sure,
-    and `notes_of` has the notes of a sheet."""
+    `called` the marks that are names of the book, as `Marks` has them, and `notes_of` has the notes of a sheet."""
     sheet = as_seen(sheet, columns, animals, report)
     notes = notes_of(sheet, columns).found(animals)
     for line, text in notes.items():
         report.add(line, "", NoteRow(text))
     rows = [row for row in sheet.rows if row.line not in notes] if notes else sheet.rows
-    rows = repeat(rows, sheet, columns, report)
+    rows = Marks(sheet, columns, called, unknown.more).repeat(rows, report)
     remarks, of_status = list[Remark](), dict[int, str]()
     if Field.STATUS in columns and Field.EXIT in columns:
         statuses = Statuses(sheet, columns, unknown, report)

@@ -8,6 +8,8 @@ import itertools
 
 from gudokeyi.domain.kinds import Standing
 from gudokeyi.domain.provenance import GIVEN_BIRTH, GIVEN_EXIT, BirthBasis, OwnerDay
+from gudokeyi.ingest.animals import NAME_OF
+from gudokeyi.ingest.rows_as_meant import marks_in
 from gudokeyi.store.book import Book
 
 
@@ -35,6 +37,14 @@ class AnimalsOfBook:
     def by_name(self) -> dict[str, str]:
         """The last one of each name, in small letters."""
         return {in_book.name.casefold(): in_book.id for in_book in self.society_records.values() if in_book.name}
+
+    @functools.cached_property
+    def called_as_marks(self) -> frozenset[tuple[str, str]]:
+        """The names that are marks for the cell above too, in small letters, each with the sex of one that has it."""
+        animals = self.society_records.values()
+        marks = marks_in(map(NAME_OF, animals))
+        named = [one for one in animals if one.name.casefold() in marks] if marks else []
+        return frozenset((one.name.casefold(), one.registration_number[6]) for one in named)
 
     @functools.cached_property
     def had_row(self) -> dict[str, None]:

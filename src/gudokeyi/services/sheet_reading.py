@@ -22,7 +22,7 @@ from gudokeyi.ingest.animals import UNREAD_OF, SheetAnimal
 from gudokeyi.ingest.columns import Columns, find_columns
 from gudokeyi.ingest.files import GivenFile
 from gudokeyi.ingest.parents_beside import tell_parents_named_otherwise
-from gudokeyi.ingest.rows_as_meant import Notes, as_meant, member_numbered
+from gudokeyi.ingest.rows_as_meant import Notes, as_meant, marks_in, member_numbered
 from gudokeyi.ingest.sheet_animals import Rows
 from gudokeyi.ingest.sheets import Sheet, read_sheet
 from gudokeyi.ingest.titles import known_titles, parts_of, read_given, read_sexes
@@ -95,22 +95,25 @@ class Reading:
     # of the book: the birth days of its animals, and its owners by all that a sheet may call them
     born: dict[str, datetime.date]
     owners: dict[str, str]
+    # the marks for a cell above that are names of its animals, each with the sex of one
+    called: frozenset[tuple[str, str]]
     today: datetime.date = field(default_factory=datetime.date.today)
 
     def read_by(self) -> tuple[object, ...]:
         values = (dict(self.columns), self.unknown.more, self.unknown.known, dict(self.sexes), self.month_first)
-        return *values, [*self.no_animals], self.sure, self.born, self.owners, self.today
+        return *values, [*self.no_animals], self.sure, self.born, self.owners, self.called, self.today
 
     def meant_by(self) -> tuple[object, ...]:
-        """By what the rows are changed into what they mean: by words for unknown parents beside a status alone."""
+        """By what the rows are changed into what they mean: by words for unknown parents beside a status alone, but for
+        those that are marks for a cell above."""
         words = (self.unknown.more, self.unknown.known) if Field.STATUS in self.columns else ()
-        return dict(self.columns), self.sure, words
+        return dict(self.columns), self.sure, words, marks_in(self.unknown.more), self.called
 
     def meant(self, report: Report, notes_of: Callable[[Sheet, Mapping[str, int]], Notes] = Notes) -> Sheet:
         """The sheet with its rows as they are meant."""
         if Field.ID not in self.columns:
             return self.sheet
-        return as_meant(self.sheet, self.columns, self.unknown, self.sure, report, notes_of)
+        return as_meant(self.sheet, self.columns, self.unknown, self.sure, report, notes_of, self.called)
 
     def rows(self, meant: Sheet, report: Report, before: Rows | None = None) -> Rows:
         """The rows as they are meant; `before` are the last ones, where they may be of the same sheet."""
@@ -304,6 +307,7 @@ def read_animals(
         sheet, columns.found, UnknownParents(words[Remembered.UNKNOWN], words[Remembered.KNOWN]),
         read_sexes(words[Remembered.SEXES]), bool(words[Remembered.MONTH_FIRST]), words[Remembered.TOLD],
         frozenset({*book.society_records, *parts_of(import_options.animal)}), in_book.born, names_of_owners(book),
+        in_book.called_as_marks,
     )  # fmt: skip
     rows, animals = last.animals_of(reading, report) if last else reading.animals(report)
     formulas = sheet.formulas.told([*columns.found.values()]) if sheet.formulas else []

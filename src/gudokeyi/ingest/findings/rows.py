@@ -1,15 +1,20 @@
 """What is found of rows that are read otherwise than cell by cell: each kind as data, and in words."""
 from __future__ import annotations
 
+import re
 from collections.abc import Mapping
 from dataclasses import dataclass
 
+from gudokeyi.domain.changes import Option
 from gudokeyi.domain.findings import Finding, Severity, Suggestion, What, is_animal
 from gudokeyi.domain.kinds import Field, Role
 from gudokeyi.domain.messages import AnyOf
 from gudokeyi.domain.wording import Counted, OptionalPart, Text
 from gudokeyi.ingest.findings.cells import RowLeftOut
 from gudokeyi.ingest.findings.columns import SheetFinding, column
+
+# marks for the cell above that elsewhere stand for what isn't known
+SIGNS_ALONE = re.compile("/ ?/")
 
 
 @dataclass(frozen=True, slots=True)
@@ -39,6 +44,50 @@ class CellsRepeated(SheetFinding):
     message = Counted(
         "{count} cell of the column '{title}' repeats the one above: {text} in line {line} means '{above}'",
         "{count} cells of the column '{title}' repeat the one above: {text} in line {line} means '{above}'",
+        "count",
+    )
+
+    def suggestions(self) -> tuple[Suggestion, ...]:
+        if SIGNS_ALONE.fullmatch(self.text) is None:
+            return ()
+        return (Suggestion(f"if {self.text} stands for what isn't known", (Option("--unknown", self.text),)),)
+
+
+@dataclass(frozen=True, slots=True)
+class NothingRepeated(SheetFinding):
+    """Cells with such a mark above which nothing stands: how many, and the first one."""
+
+    title: str
+    count: int
+    line: int
+    text: str
+
+    code = "nothing repeated"
+    message = Counted(
+        "{count} cell of the column '{title}' has a mark for the cell above, and nothing stands there: {text} in line "
+        "{line} counts as empty",
+        "{count} cells of the column '{title}' have a mark for the cell above, and nothing stands there, the first "
+        "{text} in line {line}: they count as empty",
+        "count",
+    )
+
+
+@dataclass(frozen=True, slots=True)
+class MarksAreNames(SheetFinding):
+    """Cells with such a mark that is the name of an animal too, which is meant: how many, and the first one."""
+
+    title: str
+    count: int
+    line: int
+    text: str
+
+    severity = Severity.PARENTS
+    code = "marks are names"
+    message = Counted(
+        "an animal is called '{text}', so {count} cell of the column '{title}', in line {line}, means that one; if it "
+        "stands for the cell above, write there what that has",
+        "an animal is called '{text}', so {count} cells of the column '{title}', the first in line {line}, mean that "
+        "one; if they stand for the cells above, write there what those have",
         "count",
     )
 

@@ -1,0 +1,77 @@
+"""Marks that stand for the cell above: what they mean is told, also where nothing stands above, or where an animal is
+called as a mark is."""
+from __future__ import annotations
+
+import pytest
+
+from front_desk.desk import Desk
+
+TITLES = "N° SIRE;Nom;Sexe;Né(e) le;Père;Mère;Propriétaire\n"
+PAIR = "101;Amiral;M;21/02/2010;;;GAEC des Bruyères\n102;Églantine;F;05/06/2011;;;Moreau frères\n"
+FOAL = "103;Jockey;M;27/06/2019;101;102;Moreau frères\n"
+# as French hands and others write them
+MARKS = ("»", "« »", "d°", "//", "↓", "même", "|", "Idem", "\u00ab\u00a0\u00bb")
+
+
+def owners(desk: Desk, *words: str) -> list[str]:
+    """In the order of the ids."""
+    rows = desk.listed("list", "--columns", "id,owner", *words)
+    return [one["owner"] for one in sorted(rows, key=lambda one: one["id"])]
+
+
+@pytest.mark.parametrize("mark", MARKS)
+def test_marks(desk: Desk, mark: str) -> None:
+    """As an owner or a parent each repeats the cell above, and that is told."""
+    done = desk.take(f"{TITLES}{PAIR}{FOAL}104;Képi;M;27/06/2020;{mark};{mark};{mark}\n")
+    assert desk.parents()["104"] == ("101", "102") and " 0 added" in done.last
+    assert owners(desk)[-1] == "Moreau frères" and len(desk.owners()) == 2
+    seen = " ".join(mark.split())
+    above = {"Propriétaire": "Moreau frères", "Père": "101", "Mère": "102"}
+    done.tells(*(
+        f"to look at: 1 cell of the column '{title}' repeats the one above: {seen} in line 5 means '{text}'"
+        for title, text in above.items()
+    ))  # fmt: skip
+
+
+def test_signs_that_may_say_unknown(desk: Desk) -> None:
+    """Somebody may say that `//` stands for what isn't known; as a day it does in any case."""
+    sheet = f"{TITLES}{PAIR}{FOAL}104;Képi;M;//;//;102;//\n"
+    done = desk.take(sheet)
+    assert desk.born()["104"] != desk.born()["103"] and desk.parents()["104"] == ("101", "102")
+    assert "if // stands for what isn't known:" in done.out and done.commands()[0].endswith("--unknown //")
+    desk.typed(done.commands()[0])
+    assert desk.parents()["104"] == ("", "102")
+    done = desk.take(sheet, "--book", "other", "--unknown", "//")
+    assert owners(desk, "--book", "other")[-1] == "" and "repeats the one above" not in done.out
+
+
+def test_nothing_above(desk: Desk) -> None:
+    """A mark below an empty cell, or one below that, says nothing, which is told once for a column."""
+    rows = "103;Jockey;M;27/06/2019;d°;102;\n104;Képi;M;27/06/2020;101;102;//\n105;Lola;F;01/02/2021;101;102;idem\n"
+    done = desk.take(TITLES + PAIR + rows)
+    assert owners(desk) == ["GAEC des Bruyères", "Moreau frères", "", "", ""] and desk.parents()["103"] == ("", "102")
+    done.tells(
+        "to look at: 2 cells of the column 'Propriétaire' have a mark for the cell above, and nothing stands there, "
+        "the first // in line 5: they count as empty",
+        "to look at: 1 cell of the column 'Père' has a mark for the cell above, and nothing stands there: d° in line 4 "
+        "counts as empty",
+    )
+
+
+@pytest.mark.parametrize("name", ["Idem", "Dito"])
+@pytest.mark.parametrize("above", ["Églantine", ""])
+def test_animal_called_so(desk: Desk, name: str, above: str) -> None:
+    """A dam of the list or the book who is called so is meant by her name, and not the cell above; she is no sire."""
+    mare = f"090;{name};F;03/04/2008;;;Moreau frères\n"
+    foals = f"103;Jockey;M;27/06/2019;101;{above};Moreau frères\n104;Képi;M;27/06/2020;{name};{name};{name}\n"
+    done = desk.take(TITLES + mare + PAIR + foals)
+    assert desk.parents()["104"] == ("101", "090") and owners(desk)[-1] == "Moreau frères"
+    told = (
+        f"to look at: an animal is called '{name}', so 1 cell of the column 'Mère', in line 6, means that one; if it "
+        "stands for the cell above, write there what that has"
+    )
+    done.tells(told, f"to look at: 1 cell of the column 'Père' repeats the one above: {name} in line 6 means '101'")
+    # also where the book alone has her
+    done = desk.take(TITLES + foals.replace("104;Képi", "105;Lutin"), "--append")
+    assert desk.parents()["105"] == ("101", "090")
+    done.tells(told.replace("line 6", "line 3"))
