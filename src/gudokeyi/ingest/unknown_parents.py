@@ -6,8 +6,8 @@ import re
 from collections.abc import Collection
 
 from gudokeyi.domain.cells import FIRST_LETTER
-from gudokeyi.ingest.texts import listed
-from gudokeyi.ingest.words import UNKNOWN, is_error_value
+from gudokeyi.ingest.texts import listed, plain
+from gudokeyi.ingest.words import KNOWN_NO_OWNERS, UNKNOWN, is_error_value
 
 # signs alone, as `?`, `*` and `---`, zeros alone, as `00` and `0.0`, and the usual numbers as pandas writes them, as
 # `-9.0`
@@ -95,5 +95,7 @@ USUAL = UnknownParents()
 
 @functools.lru_cache(10_000)
 def names_no_owner(text: str) -> bool:
-    """Is it one of the usual texts for what isn't known? Two letters may be initials of an owner."""
-    return USUAL.is_one(text) and not (len(text) == INITIALS and text.isalpha())
+    """Is it one of the usual texts for what isn't known, or says that there is none? Two letters may be initials of an
+    owner."""
+    is_unknown = USUAL.is_one(text) and not (len(text) == INITIALS and text.isalpha())
+    return is_unknown or plain(text) in KNOWN_NO_OWNERS

@@ -106,6 +106,17 @@ NO_PARENTS = (
     "imported, bought, purchased, see, bottle, orphan, dead, died, insémination, importé, importée, acheté, achetée, "
     "plusieurs, divers, voir, saillie, biberon, orphelin, orpheline, mort, morte, voisin"
 )
+# what says in an owner's cell that there is none
+NO_OWNERS = (
+    "néant, keine, keiner, kein Besitzer, kein Eigentümer, kein Halter, aucun, aucune, aucun propriétaire, sans "
+    "propriétaire, no owner, nil"
+)
+# what stands there in place of a name: somebody who is called otherwise, or that there is nothing to say
+NO_NAMES = (
+    "RAS, do, self, myself, me, own, owner, owned, breeder, keeper, nobody, no one, selbst, selber, ich, eigen, "
+    "eigene, eigener, eigenes, Besitzer, Eigentümer, Halter, Züchter, Tierhalter, niemand, moi, moi-même, lui-même, "
+    "elle-même, soi-même, propriétaire, détenteur, éleveur, éleveuse, naisseur, personne"
+)
 # names of animals that never lived
 BORN_DEAD = "totgeburt, totgeboren, stillborn, still born, stillbirth, mort-né, mort-née, mortné, mortinato"
 # with one of these a word for a living animal tells of one that has left
@@ -145,10 +156,13 @@ KNOWN_STILL_THERE = {plain(word) for word in listed(STILL_THERE)}
 KNOWN_NO_EXITS = KNOWN_STILL_THERE | {plain(word) for word in listed(OTHER_EVENTS)}
 KNOWN_RETURNS = {plain(word) for word in listed(RETURNS)}
 KNOWN_NO_PARENTS = {plain(word) for word in listed(NO_PARENTS)}
+KNOWN_NO_OWNERS = {plain(word) for word in listed(NO_OWNERS)}
+KNOWN_NO_NAMES = {plain(word) for word in listed(NO_NAMES)}
 KNOWN_NEGATIONS = {plain(word) for word in listed(NEGATIONS)}
 KNOWN_BORN_DEAD = {plain(word) for word in listed(BORN_DEAD)}
 # how all of them begin: few lists have one
 BEGINS_BORN_DEAD = {word[:4].casefold() for word in listed(BORN_DEAD)}
+KNOWN_TO_COME = {word.casefold() for word in listed(TO_COME)}
 KNOWN_SUMS = {plain(word) for word in listed(SUMS)}
 
 

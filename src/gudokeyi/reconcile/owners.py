@@ -10,7 +10,9 @@ from collections.abc import Collection, Iterator, Mapping
 from gudokeyi.ingest.animals import LINE_OF, NAME_OF, OWNER_OF
 from gudokeyi.ingest.rows_as_meant import taker_of_owner
 from gudokeyi.ingest.texts import plain
-from gudokeyi.ingest.words import BEGINS_BORN_DEAD, DEAD, KNOWN_BORN_DEAD, PLAIN_EXITS, TELLING_EXITS, has_word
+from gudokeyi.ingest.words import (
+    BEGINS_BORN_DEAD, DEAD, KNOWN_BORN_DEAD, KNOWN_NO_NAMES, PLAIN_EXITS, TELLING_EXITS, has_word,
+)  # fmt: skip
 from gudokeyi.reconcile.findings.animals import (
     OwnerMistyped, OwnerRenamed, OwnerRespelt, OwnersAlike, OwnersOtherwise, Spelling,
 )  # fmt: skip
@@ -248,8 +250,8 @@ def tell_born_dead(next_book: NextBook) -> None:
 
 
 def is_no_name(owner: str) -> bool:
-    """Does it read like an exit or a day?"""
-    if A_DAY.fullmatch(owner):
+    """Does it read like an exit or a day, or like a word for somebody, as `breeder`?"""
+    if A_DAY.fullmatch(owner) or plain(owner) in KNOWN_NO_NAMES:
         return True
     said = {plain(word) for word in WORD.findall(owner) if not word.isdigit()} - BESIDE
     return said <= TELLING_EXITS if said else DEAD.search(owner) is not None

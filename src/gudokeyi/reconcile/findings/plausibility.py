@@ -28,7 +28,7 @@ class RowOf(Told):
 
 @dataclass(frozen=True, slots=True)
 class OwnerIsNoName(PlausibilityWarning):
-    """What stands for an owner reads like an exit or a day."""
+    """What stands for an owner reads like an exit, a day or a word for somebody."""
 
     owner: str
     count: int

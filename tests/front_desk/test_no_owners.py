@@ -1,0 +1,38 @@
+"""Cells of owners that name nobody: some say that there is no owner, and others are told."""
+from __future__ import annotations
+
+import pytest
+
+from front_desk.desk import Desk
+
+TITLES = "KC Number;Name;Sex;Whelped;Sire;Dam;Owner\n"
+NONE = ("néant", "Néant", "keine", "keiner", "none", "aucun", "kein Besitzer", "sans propriétaire", "no owner")
+WORDS = ("RAS", "Breeder", "Self", "selbst", "Züchter", "éleveur", "moi-même", "do", "nobody", "niemand")
+NAMES = ("Frau Selbst", "Self Help Farm", "Gut Keiner", "Rasmussen", "Owen", "Breeders United", "Nero")
+
+
+def take(desk: Desk, owners: tuple[str, ...]) -> str:
+    rows = "".join(f"A{at};Rex {at};m;2019-06-01;;;{owner}\n" for at, owner in enumerate(owners, 101))
+    return desk.take(TITLES + rows, "--columns", "id=KC Number").told
+
+
+def test_no_owner(desk: Desk) -> None:
+    """As where `unknown` stands."""
+    take(desk, (*NONE, "unknown", "Mrs X"))
+    assert desk.owners() == [(1, "Mrs X")]
+
+
+def test_no_name(desk: Desk) -> None:
+    """Each is told once, and is an owner of this name; so is one whose name has such a word in it."""
+    told = take(desk, (*WORDS, *NAMES, WORDS[1])).splitlines()
+    assert {owner for _, owner in desk.owners()} == {*WORDS, *NAMES}
+    of_two = f"line 3: A102: to look at: '{WORDS[1]}' stands where 2 animals have their owner, and doesn't look like"
+    assert len({one for one in told if one.startswith(of_two)}) == 1
+    assert {word for word in (*WORDS, *NAMES) if any(f"'{word}' stands where" in one for one in told)} == {*WORDS}
+
+
+@pytest.mark.parametrize("word", ["keine", "néant"])
+def test_no_owner_by_hand(desk: Desk, word: str) -> None:
+    """Nobody is given an animal by such a word."""
+    take(desk, ("Mrs X",))
+    desk.wrong("the new owner is missing", "transfer", "A101", "--to", word, "--day", "2020-01-01")
