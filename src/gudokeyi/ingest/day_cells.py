@@ -148,7 +148,8 @@ class DayCells:
         if field is Field.BIRTH and tells_other_event(text):
             return DayCell(fault=DayLeftOut(field, DayFault.OTHER_EVENT, text), is_unread=True)
         try:
-            if (form := self.forms.read(said)) and (not is_exit or form[1] is not DayReading.WITHIN or form[0].text):
+            form = self.forms.read(said, is_exit)
+            if form and (not is_exit or form[1] is not DayReading.WITHIN or form[0].text):
                 span, reading = form
                 read = self.possible(field, text, last_month(span) if is_exit else span)
                 return read._replace(reading=None if is_exit and reading is DayReading.WITHIN else reading)

@@ -11,8 +11,8 @@ from collections.abc import Iterable
 
 from gudokeyi.domain.kinds import Field
 from gudokeyi.ingest.days import (
-    FIRST_DAY, MONTHS, NAME, NOT_THAT_YEAR, Precision, Span, Unreadable, compared, is_span, month_of, span_within,
-    year_of,
+    FIRST_DAY, FIRST_YEAR, LAST_YEAR, MONTHS, NAME, NOT_THAT_YEAR, Precision, Span, Unreadable, compared, is_span,
+    month_of, span_within, year_of,
 )  # fmt: skip
 from gudokeyi.ingest.findings.columns import SheetFinding
 from gudokeyi.ingest.findings.days import DayReading, DaysReadSo
@@ -52,6 +52,24 @@ WEEK = re.compile(
     r"[ .,/-]*(?:of |in |de )?(?P<year>(?:19|20)\d{2})(?!\d)",
     re.IGNORECASE,
 )
+# one of some days that follow one another, as `12/13.06.2019` and `12 or 13 June 2019`
+ONE_OF = re.compile(
+    r"(?<![\w./-])(?P<from>\d{1,2})(?:\.|er|st|nd|rd|th)?"
+    r"(?: ?[/–—&+-] ?| (?:or|and|to|oder|und|bis|auf|ou|et|au|à) )"
+    r"(?:(?P<until>\d{1,2})\. ?(?P<point>\d{1,2})\. ?|(?P<day>\d{1,2})(?P<sign>[/-])(?P<month>\d{1,2})(?P=sign)|"
+    rf"(?P<last>\d{{1,2}})(?:\.|er|st|nd|rd|th)?[ ./-]*(?:of |de |d')?(?P<name>{NAME})[ ./,-]*)"
+    r"'?(?P<year>\d{4}|\d{2})(?![\w/-]|\.\d)",
+    re.IGNORECASE,
+)
+# how far the first may lie before the last: a number farther away may be another one
+DAYS_BEFORE = [datetime.timedelta(days) for days in range(1, 8)]
+# a day that isn't sure; `est né` is French
+UNSURE = re.compile(
+    r"[?~≈±]|\bc\.(?= ?\d)|\b(?:est(?! n[ée])|estd|estim\w*|approx\w*|about|around|circa|ca|ungefähr|ungef|etwa|"
+    r"geschätzt|gesch|schätzungsweise|vermutlich|verm|wahrscheinlich|wahrsch|vielleicht|evtl|eventuell|vers|environ|"
+    r"env|probabl\w*|prob|maybe|perhaps|possibly|peut-être|présumée?|unsicher|unsure|uncertain|incertaine?)\b",
+    re.IGNORECASE,
+)
 # two days, or a week, of which the text has one
 BETWEEN = re.compile(r"\b(?:zw|zwischen|between|entre|nuit|night|Nacht|week|Woche|semaine|w/c)\b", re.IGNORECASE)
 # a year of four digits
@@ -73,10 +91,24 @@ class DayForms:
         years = [year for year in years if year <= self.today.year]
         return int(statistics.median(years)) if years else self.today.year
 
-    def read(self, text: str) -> tuple[Span, DayReading] | None:
-        """The days of a text, and how it is read; nothing where it is read otherwise or not at all."""
+    def read(self, text: str, is_exit: bool = False) -> tuple[Span, DayReading] | None:
+        """The days of a text, and how it is read; nothing where it is read otherwise or not at all. A day that isn't
+        sure is that of no exit: the word for that tells it."""
         if is_span(text) or MARKED.match(text):
             return None
+        if not is_exit and (days := ONE_OF.search(text)):
+            span = self.one_of(days)
+            # what stands around it may say that it is none of them, or another one
+            if span and not NOT_THAT_YEAR.search(text[: days.start()] + text[days.end() :]):
+                several = len(YEAR.findall(text)) > 1
+                return (span._replace(text=text), DayReading.ONE_OF) if not several else None
+        found = self.read_one(text)
+        if found and not is_exit and found[0].is_day and UNSURE.search(text):
+            # it is inferred, as the day of a month is
+            return found[0]._replace(text=text, precision=Precision.MONTH), DayReading.UNSURE
+        return found
+
+    def read_one(self, text: str) -> tuple[Span, DayReading] | None:
         if month := MONTH.fullmatch(text):
             span = month_of(self.year_near(month["year"]), MONTHS[compared(month["name"])])
             return span, DayReading.TWO_DIGITS
@@ -108,6 +140,21 @@ class DayForms:
         """That of the century that is nearest to the other days."""
         years = [year for year in (1900 + int(digits), 2000 + int(digits)) if year <= self.today.year]
         return min(years, key=lambda one: abs(one - self.usual_year))
+
+    def one_of(self, found: re.Match[str]) -> Span | None:
+        """The days of which a text leaves open which it is."""
+        if self.month_first and found["sign"]:
+            return None
+        month = MONTHS[compared(found["name"])] if found["name"] else int(found["point"] or found["month"])
+        year = int(found["year"]) if len(found["year"]) == 4 else self.year_near(found["year"])
+        if not FIRST_YEAR <= year <= LAST_YEAR:
+            return None
+        try:
+            last = datetime.date(year, month, int(found["until"] or found["day"] or found["last"]))
+        except ValueError:
+            return None
+        first = next((day for day in map(last.__sub__, DAYS_BEFORE) if day.day == int(found["from"])), None)
+        return month_of(year, month)._replace(first=first, last=last) if first else None
 
     def within(self, text: str) -> tuple[Span, DayReading] | None:
         """The only day, week, month or season within a text; none where the text says that it isn't that one."""
@@ -176,16 +223,19 @@ class Readings:
 
     def __init__(self, titles: dict[str, str]) -> None:
         self.titles = titles
-        self.counts: collections.Counter[tuple[Field, DayReading]] = collections.Counter()
-        self.first: dict[tuple[Field, DayReading], tuple[int, str, str]] = {}
+        # a month, and a season or a year, are told beside days
+        self.counts: collections.Counter[tuple[Field, DayReading, Precision]] = collections.Counter()
+        self.first: dict[tuple[Field, DayReading, Precision], tuple[int, str, str, str]] = {}
 
     def add(self, field: Field, reading: DayReading, line: int, text: str, span: Span) -> None:
-        self.counts[field, reading] += 1
-        day = span.first.isoformat() if span.is_day else span.period().text
-        self.first.setdefault((field, reading), (line, text, day))
+        of = field, reading, span.precision
+        self.counts[of] += 1
+        is_one = span.first == span.last or reading is DayReading.ONE_OF
+        day = span.first.isoformat() if is_one else span.period().text
+        self.first.setdefault(of, (line, text, day, str(span.last) if reading is DayReading.ONE_OF else ""))
 
     def told(self) -> list[SheetFinding]:
         return [
-            DaysReadSo(self.titles[field], reading, count, *self.first[field, reading])
-            for (field, reading), count in self.counts.items()
+            DaysReadSo(self.titles[field], reading, count, *self.first[field, reading, precision])
+            for (field, reading, precision), count in self.counts.items()
         ]

@@ -23,7 +23,8 @@ NO_COUNTS = ("line", "change", "place", "version", "known", "status", "number", 
 # so many of several are told
 MOST_TOLD = 12
 # texts that may be a day, and those that say so where they are empty
-DAYS, FACTS = ("after", "before", "value", "day", "text", "here", "there"), ("after", "before", "value")
+DAYS = ("after", "before", "value", "day", "until", "text", "here", "there")
+FACTS = ("after", "before", "value")
 # a value in a sentence of a mistake
 VALUE = re.compile(r"\{(\w+)\}")
 

@@ -15,6 +15,8 @@ class DayReading(Worded):
     TWO_DIGITS = "two digits"
     SERIAL = "serial"
     WITHIN = "within"
+    ONE_OF = "one of"
+    UNSURE = "unsure"
 
     def words(self) -> str:
         return READINGS[self]
@@ -24,12 +26,15 @@ READINGS = {
     DayReading.TWO_DIGITS: "two digits of the year",
     DayReading.SERIAL: "a spreadsheet's number for a day",
     DayReading.WITHIN: "a day and a text",
+    DayReading.ONE_OF: "one of several days",
+    DayReading.UNSURE: "a day that isn't sure",
 }
 
 
 @dataclass(frozen=True, slots=True)
 class DaysReadSo(SheetFinding):
-    """Cells of a column whose days are read as it is told here: how many, and the first of them."""
+    """Cells of a column whose days are read as it is told here: how many, and the first of them; `until` is the last
+    day where it leaves several open."""
 
     title: str
     reading: DayReading
@@ -37,14 +42,18 @@ class DaysReadSo(SheetFinding):
     line: int
     text: str
     day: str
+    until: str = ""
 
     code = "days read so"
     message = Counted(
-        "{reading} in {count} cell of the column '{title}': '{text}' in line {line} is read as {day}{maybe_more}",
-        "{reading} in {count} cells of the column '{title}': '{text}' in line {line} is read as {day}{maybe_more}",
+        "{reading} in {count} cell of the column '{title}': '{text}' in line {line} is read as {day}{maybe_until}"
+        "{maybe_more}",
+        "{reading} in {count} cells of the column '{title}': '{text}' in line {line} is read as {day}{maybe_until}"
+        "{maybe_more}",
         "count",
     )
     parts = {
+        "maybe_until": OptionalPart(" to {until}"),
         "maybe_more": OptionalPart(", and the others alike", when="are_more"),
     }
 

@@ -36,6 +36,8 @@ OF_FINDINGS: dict[enum.Enum, str] = {
     DayReading.TWO_DIGITS: "two digits of the year",
     DayReading.SERIAL: "a spreadsheet's number for a day",
     DayReading.WITHIN: "a day and a text",
+    DayReading.ONE_OF: "one of several days",
+    DayReading.UNSURE: "a day that isn't sure",
     BirthSource.GIVEN: "as given",
     BirthSource.PERIOD: "from a month or year",
     BirthSource.OFFSPRING: "from its offspring",

@@ -1,0 +1,115 @@
+"""Cells of birth days that leave open which day it is, or aren't sure: what they say is read, and marked as
+inferred."""
+from __future__ import annotations
+
+import datetime
+
+import pytest
+
+from front_desk.desk import Desk
+from gudokeyi.ingest.day_forms import DayForms
+from gudokeyi.ingest.findings.days import DayReading
+
+TITLES = "KC Number;Name;Sex;Whelped;Sire;Dam;Owner\n"
+OPTIONS = ("--columns", "id=KC Number")
+# a text, and the first and the last day that it leaves open
+ONE_OF = {
+    "12/13.06.2019": ("2019-06-12", "2019-06-13"),
+    "12/13 June 2019": ("2019-06-12", "2019-06-13"),
+    "12 or 13.6.2019": ("2019-06-12", "2019-06-13"),
+    "12. oder 13. Juni 2019": ("2019-06-12", "2019-06-13"),
+    "nuit du 12 au 13 juin 2019": ("2019-06-12", "2019-06-13"),
+    "zwischen 12. und 13.06.2019": ("2019-06-12", "2019-06-13"),
+    "12-13/06/2019": ("2019-06-12", "2019-06-13"),
+    "12./13.6.19": ("2019-06-12", "2019-06-13"),
+    "1er ou 2 mars 2019": ("2019-03-01", "2019-03-02"),
+    "31/1.3.2019": (None, None),
+    "31/1.2.2019": ("2019-01-31", "2019-02-01"),
+    "12–15 June 2019": ("2019-06-12", "2019-06-15"),
+    # a number that is far from the day isn't another one, nor is one of another century
+    "No. 2 / 13.06.2019": (None, None),
+    "12/13.06.1819": (None, None),
+    "before 12/13 June 2019": (None, None),
+    "12/13.06.2019 or 20.06.2020": (None, None),
+}
+UNSURE = (
+    "1/4/2019 (est.)", "ca. 1.4.2019", "1.4.2019?", "~ 1 April 2019", "1.4.19 (geschätzt)", "vers le 1er avril 2019",
+)  # fmt: skip
+SURE = ("1.4.2019 (lt. Besitzer)", "est né le 01/04/2019", "1.4.2019 (Vertrag)", "born 1 April 2019")
+FORMS = DayForms(["2018-01-01"], (), False)
+
+
+@pytest.mark.parametrize("text", ONE_OF)
+def test_one_of_several(text: str) -> None:
+    found = FORMS.read(text)
+    span, reading = found if found else (None, None)
+    days = (str(span.first), str(span.last)) if span and reading is DayReading.ONE_OF else (None, None)
+    assert days == ONE_OF[text] and (reading is not DayReading.ONE_OF or span and not span.is_day)
+
+
+@pytest.mark.parametrize("text", [*UNSURE, *SURE])
+def test_not_sure(text: str) -> None:
+    found = FORMS.read(text)
+    assert found and (str(found[0].first), str(found[0].last)) == ("2019-04-01",) * 2
+    assert found[0].is_day == (text in SURE) and (found[1] is DayReading.UNSURE) == (text in UNSURE)
+
+
+def test_month_first() -> None:
+    """With the month first `12/13` is none of a month's days, but where another sign says which is which."""
+    forms = DayForms((), (), True)
+    assert [bool(forms.read(text)) for text in ("12/13/06/2019", "12/13.06.2019")] == [False, True]
+
+
+ROWS = (
+    "A1;Foo;m;12/13.06.2019;;;Mrs X\nA2;Bar;f;12 or 13.6.2019;;;Mrs X\nA3;Baz;f;1/4/2019 (est.);;;Mrs X\n"
+    "A4;Qux;f;12/13 June 2019;;;Mrs X\nA5;Quy;f;14/08/2018;;;Mrs X\nA6;Qua;f;14/08/2018 (vet);;;Mrs X\n"
+    "A7;Quo;f;late June 2017;;;Mrs X\n"
+)  # fmt: skip
+
+
+def test_told_and_inferred(desk: Desk) -> None:
+    """Each form has a line of its own, and each day that a cell leaves open is marked; a second take says nothing
+    new."""
+    done = desk.take(TITLES + ROWS, *OPTIONS)
+    born = desk.born()
+    assert {id: born[id] for id in ("A3", "A5", "A6")} == {"A3": "2019-04-01", "A5": "2018-08-14", "A6": "2018-08-14"}
+    assert {born[id] for id in ("A1", "A2", "A4")} <= {"2019-06-12", "2019-06-13"}
+    in_column = "of the column 'Whelped':"
+    done.tells(
+        f"to look at: one of several days in 3 cells {in_column} '12/13.06.2019' in line 2 is read as 2019-06-12 to "
+        "2019-06-13, and the others alike",
+        f"to look at: a day that isn't sure in 1 cell {in_column} '1/4/2019 (est.)' in line 4 is read as 2019-04-01",
+        f"to look at: a day and a text in 1 cell {in_column} '14/08/2018 (vet)' in line 7 is read as 2018-08-14",
+        f"to look at: a day and a text in 1 cell {in_column} 'late June 2017' in line 8 is read as 2017-06",
+        "line 4: A3: inferred: birth day 2019-04-01, from the month 2019-04 of '1/4/2019 (est.)'",
+    )
+    marked = {one["id"] for one in desk.listed("list", "--columns", "id,birth") if "(inferred)" in one["birth"]}
+    assert marked == {"A1", "A2", "A3", "A4", "A7"}
+    assert " 0 changed" in desk.take(TITLES + ROWS, *OPTIONS).last and desk.born() == born
+
+
+def test_between_parents_and_offspring(desk: Desk) -> None:
+    """Of the days that are open one is taken on which the dam lives and the young isn't born yet."""
+    titles = TITLES.replace("\n", ";Died\n")
+    rows = "A0;Dam;f;2015-01-01;;;X;2019-06-12\nA1;Foo;f;12/13.06.2019;;A0;X;\nA2;Bar;f;1.7.2020;;A1;X;\n"
+    desk.take(titles + rows, *OPTIONS)
+    assert desk.born()["A1"] == "2019-06-12" and desk.parents()["A1"] == ("", "A0")
+
+
+def test_exits_stay_as_they_were(desk: Desk) -> None:
+    """The word for an exit tells itself that its day isn't sure."""
+    titles = TITLES.replace("\n", ";Died\n")
+    rows = "A1;Foo;f;2015-01-01;;;X;sold ca. 1.4.19\nA2;Bar;f;2015-01-01;;;X;12 or 13.6.2019\n"
+    done = desk.take(titles + rows, *OPTIONS)
+    left = [line.split(",")[2] for line in desk.commands() if line.startswith("exit")]
+    assert sorted(left) == ["2019-04-01", "2019-06-13"], done.told
+
+
+def test_owner_since(desk: Desk) -> None:
+    """The last of the days is that of an owner, and is inferred."""
+    titles = TITLES.replace("\n", ";Owner since\n")
+    desk.take(titles + "A1;Foo;f;2015-01-01;;;X;\n", *OPTIONS)
+    done = desk.take(titles + "A1;Foo;f;2015-01-01;;;Y;12 or 13.6.2019\n", *OPTIONS)
+    assert desk.transfer_days() == ["2019-06-13"]
+    done.tells("line 2: A1: inferred: owner since 2019-06-13, from the month 2019-06")
+    assert datetime.date.fromisoformat(desk.transfer_days()[0]) <= datetime.date.today()
