@@ -6,7 +6,7 @@ import collections
 import datetime
 import functools
 import re
-from collections.abc import Callable, Iterable, Iterator, Mapping, Sequence
+from collections.abc import Callable, Collection, Iterable, Iterator, Mapping, Sequence
 from typing import Container
 
 from gudokeyi.domain.findings import Report
@@ -16,10 +16,10 @@ from gudokeyi.ingest.animal_cells import AnimalCells, ErrorValues, Unread
 from gudokeyi.ingest.animals import DAM_OF, LINE_OF, ROLES, SIRE_OF, YEARS_LATER, SheetAnimal, tell_used_again
 from gudokeyi.ingest.day_cells import Order
 from gudokeyi.ingest.day_forms import DayForms
-from gudokeyi.ingest.days import Span, Unreadable, read_span
+from gudokeyi.ingest.days import NAME, Span, Unreadable, read_span
 from gudokeyi.ingest.findings.cells import (
-    DAYS, IdAgain, IdAlone, IdOfOtherAlphabet, IdTooLong, IdUnlikeOthers, IdWithFewerDigits, LikeASum, NoAnimal, NoId,
-    TitlesAgain, TooManyCells, TruthValue,
+    DAYS, DayForText, IdAgain, IdAlone, IdOfOtherAlphabet, IdToCome, IdTooLong, IdUnlikeOthers, IdWithFewerDigits,
+    LikeASum, NoAnimal, NoId, TitlesAgain, TooManyCells, TruthValue,
 )  # fmt: skip
 from gudokeyi.ingest.findings.columns import SheetFinding
 from gudokeyi.ingest.findings.exits import Remark
@@ -34,11 +34,13 @@ from gudokeyi.ingest.spellings import CUT
 from gudokeyi.ingest.titles import parts_of, words_of_sexes
 from gudokeyi.ingest.unknown_parents import UnknownParents
 from gudokeyi.ingest.texts import nearly, plain
-from gudokeyi.ingest.words import KNOWN_SUMS, is_error_value
+from gudokeyi.ingest.words import KNOWN_SUMS, KNOWN_TO_COME, is_error_value
 
 # Rows that may be no animals: those that count or sum up, and those that have an id alone. They are taken, and told,
 # unless somebody says by a word of theirs that they are none.
 
+# the place of a column that there isn't
+NOWHERE = -1
 # what a row says of an animal; an owner's cell may have a word of a row that sums up
 SAYS = (Field.NAME, Field.SEX, Field.BIRTH, Field.SIRE, Field.DAM, Field.EXIT)
 
@@ -95,6 +97,36 @@ def tell_odd_ids(animals: dict[str, SheetAnimal], known: Container[str], report:
         else:
             found = IdWithFewerDigits if oddity is Oddity.FEWER_DIGITS else IdOfOtherAlphabet
             report.add(animals[id].line, id, found(usual))
+
+
+# a text without any digit, which few ids are, and one that may be a day as spreadsheets show it that they made of a
+# text, each in a line of its own; and such a day
+NO_NUMBER, AROUND = re.compile(r"\n([^\d\n]+)(?=\n)"), " .:…?!-–()"
+LIKE_DAY = re.compile(r"\n(\d{1,2}(?:-|\. ?)[^\W\d_]{3,9}\.?|[^\W\d_]{3,9}\.?-\d\d)(?=\n)")
+DAY_SHOWN = re.compile(rf"\d{{1,2}}(?:-|\. ?){NAME}|{NAME}-\d\d", re.IGNORECASE)
+
+
+def tell_ids_to_come(animals: dict[str, SheetAnimal], report: Report) -> set[str]:
+    """Ids such as `in Arbeit`, of animals that have none yet. Answers them."""
+    likely = NO_NUMBER.findall("\n".join(["", *animals, ""]))
+    found = [id for id in likely if id.strip(AROUND).casefold() in KNOWN_TO_COME and id in animals]
+    for id in found:
+        report.add(animals[id].line, id, IdToCome(id))
+    return {*found}
+
+
+def tell_days_for_texts(
+    animals: dict[str, SheetAnimal], field: Field, lines: Collection[int], texts: Iterable[str], report: Report
+) -> set[str]:
+    """Ids or names that a spreadsheet has as days, in these lines, or among these texts as it shows them. Answers the
+    ids of those that are told."""
+    shown, told = {*filter(DAY_SHOWN.fullmatch, LIKE_DAY.findall("\n".join(["", *texts, ""])))}, set[str]()
+    for animal in animals.values() if shown or lines else ():
+        text = animal.id if field is Field.ID else animal.name
+        if text and (animal.line in lines or text in shown):
+            report.add(animal.line, animal.id, DayForText(field, text))
+            told.add(animal.id)
+    return told
 
 
 # how spreadsheets show truth values
@@ -310,7 +342,12 @@ class Rows:
     def look_at_all(self, animals: dict[str, SheetAnimal]) -> None:
         """What is told of the sheet as a whole, and of rows that seem to count or to sum up."""
         self.errors.leave_out(animals, self.report)
-        told = tell_odd_rows(animals, self.sheet.rows, self.report)
+        told = tell_odd_rows(animals, self.sheet.rows, self.report) | tell_ids_to_come(animals, self.report)
+        for field in (Field.ID, Field.NAME):
+            # of a workbook's cells it is known which are days
+            texts = () if self.sheet.worksheets else self.plain.different.get(field, ())
+            lines = {*self.sheet.days.get(self.columns.get(field, NOWHERE), ())}
+            told |= tell_days_for_texts(animals, field, lines, texts, self.report)
         tell_odd_ids(animals, told | self.same_ids.born.keys(), self.report)
         for field in (Field.NAME, Field.OWNER):
             if not TRUTHS.isdisjoint(self.plain.different.get(field, ())):

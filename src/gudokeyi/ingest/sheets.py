@@ -95,6 +95,8 @@ class Sheet:
     grey: list[int] = field(default_factory=list)
     # the cells of a workbook of which it shows another text, by their lines and places
     shown: Shown = field(default_factory=dict)
+    # the lines of cells of a workbook that are days, by the places of their columns
+    days: Mapping[int, list[int]] = field(default_factory=dict)
 
     def is_same(self, meant: Sheet) -> bool:
         """Has another sheet that was made of the same one the same rows?"""
@@ -129,6 +131,7 @@ def read_sheet(file: GivenFile, score: Score, worksheet: str = "", before: Named
     faults: list[SheetFinding]
     formulas: Formulas | None = None
     unread, grey, shown = list[SheetFinding](), list[int](), Shown()
+    days: Mapping[int, list[int]] = {}
     worksheets, as_before = tuple[str, ...](), ""
     if file.is_zipped() and not file.is_workbook():
         raise Mistake(SheetFault.ODS.said(path=path))
@@ -136,7 +139,7 @@ def read_sheet(file: GivenFile, score: Score, worksheet: str = "", before: Named
         found = read_workbook(path, data, score, BEGINNING, worksheet, before)
         worksheets, as_before = found.titles, found.title * found.as_before
         rows, how, faults = [SheetRow(*one) for one in found.rows], found.how, found.faults
-        formulas, unread, grey, shown = found.formulas, found.unread, found.grey, found.shown
+        formulas, unread, grey, shown, days = found.formulas, found.unread, found.grey, found.shown, found.days
         tops, best, taken = found.tops, best_worksheet, found.title
     else:
         if worksheet:
@@ -161,7 +164,7 @@ def read_sheet(file: GivenFile, score: Score, worksheet: str = "", before: Named
     decision = Decision(tops, best, taken, first, at)
     return Sheet(
         line, titles, below, how, faults, {}, unseen, formulas, unread, above, decision=decision, worksheets=worksheets,
-        as_before=as_before, grey=grey, shown=shown,
+        as_before=as_before, grey=grey, shown=shown, days=days,
     )  # fmt: skip
 
 

@@ -128,6 +128,15 @@ SUMS = (
     "Summe, gesamt, Gesamtsumme, Gesamtzahl, insgesamt, Anzahl, Zwischensumme, Durchschnitt, Mittelwert, Mittel, sum, "
     "total, totals, subtotal, grand total, count, average, mean, somme, nombre, moyenne, total général"
 )
+# what stands in place of an id that an animal doesn't have yet
+TO_COME = (
+    "pending, applied for, awaited, awaiting, to follow, to come, in progress, in process, not yet, none yet, no "
+    "number, tba, tbc, tbd, to be advised, to be confirmed, to be allocated, provisional, temporary, new, "
+    "in Arbeit, in Bearbeitung, beantragt, angemeldet, ausstehend, folgt, kommt, offen, noch offen, noch keine, noch "
+    "nicht, ohne Nummer, keine Nummer, vorläufig, neu, "
+    "en cours, en attente, en instance, à venir, à suivre, demandé, demandée, pas encore, sans numéro, provisoire, "
+    "nouveau, nouvelle"
+)
 # what spreadsheets show in place of a value that they can't compute
 ERROR_VALUE = re.compile(
     r"#(REF|BEZUG|N/A|NV|WERT|VALUE|VALEUR|NAME|NOM|DIV/0|NUM|ZAHL|NOMBRE|NULL|ÜBERLAUF|SPILL|PROPAGATION|CALC|KALK|"

@@ -23,11 +23,12 @@ from gudokeyi.ingest.files import MOST_CELLS, MOST_ROWS
 from gudokeyi.ingest.fills import grey_lines
 from gudokeyi.ingest.findings.columns import SheetFinding
 from gudokeyi.ingest.findings.files import (
-    DigitsLost, FormulasWithoutValue, NotesAtCells, StruckThrough, WorksheetLacks, WorksheetUnclear,
+    DigitsLost, FormulasWithoutValue, NotesAtCells, StruckThrough, StruckWithin, WorksheetLacks, WorksheetUnclear,
 )  # fmt: skip
 from gudokeyi.ingest.messages import SheetFault
 from gudokeyi.ingest.number_formats import number_text
 from gudokeyi.ingest.shown_cells import Shown, shown_cells
+from gudokeyi.ingest.struck_texts import Place, StruckText, number_of, struck_texts
 from gudokeyi.ingest.texts import clean
 
 # What the parts of a workbook would become: their cells are counted before they are made, since a file of few bytes may
@@ -51,13 +52,15 @@ WEIGHTS = {
 }  # fmt: skip
 # elements with the text of a cell, which many cells may have together, and how many letters one has at most
 OF_TEXT, MOST_IN_TEXT = ("si", "c"), 100_000
+# what strikes letters through, within the text of a cell and elsewhere
+STRIKE = "strike"
 # elements that make all cells of a range
 OF_RANGE = ("mergeCell", "hyperlink", "comment")
 RANGE = re.compile(r"\$?([A-Z]{1,3})\$?([0-9]{1,7}):\$?([A-Z]{1,3})\$?([0-9]{1,7})")
 
 
-def check_unpacked(path: pathlib.Path, data: bytes) -> None:
-    """A mistake where a small file would become a very large one."""
+def check_unpacked(path: pathlib.Path, data: bytes) -> bool:
+    """Is a part of a cell's text struck through? A mistake where a small file would become a very large one."""
     try:
         with zipfile.ZipFile(io.BytesIO(data)) as archive:
             size = sum(one.file_size for one in archive.infolist())
@@ -67,9 +70,10 @@ def check_unpacked(path: pathlib.Path, data: bytes) -> None:
             cells = Cells(path)
             for part in archive.infolist():
                 cells.count(archive, part)
+            return cells.are_struck
     except zipfile.BadZipFile:
         # openpyxl tells what is wrong with it
-        return
+        return False
 
 
 class Cells:
@@ -79,6 +83,7 @@ class Cells:
         self.path, self.found = path, Counter[str]()
         # how many letters the text has that is read; none where it isn't a cell's
         self.letters: int | None = None
+        self.are_struck = False
 
     def count(self, archive: zipfile.ZipFile, part: zipfile.ZipInfo) -> None:
         parser = xml.parsers.expat.ParserCreate(namespace_separator=" ")
@@ -109,6 +114,8 @@ class Cells:
                 self.refuse()
             else:
                 self.add("c", count)
+        elif kind == STRIKE and self.letters is not None:
+            self.are_struck = True
 
     def end(self, name: str) -> None:
         if name.rpartition(" ")[2] in OF_TEXT:
@@ -141,14 +148,6 @@ def cells_of(ref: str) -> int | None:
         return None if ":" in ref else 1
     (first, last), (top, bottom) = sorted(map(number_of, found.group(1, 3))), sorted(map(int, found.group(2, 4)))
     return (last - first + 1) * (bottom - top + 1)
-
-
-def number_of(column: str) -> int:
-    """That of a column's letters: A is 1."""
-    number = 0
-    for letter in column:
-        number = 26 * number + ord(letter) - ord("A") + 1
-    return number
 
 
 # Reads `.xlsx` files by openpyxl: which worksheet, and each cell as the spreadsheet shows it.
@@ -187,6 +186,8 @@ class Worksheet(NamedTuple):
     grey: list[int]
     # the cells of which it shows another text than is read
     shown: Shown
+    # the rows of cells with days, by the places of their columns, from 0 on
+    days: Mapping[int, list[int]]
     # its title, and the first rows of each worksheet among which it was chosen
     title: str
     tops: Tops
@@ -207,19 +208,22 @@ def read_workbook(
 ) -> Worksheet:
     """The worksheet that is named, or else the one whose titles fit: `score` says how many titles of a row are known,
     and they stand in one of the first `most` rows. Of several that fit it is the one of before."""
-    check_unpacked(path, data)
+    are_struck = check_unpacked(path, data)
     shown, written = opened(path, data, True), opened(path, data, False)
     titles: list[str] = [sheet.title for sheet in shown.worksheets]
     tops = tops_of(path, shown, most, named)
     title, as_before = chosen(path, tops, score, before)
     tops, at = {title: []} if as_before else tops, titles.index(title)
     values, texts = shown.worksheets[at], written.worksheets[at]
+    struck = struck_texts(data, titles[at]) if are_struck else {}
+    leave_out_struck(values, struck)
     rows = as_texts(path, values)
     others = [f"'{title}'" for title in titles if title != titles[at]]
     how = f"the worksheet '{titles[at]}' of an .xlsx file" + (f"; not read: {', '.join(others)}" if others else "")
     how = how if others else "an .xlsx file"
-    found = faults(texts), formulas(values, texts), unread(values), grey_lines(values), shown_cells(values)
-    return Worksheet(rows, how, *found, titles[at], tops, tuple(titles), as_before)
+    found = faults(texts), formulas(values, texts), unread(values, struck), grey_lines(values)
+    besides = shown_cells(values), days_of(values)
+    return Worksheet(rows, how, *found, *besides, titles[at], tops, tuple(titles), as_before)
 
 
 def opened(path: pathlib.Path, data: bytes, values: bool) -> Any:
@@ -331,16 +335,36 @@ def formulas(values: Any, texts: Any) -> Formulas:
     return Formulas(texts.title, found)
 
 
-def unread(sheet: Any) -> list[SheetFinding]:
+def days_of(sheet: Any) -> dict[int, list[int]]:
+    found: dict[int, list[int]] = {}
+    for (row, column), cell in sheet._cells.items():
+        if isinstance(cell._value, datetime.date):
+            found.setdefault(column - 1, []).append(row)
+    return found
+
+
+def leave_out_struck(sheet: Any, struck: Mapping[Place, StruckText]) -> None:
+    """What is struck through isn't part of a cell's text, unless it is all of it, as where the cell itself is so."""
+    for place, text in struck.items():
+        if text.kept.strip() and place in sheet._cells:
+            sheet._cells[place]._value = text.kept
+
+
+def unread(sheet: Any, struck: Mapping[Place, StruckText]) -> list[SheetFinding]:
     """Notes at cells, and texts that are struck through: neither says anything of an animal here."""
     cells = [cell for _, cell in sorted(sheet._cells.items())]
     noted = [cell for cell in cells if cell.comment]
     found: list[SheetFinding] = []
     if noted:
         found.append(NotesAtCells(len(noted), noted[0].coordinate, clean(noted[0].comment.text or "")))
+    lines = {row for (row, _), text in struck.items() if not text.kept.strip()}
     if any(font.strike for font in sheet.parent._fonts):
-        lines = dict.fromkeys(cell.row for cell in cells if cell.value is not None and cell.font.strike)
-        found += [StruckThrough(len(lines), next(iter(lines)))] if lines else []
+        lines |= {cell.row for cell in cells if cell.value is not None and cell.font.strike}
+    found += [StruckThrough(len(lines), min(lines))] if lines else []
+    parts = [(place, text) for place, text in struck.items() if text.kept.strip()]
+    for place, text in parts[:1]:
+        cell = sheet._cells[place].coordinate
+        found.append(StruckWithin(len(parts), cell, clean(text.whole), clean(text.kept)))
     return found
 
 

@@ -244,6 +244,38 @@ class IdOfOtherAlphabet(OddId):
 
 
 @dataclass(frozen=True, slots=True)
+class IdToCome(OddId):
+    """An id that says of an animal that it has none yet."""
+
+    text: str
+
+    code = "id to come"
+    message = Text(
+        "'{text}' reads like no id, but as if the animal had none yet, and is taken for its id: write one of its own "
+        "until it has one, or the next such animal counts as this one"
+    )
+
+    def suggestions(self) -> tuple[Suggestion, ...]:
+        return (Suggestion("if it is no animal", (is_no_animal(self.text),)),)
+
+
+@dataclass(frozen=True, slots=True)
+class DayForText(Finding):
+    """A name or an id that is a day of a spreadsheet."""
+
+    field: Field
+    text: str
+
+    what = What.WARNING
+    severity = Severity.ANIMALS
+    code = "day for text"
+    message = Text(
+        "its {field} is the day {text}, which spreadsheets make of texts such as 3/12: if it is another, write it as "
+        "text"
+    )
+
+
+@dataclass(frozen=True, slots=True)
 class TruthValue(Finding):
     """A name as a spreadsheet shows a truth value."""
 

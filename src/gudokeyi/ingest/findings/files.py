@@ -163,6 +163,26 @@ class StruckThrough(SheetFinding):
 
 
 @dataclass(frozen=True, slots=True)
+class StruckWithin(SheetFinding):
+    """Cells of a worksheet of whose text a part is struck through: how many, and the first of them with all that stands
+    there, and with what is read."""
+
+    count: int
+    cell: str
+    whole: str
+    text: str
+
+    severity = Severity.ANIMALS
+    code = "struck within"
+    message = Counted(
+        "a part of the text is struck through in {count} cell, {cell}: '{whole}' is read as '{text}'",
+        "a part of the text is struck through in {count} cells: '{whole}' at {cell} is read as '{text}', and the "
+        "others alike",
+        "count",
+    )
+
+
+@dataclass(frozen=True, slots=True)
 class GreyRows(SheetFinding):
     """Rows of a worksheet that are filled grey, where the others aren't: how many, and the first of them."""
 

@@ -1,0 +1,83 @@
+"""The look at a sheet says of its cells what the terminal says, in three languages."""
+from __future__ import annotations
+
+import datetime
+import io
+
+import openpyxl
+import pytest
+
+from front_desk.desk import Desk
+from web.looks import buttons_of, look_at, part, press
+from web.site import Site, shown
+from gudokeyi.domain.settings import LANGUAGES
+
+TITLES = "N° SIRE;Nom;Sexe;Né(e) le;Père;Mère;Propriétaire\n"
+LIST = TITLES + (
+    "100;Idem;F;03/04/2008;;;GAEC des Bruyères\n101;Amiral;M;21/02/2010;;;»\n102;Églantine;F;05/06/2011;;;Moreau\n"
+    "103;Jockey;M;27/06/2019;101;;//\n104;Képi;M;12/13.06.2020;//;dito;\n105;Lutin;M;1/4/2021 (est.);101;Idem;d°\n"
+    "106;03-déc.;F;2022-05-06;101;102;Éleveur\nEN COURS;Nil;M;2023-05-06;101;102;néant\n"
+)
+SAID = (
+    "2 cells of the column 'Propriétaire' repeat the one above: » in line 3 means 'GAEC des Bruyères'",
+    "1 cell of the column 'Propriétaire' has a mark for the cell above, and nothing stands there: d° in line 7",
+    "1 cell of the column 'Mère' has a mark for the cell above, and nothing stands there: dito in line 6",
+    "an animal is called 'Idem', so 1 cell of the column 'Mère', in line 7, means that one",
+    "one of several days in 1 cell of the column 'Né(e) le': '12/13.06.2020' in line 6 is read as 2020-06-12 to 2020-",
+    "a day that isn't sure in 1 cell of the column 'Né(e) le': '1/4/2021 (est.)' in line 7 is read as 2021-04-01",
+    "its name is the day 03-déc., which spreadsheets make of texts such as 3/12",
+    "'EN COURS' reads like no id, but as if the animal had none yet",
+    "'Éleveur' stands where 1 animal has its owner, and doesn't look like a name",
+)
+IN_OTHERS = {
+    "de": ("2 Zellen der Spalte „Propriétaire“ wiederholen", "dort steht nichts: d° in Zeile 7",
+           "ein Tier heißt „Idem“",
+           "mit einem von mehreren Tagen: „12/13.06.2020“ in Zeile 6 ist als 12.06.2020 bis 13.06.2020 gelesen",
+           "mit einem Tag, der nicht sicher ist: „1/4/2021 (est.)“ in Zeile 7 ist als 01.04.2021 gelesen",
+           "ist der Tag 03-déc., wie ihn Tabellen", "„EN COURS“ liest sich nicht wie eine Ohrmarke",
+           "„Éleveur“ steht bei 1 Tier"),
+    "fr": ("2 cellules de la colonne « Propriétaire » répètent", "où il n'y a rien : d° à la ligne 7",
+           "un animal s'appelle « Idem »",
+           "un jour parmi plusieurs : « 12/13.06.2020 » à la ligne 6 est lu comme 12/06/2020 au 13/06/2020",
+           "un jour qui n'est pas sûr : « 1/4/2021 (est.) » à la ligne 7 est lu comme 01/04/2021",
+           "le jour 03-déc., comme des tableurs", "« EN COURS » n'a pas l'air d'un numéro", "« Éleveur »"),
+}  # fmt: skip
+
+
+def plain(text: str) -> str:
+    return " ".join(text.split())
+
+
+def test_as_a_terminal_says_it(empty_site: Site, desk: Desk) -> None:
+    """All of it stands among what may be wrong, on the page and on the terminal."""
+    address, page = look_at(empty_site, LIST)
+    first = plain(shown(part(page, "May be wrong")))
+    assert not [one for one in SAID if one not in first]
+    told = desk.take(LIST, "--preview").out
+    assert not [one for one in SAID if one not in told]
+    # what `//` stands for is one click
+    [means] = {one for one in buttons_of(page) if "'//' means" in one}
+    page = press(empty_site, address, page, means)
+    assert "means '101'" not in shown(part(page, "May be wrong"))
+    empty_site.take(address)
+    desk.good("export", "--out", "export")
+    assert desk.parents()["104"] == ("", "") and desk.parents()["105"] == ("101", "100")
+
+
+@pytest.mark.parametrize("language", LANGUAGES[1:])
+def test_in_other_languages(empty_site: Site, language: str) -> None:
+    empty_site.get(f"/language/{language}")
+    _, page = look_at(empty_site, LIST)
+    told = plain(shown(part(page, "May be wrong", language)))
+    assert not [one for one in IN_OTHERS[language] if one not in told], told
+
+
+def test_days_of_a_workbook(empty_site: Site) -> None:
+    """A day in place of an id is told too where the file says which cells are days."""
+    found, file = openpyxl.Workbook(), io.BytesIO()
+    for line in LIST.splitlines()[:4]:
+        found.active.append([cell or None for cell in line.split(";")])
+    found.active["A4"] = datetime.date(2026, 12, 3)
+    found.save(file)
+    page = empty_site.page(empty_site.drop("liste.xlsx", file.getvalue()))
+    assert "its id is the day 2026-12-03, which spreadsheets make of texts" in plain(shown(part(page, "May be wrong")))
