@@ -86,7 +86,7 @@ def test_faulty_rows(desk: Desk) -> None:
             "line 3: a: the row is left out: line 2 has this id too (name 'Berta', there 'Anna'; birth "
             "'2002-01-01', there '2001-01-01')"
         ),
-        "line 4: the row is left out: it has no id",
+        "line 4: the row is left out: it has no id; it says 'Clara | F | 2002-01-01'",
         "line 5: unknown: the row is left out: 'unknown' is a word for an unknown animal: give it another id",
         "line 6: e: inferred: birth day 2002-02-15, from the month 2002-02, since there is no day 31.02.2002",
         (
@@ -181,7 +181,7 @@ def test_dropped(desk: Desk) -> None:
         "wrong: gone: it has no row any more: it is dropped from the book",
         "import: gone: no animal has it as a parent any more: it is dropped from the book",
     )
-    assert "book: 4 animals, 0 new, 0 changed, 0 inferred, 0 left out, 0 added, 3 gone: " in done.last
+    assert "book: 4 animals, 0 new, 0 changed, 0 inferred, 0 left out, 0 added, 3 gone (2 dropped): " in done.last
     assert desk.numbers() == {id: numbers[id] for id in "abcd"}
     assert desk.parents()["d"] == ("a", "c")
     assert sum(line.startswith("transfer") for line in desk.commands()) == 1

@@ -77,8 +77,12 @@ def test_words_for_parents(desk: Desk) -> None:
     for _ in range(2):
         done = desk.take(TITLES + rows)
         done.shows("to look at: Gastbock has no row, and is the sire of 2", "  if it means an unknown parent:")
-    done = desk.typed(done.commands()[0])
-    assert "Gastbock has no row" not in done.out
+    # the command decides of the word alone; an animal that lacks its row stays
+    command = desk.take(TITLES + rows.replace("c3;;F;2004-01-02;X1;\n", "")).commands()[0]
+    assert "--drop-gone" not in command
+    done = desk.typed(command)
+    assert "Gastbock has no row" not in done.out and " 2 gone: " in done.last
+    assert desk.numbers().keys() == {"DE 007", "DE 8", "c1", "c2", "c3", "X1", "Gastbock"}
     assert desk.parents()["c1"] == ("", "DE 8")
     done = desk.take(TITLES + rows, "--known", "Gastbock")
     assert desk.parents()["c1"] == ("Gastbock", "DE 8")
@@ -102,6 +106,18 @@ def test_tag_used_again(desk: Desk) -> None:
         assert " 0 gone" in done.last
     desk.typed(done.commands()[0])
     assert desk.born()["DE 8"] == "2012-03-02"
+
+
+def test_names_beside_a_tag_used_again(desk: Desk) -> None:
+    """A parent has the name that the book has, where the row with another one isn't taken."""
+    titles = "id;name;sex;birth;sire;dam;dam name\n"
+    rows = "d1;Susi;F;2019-04-28;;;\nd2;Lina;F;2021-03-16;;d1;Susi\nd3;Susi;F;2019-03-24;;;\n"
+    rows += "d4;Ada;F;2021-03-24;;d3;Susi\n"
+    desk.take(titles + rows)
+    done = desk.take(titles + rows.replace("d1;Susi;F;2019-04-28", "d1;Josefa;F;2023-02-13"))
+    assert "1 left out (1 row)" in done.last and "its dam" not in done.told
+    done = desk.take(titles + rows.replace("d2;Lina;F;2021-03-16;;d1;Susi", "d2;Lina;F;2021-03-16;;d1;Ada"))
+    assert "line 3: d2: to look at: its dam d1 is 'Susi', and 'dam name' has 'Ada', which is d4" in done.told
 
 
 def test_used_tag_of_an_animal_without_a_row(desk: Desk) -> None:

@@ -22,13 +22,17 @@ def test_ids_unlike_others(desk: Desk) -> None:
     done = desk.take(rows)
     unlike = f"is this row one animal? Its id is written unlike {OTHERS}. It is taken as one; if it is none, say "
     unlike += "--no-animal"
+    done.tells(
+        "line 33: 00420003 (alt: 00410001): to look at: is this row one animal? Its id has 00420003 and 00410001 in "
+        "it. It is taken as one: give each animal a row of its own, and write one id into its cell"
+    )
     assert told(done) == [
         f"line 32: 00420001/02: to look at: {unlike} 00420001/02",
-        f"line 33: 00420003 (alt: 00410001): to look at: {unlike} '00420003 (alt: 00410001)'",
         f"line 34: gez. Huber: to look at: {unlike} 'gez. Huber'",
         f"line 35: 420004: to look at: its id has fewer digits than {OTHERS}: did a spreadsheet take its zeros?",
     ]
-    assert not told(desk.take(rows))
+    again = desk.take(rows)
+    assert not told(again) and "Its id has" not in again.told
     done = desk.take(rows, "--no-animal", "gez. Huber")
     assert "1 left out (1 row)" in done.last and "gez. Huber" in done.out
 

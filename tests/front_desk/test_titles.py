@@ -43,6 +43,34 @@ def test_titles(desk: Desk, kind: str) -> None:
     assert desk.born()[ids[2]] == "2008-01-10"
 
 
+@pytest.mark.parametrize(
+    "title",
+    ["KC Reg. No.", "KC Reg No", "KC Number", "KC No.", "KC Registration Number", "KC Registered No.", "AKC Reg"],
+)
+def test_ids_of_a_club(desk: Desk, title: str) -> None:
+    """They are the ids, also beside numbers of chips that not all animals have."""
+    rows = "T1;Foo;m;1996-05-13;;;\nAB2;Bar;f;2006-05-14;;;981020001544265\n"
+    rows += "AD4;Qux;f;2008-07-23;Foo;Bar;981020001544267\n"
+    desk.take(f"{title};Registered Name;Sex;Whelped;Sire;Dam;Microchip\n{rows}")
+    assert desk.parents() == {"T1": ("", ""), "AB2": ("", ""), "AD4": ("T1", "AB2")}
+
+
+@pytest.mark.parametrize("title", ["Name d. Mutter", "Rufname Mutter", "M-Name", "Name der Mutter"])
+def test_names_of_parents_beside(desk: Desk, title: str) -> None:
+    """A name beside the id of a parent that is another one's is told, and each line without an id."""
+    rows = "a1;Rosl;w;2015-03-02;;;\na2;Ute;w;2015-03-02;;;\na3;K;w;2021-03-02;;a1;Rosl\na4;Kitz;w;2022-03-02;;a1;Ute\n"
+    rows += "a5;L;w;2021-03-02;;;Rosl\na6;M;w;2021-03-02;;;Ute\na7;N;w;2021-03-02;;;Ute\n"
+    done = desk.take(f"Ohrmarke;Name;Geschlecht;geb;Vater;Mutter;{title}\n{rows}")
+    done.tells(
+        f"line 5: a4: to look at: its dam a1 is 'Rosl', and '{title}' has 'Ute', which is a2: a1 is taken; if another "
+        f"is "
+        "meant, write the id of that one",
+        f"to look at: 3 rows have nothing in 'Mutter', and a parent in '{title}', which isn't read, the first 'Rosl' "
+        f"in line "
+        "6, the others in 7, 8: these parents count as unknown; write them into 'Mutter'",
+    )
+
+
 def test_name_of_an_owner(desk: Desk) -> None:
     """A title that says whose name a column has is one of owners, beside that of the animals' names."""
     desk.take("id;Name;Name des Besitzers;birth;sire;dam\na;Alma;Huber;2001;;\nb;;Meier;2002;;\n")

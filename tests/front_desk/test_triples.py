@@ -179,9 +179,9 @@ def test_unknown_words(desk: Desk) -> None:
     """A parent without a row that is a sire and a dam of many may mean an unknown one; `--unknown` takes it."""
     pedigree = desk.write("nine.txt", "a -7 -7\nb -7 -7\nc a b\nd 07 b\n")
     advice = "-7 has no row, and is the sire of 2 and the dam of 2"
-    command = f"{CALLED} import --pedigree nine.txt --unknown=-7 --drop-gone"
+    command = f"{CALLED} import --pedigree nine.txt --unknown=-7"
     done = desk.wrong("1 word has no line and is a parent of several animals: -7", "import", "--pedigree", pedigree)
-    assert command.removesuffix(" --drop-gone") in done.commands()
+    assert command in done.commands()
     done = desk.wrong("1 animal is both sire and dam: -7", "import", "--pedigree", pedigree, "--anyway")
     assert advice in done.err and command.replace("--unknown", "--anyway --unknown") in done.commands()
     taken = "import", "--pedigree", pedigree, "--leave-out"
@@ -191,7 +191,7 @@ def test_unknown_words(desk: Desk) -> None:
     done = desk.wrong("2 left out (2 parents): with --strict nothing is taken", *taken, "--strict")
     assert advice in done.err
     done = desk.good("import", "--pedigree", pedigree, "--unknown=-7,07", "--drop-gone")
-    assert "book: 4 animals, 0 new, 3 changed, 4 invented, 0 left out, 0 added, 2 gone: " in done.last
+    assert "book: 4 animals, 0 new, 3 changed, 4 invented, 0 left out, 0 added, 2 gone (2 dropped): " in done.last
     for words in (
         ["--unknown", "-7,07"],
         ["--unknown", "-7", "--unknown", "07"],
@@ -204,6 +204,6 @@ def test_unknown_words(desk: Desk) -> None:
 def test_unknown_words_in_a_sheet(desk: Desk) -> None:
     done = desk.take("id,born,sire,dam\na,2001,anders,anders\nb,2002,anders,\nc,2003,n b,n b\nd,2004,x,x\ne,2005,n b,\n")
     done.shows("to look at: anders has no row, and is the sire of 2 and the dam of 1")
-    commands = [f"{CALLED} import sheet.csv --unknown {word} --drop-gone" for word in ("anders", "'n b'")]
+    commands = [f"{CALLED} import sheet.csv --unknown {word}" for word in ("anders", "'n b'")]
     assert done.commands() == commands
     assert "x has no row, and is" not in done.out

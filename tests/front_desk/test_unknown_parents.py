@@ -84,8 +84,13 @@ def test_error_values(desk: Desk) -> None:
     done = desk.take(TITLES + broken.replace("a0;F;2004-01-01;s;", "a0;F;2004-01-01;#REF!;"))
     assert desk.parents() == before
     assert (
-        "15 cells with an error of the spreadsheet in 'sire', 'dam', the first in line 3: '#REF!', '#BEZUG!'"
+        "14 cells with an error of the spreadsheet in 'sire', 'dam', the first in line 3: '#REF!', '#BEZUG!'"
         in done.out
+    )
+    # a number of signs tells of something else
+    done.shows(
+        "to look at: 1 cell of 'dam' is '####', in line 16: the column was too narrow when the sheet was saved; it "
+        "counts as empty, and what the book has stays; widen the column, save the sheet again, and take that"
     )
     assert " 15 left out (15 cells)" in done.last
 
@@ -101,8 +106,21 @@ def test_errors_in_any_cell(desk: Desk) -> None:
     done = desk.take(titles + "".join(";".join(row) + "\n" for row in rows))
     assert desk.commands() == before
     assert " 12 left out (1 row, 11 cells), 0 added, 1 gone" in done.last
-    done.tells("line 2: the row is left out: it has no id", "line 12: a10: its cell 'note' is left out: '#WERT!' is an error "
-               "of the spreadsheet, and no value")  # fmt: skip
+    says = "#WERT! | Max | M | 2001-01-01 | Groß | 2004-01-01 | 2010-01-01 | x"
+    done.tells(
+        f"line 2: the row is left out: it has no id; it says '{says}'",
+        "line 12: a10: its cell 'note' is left out: '#WERT!' is an error of the spreadsheet, and no value",
+    )
+
+
+def test_narrow_columns(desk: Desk) -> None:
+    """What a spreadsheet shows where a column is too narrow is mended there."""
+    rows = "".join(f"a{at};F;########;;\n" for at in range(3)) + "b;F;2001-01-01;;\n"
+    desk.wrong(
+        "3 of 4 cells of the column 'birth' (birth) are signs # alone, since the column was too narrow when the sheet "
+        "was "
+        "saved: widen it, save the sheet again, and take that", "import", desk.write("sheet.csv", TITLES + rows)
+    )  # fmt: skip
 
 
 def test_columns_of_errors(desk: Desk) -> None:

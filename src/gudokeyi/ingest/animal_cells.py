@@ -16,11 +16,15 @@ from gudokeyi.ingest.day_cells import DayCell, DayCells, ExitCell, usual_cell
 from gudokeyi.ingest.day_forms import DayForms, Readings
 from gudokeyi.ingest.days import ANY_DAY, DayFault, Span
 from gudokeyi.ingest.encodings import Letters
-from gudokeyi.ingest.findings.cells import DAYS, DayLeftOut, EmbryoUnread, ErrorValue, SexUnread, TextTooLong
+from gudokeyi.ingest.findings.cells import (
+    DAYS, DayLeftOut, EmbryoUnread, ErrorValue, NarrowValue, SexUnread, TextTooLong,
+)  # fmt: skip
 from gudokeyi.ingest.findings.columns import SheetFinding
 from gudokeyi.ingest.findings.exits import ExitInDoubt, ExitInferred, ExitsInOtherWords, ExitsWithoutDay, NoExits, Remark
 from gudokeyi.ingest.findings.rows import OwnerInExit, OwnerSold, SoldWithin, TakerUnclear
-from gudokeyi.ingest.findings.sheets import MOST_TEXTS, Cells, CellsUnread, ErrorCells, ErrorColumn, TextCount
+from gudokeyi.ingest.findings.sheets import (
+    MOST_TEXTS, Cells, CellsUnread, ErrorCells, ErrorColumn, NarrowCells, NarrowColumn, TextCount,
+)  # fmt: skip
 from gudokeyi.ingest.rows_as_meant import Takers, taker_of_owner
 from gudokeyi.ingest.sexes import Sexes
 from gudokeyi.ingest.sheets import Sheet
@@ -128,14 +132,17 @@ class ErrorValues:
             if at in names and animal:
                 animal.unread.append(names[at])
             id = animal.id if animal else ""
-            report.add(line, id, ErrorValue(self.title(at), text))
+            report.add(line, id, (NarrowValue if is_narrow(text) else ErrorValue)(self.title(at), text))
 
     def told(self) -> list[SheetFinding]:
-        if not self.found:
-            return []
-        texts = tuple(dict.fromkeys(text for _, _, text in self.found))
-        titles = tuple(self.title(at) for at in dict.fromkeys(at for _, at, _ in self.found))
-        return [ErrorCells(len(self.found), titles, self.found[0][0], texts)]
+        narrow = [one for one in self.found if is_narrow(one[2])]
+        errors = [one for one in self.found if not is_narrow(one[2])]
+        return [self.of_all(kind, found) for kind, found in ((ErrorCells, errors), (NarrowCells, narrow)) if found]
+
+    def of_all(self, kind: type[ErrorCells], found: list[tuple[int, int, str]]) -> ErrorCells:
+        texts = tuple(dict.fromkeys(text for _, _, text in found))
+        titles = tuple(self.title(at) for at in dict.fromkeys(at for _, at, _ in found))
+        return kind(len(found), titles, found[0][0], texts)
 
     def mostly(self) -> list[SheetFinding]:
         """A column is a mistake where most of its cells are error values, and at least three."""
@@ -146,8 +153,15 @@ class ErrorValues:
         for name, at in self.columns.items():
             filled = sum(1 for _, cells in self.sheet.rows if at < len(cells) and cells[at])
             if counts[at] > max(2, filled // 2):
-                faults.append(ErrorColumn(Field(name), self.title(at), counts[at], filled))
+                are_narrow = all(is_narrow(text) for _, place, text in self.found if place == at)
+                kind = NarrowColumn if are_narrow else ErrorColumn
+                faults.append(kind(Field(name), self.title(at), counts[at], filled))
         return faults
+
+
+def is_narrow(text: str) -> bool:
+    """Is it what a spreadsheet shows of a value for which the column is too narrow?"""
+    return not text.strip("#")
 
 
 def may_have(cells: str) -> bool:

@@ -158,11 +158,15 @@ class IdColumn:
         return len({*cells} - {""}) >= MOSTLY * len(cells)
 
     def are_row_numbers(self, at: int) -> bool:
-        """Does each row have a number that is one more than that of the row above?"""
-        cells = [cell for cell in self.columns.cells(at) if cell]
-        numbers = [int(cell) for cell in cells if cell.isdecimal() and len(cell) < MOST_DIGITS]
-        steps = sum(after == before + 1 for before, after in zip(numbers, numbers[1:]))
-        return len(numbers) >= FEW and len(numbers) >= MOSTLY * len(cells) and steps >= MOSTLY * (len(numbers) - 1)
+        return are_row_numbers(self.columns.cells(at))
+
+
+def are_row_numbers(cells: list[str]) -> bool:
+    """Does each row have a number that is one more than that of the row above?"""
+    cells = [cell for cell in cells if cell]
+    numbers = [int(cell) for cell in cells if cell.isdecimal() and len(cell) < MOST_DIGITS]
+    steps = sum(after == before + 1 for before, after in zip(numbers, numbers[1:]))
+    return len(numbers) >= FEW and len(numbers) >= MOSTLY * len(cells) and steps >= MOSTLY * (len(numbers) - 1)
 
 
 # Which columns may have a field that no title tells of, as their cells show: for commands that are suggested.

@@ -3,17 +3,20 @@ from __future__ import annotations
 
 import collections
 import functools
+import itertools
+import string
 from collections.abc import Callable, Collection, Mapping
 from dataclasses import dataclass, field
 from typing import Container
 
 from gudokeyi.domain.kinds import Field
 from gudokeyi.domain.spelling import closest
-from gudokeyi.ingest.column_detection import MOST_COMPARED, IdColumn, LikelyColumns
+from gudokeyi.ingest.column_detection import MOST_COMPARED, IdColumn, LikelyColumns, are_row_numbers
 from gudokeyi.ingest.days import is_span
 from gudokeyi.ingest.encodings import Letters, decoded_twice
 from gudokeyi.ingest.findings.columns import (
-    ColumnLost, ColumnsLack, LikelierColumn, NamedColumnLacks, ParentsBeside, SheetFinding, TellsNoExits, TitleTwice,
+    ColumnLost, ColumnsLack, ColumnUntitled, LikelierColumn, NamedColumnLacks, ParentsBeside, SheetFinding,
+    TellsNoExits, TitleTwice,
 )  # fmt: skip
 from gudokeyi.ingest.findings.rows import ExitsInRemarks, FieldUnread, StatusUnread
 from gudokeyi.ingest.findings.sheets import MOST_SHOWN
@@ -107,6 +110,7 @@ def find_columns(
     if Field.STATUS in columns.found and Field.EXIT not in columns.found and named.get(Field.EXIT) != "":
         columns.found[Field.EXIT] = columns.found.pop(Field.STATUS)
     tell_parents_beside(columns, unknown)
+    tell_untitled(columns)
     tell_unread_statuses(columns, named)
     tell_unread_fields(columns, named)
     tell_likelier(columns, given, before)
@@ -213,6 +217,30 @@ def tell_remarks(columns: Columns, at: int, texts: set[str]) -> None:
     columns.notes.append(ExitsInRemarks(columns.title(at), count, line, text))
 
 
+# so many columns without a title are told
+MOST_UNTITLED = 9
+LETTERS = string.ascii_uppercase
+
+
+def letters_of(at: int) -> str:
+    """The letters by which a spreadsheet calls a column."""
+    before, last = divmod(at, len(LETTERS))
+    return (letters_of(before - 1) if before else "") + LETTERS[last]
+
+
+def tell_untitled(columns: Columns) -> None:
+    """Columns without a title, whose cells nobody reads, but for those that number the rows."""
+    titles = columns.sheet.titles
+    untitled = (at for at, title in enumerate(titles) if not title and any(columns.cells(at)))
+    untitled = (at for at in untitled if not are_row_numbers(columns.cells(at)))
+    for at in itertools.islice(untitled, MOST_UNTITLED):
+        cells = collections.Counter(filter(None, columns.cells(at)))
+        some = itertools.islice(cells, MOST_DIFFERENT)
+        exits = sum(cells[cell] for cell in some if has_word(cell, TELLING_EXITS) or is_cross(cell))
+        line, text = next((line, texts[at]) for line, texts in columns.sheet.rows if at < len(texts) and texts[at])
+        columns.notes.append(ColumnUntitled(letters_of(at), cells.total(), line, text, exits))
+
+
 def tell_parents_beside(columns: Columns, unknown: Container[str]) -> None:
     """Parents whose names stand in a column of their own, where those of others have their ids."""
     for name in (one for one in PARENTS if one in columns.found):
@@ -221,7 +249,8 @@ def tell_parents_beside(columns: Columns, unknown: Container[str]) -> None:
             lacking = [(row.line, beside) for row, id, beside in both if id in unknown and beside not in unknown]
             if lacking and 2 * len(lacking) <= len(columns.sheet.rows):
                 title, beside = columns.title(columns.found[name]), columns.title(at)
-                columns.notes.append(ParentsBeside(title, beside, len(lacking), *lacking[0]))
+                others = tuple(line for line, _ in lacking[1:MOST_ALIKE])
+                columns.notes.append(ParentsBeside(title, beside, len(lacking), *lacking[0], others))
 
 
 # the different words that a column of sexes may have

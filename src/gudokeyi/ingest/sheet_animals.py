@@ -17,15 +17,17 @@ from gudokeyi.ingest.animals import DAM_OF, LINE_OF, ROLES, SIRE_OF, YEARS_LATER
 from gudokeyi.ingest.day_cells import Order
 from gudokeyi.ingest.day_forms import DayForms
 from gudokeyi.ingest.days import NAME, Span, Unreadable, read_span
+from gudokeyi.ingest.exchanged_days import exchanged
 from gudokeyi.ingest.findings.cells import (
-    DAYS, DayForText, IdAgain, IdAlone, IdOfOtherAlphabet, IdToCome, IdTooLong, IdUnlikeOthers, IdWithFewerDigits,
-    LikeASum, NoAnimal, NoId, TitlesAgain, TooManyCells, TruthValue,
+    BETWEEN_CELLS, DAYS, DayForText, IdAgain, IdAlone, IdOfOtherAlphabet, IdToCome, IdTooLong, IdUnlikeOthers,
+    IdWithFewerDigits, LikeASum, NoAnimal, NoId, TitlesAgain, TooManyCells, TruthValue,
 )  # fmt: skip
 from gudokeyi.ingest.findings.columns import SheetFinding
 from gudokeyi.ingest.findings.exits import Remark
 from gudokeyi.ingest.findings.files import GreyRows
 from gudokeyi.ingest.findings.sheets import CutNumber, FormulaCell, Place
 from gudokeyi.ingest.odd_ids import Oddity, odd_ids
+from gudokeyi.ingest.odd_texts import first_days, tell_exits_in_names, tell_several_ids
 from gudokeyi.ingest.plain_rows import CELLS_OF, SIGNS, PlainRows, chooser, first_sum
 from gudokeyi.ingest.rows_as_meant import Takers
 from gudokeyi.ingest.sexes import Sexes
@@ -197,6 +199,15 @@ PLUS = "+"
 FORMULA, EQUALS = re.compile(r"=.*(?:\(|\$?[A-Za-z]{1,3}\$?\d|\d\s*[-+*/&]|[-+*/&]\s*\d).*", re.DOTALL), "="
 
 
+# so many letters are told of a row
+MOST_TOLD = 120
+
+
+def text_of(cells: list[str]) -> str:
+    """What a row says, as one text."""
+    return BETWEEN_CELLS.join(filter(None, cells))[:MOST_TOLD]
+
+
 def are_titles(cells: list[str], titles: list[str]) -> bool:
     """Are nearly all cells the titles again? Those of several lines may be written otherwise at another page's head."""
     named = [at for at, title in enumerate(titles) if title]
@@ -293,7 +304,7 @@ class Rows:
             elif len(cells) > titles and (len(cells) > usual or any(cells[titles:])):
                 self.report.add(line, id, TooManyCells(len(cells), titles))
             elif self.unknown.is_one(id):
-                self.report.add(line, id, NoId(id))
+                self.report.add(line, id, NoId(id, "" if id else text_of(cells)))
             elif id == id_title and are_titles(cells, self.sheet.titles):
                 self.report.add(line, "", TitlesAgain())
             elif may_be_none and (word := self.no_animal(id, cells, said)):
@@ -342,21 +353,35 @@ class Rows:
     def look_at_all(self, animals: dict[str, SheetAnimal]) -> None:
         """What is told of the sheet as a whole, and of rows that seem to count or to sum up."""
         self.errors.leave_out(animals, self.report)
-        told = tell_odd_rows(animals, self.sheet.rows, self.report) | tell_ids_to_come(animals, self.report)
-        for field in (Field.ID, Field.NAME):
-            # of a workbook's cells it is known which are days
-            texts = () if self.sheet.worksheets else self.plain.different.get(field, ())
-            lines = {*self.sheet.days.get(self.columns.get(field, NOWHERE), ())}
-            told |= tell_days_for_texts(animals, field, lines, texts, self.report)
-        tell_odd_ids(animals, told | self.same_ids.born.keys(), self.report)
+        self.look_at_ids(animals)
+        tell_exits_in_names(animals, self.plain.different.get(Field.NAME, ()), self.report)
         for field in (Field.NAME, Field.OWNER):
             if not TRUTHS.isdisjoint(self.plain.different.get(field, ())):
                 tell_truths(animals, field, self.report)
         order = Order(self.slashed_days())
         fault, note = order.fault(self.month_first), order.note(self.month_first)
         self.faults += [*([fault] if fault else []), *self.cut_numbers(), *self.unread.mostly(), *self.errors.mostly()]
-        self.notes += [*self.sheet.unread, *self.grey_rows(animals), *self.cells.letters.told(), *self.errors.told(), *([note] if note else [])]
+        self.notes += [*self.sheet.unread, *self.grey_rows(animals), *self.cells.letters.told(), *self.errors.told()]
+        self.notes += [note] if note else []
         self.notes += [*self.cells.readings.told(), *self.unread.found(), *self.sexes.told()]
+        self.notes += first_days(animals, self.plain.different.get(Field.BIRTH, ()))
+        self.notes += [] if self.month_first else self.exchanged_days()
+
+    def exchanged_days(self) -> Iterator[SheetFinding]:
+        for field in (field for field in DAYS if field in self.columns):
+            title, different = self.sheet.titles[self.columns[field]], self.plain.different[field]
+            yield from exchanged(title, self.texts(field), different, self.sheet.rows)
+
+    def look_at_ids(self, animals: dict[str, SheetAnimal]) -> None:
+        """What is told of ids, and of names that are days."""
+        told = tell_odd_rows(animals, self.sheet.rows, self.report) | tell_ids_to_come(animals, self.report)
+        for field in (Field.ID, Field.NAME):
+            # of a workbook's cells it is known which are days
+            texts = () if self.sheet.worksheets else self.plain.different.get(field, ())
+            lines = {*self.sheet.days.get(self.columns.get(field, NOWHERE), ())}
+            told |= tell_days_for_texts(animals, field, lines, texts, self.report)
+        told |= self.same_ids.born.keys()
+        tell_odd_ids(animals, told | tell_several_ids(animals, told, self.report), self.report)
 
     def grey_rows(self, animals: dict[str, SheetAnimal]) -> list[SheetFinding]:
         """The animals' rows that are filled grey."""

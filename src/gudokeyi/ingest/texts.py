@@ -35,9 +35,14 @@ def plain(text: str) -> str:
     return "".join(one for one in apart if one.isalnum() or one in "♂♀")
 
 
+# letters that two others stand for where they lack, and an apostrophe
+LIGATURES = str.maketrans({"œ": "oe", "Œ": "Oe", "æ": "ae", "Æ": "Ae", "’": "'"})
+
+
 def without_accents(text: str) -> str:
     if text.isascii():
         return text
+    text = text.translate(LIGATURES)
     return "".join(one for one in unicodedata.normalize("NFKD", text) if not unicodedata.combining(one))
 
 

@@ -45,10 +45,10 @@ TITLES = {
     "birth year, year of birth, year, Geburtsjahr, Jahrgang, année de naissance, année",
     Field.SIRE: "sire, of sire, father, Vater, des Vaters, Vatertier, père, du père, père SIRE, "
     "sire name, name of sire, sire's name, father name, Name Vater, Vatername, Name des Vaters, nom du père, nom père, "
-    "sire registered name",
+    "sire registered name, Name d. Vaters, Name d. Vater, Rufname Vater, V-Name",
     Field.DAM: "dam, of dam, mother, Mutter, der Mutter, Muttertier, mère, de la mère, mère SIRE, "
     "dam name, name of dam, dam's name, mother name, Name Mutter, Muttername, Name der Mutter, nom de la mère, "
-    "nom mère, dam registered name",
+    "nom mère, dam registered name, Name d. Mutter, Rufname Mutter, M-Name",
     Field.OWNER: "owner, current owner, present owner, owner name, name of owner, owner's name, aktueller Besitzer, "
     "propriétaire actuel, herd, flock, farm, holding, keeper, Besitzer, Besitzerin, "
     "Eigentümer, Eigentümerin, Halter, Tierhalter, Betrieb, propriétaire, détenteur, élevage, exploitation, "
@@ -60,8 +60,8 @@ TITLES = {
     "purchase date, bought, acquired, Besitzer seit, im Besitz seit, seit, Besitzwechsel, Besitzerwechsel, "
     "Besitzwechsel am, Besitzerwechsel am, Wechseldatum, Halter seit, Eigentümer seit, gekauft am, Kaufdatum, "
     "Zugangsdatum, Zugang am, Zugang, erworben am, Besitzer ab, propriétaire depuis, depuis, depuis le, date d'achat, "
-    "date de transfert, date de mutation, date d'acquisition, acheté le, achetée le, acquis le, acquise le, mutation le, "
-    "date acquired, acquired on, purchased, purchased on, bought on",
+    "date de transfert, date de mutation, date d'acquisition, acheté le, achetée le, acquis le, acquise le, mutation "
+    "le, date acquired, acquired on, purchased, purchased on, bought on",
     Field.EXIT: "exit date, date of exit, Abgangsdatum, Abgang am, abgegangen am, date de sortie, date left, "
     "left on, sorti le, "
     "exit, left, departure, Abgang, abgegangen, sortie, "
@@ -87,6 +87,12 @@ DOUBTFUL_EXITS = (
 NEEDED = (Field.ID, Field.BIRTH, Field.SIRE, Field.DAM)
 
 
+# clubs before whose name for ids theirs stands, as in `KC Reg. No.`
+CLUBS = "KC, AKC, IKC, CKC, UKC, SKC, NZKC, ANKC, VDH, ÖKV, SKG, SHSB, GCCF, TICA, FIFe, LOSH, NHSB, RSHE, SCC"
+OF_CLUBS = (
+    "reg no, reg number, reg, registration no, registration number, registration, registered no, registered number, "
+    "no, number, nr, Nummer, stud book no, stud book number"
+)
 # letters for a parent that stand before a word for the id, as `V-Ohrmarke`
 SHORT = {Field.SIRE: "v", Field.DAM: "m"}
 # the number that French horses have is no sire's
@@ -96,6 +102,8 @@ KNOWN_OTHERS = {plain("n° SIRE"), plain("numéro SIRE")}
 def usual_titles(field: Field) -> list[str]:
     """The titles of a field as they are compared: for a parent those with a word for the id come first."""
     alone = [plain(title) for title in listed(TITLES[field])]
+    if field is Field.ID:
+        alone = [plain(club + of) for of in listed(OF_CLUBS) for club in listed(CLUBS)] + alone
     if field not in (Field.SIRE, Field.DAM):
         return list(dict.fromkeys(alone))
     ids = [plain(title) for title in listed(TITLES[Field.ID])]

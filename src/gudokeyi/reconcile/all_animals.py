@@ -15,12 +15,14 @@ from gudokeyi.reconcile.exits import exit_in_book
 from gudokeyi.reconcile.findings.animals import RowIsGone
 from gudokeyi.reconcile.guards import Guards
 from gudokeyi.reconcile.ids import NearIds, leave_out_used_tags
+from gudokeyi.reconcile.ids_elsewhere import ids_elsewhere
 from gudokeyi.reconcile.import_options import ImportOptions
 from gudokeyi.reconcile.messages import ImportFault
 from gudokeyi.reconcile.new_tags import tell_new_tags
 from gudokeyi.reconcile.next_book import NextBook
 from gudokeyi.reconcile.parents import Names, keep_parents_named, try_parents_again
 from gudokeyi.reconcile.parents_in_texts import ParentsInTexts
+from gudokeyi.reconcile.sections import tell_births, tell_sections
 from gudokeyi.reconcile.sexes import find_sexes, leave_out_unread_sexes, mend_sexes
 from gudokeyi.reconcile.values_from_book import keep_values
 from gudokeyi.store.book import Book
@@ -100,7 +102,7 @@ def add_others(next_book: NextBook, drop_gone: bool, columns: Columns | None = N
             ParentsInTexts(animals, all_animals, with_id, next_book.last_found).find(report)
             near.find_parents(report)
         near.tell_alike(report)
-    before = Names(all_animals, report, next_book.last_found)
+    before = Names(all_animals, report, next_book.last_found, with_id)
     if not have_rows:
         before.find_parents(animals, next_book, with_id)
     try_parents_again(next_book, gone, all_animals)
@@ -113,7 +115,9 @@ def add_others(next_book: NextBook, drop_gone: bool, columns: Columns | None = N
         add_gone(animals, gone, book, drop_gone, report)
     leave_out_unread_sexes(next_book, are_all_there=have_rows and not has_gone)
     if has_gone or not have_rows:
-        names = Names(animals, report, next_book.last_found, before)
+        names = Names(animals, report, next_book.last_found, with_id, before)
+        if columns and names.lacking:
+            names.elsewhere = ids_elsewhere(columns, animals.values(), names.lacking)
         names.advise_unknown(next_book.is_pedigree)
         names.add_parents()
     if len(animals) > MOST_ANIMALS:
@@ -147,4 +151,6 @@ def complete(next_book: NextBook, columns: Columns, import_options: ImportOption
         if not import_options.preview:
             raise ImportRefused(*found)
     find_sexes(next_book)
+    tell_sections(next_book)
     find_days(next_book)
+    tell_births(next_book)

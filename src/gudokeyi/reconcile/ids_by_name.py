@@ -10,6 +10,7 @@ from collections.abc import Iterable, Iterator, Mapping, Sequence
 
 from gudokeyi.domain.spelling import as_digits, closest, folded, folded_all
 from gudokeyi.ingest.texts import without_accents
+from gudokeyi.reconcile.bare_names import bare_all
 from gudokeyi.reconcile.near_names import DIGITS, LEAST_LETTERS, MOST_WORDS, parts_of
 
 # shorter texts are often alike
@@ -42,7 +43,7 @@ class NamesEver:
                 add(built[name], new)
         if new:
             self.of_letters.cache_clear()
-        for name in ("accented", "letters", "forms") if any(new.values()) else ():
+        for name in ("accented", "letters", "forms", "of_bare_names") if any(new.values()) else ():
             built.pop(name, None)
         return True
 
@@ -69,6 +70,12 @@ class NamesEver:
     def of_ids(self) -> dict[str, list[str]]:
         """The ids by their own letters and digits."""
         return add_ids(collections.defaultdict(list), self.names)
+
+    @functools.cached_property
+    def of_bare_names(self) -> dict[str, list[str]]:
+        """The ids by names without titles, letters and remarks."""
+        named = {id: name for id, name in self.names.items() if name}
+        return add_each(collections.defaultdict(list), bare_all([*named.values()]), named)
 
     @functools.cached_property
     def of_letters(self) -> functools._lru_cache_wrapper[dict[str, list[str]]]:
@@ -215,6 +222,12 @@ class IdsByName:
         key = folded(text)
         likely = self.ever.with_form(as_digits(key)) if key else ()
         return {id for name in likely if key in parts_of(name) for id in self.there(self.ever.named[name.casefold()])}
+
+    def bare(self, text: str) -> set[str]:
+        """The ids of those whose name is this text but for titles, letters and remarks."""
+        [key] = bare_all([text])
+        is_name = sum(map(str.isalpha, key)) >= LEAST_LETTERS
+        return {*self.there(self.ever.of_bare_names.get(key, ()))} if is_name else set()
 
     def nearly(self, text: str) -> set[str]:
         """Two with other digits are other animals."""

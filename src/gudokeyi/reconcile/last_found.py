@@ -19,6 +19,8 @@ class Kept(enum.Enum):
 
     NEAR_IDS = enum.auto()
     IDS_IN_TEXTS = enum.auto()
+    # the ids by the other forms that they may have
+    NEAR_TAGS = enum.auto()
     # the offspring of each animal in each role
     PROGENY = enum.auto()
     # commands, and what the program refuses of them

@@ -12,6 +12,7 @@ from gudokeyi.domain.changes import Option
 from gudokeyi.domain.findings import Call, Entry, Finding, Report, What
 from gudokeyi.domain.kinds import Field
 from gudokeyi.domain.messages import counted, some_of
+from gudokeyi.reconcile.findings.animals import RowIsGone
 from gudokeyi.reconcile.findings.by_hand import ValueChanged
 from gudokeyi.reconcile.findings.own_columns import OwnCells
 from gudokeyi.store.exports import REPORT
@@ -44,13 +45,15 @@ class Understood:
     as_before: bool = False
     # the titles of the society's own columns
     kept: tuple[str, ...] = ()
+    # the letters of columns without a title that have texts
+    untitled: tuple[str, ...] = ()
 
     def lines(self) -> list[str]:
         read = ", ".join(f"{one.field} from '{one.title}'" for one in self.columns)
         columns = "columns as at the last time" if self.as_before else f"columns: {read}"
-        kept, titles = (
-            some_of([f"'{title}'" for title in some], MOST_TITLES) for some in (self.kept, self.not_read)
-        )
+        kept = some_of([f"'{title}'" for title in self.kept], MOST_TITLES)
+        untitled = [f"column {letters} (without a title)" for letters in self.untitled]
+        titles = some_of([f"'{title}'" for title in self.not_read] + untitled, MOST_TITLES)
         lines = [
             f"{self.file}: {counted(self.rows, 'row')} below the titles in line {self.titles_line}, {self.how}",
             columns + (f"; kept: {kept}" if kept else "") + (f"; not read: {titles}" if titles else ""),
@@ -145,9 +148,11 @@ class Outcome:
         counts, after = self.counts(), self.after
         inferred = [f"{after.invented} invented"] * bool(after.invented)
         inferred += [f"{counts[What.INFERRED]} inferred"] * bool(counts[What.INFERRED] or not after.invented)
+        dropped = sum(isinstance(one.finding, RowIsGone) and one.finding.is_dropped for one in self.report.entries)
+        gone = f"{counts[What.GONE]} gone" + f" ({dropped} dropped)" * bool(dropped)
         return (
             f"{self.folder}: {counted(after.animals, 'animal')}, {after.new} new, {counts[What.CHANGED]} changed, "
-            f"{', '.join(inferred)}, {self.report.left_out()}, {counts[What.ADDED]} added, {counts[What.GONE]} gone"
+            f"{', '.join(inferred)}, {self.report.left_out()}, {counts[What.ADDED]} added, {gone}"
         )
 
     def report_file(self) -> pathlib.Path:

@@ -5,7 +5,7 @@ from __future__ import annotations
 import collections
 import functools
 import itertools
-from collections.abc import Collection, Mapping, Sequence
+from collections.abc import Collection, Mapping, Sequence, Set
 
 from gudokeyi.domain.findings import Finding, Report
 from gudokeyi.domain.kinds import Field, Role, Standing
@@ -14,11 +14,13 @@ from gudokeyi.domain.requests import MOST_IN_ID
 from gudokeyi.ingest.animals import LINE_OF, NAME_OF, Link, SheetAnimal, links_outside
 from gudokeyi.ingest.findings.cells import TextTooLong
 from gudokeyi.ingest.texts import nearly, without_accents
+from gudokeyi.ingest.words import KNOWN_NO_PARENTS, has_word
 from gudokeyi.reconcile.findings.parents import AddedAsParent, FoundByName, FoundByNearId, FoundInBook, FoundWithin
 from gudokeyi.reconcile.findings.unknown_parents import LikeNoId, MayBeUnknown, MoreMayBeUnknown, NameOfAnimals
 from gudokeyi.reconcile.ids_by_name import IdsByName
-from gudokeyi.reconcile.last_found import LastFound
+from gudokeyi.reconcile.last_found import Kept, LastFound
 from gudokeyi.reconcile.near_names import DAY, have_digits, is_like_word
+from gudokeyi.reconcile.near_tags import NearTags
 from gudokeyi.reconcile.next_book import NextBook
 from gudokeyi.store.book import Book
 
@@ -41,14 +43,28 @@ class Names:
     """Finds parents by their names, and tells which animals may be meant by a text that is no id."""
 
     def __init__(
-        self, animals: dict[str, SheetAnimal], report: Report, last: LastFound, before: Names | None = None
-    ) -> None:
-        """`before` are those of whom `animals` are the ones that stay."""
-        self.animals, self.report, self.last, self.before = animals, report, last, before
+        self, animals: dict[str, SheetAnimal], report: Report, last: LastFound, with_id: Set[str],
+        before: Names | None = None,
+    ) -> None:  # fmt: skip
+        """`with_id` are the ids that were given, and `before` those of whom `animals` are the ones that stay."""
+        self.animals, self.report, self.last, self.with_id, self.before = animals, report, last, with_id, before
+        # those who have a text in another column
+        self.elsewhere: Mapping[str, Collection[str]] = {}
 
     @functools.cached_property
     def by_name(self) -> IdsByName:
         return self.last.by_name([*self.animals], [*map(NAME_OF, self.animals.values())])
+
+    @functools.cached_property
+    def of_given(self) -> IdsByName:
+        """The same of the animals whose ids were given."""
+        given = {id: animal.name for id, animal in self.animals.items() if id in self.with_id}
+        return IdsByName([*given], [*given.values()], self.by_name.ever)
+
+    @functools.cached_property
+    def tags(self) -> NearTags:
+        ids = [*filter(self.with_id.__contains__, self.animals)]
+        return self.last.of(Kept.NEAR_TAGS, (ids,), lambda: NearTags(ids))
 
     def same(self, name: str) -> list[str]:
         """The ids of the animals of a name; of those that stay too these are sought among all."""
@@ -144,7 +160,7 @@ class Names:
             if (may_be or is_odd) and "," not in parent:
                 told.append((-sum(counts.values()), parent, counts, MayBeUnknown if may_be else LikeNoId))
         for _, parent, counts, kind in sorted(told, key=lambda one: one[:2])[:MOST_WORDS]:
-            named = [] if is_pedigree else self.named(parent)
+            named = [] if is_pedigree else self.named(parent) or self.likely(parent)
             values = parent, counts[Role.SIRE], counts[Role.DAM]
             self.report.add(0, "", NameOfAnimals(*values, tuple(named)) if named else kind(*values))
         if len(told) > MOST_WORDS:
@@ -164,6 +180,13 @@ class Names:
     def named(self, parent: str) -> list[str]:
         """The animals that have the text of a parent without a row as their name."""
         return [id for id in self.same(parent) if id in self.animals and id != parent]
+
+    def likely(self, parent: str) -> list[str]:
+        """The only animal that the text of a parent without a row may mean, unless words say that it means none."""
+        if has_word(parent, KNOWN_NO_PARENTS):
+            return []
+        found = {self.meant(one, role, text)[0] for one, role, text in self.without_row if text == parent}
+        return [*found] if len(found) == 1 and "" not in found else []
 
     @functools.cached_property
     def have_digits(self) -> bool:
@@ -188,16 +211,25 @@ class Names:
         ids = [one.id for one in self.others(offspring, text)]
         if len(ids) > 1:
             return "", tuple(ids)
-        by_name = self.by_name
+        by_name = self.of_given
         alike = ids[0] if ids else by_name.meant(text.removesuffix(".0")) or by_name.meant(text)
+        for likely in (self.elsewhere_of, self.tags.near, by_name.bare) if not alike else ():
+            alike = alike or self.only_possible(likely(text), role, offspring)
         if not alike and len(self.lacking) <= FEW:
             swapped = by_name.swapped(text)
             alike = next((id for id in swapped if can_be(self.animals[id], role, offspring)), "")
         if not alike and len(self.lacking) <= FEW_NAMED:
-            near = (by_name.near(text, len(self.lacking) <= FEW) or by_name.with_one_letter(text)) - {offspring.id}
-            near = {id for id in near if can_be(self.animals[id], role, offspring)}
-            alike = near.pop() if len(near) == 1 else ""
+            near = by_name.near(text, len(self.lacking) <= FEW) or by_name.with_one_letter(text)
+            alike = self.only_possible(near, role, offspring)
         return (alike if alike != offspring.id else ""), ()
+
+    def elsewhere_of(self, text: str) -> Collection[str]:
+        return self.elsewhere.get(text, ())
+
+    def only_possible(self, ids: Collection[str], role: Role, offspring: SheetAnimal) -> str:
+        """The only one of some animals that can be the parent; empty for none."""
+        possible = [id for id in ids if id != offspring.id and can_be(self.animals[id], role, offspring)]
+        return possible[0] if len(possible) == 1 else ""
 
 
 def may_be_unknown(report: Report) -> list[Finding]:

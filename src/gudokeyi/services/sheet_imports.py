@@ -13,6 +13,8 @@ from gudokeyi.domain.findings import Call, Entry, ImportRefused, Report, Strictl
 from gudokeyi.domain.kinds import Field, Remembered
 from gudokeyi.ingest.animals import LINE_OF
 from gudokeyi.ingest.files import GivenFile
+from gudokeyi.ingest.findings.columns import ColumnUntitled
+from gudokeyi.ingest.parents_beside import tell_parents_named_otherwise
 from gudokeyi.process import keep
 from gudokeyi.reconcile.all_animals import complete
 from gudokeyi.reconcile.cells_as_notes import keep_as_notes
@@ -27,6 +29,7 @@ from gudokeyi.reconcile.impossible_parents import leave_out_faulty_parents
 from gudokeyi.reconcile.limits import Limits
 from gudokeyi.reconcile.new_tags import call_anew
 from gudokeyi.reconcile.next_book import NextBook
+from gudokeyi.reconcile.lost_own_columns import tell_lost_own_columns
 from gudokeyi.reconcile.own_sheet_columns import OwnSheetColumns, find_own_columns, take_own_values
 from gudokeyi.reconcile.outcome import BookAfter, ColumnRead, Outcome, Understood
 from gudokeyi.reconcile.owner_days import OwnerDays
@@ -198,9 +201,11 @@ def import_sheet_into(
     if last and book.society_records:
         next_book.compare(last.rows_of(book), frozenset() if are_renamed else last.same_rows(book))
     complete(next_book, read.columns, import_options)
+    tell_parents_named_otherwise(read.columns, next_book.animals, next_book.report)
     own = find_own_columns(book, read.columns, import_options.own)
     used = again(words, import_options) + [Option("--worksheet", read.sheet.as_before)] * bool(read.sheet.as_before)
-    understood = understood_of(path, read, used, titles_before(book), own)
+    lacks_own = tell_lost_own_columns(book, own, read.columns, next_book.report)
+    understood = understood_of(path, read, used, {} if lacks_own else titles_before(book), own)
     remember_columns(book, read.columns.titles_found())
     remember_worksheet(book, import_options.worksheet, read.sheet.worksheets)
 
@@ -228,4 +233,5 @@ def understood_of(
         tuple(remembered),
         dict(columns.titles_found()) == before,
         kept,
+        tuple(one.letters for one in columns.notes if isinstance(one, ColumnUntitled)),
     )

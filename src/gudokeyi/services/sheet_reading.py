@@ -21,7 +21,6 @@ from gudokeyi.domain.messages import MOST_NAMED
 from gudokeyi.ingest.animals import UNREAD_OF, SheetAnimal
 from gudokeyi.ingest.columns import Columns, find_columns
 from gudokeyi.ingest.files import GivenFile
-from gudokeyi.ingest.parents_beside import tell_parents_named_otherwise
 from gudokeyi.ingest.rows_as_meant import Notes, as_meant, marks_in, member_numbered
 from gudokeyi.ingest.sheet_animals import Rows
 from gudokeyi.ingest.sheets import Sheet, read_sheet
@@ -314,7 +313,6 @@ def read_animals(
     faults = [*sheet.faults, *formulas, *columns.faults, *rows.faults]
     if faults:
         raise ImportRefused(*faults)
-    tell_parents_named_otherwise(columns, animals, report)
     for finding in [*columns.notes, *rows.notes]:
         report.add(0, "", finding)
     if not animals:

@@ -32,16 +32,22 @@ class TooManyCells(RowLeftOut):
     )
 
 
+# stands between the cells of a row that are told as one text
+BETWEEN_CELLS = " | "
+
+
 @dataclass(frozen=True, slots=True)
 class NoId(RowLeftOut):
-    """The id is empty, or a word for an unknown animal."""
+    """The id is empty, or a word for an unknown animal; `text` is what the row says besides."""
 
     word: str
+    text: str = ""
 
     code = "no id"
-    message = Text("the row is left out: {maybe_empty}{maybe_word}")
+    message = Text("the row is left out: {maybe_empty}{maybe_says}{maybe_word}")
     parts = {
         "maybe_empty": OptionalPart("it has no id", when="is_empty"),
+        "maybe_says": OptionalPart("; it says '{text}'"),
         "maybe_word": OptionalPart("'{word}' is a word for an unknown animal: give it another id"),
     }
 
@@ -372,6 +378,14 @@ class ErrorValue(CellLeftOut):
 
     code = "error value"
     message = Text("its cell '{title}' is left out: '{text}' is an error of the spreadsheet, and no value")
+
+
+@dataclass(frozen=True, slots=True)
+class NarrowValue(ErrorValue):
+    """A cell whose column was too narrow for it."""
+
+    code = "narrow value"
+    message = Text("its cell '{title}' is left out: '{text}' stands for a value for which the column was too narrow")
 
 
 @dataclass(frozen=True, slots=True)

@@ -257,14 +257,15 @@ class IdsCountRows(SheetFinding):
 
 @dataclass(frozen=True, slots=True)
 class ParentsBeside(SheetFinding):
-    """Rows that have nothing in the column of a parent, and something in another with a title for that: how many, and
-    the first of them."""
+    """Rows that have nothing in the column of a parent, and something in another with a title for that: how many, the
+    first of them, and the lines of others."""
 
     title: str
     beside: str
     count: int
     line: int
     text: str
+    others: tuple[int, ...] = ()
 
     severity = Severity.PARENTS
     code = "parents beside"
@@ -272,6 +273,44 @@ class ParentsBeside(SheetFinding):
         "{count} row has nothing in '{title}', and '{text}' in '{beside}', which isn't read, in line {line}: this "
         "parent counts as unknown; write it into '{title}'",
         "{count} rows have nothing in '{title}', and a parent in '{beside}', which isn't read, the first '{text}' in "
-        "line {line}: these parents count as unknown; write them into '{title}'",
+        "line {line}{maybe_others}{maybe_more}: these parents count as unknown; write them into '{title}'",
         "count",
     )
+    parts = {
+        "maybe_others": OptionalPart(", the others in {in_others}"),
+        "maybe_more": OptionalPart(" and {more} more"),
+    }
+
+    def values(self) -> Mapping[str, object]:
+        more = self.count - 1 - len(self.others) if self.others else 0
+        return {"in_others": Joined(tuple(map(str, self.others))), "more": more or None}
+
+
+@dataclass(frozen=True, slots=True)
+class ColumnUntitled(SheetFinding):
+    """A column without a title, which isn't read, has texts: its letters, how many, and the first; and how many of them
+    tell that animals left."""
+
+    letters: str
+    count: int
+    line: int
+    text: str
+    exits: int
+
+    code = "column untitled"
+    message = Counted(
+        "the column {letters} has no title and isn't read, and it has {count} cell with text: '{text}' in line "
+        "{line}{maybe_exits}: if it belongs to the list, give it a title",
+        "the column {letters} has no title and isn't read, and it has {count} cells with text, the first is '{text}' "
+        "in line {line}{maybe_exits}: if they belong to the list, give it a title",
+        "count",
+    )
+    parts = {
+        "maybe_exits": OptionalPart(
+            "; {exits} of them tell that animals left, which count as living",
+            one="; {exits} of them tells that an animal left, which counts as living", value="exits",
+        ),
+    }
+
+    def values(self) -> Mapping[str, object]:
+        return {"exits": self.exits or None}

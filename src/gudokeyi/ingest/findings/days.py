@@ -4,8 +4,9 @@ from __future__ import annotations
 from collections.abc import Mapping
 from dataclasses import dataclass
 
+from gudokeyi.domain.findings import Severity
 from gudokeyi.domain.messages import Worded
-from gudokeyi.domain.wording import Counted, OptionalPart
+from gudokeyi.domain.wording import Counted, OptionalPart, Text
 from gudokeyi.ingest.findings.columns import SheetFinding
 
 
@@ -59,3 +60,26 @@ class DaysReadSo(SheetFinding):
 
     def values(self) -> Mapping[str, object]:
         return {"are_more": self.count > 1}
+
+
+@dataclass(frozen=True, slots=True)
+class DaysExchanged(SheetFinding):
+    """Days of a column that a spreadsheet seems to have read with the month first, since each is a twelfth at most and
+    those that it kept as texts aren't: how many, and the first of both."""
+
+    title: str
+    count: int
+    line: int
+    day: str
+    after: str
+    texts: int
+    text_line: int
+    text: str
+
+    severity = Severity.ANIMALS
+    code = "days exchanged"
+    message = Text(
+        "a spreadsheet seems to have exchanged day and month in '{title}': none of its {count} days is later in a "
+        "month than the 12th, and each of the {texts} that it kept as text is, such as {text} in line {text_line}. "
+        "{day} in line {line} may be {after}: write these days anew, where the spreadsheet has the day first"
+    )

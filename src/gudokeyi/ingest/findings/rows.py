@@ -12,6 +12,17 @@ from gudokeyi.domain.messages import AnyOf
 from gudokeyi.domain.wording import Counted, OptionalPart, Text
 from gudokeyi.ingest.findings.cells import RowLeftOut
 from gudokeyi.ingest.findings.columns import SheetFinding, column
+from gudokeyi.ingest.texts import listed, plain
+from gudokeyi.ingest.words import has_word
+
+
+# words by which a row tells something of the rows below
+OF_OTHERS = {
+    plain(word) for word in listed(
+        "sire, dam, father, mother, litter, whelped, foaled, lambed, owner, breeder, Vater, Mutter, Wurf, geworfen, "
+        "Besitzer, Besitzerin, Züchter, Züchterin, père, mère, portée, propriétaire, éleveur, élevage, naisseur"
+    )
+}  # fmt: skip
 
 # marks for the cell above that elsewhere stand for what isn't known
 SIGNS_ALONE = re.compile("/ ?/")
@@ -24,7 +35,18 @@ class NoteRow(RowLeftOut):
     text: str
 
     code = "note row"
-    message = Text("the row is left out: '{text}' reads like a heading or a note, and the row says nothing else")
+    message = Text(
+        "the row is left out: '{text}' reads like a heading or a note, and the row says nothing else{maybe_of_others}"
+    )
+    parts = {
+        "maybe_of_others": OptionalPart(
+            "; what it says of the rows below isn't read: write their days, parents and owners into their own cells",
+            when="is_of_others",
+        ),
+    }
+
+    def values(self) -> Mapping[str, object]:
+        return {"is_of_others": has_word(self.text, OF_OTHERS)}
 
     def suggestions(self) -> tuple[Suggestion, ...]:
         return (Suggestion("if it is an animal", (is_animal(self.text),)),)

@@ -235,6 +235,35 @@ class ErrorColumn(SheetFinding):
 
 
 @dataclass(frozen=True, slots=True)
+class NarrowCells(ErrorCells):
+    """Cells of a column that was too narrow for them when the spreadsheet saved it."""
+
+    code = "narrow cells"
+    message = Counted(
+        "{count} cell of {all_titles} is '{text}', in line {line}: the column was too narrow when the sheet was "
+        "saved; it counts as empty, and what the book has stays; widen the column, save the sheet again, and take that",
+        "{count} cells of {all_titles} are '{text}', the first in line {line}: the column was too narrow when the "
+        "sheet was saved; they count as empty, and what the book has stays; widen the column, save the sheet again, "
+        "and take that",
+        "count",
+    )
+
+    def values(self) -> Mapping[str, object]:
+        return {"all_titles": Quoted(self.titles), "text": self.texts[0]}
+
+
+@dataclass(frozen=True, slots=True)
+class NarrowColumn(ErrorColumn):
+    """A column that was too narrow for most of its cells."""
+
+    code = "narrow column"
+    message = Text(
+        "{count} of {filled} cells of the column '{title}' ({field}) are signs # alone, since the column was too "
+        "narrow when the sheet was saved: widen it, save the sheet again, and take that"
+    )
+
+
+@dataclass(frozen=True, slots=True)
 class UnseenDropped(SheetFinding):
     """Cells that have signs that no one sees, which are read without them."""
 

@@ -6,7 +6,7 @@ from collections.abc import Mapping
 from dataclasses import dataclass
 
 from gudokeyi.domain.changes import Option
-from gudokeyi.domain.findings import DROP_GONE, PlausibilityWarning, Severity, Suggestion
+from gudokeyi.domain.findings import PlausibilityWarning, Severity, Suggestion
 from gudokeyi.domain.messages import MOST_NAMED
 from gudokeyi.domain.wording import Counted, Joined, OptionalPart, Text
 
@@ -38,7 +38,7 @@ class MayBeUnknown(PlausibilityWarning):
         return {"has_both": bool(self.sire_of and self.dam_of)}
 
     def suggestions(self) -> tuple[Suggestion, ...]:
-        return (Suggestion("if it means an unknown parent", (Option("--unknown", self.word), DROP_GONE)),)
+        return (Suggestion("if it means an unknown parent", (Option("--unknown", self.word),)),)
 
 
 @dataclass(frozen=True, slots=True)

@@ -14,7 +14,7 @@ from gudokeyi.domain.options import IMPORT
 from gudokeyi.render.page_language import PageLanguage, name_of
 from gudokeyi.render.page_wording import MessageView, sentence_of
 from gudokeyi.services.imports import (
-    BirthsNearerThanUsual, BirthsTooNear, YoungParent, parts_of, read_given, read_sexes,
+    BirthsNearerThanUsual, BirthsTooNear, IdUsedAgain, YoungParent, parts_of, read_given, read_sexes,
 )  # fmt: skip
 from gudokeyi.web.files import Upload
 from gudokeyi.web.forms import BETWEEN
@@ -96,6 +96,8 @@ def proposed_for(entry: Entry, days: Days, words: PageLanguage) -> list[Proposed
         elif option.option in ROWS:
             what = LEAVE_OUT_LINE if option.option == "--no-animal" else TAKE_LINE
             found.append(Proposed(words.gettext(what, entry.line), one.options))
+        elif isinstance(entry.finding, IdUsedAgain):
+            found.append(Proposed(words.gettext("They are the same animals: take all such lines"), one.options))
         else:
             found.append(one)
     return found

@@ -1,0 +1,69 @@
+"""What is found of names, ids and days that say something besides, or stand for nothing: each kind as data, and in
+words."""
+from __future__ import annotations
+
+from collections.abc import Mapping
+from dataclasses import dataclass
+
+from gudokeyi.domain.findings import PlausibilityWarning, Severity
+from gudokeyi.domain.wording import AllOf, Counted, Joined, OptionalPart, Text
+from gudokeyi.ingest.findings.cells import OddId
+from gudokeyi.ingest.findings.columns import SheetFinding
+
+# so many lines of rows are told
+MOST_LINES = 9
+
+
+def lines_told(lines: tuple[int, ...], count: int) -> Mapping[str, object]:
+    """The first lines of so many rows, and how many more there are."""
+    return {"lines": Joined(tuple(map(str, lines))), "more": count - len(lines) or None}
+
+
+@dataclass(frozen=True, slots=True)
+class NameTellsOfExit(PlausibilityWarning):
+    """A name with a sign or a word by which animals leave, of one that counts as living."""
+
+    name: str
+
+    code = "name tells of exit"
+    message = Text(
+        "its name '{name}' seems to tell of an exit, and it counts as living: if it has left, write that into the "
+        "column for exits, and here the name alone"
+    )
+
+
+@dataclass(frozen=True, slots=True)
+class TwoIds(OddId):
+    """An id that has several within which are written as other ids of the sheet."""
+
+    ids: tuple[str, ...]
+
+    code = "two ids"
+    message = Text(
+        "is this row one animal? Its id has {each} in it. It is taken as one: give each animal a row of its own, and "
+        "write one id into its cell"
+    )
+
+    def values(self) -> Mapping[str, object]:
+        return {"each": AllOf(self.ids)}
+
+
+@dataclass(frozen=True, slots=True)
+class FirstDays(SheetFinding):
+    """Animals that count as living, and are born on the first day that spreadsheets have."""
+
+    count: int
+    lines: tuple[int, ...]
+
+    code = "first days"
+    message = Counted(
+        "{count} animal that counts as living has the birth day 1900-01-01, which stands for nothing in many lists, in "
+        "line {lines}: if the day isn't known, leave its cell empty",
+        "{count} animals that count as living have the birth day 1900-01-01, which stands for nothing in many lists, "
+        "in the lines {lines}{maybe_more}: if the days aren't known, leave their cells empty",
+        "count",
+    )
+    parts = {"maybe_more": OptionalPart(" and {more} more")}
+
+    def values(self) -> Mapping[str, object]:
+        return lines_told(self.lines, self.count)

@@ -1,0 +1,113 @@
+"""Names that tell of an exit, ids that are several, and birth days that stand for nothing."""
+from __future__ import annotations
+
+import collections
+import datetime
+import re
+from collections.abc import Collection, Iterable, Iterator, Mapping
+
+from gudokeyi.domain.findings import Report
+from gudokeyi.ingest.animals import SheetAnimal
+from gudokeyi.ingest.findings.columns import SheetFinding
+from gudokeyi.ingest.findings.odd_texts import MOST_LINES, FirstDays, NameTellsOfExit, TwoIds
+from gudokeyi.ingest.rows_as_meant import shape
+from gudokeyi.ingest.texts import listed
+
+# Names that tell of an exit.
+
+
+# words that are no names; those that are shortened, behind which a point stands; and those that may be a part of a name
+# but in small letters at its end, or in brackets
+SURE = listed(
+    "verkauft, geschlachtet, gestorben, verstorben, verendet, eingeschläfert, euthanasiert, exportiert, "
+    "notgeschlachtet, notgetötet, abgegangen, slaughtered, deceased, euthanised, euthanized, rehomed, vendu, vendue, "
+    "abattu, abattue, décédé, décédée, euthanasié, euthanasiée, exporté, exportée"
+)
+SHORT = listed("verk, gest, verst, verend, geschl, schl, abg, abgeg, euth, décéd")
+SMALL = listed("tot, weg, verk, gest, dead, died, sold, culled, exported, gone, mort, morte, dcd")
+SIGNS = ("†", "✝", "+")
+# a cross before a day or in brackets, or a plus alone at the end
+EXIT = re.compile(
+    rf"[†✝]|\+ ?(?=\d)|(?<= )\+$|\( ?\+|(?i:\b(?:{'|'.join(SURE)})\b)|(?i:\b(?:{'|'.join(SHORT)})\.(?!\w))|"
+    rf"(?i:[(\[] ?(?:{'|'.join(SMALL)})\b[^)\]]*[)\]])|(?<=[ ,;/–-])(?:{'|'.join(SMALL)})[.!]?(?: +[\d./-]+)?$"
+)
+
+
+def names_with_exits(names: Iterable[str]) -> set[str]:
+    """Those of many names that tell of an exit. Those alone are looked at that have one of the words within."""
+    in_small = {name: name.lower() for name in names}
+    together = "\n".join(in_small.values())
+    words = [word for word in (*SIGNS, *SURE, *SHORT, *SMALL) if word in together]
+    likely = {name for word in words for name, small in in_small.items() if word in small and stands_in(small, word)}
+    return {name for name in likely if EXIT.search(name)}
+
+
+def stands_in(text: str, word: str) -> bool:
+    """Does a word that a text has stand there whole?"""
+    return word in SIGNS or re.search(rf"\b{word}\b", text) is not None
+
+
+def tell_exits_in_names(animals: Mapping[str, SheetAnimal], names: Iterable[str], report: Report) -> None:
+    """Of animals that count as living."""
+    telling = names_with_exits(names)
+    for animal in animals.values() if telling else ():
+        if animal.name in telling and counts_as_living(animal):
+            report.add(animal.line, animal.id, NameTellsOfExit(animal.name))
+
+
+def counts_as_living(animal: SheetAnimal) -> bool:
+    return animal.left is None and not animal.exit_basis.day_is_unknown
+
+
+# Birth days that stand for nothing.
+
+FIRST_DAY = datetime.date(1900, 1, 1)
+
+
+def first_days(animals: Mapping[str, SheetAnimal], births: Collection[str]) -> list[SheetFinding]:
+    """What is told of animals that live and are born on the first day of a spreadsheet; `births` are all cells."""
+    if not any("1900" in text for text in births):
+        return []
+    born = (one for one in animals.values() if one.birth.first == FIRST_DAY and one.has_day())
+    lines = [animal.line for animal in born if counts_as_living(animal)]
+    return [FirstDays(len(lines), tuple(lines[:MOST_LINES]))] if lines else []
+
+
+# Ids that are several.
+
+# an id in which others stand is so much longer than most, and so many ids show how they are written
+LONGER, SOME = 1.6, 200
+BETWEEN = re.compile(
+    r"\s*[;,|&+\n()\[\]]\s*|\s+[/–-]\s+|\s+(?:und|u\.|and|et|bzw\.?|oder|or|ou)\s+|"
+    r"\s*\b(?:alt|neu|ex|früher|vorher|ehem|old|new|formerly|ancien|ancienne|anc)\b[:. ]*",
+    re.IGNORECASE,
+)
+SLASH = re.compile(r"\s*/\s*")
+
+
+def several_ids(ids: Collection[str]) -> dict[str, tuple[str, ...]]:
+    """The ids that have several within, which are written as others are."""
+    lengths = collections.Counter(map(len, ids))
+    usual = max(lengths, key=lambda length: lengths[length], default=0)
+    if len(ids) < 2 or max(lengths) < LONGER * usual:
+        return {}
+    long = [id for id in ids if len(id) >= LONGER * usual]
+    others = (id for id in ids if len(id) < LONGER * usual)
+    shapes = {shape(id) for id, _ in zip(others, range(SOME))}
+    found = {id: next((its for its in parts_of(id, shapes) if len(its) > 1), ()) for id in long}
+    return {id: its for id, its in found.items() if its}
+
+
+def parts_of(id: str, shapes: Collection[str]) -> Iterator[tuple[str, ...]]:
+    """Its parts that are written as other ids are: between signs and words, and also between slashes."""
+    parts = BETWEEN.split(id)
+    for those in parts, [one for part in parts for one in SLASH.split(part)]:
+        yield tuple(dict.fromkeys(one for one in those if any(map(str.isdigit, one)) and shape(one) in shapes))
+
+
+def tell_several_ids(animals: Mapping[str, SheetAnimal], known: Collection[str], report: Report) -> set[str]:
+    """Answers the ids of those that are told; the book hasn't these."""
+    found = {id: its for id, its in several_ids(animals.keys()).items() if id not in known}
+    for id, its in found.items():
+        report.add(animals[id].line, id, TwoIds(its))
+    return {*found}

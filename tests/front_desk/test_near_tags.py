@@ -1,0 +1,95 @@
+"""Parents whose cell has their tag in another form, and those who have a title or letters beside their name: which
+animal may be meant is told in the sentence by which they are added."""
+from __future__ import annotations
+
+import pytest
+
+from front_desk.desk import Desk
+
+TITLES = "id;name;sex;birth;sire;dam\n"
+FLOCK = (
+    "DE 01 07 00400093;Rosl;f;2019-03-24;;\nDE 01 07 00400094;Moritz;m;2019-03-02;;\n"
+    "DE 01 07 00400195;Ida;f;2019-03-02;;\n"
+)  # fmt: skip
+ADDED = "has no row: added without parents"
+
+
+@pytest.mark.parametrize(
+    "dam",
+    ["276 01 07 00400093", "2760107 00400093", "00093", "0093", "DE 01 07 400093", "01 07 00400093", "010700400093"],
+)
+def test_tag_in_another_form(desk: Desk, dam: str) -> None:
+    """With the number of the country, without it, without zeros, or by the last digits."""
+    desk.take(f"{TITLES}{FLOCK}DE 01 07 00400096;Kitz;f;2022-03-24;DE 01 07 00400094;{dam}\n").shows(
+        f"line 5: {dam}: added: the dam of DE 01 07 00400096 {ADDED} (is DE 01 07 00400093 meant?)"
+    )
+
+
+@pytest.mark.parametrize(
+    "dam",
+    # of another country, of another animal, too short, the end of two, one that is no female, and one with more digits
+    ["AT 01 07 00400093", "DE 01 07 93000400", "093", "00400", "00094", "DE 01 07 004000931", "250 01 07 00400093"],
+)
+def test_another_tag(desk: Desk, dam: str) -> None:
+    done = desk.take(f"{TITLES}{FLOCK}DE 01 07 00400096;Kitz;f;2022-03-24;DE 01 07 00400094;{dam}\n")
+    assert ADDED in done.told and "meant?" not in done.told
+
+
+@pytest.mark.parametrize(
+    "id, sire",
+    [
+        ("276010700400001", "DE 01 07 00400001"), ("DE 01 07 00400001 alt: DE 01 07 00400091", "DE 01 07 00400091"),
+        ("DE 01 07 00400001 (ex DE 01 07 00400091)", "DE 01 07 00400001"),
+        ("DE 01 07 00400001", "D\u0415 01 07 00400001"), ("10184684K", "10184684\u041a"),
+    ],
+)  # fmt: skip
+def test_row_with_an_odd_tag(desk: Desk, id: str, sire: str) -> None:
+    """What the row has may be in another form, may be two tags, or have letters of another alphabet."""
+    done = desk.take(f"{TITLES}{id};Egon;m;2015-03-02;;\n{FLOCK}DE 01 07 00400096;Kitz;f;2022-03-24;{sire};\n")
+    done.tells(f"line 6: {sire}: added: the sire of DE 01 07 00400096 {ADDED} (is {id} meant?)")
+
+
+def test_number_in_another_column(desk: Desk) -> None:
+    """One that stands in the row of one animal alone; of two nobody knows which is meant."""
+    rows = "a1;Ida;f;2015-03-02;;;250001\na2;Ute;f;2015-03-02;;;250002\na3;Eva;f;2015-03-02;;;250002\n"
+    rows += "b1;;f;2020-01-01;;250001;\nb2;;f;2020-01-01;;250002;\n"
+    done = desk.take(f"id;name;sex;birth;sire;dam;UELN\n{rows}", "--columns", "id=id")
+    done.tells(f"line 5: 250001: added: the dam of b1 {ADDED} (is a1 meant?)")
+    done.tells(f"line 6: 250002: added: the dam of b2 {ADDED}")
+
+
+DOGS = (
+    "A101;Ch Foxhollow Plover JW;m;2012-05-13;;\nA102;Multi Ch Bar JW;f;2012-05-13;;\n"
+    "A106;Foo (Imp Nor);m;2012-05-13;;\n"
+)  # fmt: skip
+
+
+@pytest.mark.parametrize(
+    "sire, meant",
+    [("Foxhollow Plover", "A101"), ("Int. & Ir Ch Foxhollow Plover", "A101"), ("Foo (Imp)", "A106"),
+     ("Plover JW", "A101"), ("Foo Two", ""), ("Ch Fox", "")],
+)  # fmt: skip
+def test_titles_and_letters(desk: Desk, sire: str, meant: str) -> None:
+    """Also where many parents lack a row, whose names nobody compares."""
+    others = "".join(f"B{at};;m;2014-01-01;Founder {at}X;\n" for at in range(60))
+    for more in ("", others) if sire != "Plover JW" else ("",):
+        rows, book = f"{DOGS}{more}A103;Baz;m;2016-05-14;{sire};\n", f"book {len(more)}"
+        done = desk.take(TITLES + rows, "--anyway", "--book", book)
+        line = 5 + more.count("\n")
+        done.tells(f"line {line}: {sire}: added: the sire of A103 {ADDED}{f' (is {meant} meant?)' if meant else ''}")
+
+
+def test_name_of_several_offspring(desk: Desk) -> None:
+    """Who may be meant is told each year, and an unknown parent isn't suggested beside it."""
+    rows = f"{DOGS}A103;Baz;m;2016-05-14;Foxhollow Plover;\nA104;Qux;m;2016-05-14;Foxhollow Plover;\n"
+    for more in "", "A105;Quy;m;2018-05-14;;\n":
+        done = desk.take(TITLES + rows + more)
+        done.shows("to look at: Foxhollow Plover has no row, and is the sire of 2: is A101 meant? If so, write that id")
+        assert "--unknown" not in done.out
+
+
+@pytest.mark.parametrize("name, dam", [("Œillette des Prés", "Oeillette des Prés"), ("L’Étoile", "L'ETOILE")])
+def test_letters_that_stand_for_others(desk: Desk, name: str, dam: str) -> None:
+    """A name is the same without the letter that is two, and with another apostrophe."""
+    desk.take(f"{TITLES}a;{name};f;2011-06-05;;\nb;Jockey;m;2019-06-27;;{dam}\n")
+    assert desk.parents()["b"] == ("", "a")

@@ -1,0 +1,111 @@
+"""Names, ids, days and columns that say something besides, or nothing: what they may mean is told."""
+from __future__ import annotations
+
+import pytest
+
+from front_desk.desk import Desk
+
+TITLES = "id;name;sex;birth;sire;dam;owner;exit\n"
+TELLS = "seems to tell of an exit, and it counts as living"
+
+
+@pytest.mark.parametrize(
+    "name",
+    ["Susi †", "Viola † 12.3.2022", "Hans +", "Berta (tot)", "Olga verk.", "Rex sold", "Ida (verkauft 2022)",
+     "Uwe - tot", "Mia +2022", "Ute geschl. 5/22", "Zora Verkauft", "Belle (vendue)"],
+)  # fmt: skip
+def test_exit_in_a_name(desk: Desk, name: str) -> None:
+    """It is told of an animal that counts as living, and not of one that has an exit."""
+    rows = f"a1;{name};f;2019-03-24;;;X;{{}}\na2;Eva;f;2019-03-02;;;X;\n"
+    desk.take(TITLES + rows.format("")).shows(
+        f"line 2: a1: to look at: its name '{name}' {TELLS}: if it has left, write that into the column for exits, and "
+        "here the name alone"
+    )
+    for exit in "2022-03-12", "verkauft":
+        assert "its name" not in desk.take(TITLES + rows.format(exit), "--book", f"of {exit}").told
+
+
+@pytest.mark.parametrize(
+    "name", ["Walking Dead", "Gone With The Wind", "Lotte", "Mort", "Totila", "Sold Out", "Gestüt Max", "C+A", "Verka"]
+)
+def test_name_alone(desk: Desk, name: str) -> None:
+    assert "its name" not in desk.take(f"{TITLES}a1;{name};f;2019-03-24;;;X;\na2;Eva;f;2019-03-02;;;X;\n").told
+
+
+@pytest.mark.parametrize(
+    "id, parts",
+    [
+        ("DE 01 07 00400002 / DE 01 07 00400003", "DE 01 07 00400002 and DE 01 07 00400003"),
+        ("DE 01 07 00400002 alt: DE 01 07 00400091", "DE 01 07 00400002 and DE 01 07 00400091"),
+        ("DE 01 07 00400002/DE 01 07 00400003", "DE 01 07 00400002 and DE 01 07 00400003"),
+        ("DE 01 07 00400002 (ex DE 01 07 00400091)", "DE 01 07 00400002 and DE 01 07 00400091"),
+    ],
+)
+def test_two_ids_in_a_cell(desk: Desk, id: str, parts: str) -> None:
+    """Also in a sheet of few rows; in a longer one it is told so and not as one that is written unlike others."""
+    told = f"{id}: to look at: is this row one animal? Its id has {parts} in it. It is taken as one: give each animal "
+    rows = f"DE 01 07 00400001;Rosl;f;2015-03-02;;;X;\n{id};Max;m;2021-03-02;;;X;\n"
+    rows += "DE 01 07 00400004;Ute;f;2015-03-02;;;X;\n"
+    done = desk.take(TITLES + rows)
+    done.shows(f"line 3: {told}a row of its own, and write one id into its cell")
+    more = "".join(f"DE 01 07 004001{at:02};A;f;2015-03-02;;;X;\n" for at in range(40))
+    done = desk.take(TITLES + rows + more, "--book", "long")
+    assert told in done.out and "unlike nearly all others" not in done.out
+
+
+def test_one_id_in_a_cell(desk: Desk) -> None:
+    """A longer id isn't two."""
+    rows = "".join(f"{id};A;f;2015-03-02;;;X;\n" for id in ("1", "2", "2019-3", "DE 4567 long", "Rex / Max"))
+    assert "is this row one animal" not in desk.take(TITLES + rows).told
+
+
+def test_first_day_of_a_spreadsheet(desk: Desk) -> None:
+    """It is told of those that count as living."""
+    rows = "a;A;f;1900-01-01;;;X;\nb;B;f;01.01.1900;;;X;\nc;C;f;1900-01-01;;;X;1911-01-01\nd;D;f;1900-01-02;;;X;\n"
+    desk.take(TITLES + rows).shows(
+        "to look at: 2 animals that count as living have the birth day 1900-01-01, which stands for nothing in many "
+        "lists, in the lines 2, 3: if the days aren't known, leave their cells empty"
+    )
+    assert "1900-01-01, which" not in desk.take(f"{TITLES}a;A;f;1900-01-02;;;X;\n", "--book", "other").out
+
+
+EXCHANGED = ["2020-05-03", "17/03/2020", "2020-04-02", "28/04/2020", "2020-07-03"]
+
+
+def days(*births: str) -> str:
+    return TITLES + "".join(f"a{at};A;f;{birth};;;X;\n" for at, birth in enumerate(births))
+
+
+def test_exchanged_days(desk: Desk) -> None:
+    """A spreadsheet that was set to English keeps as texts what it can't read with the month first."""
+    desk.take(days(*EXCHANGED)).shows(
+        "to look at: a spreadsheet seems to have exchanged day and month in 'birth': none of its 3 days is later in a "
+        "month than the 12th, and each of the 2 that it kept as text is, such as 17/03/2020 in line 3. 2020-05-03 in "
+        "line 2 may be 2020-03-05: write these days anew, where the spreadsheet has the day first"
+    )
+
+
+@pytest.mark.parametrize("birth", ["2020-05-13", "07/03/2020"])
+def test_days_as_they_are(desk: Desk, birth: str) -> None:
+    """A day that is later in a month, or a text that isn't, shows that none is exchanged."""
+    assert "exchanged" not in desk.take(days(*EXCHANGED, birth)).told
+
+
+def test_column_without_a_title(desk: Desk) -> None:
+    """Its texts aren't read, which is told; row numbers aren't missed."""
+    titles = TITLES.replace("\n", ";\n")
+    rows = "a1;A;f;2019-03-24;;;X;;tot 3.4.2022\na2;B;f;2019-03-02;;;X;;\na3;C;f;2021-03-02;;;X;;verk. an Weber 5/22\n"
+    done = desk.take(titles + rows)
+    assert "; not read: column I (without a title)\n" in done.out
+    done.shows(
+        "to look at: the column I has no title and isn't read, and it has 2 cells with text, the first is 'tot "
+        "3.4.2022' in line 2; 2 of them tell that animals left, which count as living: if they belong to the list, "
+        "give it a title"
+    )
+    one = "a1;A;f;2019-03-24;;;X;;\na2;B;f;2019-03-02;;;X;;sie bockt\n"
+    desk.take(titles + one, "--book", "one").shows(
+        "to look at: the column I has no title and isn't read, and it has 1 cell with text: 'sie bockt' in line 3: if "
+        "it belongs to the list, give it a title"
+    )
+    numbered = f";{TITLES}1;a1;A;f;2019;;;X;\n2;a2;A;f;2019;;;X;\n3;a3;A;f;2019;;;X;\n"
+    assert "has no title" not in desk.take(numbered, "--book", "numbered").told

@@ -1,0 +1,57 @@
+"""The look at a sheet whose names, ids, days and rows say something besides: it says what a terminal does, in three
+languages."""
+from __future__ import annotations
+
+import pathlib
+
+import pytest
+
+from front_desk.desk import Desk
+from web.looks import Says, buttons_of, look_at, part, press
+from web.site import Site, shown
+from gudokeyi.domain.settings import LANGUAGES
+
+TITLES = "Ohrmarke;Name;geb;Vater;Mutter;Besitzer;\n"
+LIST = TITLES + (
+    "Böcke;;;;;;\nDE 0001;Max †;2014-05-03;;;Huber Hans;tot 2020\nDE 0002;Sepp;17/03/2014;;;Huber Hans;\n"
+    "DE 0003 / DE 0004;Uwe und Udo;2014-04-02;;;Huber Hans;\nZiegen;;;;;;\nDE 0005;Eva;28/04/2014;;;Huber Hans;\n"
+    "Pending;Ida;2016-07-03;;DE 0003;Huber Hans;\n;Hof Süd;;;;;\nDE 0006;Ute;01.01.1900;;;Huber Hans;\n"
+)
+SAID = (
+    "its name 'Max †' seems to tell of an exit", "Its id has DE 0003 and DE 0004 in it", "the column G has no title",
+    "seems to have exchanged day and month in 'geb'", "'Pending' reads like no id",
+    "has the birth day 1900-01-01", "'Böcke' stands above 3 animals whose rows say no sex",
+    "(is DE 0003 / DE 0004 meant?)",
+)  # fmt: skip
+
+
+def test_what_is_said(empty_site: Site, program: str, tmp_path: pathlib.Path) -> None:
+    """The sentences are those of a terminal."""
+    _, page = look_at(empty_site, LIST)
+    first, left_out = shown(part(page, "May be wrong")), shown(part(page, "Left out"))
+    assert not [one for one in SAID if one not in first]
+    assert "it has no id; it says 'Hof Süd'" in left_out
+    told = Desk(tmp_path / "terminal", program).take(LIST, "--preview").out
+    assert not [one for one in SAID if one not in told] and "it has no id; it says 'Hof Süd'" in told
+
+
+@pytest.mark.parametrize("language", LANGUAGES[1:])
+def test_in_other_languages(empty_site: Site, language: str) -> None:
+    """No sentence of it stands in English."""
+    empty_site.get(f"/language/{language}")
+    _, page = look_at(empty_site, LIST)
+    told = shown(part(page, "May be wrong", language)) + shown(part(page, "Left out", language))
+    assert "Pending" in told and not [one for one in (" the ", "column", " and ", "row ", " is ") if one in told]
+
+
+@pytest.mark.parametrize("language", LANGUAGES)
+def test_tag_used_again(empty_site: Site, language: str) -> None:
+    """What a button says is what it does: the row is taken for the same animal."""
+    site, says = empty_site, Says(language)
+    address, _ = look_at(site, "id;name;sex;birth;sire;dam\nd1;Susi;f;2019-04-28;;\nd2;Lina;f;2021-03-16;;d1\n")
+    site.take(address)
+    site.get(f"/language/{language}")
+    address, page = look_at(site, "id;name;sex;birth;sire;dam\nd1;Josefa;f;2023-02-13;;\nd2;Lina;f;2021-03-16;;d1\n")
+    label = says("They are the same animals: take all such lines")
+    assert label in buttons_of(page)
+    press(site, address, page, label)
