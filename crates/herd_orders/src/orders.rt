@@ -268,6 +268,6 @@ fn shared_coefficients<H: Threads + Wait + Sync>(
     if plan.workers == 1 {
         Ok(coefficients_plain(alloc, frozen)?)
     } else {
-        herd_advice::coefficients_by_sires(rt, alloc, frozen, plan.workers, plan.block)
+        herd_book_pool::coefficients_by_sires(rt, alloc, frozen, plan.workers, plan.block)
     }
 }

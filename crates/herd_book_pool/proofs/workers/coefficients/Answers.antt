@@ -5,7 +5,7 @@ use Rattle.herd_lineage.specs.declared.lineage.Parents.{Parents}
 use Rattle.herd_lineage.specs.declared.TheConstants.{DEPTH_LIMIT, MOST_ANIMALS}
 use Rattle.herd_pool.specs.Levels.{HasLongLevel}
 use Rattle.herd_advice.proofs.lemmas.FrozenFacts.{coefficients-book}
-use Rattle.herd_advice.proofs.workers.coefficients.Goals as goal
+use Rattle.herd_book_pool.proofs.workers.coefficients.Goals as goal
 
 pub returns-clause-list : goal.returns-clause-list
 returns-clause-list g c =
