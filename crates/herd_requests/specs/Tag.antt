@@ -1,7 +1,7 @@
 -- The tag by which a caller knows the answer to a request.
 use Rattle.std.specs.Prelude.{◌≢◌, ◌⊎◌, ◌≡◌, ◌<◌, ◌≤◌, ℕ, List, length, codes, All, IsTrue}
 use Rattle.std.specs.Char.{is_ascii_alphanumeric}
-use Rattle.herd_session.specs.declared.tag.TheConstants.{LONGEST_TAG}
+use Rattle.herd_requests.specs.declared.tag.TheConstants.{LONGEST_TAG}
 
 -- a letter, a digit or a hyphen
 abbrev pub IsTagCharacter : ℕ → Type 0

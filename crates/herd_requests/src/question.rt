@@ -3,8 +3,8 @@ ghost use Rattle.std.specs.Prelude.{◌≡◌, ◌≢◌, ◌<◌, ◌≤◌, If
 ghost use Rattle.herd_animal.specs.AnimalNumber.{IsAnimalNumber};
 ghost use Rattle.csv.specs.Records.{fields_of};
 ghost use Rattle.csv_records.specs.Fields.{field};
-ghost use Rattle.herd_session.specs.Questions.{CanBeUnread, IsAskedIn, IsNumberFault, word_in};
-ghost use Rattle.herd_session.specs.declared.word.Word.TheVariants as word;
+ghost use Rattle.herd_requests.specs.Questions.{CanBeUnread, IsAskedIn, IsNumberFault, word_in};
+ghost use Rattle.herd_requests.specs.declared.word.Word.TheVariants as word;
 
 use crate::fault::Fault;
 use crate::word::Word;

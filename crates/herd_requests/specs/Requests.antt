@@ -5,11 +5,11 @@ use Rattle.herd_register.specs.declared.command.Command.{Command}
 use Rattle.csv_records.specs.Fields.{Fields, field}
 use Rattle.herd_command_file.specs.Grammar.{command_behind}
 use Rattle.herd_command_file.specs.declared.line_fault.LineCause.{LineCause}
-use Rattle.herd_session.specs.Questions.{CanBeUnread, IsAskedIn}
-use Rattle.herd_session.specs.Tag.{IsTag}
-use Rattle.herd_session.specs.declared.fault.Fault.{Fault as WhyNot}
-use Rattle.herd_session.specs.declared.fault.Fault.TheVariants as fault
-use Rattle.herd_session.specs.declared.question.Question.{Question}
+use Rattle.herd_requests.specs.Questions.{CanBeUnread, IsAskedIn}
+use Rattle.herd_requests.specs.Tag.{IsTag}
+use Rattle.herd_requests.specs.declared.fault.Fault.{Fault as WhyNot}
+use Rattle.herd_requests.specs.declared.fault.Fault.TheVariants as fault
+use Rattle.herd_requests.specs.declared.question.Question.{Question}
 
 -- the records of an input, where its bytes are known
 abbrev pub records_in : Option (List ℕ) → Option (List Fields)

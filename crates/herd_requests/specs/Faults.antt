@@ -5,8 +5,8 @@ use Rattle.herd_office.specs.declared.faults.FreezeFault.TheVariants as freezing
 use Rattle.herd_register.specs.declared.file_fault.FileFault.{FileFault}
 use Rattle.herd_register.specs.declared.file_fault.FileFault.TheVariants as filing
 use Rattle.herd_command_file.specs.LineCause.{cause_name}
-use Rattle.herd_session.specs.declared.fault.Fault.{Fault as WhyNot}
-use Rattle.herd_session.specs.declared.fault.Fault.TheVariants.{Tag, Addressee, NoDesk, NoInspector, Fields, Question, NotRegistered, TooLong, JournalFull, Memory, NoReading}
+use Rattle.herd_requests.specs.declared.fault.Fault.{Fault as WhyNot}
+use Rattle.herd_requests.specs.declared.fault.Fault.TheVariants.{Tag, Addressee, NoDesk, NoInspector, Fields, Question, NotRegistered, TooLong, JournalFull, Memory, NoReading}
 
 -- the name that is printed
 abbrev pub fault_name : WhyNot → List ℕ

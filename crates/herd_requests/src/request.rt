@@ -1,8 +1,8 @@
 //! What a record asks for, and of whom.
 ghost use Rattle.std.specs.Prelude.{◌≡◌, IfNone, IfSome};
 ghost use Rattle.csv.specs.Records.{fields_of};
-ghost use Rattle.herd_session.specs.Addressees.{IsRequestIn};
-ghost use Rattle.herd_session.specs.Requests.{IsNoNumber, IsNumberOf, command_in};
+ghost use Rattle.herd_requests.specs.Addressees.{IsRequestIn};
+ghost use Rattle.herd_requests.specs.Requests.{IsNoNumber, IsNumberOf, command_in};
 
 use crate::fault::Fault;
 use crate::question::{Question, question_in};

@@ -2,8 +2,8 @@
 use Rattle.std.proofs.Common.{◌≡◌, ◌∙◌, ◌+◌, ◌<◌, ◌++◌, ◌∷◌, [], List, ℕ, suc, ap, append_assoc, arith, drop, length, rules, sym}
 use Rattle.csv.specs.Records.{fields_of}
 use Rattle.csv_records.specs.Fields.{field}
-use Rattle.herd_session.proofs.FieldFacts.{drop_field}
-use Rattle.herd_session.proofs.question.numbers_from.Goals as goal
+use Rattle.herd_requests.proofs.FieldFacts.{drop_field}
+use Rattle.herd_requests.proofs.question.numbers_from.Goals as goal
 
 pub loop-at-preserved : goal.loop-at-preserved
 loop-at-preserved c =

@@ -1,6 +1,6 @@
 //! The tag by which a caller knows the answer to a request.
 ghost use Rattle.std.specs.Prelude.{◌≡◌, ◌↔◌, IfSome, IsSome, IsTrue};
-ghost use Rattle.herd_session.specs.Tag.{IsTag};
+ghost use Rattle.herd_requests.specs.Tag.{IsTag};
 
 use std::marker::Model;
 
@@ -16,7 +16,7 @@ pub struct Tag {
 
 impl Model for Tag {
     ghost use Rattle.std.specs.Prelude.{◌≤◌, List, take, ℕ};
-    ghost use Rattle.herd_session.specs.declared.tag.TheConstants.{LONGEST_TAG};
+    ghost use Rattle.herd_requests.specs.declared.tag.TheConstants.{LONGEST_TAG};
 
     ghost Value = { List ℕ };
 
@@ -43,7 +43,7 @@ impl Tag {
     }
 
     /// The same tag once more.
-    pub(crate) fn again(&self) -> Tag
+    pub fn again(&self) -> Tag
         ensures { result ≡ self.now }
     {
         Tag {

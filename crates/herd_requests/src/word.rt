@@ -18,7 +18,7 @@ pub(crate) enum Word {
 
 impl Word {
     ghost use Rattle.std.specs.Prelude.{◌≡◌};
-    ghost use Rattle.herd_session.specs.Questions.{word_of};
+    ghost use Rattle.herd_requests.specs.Questions.{word_of};
 
     /// The kind that a text names.
     pub(crate) fn parse(text: &[u8]) -> Option<Word>

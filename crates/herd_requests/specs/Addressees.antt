@@ -1,13 +1,13 @@
 -- The request in a record, by whom it is for.
 use Rattle.std.specs.Prelude.{◌≡◌, ◌≢◌, ℕ, codes, IfErr, IfOk, Some, None}
 use Rattle.csv_records.specs.Fields.{Fields, field}
-use Rattle.herd_session.specs.Questions.{CanBeUnread, IsAskedIn}
-use Rattle.herd_session.specs.Requests.{IsNoNumber, IsNumberOf, command_in}
-use Rattle.herd_session.specs.Tag.{IsTag}
-use Rattle.herd_session.specs.declared.fault.Fault.{Fault as WhyNot}
-use Rattle.herd_session.specs.declared.fault.Fault.TheVariants as fault
-use Rattle.herd_session.specs.declared.request.Request.{Request}
-use Rattle.herd_session.specs.declared.request.Request.TheVariants.{Desk, Inspector, Nobody}
+use Rattle.herd_requests.specs.Questions.{CanBeUnread, IsAskedIn}
+use Rattle.herd_requests.specs.Requests.{IsNoNumber, IsNumberOf, command_in}
+use Rattle.herd_requests.specs.Tag.{IsTag}
+use Rattle.herd_requests.specs.declared.fault.Fault.{Fault as WhyNot}
+use Rattle.herd_requests.specs.declared.fault.Fault.TheVariants as fault
+use Rattle.herd_requests.specs.declared.request.Request.{Request}
+use Rattle.herd_requests.specs.declared.request.Request.TheVariants.{Desk, Inspector, Nobody}
 
 -- why a record with a tag is for nobody
 abbrev pub IsForNobody : ℕ → ℕ → Fields → WhyNot → Type 0

@@ -1,7 +1,7 @@
 //! Why a request isn't answered.
 ghost use Rattle.std.specs.Prelude.{◌≡◌};
-ghost use Rattle.herd_session.specs.Faults.{fault_name, fault_of_filing, fault_of_freezing};
-ghost use Rattle.herd_session.specs.declared.fault.Fault.TheVariants.{Fields, Memory};
+ghost use Rattle.herd_requests.specs.Faults.{fault_name, fault_of_filing, fault_of_freezing};
+ghost use Rattle.herd_requests.specs.declared.fault.Fault.TheVariants.{Fields, Memory};
 
 use herd_command_file::LineCause;
 use herd_office::FreezeFault;
