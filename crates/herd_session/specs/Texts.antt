@@ -15,7 +15,7 @@ use Rattle.herd_report.specs.writing.MatingList.{mating_text}
 use Rattle.herd_report.specs.writing.RecordList.{records_text}
 use Rattle.herd_report.specs.writing.Registered.{are_there}
 use Rattle.herd_report.specs.writing.RelationshipList.{relationships_text}
-use Rattle.herd_report.specs.writing.SealedCertificate.{sealed_text}
+use Rattle.herd_sealed_report.specs.SealedCertificate.{sealed_text}
 use Rattle.herd_text.specs.Text.{AppendsFront}
 use Rattle.herd_report.specs.declared.writing.named_animals_fault.NamedAnimalsFault.{NamedAnimalsFault}
 use Rattle.herd_report.specs.declared.writing.named_animals_fault.NamedAnimalsFault.TheVariants as ending

@@ -17,9 +17,10 @@ use herd_frozen::Frozen;
 use herd_office::{Inspector, OfficeName, Slip};
 use herd_report::{
     NamedAnimalsFault, ReportFault, write_certificates, write_coefficient, write_inbreeding,
-    write_inverse, write_mating, write_records, write_relationships, write_seal, write_sealed,
+    write_inverse, write_mating, write_records, write_relationships,
 };
 use herd_requests::{Fault, Question};
+use herd_sealed_report::{write_seal, write_sealed};
 use std::alloc::Global;
 use std::io::Write;
 

@@ -1,12 +1,13 @@
+//! The certificate of one animal under the seal of its book.
 ghost use Rattle.std.specs.Prelude.{◌≡◌, false, IfErr, OnOk};
 ghost use Rattle.herd_frozen.specs.rules.Book.{is_there};
 ghost use Rattle.herd_frozen.specs.freezing.Frozen.{book_of};
-ghost use Rattle.herd_report.specs.writing.SealedCertificate.{EndsSealed, IsSealedTold};
+ghost use Rattle.herd_sealed_report.specs.SealedCertificate.{EndsSealed, IsSealedTold};
 
-use crate::writing::named_animals_fault::NamedAnimalsFault;
 use herd_animal::AnimalNumber;
 use herd_certificate::write_sealed_at;
 use herd_frozen::Frozen;
+use herd_report::NamedAnimalsFault;
 use std::alloc::Allocator;
 use std::io::Write;
 

@@ -9,7 +9,7 @@ use Rattle.herd_frozen.specs.declared.freezing.frozen.Row.{Row}
 use Rattle.herd_frozen.specs.declared.TheConstants.{DEPTH_LIMIT, MOST_ANIMALS}
 use Rattle.herd_frozen.specs.freezing.Frozen.{IsFrozen, numbers_of}
 use Rattle.herd_advice.proofs.lemmas.FrozenFacts.{length-numbers_of, same_rank}
-use Rattle.herd_report.specs.writing.SealedCertificate.{place_of}
+use Rattle.herd_sealed_report.specs.SealedCertificate.{place_of}
 
 -- a text that stands once stands at its position
 position_is : (numbers : List (List ℕ)) (number : List ℕ) (rank : ℕ) → slice_get numbers rank ≡ Some number

@@ -1,8 +1,8 @@
 -- The certificate at the rank of a number is that of the number.
 use Rattle.herd_text.proofs.lemmas.Exits.{if_err}
 use Rattle.herd_report.proofs.lemmas.writing.CertificateFacts.{number_is_there}
-use Rattle.herd_report.proofs.lemmas.writing.SealedFacts.{place_is}
-use Rattle.herd_report.proofs.writing.sealed_certificate.write_sealed.Goals as goal
+use Rattle.herd_sealed_report.proofs.SealedFacts.{place_is}
+use Rattle.herd_sealed_report.proofs.sealed_certificate.write_sealed.Goals as goal
 
 pub returns-in_err-write_sealed_at-clause-err : goal.returns-in_err-write_sealed_at-clause-err
 returns-in_err-write_sealed_at-clause-err g c =
