@@ -42,7 +42,7 @@ class Crates:
 
     @functools.cached_property
     def chains(self) -> dict[str, int]:
-        """The longest chain of each and of others that wait for it, by the bytes of their sources."""
+        """The longest chain of each and of others that wait for it, by their number and the bytes of their sources."""
         chains: dict[str, int] = {}
         for name in reversed(self.upwards):
             length = BYTES_OF_CRATE + sum(it.stat().st_size for it in sources(folder(name)) if it.suffix == ".rt")

@@ -1,6 +1,6 @@
 //! What a frozen book's owner is told of its animals: coefficients of inbreeding, relationships, advice on matings, and
-//! contributions to A's inverse. Each call asks `herd_kinship` of the book's lineage; here its answer is that of the
-//! book, whose animals are named by their numbers.
+//! contributions to A's inverse. Each call asks `herd_kinship` or `herd_pruned` of the book's lineage; here its answer
+//! is that of the book, whose animals are named by their numbers.
 //!
 //! | | definition (`specs/`) | code (`src/`) | proof (`proofs/lemmas/`) |
 //! |---|---|---|---|

@@ -25,7 +25,7 @@ pub enum Fault {
     Question,
     /// An animal of a certificate, a coefficient or a record isn't in the book.
     NotRegistered,
-    /// The report has more than `LONGEST_REPORT` bytes, without tags.
+    /// The report has more bytes, without tags, than a session gives (`LONGEST_REPORT` of `herd_session`).
     TooLong,
     /// The journal has as many steps as the limits allow.
     JournalFull,
