@@ -11,6 +11,8 @@ from building.telling import Stop
 
 # Where rt keeps the library that a crate is proved as.
 RLIB = pathlib.Path("out", "rlib")
+# Each crate takes by itself, to read libraries, what so many bytes of sources take.
+BYTES_OF_CRATE = 40_000
 TOP = pathlib.Path(__file__).resolve().parent.parent
 
 
@@ -40,10 +42,10 @@ class Crates:
 
     @functools.cached_property
     def chains(self) -> dict[str, int]:
-        """The longest chain of each and of others that wait for it, by the bytes of their sources."""
+        """The longest chain of each and of others that wait for it, by their number and the bytes of their sources."""
         chains: dict[str, int] = {}
         for name in reversed(self.upwards):
-            length = sum(it.stat().st_size for it in sources(folder(name)) if it.suffix == ".rt")
+            length = BYTES_OF_CRATE + sum(it.stat().st_size for it in sources(folder(name)) if it.suffix == ".rt")
             chains[name] = length + max((chains[it] for it in chains if name in self.below[it]), default=0)
         return chains
 

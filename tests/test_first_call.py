@@ -155,6 +155,7 @@ class TestFirstCall:
         why = "herd_advice is not proved: rt check in crates/herd_advice says why"
         self.count(tells(err, "a contract isn't met", why, "still proving herd_pedigree"), err)
         later = begun & {
+            "herd_book_pool",
             "herd_register",
             "herd_command_file",
             "herd_office",
@@ -172,7 +173,6 @@ class TestFirstCall:
             "herd_frozen",
             "herd_kinship",
             "herd_pruned",
-            "herd_pool",
             "herd_pedigree",
         }
         self.count(below <= here.kept() == begun - {"herd_advice"}, f"begun: {begun}, kept: {here.kept()}")

@@ -21,7 +21,7 @@ use Rattle.herd_report.specs.writing.MatingList.{mating_text}
 use Rattle.herd_report.specs.writing.RecordList.{records_text}
 use Rattle.herd_report.specs.writing.Registered.{are_there}
 use Rattle.herd_report.specs.writing.RelationshipList.{relationships_text}
-use Rattle.herd_report.specs.writing.SealedCertificate.{sealed_text}
+use Rattle.herd_sealed_report.specs.SealedCertificate.{sealed_text}
 use Rattle.herd_text.specs.Text.{AppendsFront}
 use Rattle.herd_report.specs.writing.Replies.{replies_text}
 use Rattle.herd_command_file.specs.declared.line_fault.LineFault.{LineFault}

@@ -6,7 +6,8 @@
 //!     run(&rt, alloc, limits, &Order::Inverse, reader, &mut writer)?;
 //!
 //! `write_report` does the same with a frozen book. The file is read and filed by `herd_command_file`, and each text is
-//! that of `herd_report`. What is written is the whole text, or where memory is refused or a write fails a front of it.
+//! that of `herd_report`, or under the book's seal of `herd_sealed_report`. What is written is the whole text, or where
+//! memory is refused or a write fails a front of it.
 //!
 //! | | definition (`specs/`) | code (`src/`) | proof (`proofs/`) |
 //! |---|---|---|---|

@@ -14,7 +14,6 @@ ghost use Rattle.herd_orders.specs.declared.orders.Order.{Order};
 use crate::run_fault::RunFault;
 use herd_advice::{Coefficients, coefficients_of, coefficients_plain};
 use herd_animal::AnimalNumber;
-use herd_certificate::write_seal;
 use herd_command_file::{CommandReader, fault_of_rest, file_commands};
 use herd_frozen::Frozen;
 use herd_pedigree::Pedigree;
@@ -22,8 +21,9 @@ use herd_pool::{PoolFault, WorkPlan};
 use herd_register::{Limits, Register};
 use herd_report::{
     are_registered, write_certificates, write_inbreeding, write_inverse, write_mating,
-    write_records, write_relationships, write_replies, write_sealed,
+    write_records, write_relationships, write_replies,
 };
+use herd_sealed_report::{write_seal, write_sealed};
 use std::alloc::{AllocError, Global};
 use std::io::{Read, Write};
 use std::sync::Wait;
@@ -268,6 +268,6 @@ fn shared_coefficients<H: Threads + Wait + Sync>(
     if plan.workers == 1 {
         Ok(coefficients_plain(alloc, frozen)?)
     } else {
-        herd_advice::coefficients_by_sires(rt, alloc, frozen, plan.workers, plan.block)
+        herd_book_pool::coefficients_by_sires(rt, alloc, frozen, plan.workers, plan.block)
     }
 }

@@ -10,4 +10,3 @@ pub mod Certificate
 pub mod MatingList
 pub mod InverseList
 pub mod RelationshipList
-pub mod SealedCertificate

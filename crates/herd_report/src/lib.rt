@@ -1,4 +1,4 @@
-//! Every text that the herd book prints.
+//! Every text that the herd book prints, but for those under its seal (`herd_sealed_report`).
 //!
 //! Each text is written by a call of its own (`write_replies` and the others), from a journal or a frozen book. What is
 //! written is the whole text, or where memory is refused or a write fails a front of it.
@@ -18,13 +18,11 @@
 //! | mating advice | `MatingList` | `mating_list` | `MatingFacts` |
 //! | the inverse of A | `InverseList` | `inverse_list` | `ContributionFacts` |
 //! | entries of A | `RelationshipList` | `relationship_list` | `RelationshipFacts` |
-//! | a certificate under the book's seal | `SealedCertificate` | `sealed_certificate` | `SealedFacts` |
 //! | how a text of its own may end | | `named_animals_fault` | |
 #![tactic(auto)]
 
 mod writing;
 
-pub use herd_certificate::write_seal;
 pub use herd_text::{ReportFault, write_all};
 pub use writing::certificate::write_certificates;
 pub use writing::coefficient_line::write_coefficient;
@@ -36,4 +34,3 @@ pub use writing::record_list::write_records;
 pub use writing::registered::are_registered;
 pub use writing::relationship_list::write_relationships;
 pub use writing::replies::write_replies;
-pub use writing::sealed_certificate::write_sealed;

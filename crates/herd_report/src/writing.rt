@@ -12,4 +12,3 @@ pub(crate) mod refused_text;
 pub(crate) mod registered;
 pub(crate) mod relationship_list;
 pub(crate) mod replies;
-pub(crate) mod sealed_certificate;

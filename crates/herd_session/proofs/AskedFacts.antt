@@ -12,10 +12,10 @@ use Rattle.herd_register.specs.declared.reply.Reply.{Reply}
 use Rattle.herd_register.specs.declared.step.Step.{Step}
 use Rattle.csv_records.specs.Fields.{Fields}
 use Rattle.herd_session.specs.Answers.{IsAnswer, IsAnswered, IsReport, fault_text, reply_text}
-use Rattle.herd_session.specs.Requests.{IsAskedOfDesk, IsAskedOfInspector, IsTagThere}
-use Rattle.herd_session.specs.declared.fault.Fault.{Fault as WhyNot}
-use Rattle.herd_session.specs.declared.question.Question.{Question}
-use Rattle.herd_session.specs.declared.question.Question.TheVariants.{Inbreeding, Inverse, Certificates, Mating, Relationships, Coefficient, Records, Record, Seal, Sealed, Seen}
+use Rattle.herd_requests.specs.Requests.{IsAskedOfDesk, IsAskedOfInspector, IsTagThere}
+use Rattle.herd_requests.specs.declared.fault.Fault.{Fault as WhyNot}
+use Rattle.herd_requests.specs.declared.question.Question.{Question}
+use Rattle.herd_requests.specs.declared.question.Question.TheVariants.{Inbreeding, Inverse, Certificates, Mating, Relationships, Coefficient, Records, Record, Seal, Sealed, Seen}
 
 -- a reply to a desk's command is an answer
 pub reply_answers : (limits : Limits) (records : Option (List Fields)) (before desk : ℕ) (tag : List ℕ) (wanted : Result Command WhyNot)

@@ -20,7 +20,7 @@ use Rattle.herd_register.specs.declared.step.Step.{Step}
 use Rattle.csv_records.specs.Fields.{Fields}
 use Rattle.herd_session.specs.Closing.{IsOfDesks}
 use Rattle.herd_session.specs.Filed.{AreAskedBelow, AreAskedInTurn, AsksFor, HasFiledBelow, HasFiledInTurn}
-use Rattle.herd_session.specs.Requests.{IsAskedOfDesk}
+use Rattle.herd_requests.specs.Requests.{IsAskedOfDesk}
 
 -- a desk at which nothing was filed
 pub none_below : {N : Type 0} {O : office_name.Ghosts N} (records : Option (List Fields)) (desk : Desk N O)

@@ -5,7 +5,7 @@ use Rattle.std.proofs.lemmas.Option.{slice_get_within}
 use Rattle.std.specs.Prelude.{IfSome}
 use Rattle.csv_records.specs.Fields.{Fields}
 use Rattle.csv_records.specs.Upcoming.{TakesRecord}
-use Rattle.herd_session.specs.Requests.{IsRecordAt}
+use Rattle.herd_requests.specs.Requests.{IsRecordAt}
 
 -- the record that is taken is the first of those to come
 first_taken : (left : List Fields) (new : Option (List Fields)) (fields : Fields) (found : Bool)

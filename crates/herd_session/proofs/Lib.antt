@@ -1,7 +1,6 @@
 pub mod AnswerFacts
 pub mod AskedFacts
 pub mod ClosingFacts
-pub mod FieldFacts
 pub mod FiledFacts
 pub mod IntakeFacts
 pub mod PieceFacts

@@ -11,10 +11,10 @@ use Rattle.herd_report.specs.writing.Certificate.{certificates_of}
 use Rattle.herd_report.specs.writing.CoefficientLine.{coefficient_line}
 use Rattle.herd_report.specs.writing.RelationshipList.{relationships_text}
 use Rattle.herd_report.proofs.lemmas.PartFacts.{certificates-part, coefficient-part, matings-part, records-part, relationships-part}
-use Rattle.herd_session.specs.Questions.{text_of}
+use Rattle.herd_session.specs.Texts.{text_of}
 use Rattle.herd_session.specs.Scopes.{IsReadIn, IsScopeOf, SufficesFor, named_in}
-use Rattle.herd_session.specs.declared.question.Question.{Question}
-use Rattle.herd_session.specs.declared.question.Question.TheVariants.{Inbreeding, Inverse, Certificates, Mating, Relationships, Coefficient, Records, Record, Seal, Sealed, Seen}
+use Rattle.herd_requests.specs.declared.question.Question.{Question}
+use Rattle.herd_requests.specs.declared.question.Question.TheVariants.{Inbreeding, Inverse, Certificates, Mating, Relationships, Coefficient, Records, Record, Seal, Sealed, Seen}
 use Rattle.herd_session.specs.declared.scope.Scope.{Scope}
 use Rattle.herd_session.specs.declared.scope.Scope.TheVariants.{All, Named}
 

@@ -14,12 +14,12 @@ use Rattle.herd_office.specs.Filing.{EndsWith}
 use Rattle.csv_records.specs.Fields.{Fields}
 use Rattle.herd_report.specs.writing.Replies.{reply_line}
 use Rattle.herd_text.specs.Text.{PassesOn}
-use Rattle.herd_session.specs.Faults.{fault_name}
-use Rattle.herd_session.specs.Questions.{text_of}
-use Rattle.herd_session.specs.Requests.{IsAskedOfDesk, IsAskedOfInspector, IsTagThere}
-use Rattle.herd_session.specs.declared.fault.Fault.{Fault as WhyNot}
-use Rattle.herd_session.specs.declared.question.Question.{Question}
-use Rattle.herd_session.specs.declared.question.Question.TheVariants.{Seen}
+use Rattle.herd_requests.specs.Faults.{fault_name}
+use Rattle.herd_session.specs.Texts.{text_of}
+use Rattle.herd_requests.specs.Requests.{IsAskedOfDesk, IsAskedOfInspector, IsTagThere}
+use Rattle.herd_requests.specs.declared.fault.Fault.{Fault as WhyNot}
+use Rattle.herd_requests.specs.declared.question.Question.{Question}
+use Rattle.herd_requests.specs.declared.question.Question.TheVariants.{Seen}
 
 -- the reply to a command behind its tag
 abbrev pub reply_text : List ℕ → ℕ → Reply → List ℕ

@@ -5,7 +5,7 @@ use Rattle.herd_office.specs.declared.desk.Desk.{Desk}
 use Rattle.herd_office.specs.declared.name.OfficeName as office_name
 use Rattle.herd_register.specs.declared.command.Command.{Command}
 use Rattle.csv_records.specs.Fields.{Fields}
-use Rattle.herd_session.specs.Requests.{IsAskedOfDesk}
+use Rattle.herd_requests.specs.Requests.{IsAskedOfDesk}
 
 -- the record that has so many before it asks the desk for the command
 pub record AsksFor (records : Option (List Fields)) (before desk : ℕ) (command : Command) : Type 0 where

@@ -1,11 +1,7 @@
-pub mod Addressees
 pub mod Answers
 pub mod Closing
-pub mod Faults
 pub mod Filed
 pub mod Output
-pub mod Questions
 pub mod Queues
-pub mod Requests
 pub mod Scopes
-pub mod Tag
+pub mod Texts

@@ -5,8 +5,8 @@ use Rattle.herd_frozen.specs.freezing.Frozen.{IsFrozenFrom}
 use Rattle.herd_frozen.specs.declared.TheConstants.{DEPTH_LIMIT, MOST_ANIMALS}
 use Rattle.herd_frozen.specs.declared.freezing.frozen.Row.{Row}
 use Rattle.herd_pedigree.specs.Part.{IsFrozenPart}
-use Rattle.herd_session.specs.declared.question.Question.{Question}
-use Rattle.herd_session.specs.declared.question.Question.TheVariants.{Certificates, Mating, Relationships, Coefficient, Record}
+use Rattle.herd_requests.specs.declared.question.Question.{Question}
+use Rattle.herd_requests.specs.declared.question.Question.TheVariants.{Certificates, Mating, Relationships, Coefficient, Record}
 use Rattle.herd_session.specs.declared.scope.Scope.{Scope}
 use Rattle.herd_session.specs.declared.scope.Scope.TheVariants.{All, Named}
 

@@ -2,7 +2,7 @@
 ghost use Rattle.std.specs.Prelude.{◌≡◌, ◌++◌, ◌∷◌, [], OnOk, codes, if◌then◌else◌};
 ghost use Rattle.herd_session.specs.Answers.{end_line, lines_behind};
 
-use crate::tag::Tag;
+use herd_requests::Tag;
 use itoa::Buffer;
 use std::alloc::AllocError;
 

@@ -5,7 +5,6 @@ ghost use Rattle.herd_office.specs.Filing.{EndsWith};
 ghost use Rattle.herd_register.specs.Run.{IsLegal};
 ghost use Rattle.herd_session.specs.Filed.{HasFiledBelow};
 
-use crate::fault::Fault;
 use crate::name::SessionName;
 use crate::queue::{Batch, Outlet};
 use crate::shared::Shared;
@@ -13,6 +12,7 @@ use crate::tasks::Task;
 use herd_office::{Desk, Filed};
 use herd_register::Command;
 use herd_report::ReportFault;
+use herd_requests::Fault;
 use std::alloc::Global;
 use std::io::Write;
 use std::sync::Wait;

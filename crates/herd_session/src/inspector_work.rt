@@ -3,15 +3,14 @@ ghost use Rattle.std.specs.Prelude.{◌≡◌, IfOk};
 ghost use mathlib.Core.List.{IsPrefix};
 ghost use Rattle.herd_session.specs.Answers.{IsAnswered};
 
-use crate::fault::Fault;
 use crate::name::SessionName;
-use crate::question::Question;
 use crate::queue::{Batch, Outlet};
 use crate::reporting_inspector::{Answer, ReportingInspector};
 use crate::shared::Shared;
 use crate::tasks::Task;
 use herd_office::Inspector;
 use herd_report::ReportFault;
+use herd_requests::{Fault, Question};
 use std::alloc::Global;
 use std::io::Write;
 use std::sync::Wait;

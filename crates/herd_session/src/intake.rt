@@ -3,14 +3,12 @@ ghost use Rattle.std.specs.Prelude.{◌≡◌, ◌+◌, ◌-◌, ◌<◌, ◌≤
 ghost use Rattle.csv.specs.Records.{fields_of};
 ghost use Rattle.csv_records.specs.Upcoming.{IsSetUp, upcoming};
 ghost use Rattle.herd_command_file.specs.LineCause.{is_interruption};
-ghost use Rattle.herd_session.specs.Requests.{IsRecordAt, records_in};
+ghost use Rattle.herd_requests.specs.Requests.{IsRecordAt, records_in};
 
 use crate::backlog::request_bytes;
 use crate::bounded_reader::{Allowance, BoundedReader};
-use crate::fault::Fault;
 use crate::name::SessionName;
 use crate::queue::{Inlet, Unsent};
-use crate::request::{Asked, Request, request_in};
 use crate::shared::Shared;
 use crate::staff::Queues;
 use crate::stop::Stop;
@@ -19,6 +17,7 @@ use csv::{ByteRecord, Reader};
 use csv_records::{Interruption, open_records, read_record};
 use herd_command_file::{LineCause, LineFault};
 use herd_report::ReportFault;
+use herd_requests::{Asked, Fault, Request, request_in};
 use std::alloc::Global;
 use std::io::{Read, Write};
 use std::marker::PhantomData;

@@ -26,13 +26,12 @@
 //!
 //! | | definition (`specs/`) | code (`src/`) | proof (`proofs/`) |
 //! |---|---|---|---|
-//! | requests | `Requests`, `Addressees`, `Tag` | `request`, `tag` | |
-//! | questions | `Questions` | `question`, `word` | `FieldFacts` |
-//! | the texts that answer them | `Questions` | `reading`, `report_text` | |
+//! | requests, questions, why one isn't answered | those of `herd_requests` | | |
+//! | the texts that answer questions | `Texts` | `reading`, `report_text` | |
 //! | which animals they are made of | `Scopes` | `scope`, `reading` | `ScopeFacts` |
-//! | faults | `Faults` | `fault`, `fault_work`, `session_fault`, `stop` | |
-//! | reading requests | `Requests` | `intake`, `bounded_reader` | `IntakeFacts` |
-//! | queues of requests | `Requests`, `Queues` | `backlog`, `queue`, `tasks`, `staff` | |
+//! | faults | | `fault_work`, `session_fault`, `stop` | |
+//! | reading requests | | `intake`, `bounded_reader` | `IntakeFacts` |
+//! | queues of requests | `Queues` | `backlog`, `queue`, `tasks`, `staff` | |
 //! | clerks | `Filed` | `desk_work` | `FiledFacts` |
 //! | inspectors | `Answers` | `inspector_work`, `reporting_inspector` | `AskedFacts` |
 //! | answers, the writer | `Answers`, `Output` | `answers`, `pieces`, `output` | `AnswerFacts`, `PieceFacts` |
@@ -44,7 +43,6 @@ mod backlog;
 mod bounded_reader;
 mod closing;
 mod desk_work;
-mod fault;
 mod fault_work;
 mod inspector_work;
 mod intake;
@@ -52,29 +50,21 @@ mod name;
 mod output;
 mod pieces;
 mod plan;
-mod question;
 mod queue;
 mod reading;
 mod report_text;
 mod reporting_inspector;
-mod request;
 mod running;
 mod scope;
 mod session_fault;
 mod shared;
 mod staff;
 mod stop;
-mod tag;
 mod tasks;
-mod word;
 
 pub use backlog::MOST_WAITING;
 pub use bounded_reader::LONGEST_RECORD;
-pub use fault::Fault;
 pub use plan::SessionPlan;
-pub use question::Question;
 pub use report_text::LONGEST_REPORT;
-pub use request::{Asked, Request, request_in};
 pub use running::session;
 pub use session_fault::SessionFault;
-pub use tag::{LONGEST_TAG, Tag};

@@ -6,11 +6,9 @@ ghost use mathlib.Core.List.{IsPrefix};
 ghost use Rattle.herd_frozen.specs.declared.TheConstants.{DEPTH_LIMIT};
 ghost use Rattle.herd_advice.specs.BookCoefficients.{AreBookCoefficients};
 ghost use Rattle.herd_register.specs.Run.{commands_of, run_book};
-ghost use Rattle.herd_session.specs.Questions.{CanBeUnanswered, EndsText, IsReadyFor, text_of};
+ghost use Rattle.herd_session.specs.Texts.{CanBeUnanswered, EndsText, IsReadyFor, text_of};
 ghost use Rattle.herd_session.specs.Scopes.{IsReadIn, SufficesFor};
 
-use crate::fault::Fault;
-use crate::question::Question;
 use crate::report_text::ReportText;
 use crate::scope::{Scope, scope_of};
 use herd_advice::{Coefficients, coefficients_of, coefficients_plain};
@@ -19,8 +17,10 @@ use herd_frozen::Frozen;
 use herd_office::{Inspector, OfficeName, Slip};
 use herd_report::{
     NamedAnimalsFault, ReportFault, write_certificates, write_coefficient, write_inbreeding,
-    write_inverse, write_mating, write_records, write_relationships, write_seal, write_sealed,
+    write_inverse, write_mating, write_records, write_relationships,
 };
+use herd_requests::{Fault, Question};
+use herd_sealed_report::{write_seal, write_sealed};
 use std::alloc::Global;
 use std::io::Write;
 

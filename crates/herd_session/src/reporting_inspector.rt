@@ -2,16 +2,15 @@
 ghost use Rattle.std.specs.Prelude.{◌≡◌, ◌≢◌, IfErr, IfOk, Ok, length};
 ghost use mathlib.Core.List.{IsPrefix};
 ghost use Rattle.herd_session.specs.Answers.{IsAnswer, IsAnswered, IsReport, end_line};
-ghost use Rattle.herd_session.specs.Questions.{CanBeUnanswered, IsReadyFor};
+ghost use Rattle.herd_session.specs.Texts.{CanBeUnanswered, IsReadyFor};
 ghost use Rattle.herd_session.specs.Scopes.{SufficesFor};
 
 use crate::answers::{push_behind, push_end};
-use crate::fault::Fault;
 use crate::name::SessionName;
-use crate::question::Question;
 use crate::reading::{Reading, current};
 use crate::tasks::Task;
 use herd_office::{Inspector, Slip};
+use herd_requests::{Fault, Question};
 use std::alloc::Global;
 
 /// An inspector, and what was frozen last.

@@ -4,7 +4,7 @@ ghost use Rattle.herd_office.specs.Opening.{AreFresh};
 ghost use Rattle.herd_office.specs.Parts.{AreNamed};
 ghost use Rattle.herd_session.specs.Closing.{Ends};
 ghost use Rattle.herd_session.specs.Filed.{HasFiledInTurn};
-ghost use Rattle.herd_session.specs.Requests.{records_in};
+ghost use Rattle.herd_requests.specs.Requests.{records_in};
 
 use crate::backlog::Backlog;
 use crate::closing::end;

@@ -1,10 +1,10 @@
 //! Which animals of a book a question is answered from.
 ghost use Rattle.std.specs.Prelude.{◌++◌, IfOk, IsTrue};
 ghost use Rattle.herd_session.specs.Scopes.{IsScopeOf, SufficesFor};
-ghost use Rattle.herd_session.specs.declared.question.Question.{Question};
+ghost use Rattle.herd_requests.specs.declared.question.Question.{Question};
 
-use crate::question::Question;
 use herd_animal::AnimalNumber;
+use herd_requests::Question;
 use std::alloc::{AllocError, Global};
 
 // How many animals are looked for one by one. Where a question names more, all animals are read.

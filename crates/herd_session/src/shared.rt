@@ -2,10 +2,9 @@
 ghost use Rattle.std.specs.Prelude.{◌≡◌, IfOk, IsOk, length};
 ghost use Rattle.herd_office.specs.Filing.{EndsWith};
 ghost use Rattle.herd_register.specs.Run.{IsLegal};
-ghost use Rattle.herd_session.specs.Requests.{IsTagThere};
+ghost use Rattle.herd_requests.specs.Requests.{IsTagThere};
 
 use crate::backlog::Backlog;
-use crate::fault::Fault;
 use crate::name::SessionName;
 use crate::output::Output;
 use crate::reporting_inspector::Answer;
@@ -13,6 +12,7 @@ use crate::tasks::Task;
 use herd_office::{Filed, Office, Slip};
 use herd_register::Command;
 use herd_report::ReportFault;
+use herd_requests::Fault;
 use std::io::Write;
 use std::sync::{Mutex, Wait};
 

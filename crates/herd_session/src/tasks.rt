@@ -1,19 +1,17 @@
 //! What stands in the queues.
 ghost use Rattle.std.specs.Prelude.{◌≡◌, ◌-◌, ◌<◌, ◌^◌};
-ghost use Rattle.herd_session.specs.Requests.{IsAskedOf, IsTagThere, tag_text};
+ghost use Rattle.herd_requests.specs.Requests.{IsAskedOf, IsTagThere, tag_text};
 
-use crate::fault::Fault;
 use crate::name::SessionName;
-use crate::question::Question;
-use crate::tag::Tag;
 use herd_register::Command;
+use herd_requests::{Fault, Question, Tag};
 use std::marker::PhantomData;
 
 /// What a record may ask for.
 pub(crate) trait Wish: Drop {
     ghost use Rattle.std.specs.Prelude.{List, Result, ℕ};
     ghost use Rattle.csv_records.specs.Fields.{Fields};
-    ghost use Rattle.herd_session.specs.declared.fault.Fault.{Fault};
+    ghost use Rattle.herd_requests.specs.declared.fault.Fault.{Fault};
 
     /// The word for whom the record asks.
     ghost word: { List ℕ };
@@ -24,7 +22,7 @@ pub(crate) trait Wish: Drop {
 
 impl Wish for Command {
     ghost use Rattle.std.specs.Prelude.{codes};
-    ghost use Rattle.herd_session.specs.Requests.{IsCommandIn};
+    ghost use Rattle.herd_requests.specs.Requests.{IsCommandIn};
 
     ghost word = { codes "desk" };
 
@@ -33,7 +31,7 @@ impl Wish for Command {
 
 impl Wish for Question {
     ghost use Rattle.std.specs.Prelude.{codes};
-    ghost use Rattle.herd_session.specs.Requests.{IsQuestionIn};
+    ghost use Rattle.herd_requests.specs.Requests.{IsQuestionIn};
 
     ghost word = { codes "inspector" };
 

@@ -9,7 +9,7 @@ use Rattle.herd_pedigree_report.specs.declared.pedigree_order.PedigreeOrder.{Ped
 use Rattle.herd_pedigree_report.specs.declared.pedigree_report_fault.PedigreeReportFault.{PedigreeReportFault}
 use Rattle.herd_orders.specs.declared.run_fault.RunFault.{RunFault}
 use Rattle.herd_session.specs.Closing.{Ends}
-use Rattle.herd_session.specs.Requests.{records_in}
+use Rattle.herd_requests.specs.Requests.{records_in}
 use Rattle.herd_session.specs.declared.session_fault.SessionFault.{SessionFault}
 use Rattle.herd_session.specs.declared.session_fault.SessionFault.TheVariants as session
 use Rattle.herd_clerks.specs.Clerks.{EndsClerks, IsFiledBy}

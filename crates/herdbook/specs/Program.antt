@@ -5,7 +5,7 @@ use Rattle.herd_command_file.specs.CommandFile.{commands}
 use Rattle.herd_orders.specs.Run.{CanEndBy, CanEndReplying, EndsBy, EndsReplying, IsAnswered, IsReplied}
 use Rattle.herd_pedigree_report.specs.PedigreeReport.{CanEndBy as CanEndPedigreeBy, EndsBy as EndsPedigreeBy, IsAnswered as IsPedigreeAnswered}
 use Rattle.herd_session.specs.Closing.{EndsBy as EndsSessionBy, IsClosedSession}
-use Rattle.herd_session.specs.Requests.{records_in}
+use Rattle.herd_requests.specs.Requests.{records_in}
 use Rattle.herd_seal.specs.Answer.{EndsTelling, IsTold}
 use Rattle.herdbook.specs.Checks.{TellsOfReport}
 use Rattle.herd_clerks.specs.Clerks.{EndsClerks, IsFiledBy}

@@ -2,7 +2,8 @@
 ghost use Rattle.herd_frozen.specs.declared.TheConstants.{DEPTH_LIMIT};
 ghost use Rattle.herd_advice.specs.BookCoefficients.{AreBookCoefficients};
 
-use herd_advice::{Coefficients, coefficients, fraction};
+use herd_advice::{Coefficients, fraction};
+use herd_book_pool::coefficients;
 use herd_fixtures::generations;
 use herd_frozen::Frozen;
 use herd_pool::{NoGate, PoolFault};

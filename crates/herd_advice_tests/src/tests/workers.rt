@@ -4,7 +4,7 @@ ghost use Rattle.std.specs.Prelude.{◌≤◌};
 ghost use Rattle.herd_pool.specs.declared.limits.TheConstants.{MOST_WORKERS};
 
 use super::gates::{AtAnimals, AtBlocks, Counts, OtherHeld, ThirdFirst};
-use herd_advice::coefficients;
+use herd_book_pool::coefficients;
 use herd_fixtures::{Meeting, founders, generations};
 use herd_frozen::Frozen;
 use herd_pool::Gate;

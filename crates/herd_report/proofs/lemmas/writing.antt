@@ -7,4 +7,3 @@ pub mod RecordFacts
 pub mod MatingFacts
 pub mod ContributionFacts
 pub mod RelationshipFacts
-pub mod SealedFacts

@@ -1,6 +1,6 @@
 -- The length of a history answers its question.
 use Rattle.std.proofs.Math.Logic.{∥∥₁_map}
-use Rattle.herd_session.specs.declared.question.Question.TheVariants.{Seen}
+use Rattle.herd_requests.specs.declared.question.Question.TheVariants.{Seen}
 use Rattle.herd_session.proofs.AskedFacts.{report_answers}
 use Rattle.herd_session.proofs.reporting_inspector.length_answer.Goals as goal
 

@@ -7,7 +7,7 @@ use Rattle.herd_frozen.specs.declared.freezing.frozen.Row.{Row}
 use Rattle.herd_session.proofs.ScopeFacts.{whole_of}
 use Rattle.herd_session.proofs.AskedFacts.{answered_by_report, report_answers}
 use Rattle.herd_session.specs.Answers.{IsAnswer, IsReport, end_line, lines_behind, report_text}
-use Rattle.herd_session.specs.Questions.{text_of}
+use Rattle.herd_session.specs.Texts.{text_of}
 use Rattle.herd_session.proofs.reporting_inspector.report_answer.Given.{Over}
 use Rattle.herd_session.proofs.reporting_inspector.report_answer.Goals.{After-again}
 use Rattle.herd_session.proofs.reporting_inspector.report_answer.Goals as goal

@@ -1,5 +1,5 @@
 -- A session's name is that of its office's parts, its input and its writer.
-use Rattle.herd_session.specs.Requests.{records_in}
+use Rattle.herd_requests.specs.Requests.{records_in}
 use Rattle.herd_session.proofs.running.run_with.Given as goal
 
 abbrev pub ghosts-run_under_name-N-OfficeName : goal.ghosts-run_under_name-N-OfficeName

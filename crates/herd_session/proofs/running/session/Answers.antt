@@ -1,7 +1,7 @@
 -- Where there are no parts of an office nothing is written.
 use Rattle.std.proofs.lemmas.Result.{err_from_is_err_and}
 use Rattle.herd_session.proofs.ClosingFacts.{ends_unbegun}
-use Rattle.herd_session.specs.Requests.{records_in}
+use Rattle.herd_requests.specs.Requests.{records_in}
 use Rattle.herd_session.proofs.running.session.Goals as goal
 
 pub returns-in_err-parts : goal.returns-in_err-parts

@@ -3,7 +3,7 @@ use Rattle.std.proofs.Common.{◌≡◌, ◌≤◌, Ok, arith, subst}
 use Rattle.std.proofs.Math.Logic.{∥∥₁_elim, ∥∥₁_map, ∥∥₁_prop}
 use Rattle.std.proofs.lemmas.Bool.Decides.{nat_tests}
 use Rattle.herd_session.proofs.FiledFacts.{filed_below_more, filed_below_same}
-use Rattle.herd_session.specs.Requests.{IsAskedOfDesk}
+use Rattle.herd_requests.specs.Requests.{IsAskedOfDesk}
 use Rattle.herd_session.proofs.desk_work.Clerk.file_wanted.Goals as goal
 
 pub invariant_of-self-in-Break-branch-2 : goal.invariant_of-self-in-Break-branch-2

@@ -1,0 +1,5 @@
+pub mod Addressees
+pub mod Faults
+pub mod Questions
+pub mod Requests
+pub mod Tag
