@@ -128,3 +128,20 @@ def test_gelding(desk: Desk) -> None:
     assert "words for sexes are read as others of the column: 'H (ex étalon)' as 'ex étalon'" in done.out
     assert "male, castrated" in desk.good("show", "F-1").out and "castrated" not in desk.good("show", "F-3").out
     assert [line.partition(",")[0] for line in desk.good("mating", "--dam", "F-2").out.splitlines()] == ["id", "F-3"]
+
+
+HORSES = "id;Sexe;birth;sire;dam\nb;{};2011-06-05;;\nj;{};2019-06-27;;\n"
+
+
+@pytest.mark.parametrize(
+    "before, after, had",
+    [("Jument", "Hongre", "a female"), ("Hongre", "Jument", "a castrated male"), ("Étalon", "Hongre", ""),
+     ("Jument", "Étalon", ""), ("", "Hongre", ""), ("Hongre", "Hongre", "")],
+)  # fmt: skip
+def test_mare_that_becomes_a_gelding(desk: Desk, before: str, after: str, had: str) -> None:
+    """It is taken, and is something to look at; a stallion that was gelded is none."""
+    desk.take(HORSES.format(before, "Hongre"))
+    done = desk.take(HORSES.format(after, "Hongre"))
+    told = f"line 2: b: to look at: its sex is '{after}', and the book has it as {had}: it is taken as the sheet says"
+    assert (told in done.out) == bool(had) and done.out.count("the book has it as") == bool(had)
+    assert ("changed: sex" in done.told) == (before not in ("Étalon", "Hongre") or after == "Jument")

@@ -37,6 +37,7 @@ from gudokeyi.reconcile.owners import (
 from gudokeyi.reconcile.parents import may_be_unknown
 from gudokeyi.reconcile.pedigree_links import refuse_lost_links
 from gudokeyi.reconcile.plausibility import PlausibilityChecks, tell_swapped_columns
+from gudokeyi.reconcile.sexes import tell_sexes_of_others
 from gudokeyi.services.book_program import BookProgram
 from gudokeyi.services.output_files import check_place
 from gudokeyi.services.prepared_changes import Prepared
@@ -114,6 +115,7 @@ def file(
         refuse_left_out(next_book, import_options)
     tell_renamed_owners(next_book)
     filing.tell_changes()
+    tell_sexes_of_others(next_book)
     tell_most_changed(next_book)
     after = book_after(next_book, filed, import_options, about)
     return filed, Outcome(
