@@ -211,12 +211,13 @@ def test_named_words_for_sexes(desk: Desk) -> None:
         "times), 'Bk': write M or F, or say which sex each word is by --sexes"
     )
     done = desk.wrong(told, "import", sheet, "--book", "own")
-    assert done.commands() == [f"{CALLED} import own.csv --book own --sexes Schf={sex}" for sex in "mf"]
+    assert done.commands() == [f"{CALLED} import own.csv --book own --sexes Schf={sex}" for sex in ("m", "f", "mc")]
     done = desk.good("import", sheet, "--book", "own", "--sexes", "bk=m,Schf=F", "--sexes", "0=m")
     sexes = [row["number"][6] for row in desk.table("own/ids.csv")]
     assert sorted(sexes) == list("FFFMM")
     assert " 0 left out" in done.last
     desk.take("id,sex,born,sire,dam\n1,M,2001,,\n", "--sexes", "M=f")
     assert desk.numbers()["1"][6] == "F"
-    desk.wrong("--sexes Bk: write WORD=m for males and WORD=f for females", "import", sheet, "--sexes", "Bk")
+    told = "--sexes Bk: write WORD=m for males, WORD=f for females and WORD=mc for castrated males"
+    desk.wrong(told, "import", sheet, "--sexes", "Bk")
     desk.wrong("--sexes is for a sheet", "import", "--pedigree", sheet, "--sexes", "Bk=m")

@@ -10,7 +10,7 @@ from gudokeyi.domain.kinds import Field
 from gudokeyi.domain.messages import Mistake, some_of
 from gudokeyi.ingest.messages import SheetFault
 from gudokeyi.ingest.texts import composed, listed, plain
-from gudokeyi.ingest.words import KNOWN_EXITS, KNOWN_SEXES, sex_word
+from gudokeyi.ingest.words import CASTRATED_MALE, KNOWN_CASTRATED, KNOWN_EXITS, KNOWN_SEXES, sex_word
 
 # What a column of a sheet may have, and the usual titles in English, German and French.
 
@@ -145,13 +145,14 @@ def read_given(words: list[str]) -> dict[str, str]:
 
 
 def read_sexes(words: list[str]) -> dict[str, str]:
-    """The words and sexes of `--sexes Aue=f,Bk=m`, each word as it is compared."""
+    """The words and sexes of `--sexes Aue=f,Bk=m,H=mc`, each word as it is compared; any word that is known for a
+    castrated male stands for one."""
     given = {}
     for part in parts_of(words):
         word, equals, sex = (piece.strip() for piece in part.partition("="))
         if not equals or not word or plain(sex) not in KNOWN_SEXES:
             raise Mistake(SheetFault.SEX_OPTION.said(part=part))
-        given[sex_word(word)] = KNOWN_SEXES[plain(sex)]
+        given[sex_word(word)] = CASTRATED_MALE if plain(sex) in KNOWN_CASTRATED else KNOWN_SEXES[plain(sex)]
     return given
 
 

@@ -28,7 +28,7 @@ SEXES = {
     "Rammler, Eselhengst, maennlich, Hahn, coq, baudet, männlich, männl, männliche, Bulle, Jungbulle, Zuchtbulle, Deckbulle, Stier, Jungstier, Zuchtstier, Muni, Bock, "
     "Schafbock, Ziegenbock, Zuchtbock, Jungbock, Altbock, Bocklamm, Widder, Hengst, Junghengst, Eber, Rüde, Kater, "
     "Bullenkalb, Stierkalb, Hengstfohlen, mâle, taureau, taurillon, bélier, bouc, étalon, poulain, chien, "
-    "agneau mâle, verrat, masculin, masc",
+    "agneau mâle, verrat, entier, mâle entier, masculin, masc",
     "F": "f, fs, fn, bs, female, fem, cow, heifer, ewe, gimmer, doe, nanny, mare, filly, sow, gilt, bitch, brood bitch, "
     "queen, jenny, jennet, ♀, w, weiblich, weibl, spayed, spayed female, Häsin, Zippe, Eselin, Eselstute, Henne, poule, "
     "ânesse, lapine, "
@@ -37,6 +37,8 @@ SEXES = {
     "Jungziege, Stute, Jungstute, Zuchtstute, Stutfohlen, Sau, Hündin, Kätzin, Katze, femelle, vache, génisse, brebis, "
     "antenaise, agnelle, agneau femelle, chèvre, chevrette, jument, pouliche, truie, chienne, féminin, fém",
 }
+# what stands for the sex of a castrated male where words for sexes are said
+CASTRATED_MALE = "C"
 # males that have no offspring any more
 CASTRATED = (
     "ox, steer, bullock, wether, gelding, barrow, neutered male, castrated, castrate, male castrated, kastr, Ochse, Hammel, "

@@ -186,7 +186,7 @@ class CellsUnread(SheetFinding):
         field, word = self.cells.field, self.cells.texts[0].text
         is_word = not {",", "="} & {*word} and not any(map(str.isdigit, word))
         if field is Field.SEX and is_word:
-            sexes = ("m", "male"), ("f", "female")
+            sexes = ("m", "male"), ("f", "female"), ("mc", "a castrated male")
             return tuple(Suggestion(f"if '{word}' is {sex}", (Option("--sexes", f"{word}={m}"),)) for m, sex in sexes)
         if field in OPTIONAL:
             return (Suggestion(f"if no column tells of {OPTIONAL_WORDS[field]}", (column(field, ""),)),)

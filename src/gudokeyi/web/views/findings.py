@@ -14,7 +14,7 @@ from gudokeyi.domain.options import IMPORT
 from gudokeyi.render.page_language import PageLanguage, name_of
 from gudokeyi.render.page_wording import MessageView, sentence_of
 from gudokeyi.services.imports import (
-    BirthsNearerThanUsual, BirthsTooNear, YoungParent, parts_of, read_given, read_sexes,
+    CASTRATED_MALE, BirthsNearerThanUsual, BirthsTooNear, YoungParent, parts_of, read_given, read_sexes,
 )  # fmt: skip
 from gudokeyi.web.files import Upload
 from gudokeyi.web.forms import BETWEEN
@@ -116,7 +116,7 @@ def labels_of(option: Option, words: PageLanguage) -> list[str]:
     if option.option == SEXES:
         said = [part.partition("=")[0].strip() for part in parts_of([option.word])]
         sexes = zip(said, read_sexes([option.word]).values())
-        return [words.gettext("'{}' means: {}", text, words.sex(sex)) for text, sex in sexes]
+        return [words.gettext("'{}' means: {}", text, sex_meant(sex, words)) for text, sex in sexes]
     if option.option == OWNER:
         before, _, now = option.word.partition("=")
         return [words.gettext("'{}' is written '{}' from now on", before, now)]
@@ -127,6 +127,10 @@ def labels_of(option: Option, words: PageLanguage) -> list[str]:
         return [words.gettext("'{}' means: {}", option.word, words.gettext("unknown parent"))]
     label = words.gettext(IMPORT[option.option.removeprefix("--")].label)
     return [f"{label}{words.colon} {option.word}" if option.word else label]
+
+
+def sex_meant(sex: str, words: PageLanguage) -> str:
+    return words.gettext("castrated male") if sex == CASTRATED_MALE else words.sex(sex)
 
 
 def field_of(option: Option) -> str:
