@@ -139,6 +139,12 @@ def test_castrated_males_said(desk: Desk, castrated: str) -> None:
     shown = [desk.good("show", id).out.splitlines()[2].split(maxsplit=1)[1] for id in "abc"]
     assert shown == ["male", "male, castrated", "female"]
     assert " 0 changed" in desk.take(sheet).last
+    # a letter that may be one is asked so
+    sheet = "id;Sexe;birth;sire;dam\n" + "".join(f"{id};{id};2010-01-01;;\n" for id in ("m", "f", "H", "B"))
+    words = "--breed", "HOL", "--country", "GBR", "--book", "two"
+    [command] = [one for one in desk.take(sheet, *words).commands() if one.endswith("--sexes H=mc")]
+    desk.typed(command)
+    assert "male, castrated" in desk.good("show", "H", "--book", "two").out
 
 
 @pytest.mark.parametrize(

@@ -211,7 +211,7 @@ def test_named_words_for_sexes(desk: Desk) -> None:
         "times), 'Bk': write M or F, or say which sex each word is by --sexes"
     )
     done = desk.wrong(told, "import", sheet, "--book", "own")
-    assert done.commands() == [f"{CALLED} import own.csv --book own --sexes Schf={sex}" for sex in ("m", "f", "mc")]
+    assert done.commands() == [f"{CALLED} import own.csv --book own --sexes Schf={sex}" for sex in "mf"]
     done = desk.good("import", sheet, "--book", "own", "--sexes", "bk=m,Schf=F", "--sexes", "0=m")
     sexes = [row["number"][6] for row in desk.table("own/ids.csv")]
     assert sorted(sexes) == list("FFFMM")

@@ -13,6 +13,7 @@ from gudokeyi.domain.findings import Call, Entry, ImportRefused, Report, Strictl
 from gudokeyi.domain.kinds import Field, Remembered
 from gudokeyi.ingest.animals import LINE_OF
 from gudokeyi.ingest.files import GivenFile
+from gudokeyi.ingest.statuses import reasons_beside
 from gudokeyi.process import keep
 from gudokeyi.reconcile.all_animals import complete
 from gudokeyi.reconcile.cells_as_notes import keep_as_notes
@@ -218,7 +219,8 @@ def understood_of(
     path: pathlib.Path, read: ReadSheet, remembered: list[Option], before: dict[str, str], own: OwnSheetColumns
 ) -> Understood:
     sheet, columns = read.sheet, read.columns
-    kept = tuple(sheet.titles[at] for at in sorted(own.places.values()))
+    of_reasons = reasons_beside(sheet.titles, read.columns.found)
+    kept = tuple(sheet.titles[at] for at in sorted({*own.places.values(), *of_reasons}))
     titles = tuple(ColumnRead(Field(name), title) for name, title in columns.titles_found())
     return Understood(
         str(path),

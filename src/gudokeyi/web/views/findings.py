@@ -67,7 +67,7 @@ def proposed(suggestions: Sequence[Suggestion], words: PageLanguage) -> list[Pro
     for one in suggestions:
         options = [option for option in one.options if option != DROP_GONE or len(one.options) == 1]
         for those in decisions(options):
-            label = "; ".join(label for option in those for label in labels_of(option, words))
+            label = "; ".join(label for option in those for label in labels_of(option, words, one.of_exits))
             found.append(Proposed(label, (*those,)))
     return list(dict.fromkeys(found))
 
@@ -106,7 +106,8 @@ def is_choice(suggestion: Suggestion) -> bool:
     return bool(suggestion.options) and not suggestion.without
 
 
-def labels_of(option: Option, words: PageLanguage) -> list[str]:
+def labels_of(option: Option, words: PageLanguage, of_exits: bool = False) -> list[str]:
+    """What an option means; of an exit a word for what isn't known says that there is none."""
     if option.option == COLUMNS:
         titles = [(name_of(Field(name), words), title) for name, title in read_given([option.word]).items()]
         return [
@@ -124,7 +125,8 @@ def labels_of(option: Option, words: PageLanguage) -> list[str]:
         pairs = [part.partition("=")[::2] for part in parts_of([option.word])]
         return [words.gettext("{} has the tag {} from now on", before, now) for before, now in pairs]
     if option.option == "--unknown":
-        return [words.gettext("'{}' means: {}", option.word, words.gettext("unknown parent"))]
+        meant = words.gettext("no exit") if of_exits else words.gettext("unknown parent")
+        return [words.gettext("'{}' means: {}", option.word, meant)]
     label = words.gettext(IMPORT[option.option.removeprefix("--")].label)
     return [f"{label}{words.colon} {option.word}" if option.word else label]
 
