@@ -128,3 +128,52 @@ def test_gelding(desk: Desk) -> None:
     assert "words for sexes are read as others of the column: 'H (ex étalon)' as 'ex étalon'" in done.out
     assert "male, castrated" in desk.good("show", "F-1").out and "castrated" not in desk.good("show", "F-3").out
     assert [line.partition(",")[0] for line in desk.good("mating", "--dam", "F-2").out.splitlines()] == ["id", "F-3"]
+
+
+@pytest.mark.parametrize("castrated", ["mc", "hongre", "Wallach"])
+def test_castrated_males_said(desk: Desk, castrated: str) -> None:
+    """By the letters for one, or any word that is known for one."""
+    sheet = "id;Sexe;birth;sire;dam\na;Entier;2010-01-01;;\nb;Z;2010-01-01;;\nc;Y;2010-01-01;;\n"
+    done = desk.take(sheet, "--sexes", f"Z={castrated},Y=f")
+    assert " 0 left out" in done.last
+    shown = [desk.good("show", id).out.splitlines()[2].split(maxsplit=1)[1] for id in "abc"]
+    assert shown == ["male", "male, castrated", "female"]
+    assert " 0 changed" in desk.take(sheet).last
+    # a letter that may be one is asked so
+    sheet = "id;Sexe;birth;sire;dam\n" + "".join(f"{id};{id};2010-01-01;;\n" for id in ("m", "f", "H", "B"))
+    words = "--breed", "HOL", "--country", "GBR", "--book", "two"
+    [command] = [one for one in desk.take(sheet, *words).commands() if one.endswith("--sexes H=mc")]
+    desk.typed(command)
+    assert "male, castrated" in desk.good("show", "H", "--book", "two").out
+
+
+@pytest.mark.parametrize(
+    ("texts", "wanted"),
+    [
+        (("Entier", "H", "J"), "MCF"), (("Poulain", "H", "J"), "MCF"), (("Wallach", "H", "S"), "CMF"),
+        (("mare", "G", "S"), "FCM"), (("Pouliche", "H", "J"), "F  "), (("Entier", "H", "J", "X"), "M   "),
+        (("Stute", "H", "W"), "F F"),
+    ],
+)  # fmt: skip
+def test_two_letters_of_three(texts: tuple[str, ...], wanted: str) -> None:
+    """A word of the column stands for the third; where one is a sex by itself, or there are others, they aren't."""
+    sexes = Sexes([*texts], {})
+    found = [sexes.meaning(text) for text in texts]
+    assert "".join("C" if one.is_castrated else one.sex or " " for one in found) == wanted
+
+
+HORSES = "id;Sexe;birth;sire;dam\nb;{};2011-06-05;;\nj;{};2019-06-27;;\n"
+
+
+@pytest.mark.parametrize(
+    "before, after, had",
+    [("Jument", "Hongre", "a female"), ("Hongre", "Jument", "a castrated male"), ("Étalon", "Hongre", ""),
+     ("Jument", "Étalon", ""), ("", "Hongre", ""), ("Hongre", "Hongre", "")],
+)  # fmt: skip
+def test_mare_that_becomes_a_gelding(desk: Desk, before: str, after: str, had: str) -> None:
+    """It is taken, and is something to look at; a stallion that was gelded is none."""
+    desk.take(HORSES.format(before, "Hongre"))
+    done = desk.take(HORSES.format(after, "Hongre"))
+    told = f"line 2: b: to look at: its sex is '{after}', and the book has it as {had}: it is taken as the sheet says"
+    assert (told in done.out) == bool(had) and done.out.count("the book has it as") == bool(had)
+    assert ("changed: sex" in done.told) == (before not in ("Étalon", "Hongre") or after == "Jument")

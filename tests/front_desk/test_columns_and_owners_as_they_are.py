@@ -63,8 +63,9 @@ def test_exits_in_remarks(desk: Desk) -> None:
     rows = "004;B;w;3.2.2014;001;002;Huber;;braun\n003;A;w;3.2.2013;001;002;Huber;;gestorben 2021\n"
     done = desk.take(titles + pair + rows)
     done.tells(
-        "to look at: the column 'Bemerkungen' isn't read, and 1 cell of it tells that an animal left: 'gestorben 2021' in "
-        "line 5; the animal counts as living unless its exit stands in the column for exits"
+        "to look at: the column 'Bemerkungen' isn't read for exits, and 1 cell of it tells that an animal left which has "
+        "no exit: 'gestorben 2021' in line 5; the animal counts as living: if it left, write that into the column for "
+        "exits"
     )
 
 

@@ -80,7 +80,8 @@ def test_told_and_inferred(desk: Desk) -> None:
         "2019-06-13, and the others alike",
         f"to look at: a day that isn't sure in 1 cell {in_column} '1/4/2019 (est.)' in line 4 is read as 2019-04-01",
         f"to look at: a day and a text in 1 cell {in_column} '14/08/2018 (vet)' in line 7 is read as 2018-08-14",
-        f"to look at: a day and a text in 1 cell {in_column} 'late June 2017' in line 8 is read as 2017-06",
+        f"to look at: a text with a month, a week or a season in 1 cell {in_column} 'late June 2017' in line 8 is read as "
+        "2017-06",
         "line 4: A3: inferred: birth day 2019-04-01, from the month 2019-04 of '1/4/2019 (est.)'",
     )
     marked = {one["id"] for one in desk.listed("list", "--columns", "id,birth") if "(inferred)" in one["birth"]}

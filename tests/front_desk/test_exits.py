@@ -39,8 +39,8 @@ def test_exits(desk: Desk) -> None:
         "line 15: a13: its exit is left out: 01.01.2000 is before its birth; the animal counts as gone",
     )
     done.shows(
-        "to look at: a day beside words that tell of no exit stands in 1 of 11 cells that tell of an exit in the column "
-        "'exit', the first in line 17: 'an Meier, 03.04.2020': each counts as an exit on this day; where "
+        "to look at: a day, a month or a year beside words that tell of no exit stands in 1 of 11 cells that tell of an "
+        "exit in the column 'exit', the first in line 17: 'an Meier, 03.04.2020': each counts as an exit then; where "
         "the animal hasn't left, write nothing or alive, lebt or vivant"
     )
     assert "can't be read" not in done.out

@@ -48,9 +48,9 @@ def test_exits_in_words(desk: Desk) -> None:
         ),
         (
             "to look at: 1 of 15 cells that tell of an exit in the column 'exit' can't be read, the first in line 15: "
-            "'about 1950': write days as 2001-03-01 or 01.03.2001, a word such as sold, verkauft or "
-            "vendu where the day isn't known, and nothing or alive, lebt or vivant where the animal hasn't left; "
-            "or name another column by --columns; if no column tells of exits, say --columns exit="
+            "'about 1950': such an animal counts as gone; write days as 2001-03-01 or 01.03.2001, a word such as sold, "
+            "verkauft or vendu where the day isn't known, and nothing or alive, lebt or vivant where the animal hasn't "
+            "left; or name another column by --columns; if 'about 1950' tells of no exit, say --unknown 'about 1950'"
         ),
         (
             "to look at: an exit without a day stands in 4 of 15 cells that tell of an exit in the column 'exit', the "
@@ -129,14 +129,15 @@ def test_words_of_a_status_named(desk: Desk) -> None:
     """What a status says where the exit is empty is told of the column of the status."""
     rows = "".join(f"a{at};M;2001-01-0{at};;;;lebt\n" for at in range(1, 7))
     rows += "b;F;2001-01-02;;;;potted\nc;F;2001-01-02;;;;tot\nd;F;2001-01-02;;;Hof;lebt\ne;F;2001-01-02;;;tot;\n"
-    done = desk.take("id;sex;born;sire;dam;Left on;Status\n" + rows, "--unknown", "x")
+    done = desk.take("id;sex;born;sire;dam;Left on;Whereabouts\n" + rows, "--unknown", "x")
     done.tells(
-        "to look at: 1 of 2 cells that tell of an exit in the column 'Status' can't be read, the first in line 8: "
-        "'potted': write days as 2001-03-01 or 01.03.2001, a word such as sold, verkauft or vendu where the day isn't "
-        "known, and nothing or alive, lebt or vivant where the animal hasn't left; or name another column by "
-        "--columns; if no column tells of exits, say --columns exit="
+        "to look at: 1 of 2 cells that tell of an exit in the column 'Whereabouts' can't be read, the first in line 8: "
+        "'potted': such an animal counts as gone; write days as 2001-03-01 or 01.03.2001, a word such as sold, verkauft "
+        "or vendu where the day isn't known, and nothing or alive, lebt or vivant where the animal hasn't left; or name "
+        "another column by --columns; if 'potted' tells of no exit, say --unknown potted; if no column tells of exits, "
+        "say --columns exit="
     )
     assert "1 of 2 cells that tell of an exit in the column 'Left on' can't be read, the first in line 10: 'Hof'" in done.told
-    for title, line in ("Status", 9), ("Left on", 11):
+    for title, line in ("Whereabouts", 9), ("Left on", 11):
         told = f"1 of 2 cells that tell of an exit in the column '{title}', the first in line {line}: 'tot'"
         assert told in done.told

@@ -218,5 +218,6 @@ def test_named_words_for_sexes(desk: Desk) -> None:
     assert " 0 left out" in done.last
     desk.take("id,sex,born,sire,dam\n1,M,2001,,\n", "--sexes", "M=f")
     assert desk.numbers()["1"][6] == "F"
-    desk.wrong("--sexes Bk: write WORD=m for males and WORD=f for females", "import", sheet, "--sexes", "Bk")
+    told = "--sexes Bk: write WORD=m for males, WORD=f for females and WORD=mc for castrated males"
+    desk.wrong(told, "import", sheet, "--sexes", "Bk")
     desk.wrong("--sexes is for a sheet", "import", "--pedigree", sheet, "--sexes", "Bk=m")

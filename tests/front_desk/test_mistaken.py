@@ -47,9 +47,9 @@ SHEETS: list[tuple[str | bytes, str]] = [
         "id,sex,born,sire,dam,exit\na,F,2001,,,Hof\nb,F,2001,,,Hof\nc,F,2001,,,Hof\n",
         (
             "3 of 3 cells that tell of an exit in the column 'exit' can't be read, the first in line 2: "
-            "'Hof' (3 times): write days as 2001-03-01 or 01.03.2001, a word such as sold, verkauft or vendu "
-            "where the day isn't known, and nothing or alive, lebt or vivant where the animal hasn't left; or "
-            "name another column"
+            "'Hof' (3 times): such an animal counts as gone; write days as 2001-03-01 or 01.03.2001, a word such as "
+            "sold, verkauft or vendu where the day isn't known, and nothing or alive, lebt or vivant where the animal "
+            "hasn't left; or name another column"
         ),
     ),
 ]

@@ -56,6 +56,15 @@ def test_goes_on(kept_desk: Desk) -> None:
     kept_desk.good("verify")
 
 
+def test_reason_of_an_exit(kept_desk: Desk) -> None:
+    """It is kept beside the day, which no table of version 0.12 could."""
+    titles = "Tag;S;born;sire;dam;Hof;Abgang am;Abgangsgrund\n"
+    kept_desk.write("sheet.csv", titles + "z;F;2015-01-01;d;c;Nord;2020-01-01;verendet\n")
+    kept_desk.good("import", "sheet.csv", "--anyway")
+    assert "exit          2020-01-01 (in the sheet: verendet)\n" in kept_desk.good("show", "z").out
+    kept_desk.good("verify")
+
+
 VIEWS = {
     "animals": (
         "id number name sex born birth_is_inferred sire dam sire_number dam_number embryo herd owner owner_since left_on "

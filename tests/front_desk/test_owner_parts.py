@@ -111,12 +111,12 @@ def test_owners_of_animals(today: datetime.date) -> None:
     assert found("", Span(day, day)) == ((4, [], 0, False), "", inferred)
     assert found("", Span(day, day), is_new=True) == ((NO_OWNER, [], 0, False), "", of_day)
     assert found("West", None, is_new=True)[0] == (6, [], 0, False)
-    # another owner, who isn't one yet after today, and none where the command is refused
+    # another owner, on the day of the import where the sheet's is after today, and none where the command is refused
     new = transfer(NUMBER, today, 4, 5)
     assert found("Süd", None) == ((4, [new], 0, False), "Süd", inferred)
     assert found("Süd", Span(today, today)) == ((4, [new], 0, False), "Süd", of_day)
     assert found("Süd", None, refused=True) == ((4, [], 0, False), "Süd", inferred)
-    assert found("Süd", Span(tomorrow, tomorrow)) == ((4, [], 0, False), "Nord", inferred)
+    assert found("Süd", Span(tomorrow, tomorrow)) == ((4, [new], 0, False), "Süd", inferred)
     # behind a transfer of the book
     moved, back = given._replace(day=later.isoformat()), transfer(NUMBER, today, 5, 4)
     assert found("Süd", year_of(2003), True) == ((4, [given], 1, False), "Süd", inferred)
@@ -128,6 +128,7 @@ def test_owners_of_animals(today: datetime.date) -> None:
     # once of each animal
     left_out = DayLeftOut(Field.SINCE, DayFault.AFTER_TODAY, str(tomorrow))
     of_year = OwnerDayInferred(datetime.date(2003, 12, 31), year_of(2003).period())
+    of_import = OwnerDayOfImport("Süd", today)
     assert [entry.finding for entry in report.entries] == [
-        *[left_out] * 2, *[of_year] * 2, OwnerDayOfImport("Süd", today), left_out, OwnerDayOfImport("Nord", today)
+        *[left_out] * 2, *[of_year] * 2, of_import, left_out, of_import, OwnerDayOfImport("Nord", today)
     ]  # fmt: skip

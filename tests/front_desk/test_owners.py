@@ -45,7 +45,7 @@ def test_birth_corrected_past_a_transfer(desk: Desk) -> None:
 
 
 def test_day_of_a_change_has_a_column(desk: Desk, today: datetime.date) -> None:
-    """It is that of the sheet; an inferred one gives way to it, and one after today isn't yet."""
+    """It is that of the sheet; an inferred one gives way to it, and that of the import stands for one after today."""
     titles = TITLES.replace("owner", "Besitzer seit;owner")
 
     def sheet(day: str, owner: str) -> str:
@@ -59,10 +59,16 @@ def test_day_of_a_change_has_a_column(desk: Desk, today: datetime.date) -> None:
     assert since(desk, "d") == "2010-04-03"
     desk.take(sheet("01.05.2012", "Weiß"))
     assert desk.transfer_days() == ["2010-04-03", "2012-05-01"]
-    done = desk.take(sheet(f"{today + datetime.timedelta(9)}", "Löw"))
-    assert "its first day with its owner is left out" in done.out
-    assert len(desk.transfer_days()) == 2
-    assert " 0 changed" in done.last
+    later = f"{today + datetime.timedelta(9)}"
+    done = desk.take(sheet(later, "Löw"))
+    done.tells(
+        f"line 3: d: its first day with its owner is left out: {later} is after today",
+        f"line 3: d: inferred: owner Löw since {today}, which is taken since no cell says the day",
+        "line 3: d: changed: owner: Löw, before Weiß",
+    )
+    assert desk.transfer_days()[2:] == [str(today)] and since(desk, "d") == f"{today} (inferred)"
+    assert " 0 changed" in desk.take(sheet(later, "Löw")).last
+    desk.good("undo", "--to", "4")
     # of a month or a year that hasn't ended it is no day after today
     desk.take(sheet(str(today.year), "Löw"))
     assert desk.transfer_days()[2:] == [str(today)]
@@ -152,12 +158,13 @@ def test_day_of_another_owner(desk: Desk, today: datetime.date) -> None:
     for owner, words in ("GROSS", ()), ("Gross", ()), ("Grün", ("--owner", "Gross=Grün")):
         done = other.take(rows.format(f"{owner};03.04.2010"), *words)
         assert "isn't taken" not in done.told and since(other, "d") == "2010-04-03"
-    # a day that comes is still that of whoever is to be the owner then
+    # a day that comes is left out for whoever has it now
     later = today + datetime.timedelta(9)
     for owner in "Löw", "Weiß":
         done = other.take(rows.format(f"{owner};{later}"))
         done.tells(f"line 3: d: its first day with its owner is left out: {later} is after today")
-    assert other.transfer_days()[-1] == "2010-04-03"
+        assert since(other, "d") == f"{today} (inferred)"
+    assert other.transfer_days()[-2:] == [str(today)] * 2
 
 
 def test_first_owner_since_a_day(desk: Desk) -> None:

@@ -193,18 +193,24 @@ def test_castrated_sire(desk: Desk) -> None:
 
 
 def test_exits_withdrawn(desk: Desk) -> None:
-    """Three are told in a sentence; the command that is suggested brings them back."""
+    """Also one is told in a sentence, unless its cell says that it lives. Where the column tells of no exit any more
+    the command that is suggested brings all back; a column that has others is the right one."""
     rows = [f"a{at};F;2001-03-0{at};;;{'sold' if at < 3 else '2010-01-01'}" for at in range(1, 7)]
+    empty = [row.rpartition(";")[0] + ";" for row in rows]
+    told = "to look at: {} that had left {} as living again, {}: does the column of exits lack {}?"
     desk.take(TITLES + "\n".join(rows))
-    two = "\n".join(["a1;F;2001-03-01;;;", "a3;F;2001-03-03;;;lebt", *rows[1:2], *rows[3:]])
-    assert "count as living again" not in desk.take(TITLES + two).out
+    done = desk.take(TITLES + "\n".join([empty[0], "a3;F;2001-03-03;;;lebt", *rows[1:2], *rows[3:]]))
+    done.shows(told.format("1 animal", "counts", "a1 (line 2)", "it"))
+    assert not done.commands()
     desk.take(TITLES + "\n".join(rows))
     exits = [row["exit"] for row in desk.table("book/ids.csv")], desk.commands()
-    done = desk.take(TITLES + "\n".join([*(row.rpartition(";")[0] + ";" for row in rows[:3]), *rows[3:]]))
-    done.shows(
-        "to look at: 3 animals that had left count as living again, the first are a1 (line 2), a2 (line 3), a3 (line "
-        "4): does the column of exits lack theirs?"
-    )
+    first = told.format("{} animals", "count", "the first are a1 (line 2), a2 (line 3), a3 (line 4)", "theirs")
+    done = desk.take(TITLES + "\n".join(empty[:3] + rows[3:]))
+    done.shows(first.format(3))
+    assert not done.commands()
+    desk.good("undo")
+    done = desk.take(TITLES + "\n".join(empty))
+    done.shows(first.format(6))
     desk.typed(done.commands()[0])
     assert ([row["exit"] for row in desk.table("book/ids.csv")], desk.commands()) == exits
 

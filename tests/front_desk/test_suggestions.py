@@ -29,7 +29,7 @@ ASKED: dict[str, tuple[str, str, tuple[str, ...], int]] = {
     "unknown sign": ("", TITLES + "a;;F;2004;-frei-;;;\nb;;F;2004;-frei-;;;\n", (), 1),
     "sexes": ("", TITLES + "a;;Q;2004;;;;\nb;;F;2004;a;;;\n", ("--sexes", "X=m"), 2),
     "most sexes": ("", TITLES + "a;;Q Q;2004;;;;\nb;;Q Q;2004;;;;\nc;;Q Q;2004;;;;\n", (), 2),
-    "exits": ("", TITLES + PAIR + "a;;F;2004;;;;Hof\nb;;F;2004;;;;Hof\n", (), 1),
+    "exits": ("", TITLES + PAIR + "a;;F;2004;;;;Hof\nb;;F;2004;;;;Hof\n", (), 2),
     "months": ("", TITLES + "a;;F;03/25/2004;;;;\n", (), 1),
     "days": ("", TITLES + "a;;F;25/03/2004;;;;\n", ("--month-first",), 1),
     "either": ("", TITLES + "a;;F;03/05/2004;;;;\n", (), 1),

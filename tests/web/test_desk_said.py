@@ -36,7 +36,7 @@ FACTS = {
     "name": "Else", "birth day": "15.02.2001 (erschlossen)", "sire": "V-1", "dam": "HOLGBRF000000000002", "owner": "Huber",
     "owner since": "05.04.2003", "exit": "01.07.2009 (erschlossen)", "exit reason": "", "stored embryo": "ja", "castrated": "",
     "basis of the birth day": "aus Monat oder Jahr: 2001-02", "basis of the sex": "da es Mutter ist",
-    "sire in the sheet": "Leihbock", "dam in the sheet": "Oma", "filed by hand": "Name, Abgang",
+    "sire in the sheet": "Leihbock", "dam in the sheet": "Oma", "exit in the sheet": "", "filed by hand": "Name, Abgang",
 }  # fmt: skip
 
 
@@ -64,7 +64,9 @@ def test_facts() -> None:
     said = facts_said(plain, names, owners, words)
     empty = {name for name, text in said.items() if not text}
     assert empty == {"sire", "dam", "owner", "exit", "exit reason", "stored embryo", "castrated", "basis of the birth day",
-                     "basis of the sex", "sire in the sheet", "filed by hand"}  # fmt: skip
+                     "basis of the sex", "sire in the sheet", "exit in the sheet", "filed by hand"}  # fmt: skip
+    sold = facts_said(EMBRYO._replace(exit_text="verkauft"), names, owners, words)
+    assert (sold["exit"], sold["exit in the sheet"]) == (FACTS["exit"], "verkauft")
     assert facts_said(EMBRYO._replace(castrated=1), names, owners, words)["castrated"] == "ja"
     assert said["birth day"] == "15.02.2001"
     invented = EMBRYO._replace(birth_source="invented", birth_period=None, birth_no_such_day=None)

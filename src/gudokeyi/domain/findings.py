@@ -69,12 +69,13 @@ def is_animal(word: str) -> Option:
 @dataclass(frozen=True, slots=True)
 class Suggestion:
     """In this case the options are added to those of the call, and others left out; `undoes` where what was taken is
-    undone before."""
+    undone before, and `of_exits` where a word for what isn't known stands for no exit."""
 
     case: str
     options: tuple[Option, ...] = ()
     without: tuple[str, ...] = ()
     undoes: bool = False
+    of_exits: bool = False
 
     def words(self) -> str:
         """The case and the options alone, for where the call isn't known."""
@@ -82,6 +83,11 @@ class Suggestion:
         left_out = [f"leave out {', '.join(self.without)}"] * bool(self.without)
         undone = ["undo this"] * self.undoes
         return f"{self.case}, {' and '.join(undone + left_out + said)}"
+
+
+def tells_of_no_exit(word: str) -> Suggestion:
+    """How a cell that counts as an exit is said to be none."""
+    return Suggestion(f"if '{word}' tells of no exit", (Option("--unknown", quoted(word)),), of_exits=True)
 
 
 @dataclass(frozen=True, slots=True)

@@ -87,8 +87,9 @@ IMPORT = by_name(
         ), "Words that are animals' names", "though they are usual for an unknown parent"),
         Described("owner", Kind.OWNERS, "OLD=NEW", "an owner of the book is written otherwise, as 'Meier=Meyer'",
             "An owner is written otherwise now", "as Meier=Meyer; with semicolons between several", field="owners"),
-        Described("sexes", Kind.SEXES, "WORD=m,..", "more words for the sexes, as Aue=f,Bk=m",
-            "More words for the sexes", "as Aue=f,Bk=m"),
+        Described("sexes", Kind.SEXES, "WORD=m,..", (
+            "more words for the sexes, as Aue=f,Bk=m,Ka=mc, which is castrated"
+        ), "More words for the sexes", "as Aue=f,Bk=m,Ka=mc; mc is castrated"),
         Described("no-animal", Kind.TEXTS, "WORD,..", (
             "rows with such a word, as Summe, are no animals, and are left out, also later"
         ), "Rows that are no animals", "a word of each, as Total; with commas between them"),

@@ -1,9 +1,10 @@
 """Where a birth day, an exit or a sex comes from that the sheet doesn't give, as data, and in words."""
 from __future__ import annotations
 
+import datetime
 import enum
 from collections.abc import Mapping
-from dataclasses import dataclass
+from dataclasses import dataclass, replace
 
 from gudokeyi.domain.messages import Worded
 from gudokeyi.domain.wording import OptionalPart, Text, Told, Word
@@ -105,7 +106,8 @@ class ExitSource(enum.Enum):
 
 @dataclass(frozen=True, slots=True)
 class ExitBasis:
-    """What an exit comes from; `text` is the cell of one whose day isn't known."""
+    """What an exit comes from; `text` is the cell of one whose day isn't known, or what a sheet says beside the day of
+    why the animal left."""
 
     source: ExitSource = ExitSource.GIVEN
     period: Period | None = None
@@ -122,13 +124,25 @@ class ExitBasis:
     def words(self) -> str:
         if self.day_is_unknown:
             return f"{NO_DAY}: '{self.text}'" if self.text else NO_DAY
-        return self.period.words() if self.period else ""
+        parts = [self.period.words()] if self.period else []
+        return ": ".join([*parts, f"'{self.text}'"] if self.text else parts)
 
     def mark(self) -> str:
         return mark(self.is_inferred)
 
+    def with_reason(self, reason: str) -> ExitBasis:
+        """The same with what a sheet says beside it; behind the cell of a day that isn't known in brackets."""
+        if not reason or reason == self.text:
+            return self
+        return replace(self, text=f"{self.text} ({reason})" if self.day_is_unknown and self.text else reason)
+
 
 GIVEN_EXIT = ExitBasis()
+
+
+def reason_of(left: datetime.date | None, basis: ExitBasis) -> str:
+    """What a sheet says beside the day of an exit."""
+    return basis.text if left else ""
 
 
 class SexSource(Worded):

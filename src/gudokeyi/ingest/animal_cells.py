@@ -187,6 +187,8 @@ class AnimalCells:
         self.unknown, self.sexes, self.unread, self.report = unknown, sexes, unread, report
         self.days, self.letters = DayCells(unknown, month_first, forms), Letters()
         self.readings, self.takers = Readings(unread.titles), Takers({})
+        # what stands beside the days of exits, by lines
+        self.reasons: Mapping[int, str] = {}
 
     def read_otherwise(self, others: AnimalCells, field: Field, texts: Collection[str]) -> set[str]:
         """The texts of a column that may be read otherwise by others."""
@@ -221,6 +223,8 @@ class AnimalCells:
             self.read_taker(animal, owner, taker)
         if exit:
             self.read_exit(animal, exit)
+        if (reason := self.reasons.get(line)) and (animal.left or animal.exit_basis.day_is_unknown):
+            animal.exit_basis = animal.exit_basis.with_reason(reason)
         if embryo:
             animal.embryo = self.is_embryo(animal, embryo)
         return animal

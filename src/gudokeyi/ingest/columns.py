@@ -21,13 +21,15 @@ from gudokeyi.ingest.findings.columns import (
 from gudokeyi.ingest.findings.rows import ExitsInRemarks, FieldUnread, StatusUnread
 from gudokeyi.ingest.findings.sheets import MOST_SHOWN
 from gudokeyi.ingest.sheets import Sheet
+from gudokeyi.ingest.statuses import said_of
 from gudokeyi.ingest.titles import (
-    KNOWN_DOUBTFUL, KNOWN_PAIRS, KNOWN_TITLES, NEEDED, TITLES, known_titles, names_both_sexes, names_exits_alone,
+    KNOWN_DOUBTFUL, KNOWN_PAIRS, KNOWN_REASONS, KNOWN_TITLES, NEEDED, TITLES, known_titles, names_both_sexes,
+    names_exits_alone,
 )  # fmt: skip
 from gudokeyi.ingest.texts import plain
 from gudokeyi.ingest.words import (
-    DEAD, KNOWN_EXITS, KNOWN_SEXES, KNOWN_STAYS, KNOWN_STILL_THERE, LETTER, PLAIN_EXITS, TELLING_EXITS, has_word,
-    sex_word,
+    DEAD, KNOWN_EXITS, KNOWN_NOTHING, KNOWN_SEXES, KNOWN_STAYS, KNOWN_STILL_THERE, LETTER, PLAIN_EXITS, TELLING_EXITS,
+    has_word, lives, sex_word,
 )  # fmt: skip
 
 PARENTS = Field.SIRE, Field.DAM
@@ -141,7 +143,8 @@ def usual_column(columns: Columns, name: str) -> None:
         titled = of_days or titled
     # one that has nothing is read where no other has its field
     for at in sorted(titled, key=lambda one: not any(columns.cells(one))):
-        is_doubtful = name == Field.STATUS or plain(columns.title(at)) in KNOWN_DOUBTFUL
+        title = plain(columns.title(at))
+        is_doubtful = title in KNOWN_DOUBTFUL or name == Field.STATUS and title not in KNOWN_REASONS
         if not is_doubtful or tells_exits(columns, at, is_told=name != Field.STATUS):
             columns.found[name] = at
             return
@@ -173,12 +176,13 @@ def column_below(columns: Columns, name: Field) -> None:
 
 def tells_exits(columns: Columns, at: int, is_told: bool = True) -> bool:
     """Do most cells of the column tell that an animal left, or that it lives?"""
-    cells = [cell for cell in columns.cells(at) if cell]
-    words = KNOWN_EXITS | KNOWN_STAYS | KNOWN_STILL_THERE
-    known = sum(is_span(cell) or has_word(cell, words) or is_cross(cell) for cell in cells)
-    if is_told and 2 * known <= len(cells) and known:
-        columns.notes.append(TellsNoExits(columns.title(at)))
-    return 2 * known > len(cells)
+    counts, title = collections.Counter(cell for cell in columns.cells(at) if cell), columns.title(at)
+    words = KNOWN_EXITS | KNOWN_STAYS | KNOWN_STILL_THERE | KNOWN_NOTHING
+    said = {cell: said_of(cell, title) for cell in counts}
+    known = sum(counts[cell] for cell, text in said.items() if is_span(text) or has_word(text, words) or is_cross(text))
+    if is_told and 2 * known <= counts.total() and known:
+        columns.notes.append(TellsNoExits(title))
+    return 2 * known > counts.total()
 
 
 def is_cross(cell: str) -> bool:
@@ -193,6 +197,8 @@ SOME, MOST_DIFFERENT = 3, 2000
 def tell_unread_statuses(columns: Columns, named: Mapping[str, str]) -> None:
     """A column that isn't read, and whose cells mostly tell that animals live or left."""
     of = Field.EXIT if Field.EXIT not in columns.found else Field.STATUS
+    if of in columns.found:
+        tell_other_statuses(columns)
     if of in columns.found or named.get(of) == "":
         return
     for at in [at for at, title in enumerate(columns.sheet.titles) if title and columns.is_free(at)][:MOST_COMPARED]:
@@ -209,12 +215,25 @@ def tell_unread_statuses(columns: Columns, named: Mapping[str, str]) -> None:
             tell_remarks(columns, at, some)
 
 
+def tell_other_statuses(columns: Columns) -> None:
+    """Columns with a usual title for a status, where another one is read as that."""
+    for at in columns.titled(KNOWN_TITLES[Field.STATUS]):
+        title, texts = columns.title(at), {*columns.cells(at)}
+        said = {text: said_of(text, title) for text in texts} if len(texts) <= MOST_DIFFERENT else {}
+        tell_remarks(columns, at, {text for text, meant in said.items() if has_word(meant, TELLING_EXITS)})
+
+
 def tell_remarks(columns: Columns, at: int, texts: set[str]) -> None:
-    """Some cells of a column that isn't read tell that animals left."""
-    count = sum(cell in texts for cell in columns.cells(at))
-    cells = ((row.line, row.cells[at]) for row in columns.sheet.rows if at < len(row.cells))
-    line, text = next((line, cell) for line, cell in cells if cell in texts)
-    columns.notes.append(ExitsInRemarks(columns.title(at), count, line, text))
+    """Some cells of a column that isn't read tell that animals left; those that have an exit aren't told."""
+    cells = columns.cells(at)
+    telling = [place for place, cell in enumerate(cells) if cell in texts] if texts else []
+    for of in [columns.found[name] for name in (Field.EXIT, Field.STATUS) if name in columns.found]:
+        exits, title = columns.cells(of), columns.title(of)
+        none = {one for one in {*exits} if lives(said_of(one, title))}
+        telling = [place for place in telling if exits[place] in none]
+    if telling:
+        line, text = columns.sheet.rows[telling[0]].line, cells[telling[0]]
+        columns.notes.append(ExitsInRemarks(columns.title(at), len(telling), line, text))
 
 
 # so many columns without a title are told
@@ -301,6 +320,9 @@ def tell_likelier(columns: Columns, given: Mapping[str, str], before: Mapping[st
     for name in (one for one in before if one in columns.found and one not in given and one != Field.ID):
         usual = KNOWN_TITLES[name]
         title = plain(columns.title(columns.found[name]))
+        if title in KNOWN_REASONS:
+            # what others with states say is told by itself
+            continue
         likelier = columns.titled(usual[: usual.index(title)] if title in usual else usual)
         if likelier:
             title = columns.title(columns.found[name])

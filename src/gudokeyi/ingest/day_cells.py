@@ -110,6 +110,11 @@ class ExitCell(NamedTuple):
 NO_EXIT = ExitCell(SAYS_NOTHING, False, False, True)
 
 
+def is_other_state(text: str) -> bool:
+    """Is a text of a column of states none of an exit, as `pet only`?"""
+    return not (exit_word(text) or lives(text) or is_span(text))
+
+
 class DayCells:
     """Reads the texts of days. An exit is a day, a text with a day, or a word, such as `sold`: then the animal has left
     on a day that isn't known."""
@@ -117,6 +122,8 @@ class DayCells:
     def __init__(self, unknown: Container[str], month_first: bool, forms: DayForms | None = None) -> None:
         self.unknown, self.month_first, self.today = unknown, month_first, datetime.date.today()
         self.forms = forms or DayForms((), (), month_first)
+        # are exits read from a column of states, of which many are no exits?
+        self.of_states = False
         self.day = functools.cache(self.read_day)
         # nothing for an animal that lives
         self.exit = functools.cache(self.read_exit)
@@ -133,6 +140,8 @@ class DayCells:
         if not is_day and lives(text):
             return None
         if not is_day and is_still_there(text):
+            return NO_EXIT
+        if self.of_states and text not in self.unknown and is_other_state(text):
             return NO_EXIT
         day = self.day(Field.EXIT, text)
         is_no_more = is_day or is_span(text) or (day.reading is not None and not exit_word(text))

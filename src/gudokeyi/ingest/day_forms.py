@@ -228,6 +228,8 @@ class Readings:
         self.first: dict[tuple[Field, DayReading, Precision], tuple[int, str, str, str]] = {}
 
     def add(self, field: Field, reading: DayReading, line: int, text: str, span: Span) -> None:
+        if reading is DayReading.WITHIN and not span.is_day:
+            reading = DayReading.PERIOD_WITHIN
         of = field, reading, span.precision
         self.counts[of] += 1
         is_one = span.first == span.last or reading is DayReading.ONE_OF

@@ -43,7 +43,9 @@ class SheetFault(Message):
     NO_TEXT = "{path} is no text in UTF-8 or Windows-1252: save the sheet as CSV in UTF-8, and take that"
     # options
     COLUMN_OPTION = "--columns {part}: write FIELD=TITLE, where FIELD is one of {fields}"
-    SEX_OPTION = "--sexes {part}: write WORD=m for males and WORD=f for females, as --sexes Aue=f,Bk=m"
+    SEX_OPTION = (
+        "--sexes {part}: write WORD=m for males, WORD=f for females and WORD=mc for castrated males, as --sexes Aue=f,Bk=m"
+    )
 
 
 @enum.unique

@@ -12,6 +12,7 @@ from collections.abc import Callable, Collection, Iterable, KeysView, Mapping, S
 from typing import TypeVar
 
 from gudokeyi.domain.kinds import Field
+from gudokeyi.domain.provenance import GIVEN_EXIT
 from gudokeyi.domain.requests import MOST_IN_ID, MOST_IN_NAME
 from gudokeyi.ingest.animal_cells import AnimalCells
 from gudokeyi.ingest.animals import SheetAnimal
@@ -111,11 +112,21 @@ class PlainRows:
             days = enumerate(zip(births, lefts))
             self.odd |= {at for at, (birth, left) in days if left and birth.first > left}
         self.leave_embryos()
-        return [*map(
+        animals = [*map(
             SheetAnimal, self.texts[Field.ID], map(LINE_OF, self.rows), self.kept(Field.NAME), self.sexes(), births,
             self.parents(Field.SIRE), self.parents(Field.DAM), self.owners(), self.said(), self.days(Field.SINCE, None),
             lefts,
         )]  # fmt: skip
+        self.give_reasons(animals)
+        return animals
+
+    def give_reasons(self, animals: list[SheetAnimal]) -> None:
+        """What stands beside the days of exits."""
+        reasons = self.sheet.reasons
+        bases = {text: GIVEN_EXIT.with_reason(text) for text in {*reasons.values()}}
+        for animal in animals if reasons else ():
+            if animal.left and (text := reasons.get(animal.line)):
+                animal.exit_basis = bases[text]
 
     def again(self, sheet: Sheet, cells: AnimalCells, words: Collection[str]) -> PlainRows | None:
         """The same rows, some of whose texts mean something else now, and others come or go: the rows that have these,
@@ -140,6 +151,9 @@ class PlainRows:
         odd = {at for at, place in enumerate(before) if place in self.odd}
         # what stands for the animal of an odd row isn't asked for
         self.animals = [NO_ANIMAL if place is None else self.animals[place] for place in before]
+        if sheet.reasons != self.sheet.reasons:
+            others = {line for line, _ in sheet.reasons.items() ^ self.sheet.reasons.items()}
+            odd |= {at for at, row in enumerate(sheet.rows) if row.line in others}
         self.sheet, self.rows, self.odd = sheet, sheet.rows, new | odd
         self.texts = {name: sheet.column(at) for name, at in self.columns.items()}
         self.different = {name: different_of(texts) for name, texts in self.texts.items()}

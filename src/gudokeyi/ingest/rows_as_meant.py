@@ -13,17 +13,13 @@ from typing import Container, NamedTuple
 from gudokeyi.domain.findings import Report
 from gudokeyi.domain.kinds import Field
 from gudokeyi.ingest.findings.cells import UnseenInId
-from gudokeyi.ingest.findings.exits import NoExits, Remark
-from gudokeyi.ingest.findings.rows import (
-    CellsRepeated, MarksAreNames, NoteRow, NothingRepeated, StatusDisagrees, StatusRead,
-)  # fmt: skip
+from gudokeyi.ingest.findings.rows import CellsRepeated, MarksAreNames, NoteRow, NothingRepeated
 from gudokeyi.ingest.findings.sheets import UnseenDropped
 from gudokeyi.ingest.sheets import Sheet, SheetRow
+from gudokeyi.ingest.statuses import TAKER, Exits, exits_said
 from gudokeyi.ingest.texts import nearly, plain
 from gudokeyi.ingest.unknown_parents import UnknownParents
-from gudokeyi.ingest.words import (
-    DEAD, KNOWN_EXITS, KNOWN_SEXES, KNOWN_SUMS, KNOWN_YES, exit_word, is_still_there, lives, sex_word,
-)  # fmt: skip
+from gudokeyi.ingest.words import KNOWN_EXITS, KNOWN_SEXES, KNOWN_SUMS, sex_word
 
 # Cells with signs that no one sees: they are read without, but an id, which others write otherwise than it is seen.
 
@@ -237,87 +233,6 @@ def with_cell(row: SheetRow, at: int, text: str) -> SheetRow:
     return SheetRow(row.line, [*cells[:at], text, *cells[at + 1 :]])
 
 
-# A column of words that tells of exits beside one of their days.
-
-# titles of columns in which yes is said of the living, and what stands before them where no is said
-OF_LIVING = {
-    plain(title) for title in
-    ("lebt", "lebend", "lebendig", "aktiv", "im Bestand", "alive", "living", "active", "vivant", "en vie", "actif")
-}  # fmt: skip
-NO_WORDS = {"nein": "nicht", "n": "nicht", "no": "not", "non": "pas", "false": "not", "falsch": "nicht", "0": "nicht"}
-# an owner who takes an animal
-TAKER = re.compile(
-    r"\b(?:verkauft|verkauf|verk|abgegeben|weggegeben|verschenkt|umgestellt|gewechselt|geht|ging|sold|sale|transferred|"
-    r"given|went|vendue?|vente|cédée?|donnée?)\b\.?"
-    r".*?\b(?:an|zu|to|à|a|au|aux)\s+(?P<taker>\S.*)",
-    re.IGNORECASE,
-)
-# the same of a text that begins with whom
-TO_WHOM = re.compile(r"(?:an|zu|to|à|au)\s+(?P<taker>\S.*)", re.IGNORECASE)
-# the same of a text that stands for an owner
-WITH_NOW = re.compile(
-    r"(?:jetzt|nun|now|maintenant|désormais|neuer (?:besitzer|halter)|new owner|nouveau propriétaire)\b[: ]*(?:bei |an |with |to |chez |à )?(?P<taker>\S.*)", re.IGNORECASE
-)
-
-
-def said_of(status: str, title: str) -> str:
-    """What a status says, as a cell of exits says it."""
-    if plain(title) in OF_LIVING:
-        if status.casefold() in KNOWN_YES or status == "+":
-            return title
-        if status.casefold() in NO_WORDS:
-            return f"{NO_WORDS[status.casefold()]} {title}"
-    return status
-
-
-class Statuses:
-    """Takes what the status says where the column of exits says nothing, and tells where they disagree."""
-
-    def __init__(self, sheet: Sheet, columns: Mapping[str, int], unknown: Container[str], report: Report) -> None:
-        self.sheet, self.unknown, self.report = sheet, unknown, report
-        self.id, self.exit, self.status = (columns[one] for one in (Field.ID, Field.EXIT, Field.STATUS))
-        self.titles = sheet.titles[self.exit], sheet.titles[self.status]
-        self.taken, self.remarks, self.lines = 0, list[Remark](), dict[int, str]()
-
-    def rows(self, rows: list[SheetRow]) -> list[SheetRow]:
-        found = [self.row(row) for row in rows]
-        if self.taken:
-            self.report.add(0, "", StatusRead(self.titles[1], self.titles[0], self.taken))
-        if self.remarks:
-            self.report.add(0, "", NoExits.of(self.remarks))
-        return found
-
-    def row(self, row: SheetRow) -> SheetRow:
-        exit, status = (row.cells[at] if at < len(row.cells) else "" for at in (self.exit, self.status))
-        said = said_of(status, self.titles[1])
-        if not said or said in self.unknown and not DEAD.search(said):
-            return row
-        if is_still_there(said):
-            self.remarks.append(Remark(row.line, self.titles[1], said))
-            return row
-        tells, stays = bool(exit_word(said)), lives(said)
-        says_exit = (exit not in self.unknown or DEAD.search(exit) is not None) and not lives(exit)
-        if not exit or exit in self.unknown and not DEAD.search(exit):
-            self.taken += tells or not stays
-            return self.with_status(row, said) if tells or not stays else row
-        if says_exit and tells and TAKER.search(said):
-            return with_cell(row, self.exit, f"{said} {exit}")
-        if says_exit and stays:
-            self.tell(row, exit, status, True)
-        elif not says_exit and tells:
-            self.tell(row, exit, status, False)
-            return self.with_status(row, said)
-        return row
-
-    def with_status(self, row: SheetRow, said: str) -> SheetRow:
-        self.lines[row.line] = self.titles[1]
-        return with_cell(row, self.exit, said)
-
-    def tell(self, row: SheetRow, exit: str, status: str, has_day: bool) -> None:
-        found = StatusDisagrees(self.titles[0], exit, self.titles[1], status, has_day)
-        self.report.add(row.line, row.cells[self.id] if self.id < len(row.cells) else "", found)
-
-
 # All of these.
 
 
@@ -333,16 +248,25 @@ def as_meant(
         report.add(line, "", NoteRow(text))
     rows = [row for row in sheet.rows if row.line not in notes] if notes else sheet.rows
     rows = Marks(sheet, columns, called, unknown.more).repeat(rows, report)
-    remarks, of_status = list[Remark](), dict[int, str]()
-    if Field.STATUS in columns and Field.EXIT in columns:
-        statuses = Statuses(sheet, columns, unknown, report)
-        rows, remarks, of_status = statuses.rows(rows), statuses.remarks, statuses.lines
-    return sheet if rows is sheet.rows else replace(sheet, rows=rows, kept={}, remarks=remarks, of_status=of_status)
+    exits = exits_said(rows, sheet, columns, unknown, report) if Field.EXIT in columns else Exits()
+    if exits.texts:
+        exit, texts = columns[Field.EXIT], exits.texts
+        rows = [with_cell(row, exit, texts[at]) if at in texts else row for at, row in enumerate(rows)]
+    if rows is sheet.rows and not (exits.remarks or exits.reasons):
+        return sheet
+    return replace(
+        sheet, rows=rows, kept={}, remarks=exits.remarks, of_status=exits.of_status, reasons=exits.reasons
+    )
 
 
 # Owners to whom animals are sold within the society.
 
-
+# one who takes an animal, in a text that begins with whom
+TO_WHOM = re.compile(r"(?:an|zu|to|à|au)\s+(?P<taker>\S.*)", re.IGNORECASE)
+# the same of a text that stands for an owner
+WITH_NOW = re.compile(
+    r"(?:jetzt|nun|now|maintenant|désormais|neuer (?:besitzer|halter)|new owner|nouveau propriétaire)\b[: ]*(?:bei |an |with |to |chez |à )?(?P<taker>\S.*)", re.IGNORECASE
+)
 # what stands before the number of a member
 MEMBER_NAME = "Mitglied"
 MEMBER = {plain(word) for word in ("Mitglied", "Mitgl.", "Mitgliednr.", "Mitgliedsnr.", "member", "membre", "adhérent")}

@@ -4,13 +4,14 @@ from __future__ import annotations
 import collections
 import functools
 import re
+from collections.abc import Mapping
 from typing import NamedTuple
 
 from gudokeyi.ingest.findings.columns import SheetFinding
 from gudokeyi.ingest.findings.sheets import SexWord, SexWordsShort, TextCount
 from gudokeyi.ingest.texts import plain
 from gudokeyi.ingest.words import (
-    COUNTED_SEXES, KNOWN_CASTRATED, KNOWN_NEGATIONS, KNOWN_NEUTERED, KNOWN_SEXES, has_word, sex_word,
+    CASTRATED_MALE, COUNTED_SEXES, KNOWN_CASTRATED, KNOWN_NEGATIONS, KNOWN_NEUTERED, KNOWN_SEXES, has_word, sex_word,
 )  # fmt: skip
 
 
@@ -34,7 +35,8 @@ class Sexes:
     """The words of a column, and those that are named by `--sexes`."""
 
     def __init__(self, texts: list[str], given: dict[str, str]) -> None:
-        self.known = KNOWN_SEXES | given
+        self.known = KNOWN_SEXES | {word: "M" if sex == CASTRATED_MALE else sex for word, sex in given.items()}
+        self.given_castrated = {word for word, sex in given.items() if sex == CASTRATED_MALE}
         counted = {text for text in {*texts} if NUMBER.fullmatch(text)}
         # `1.0` may be the number of a code where no `0.1` is
         is_counted = counted <= COUNTED_SEXES.keys() and ("1.0" not in counted or "0.1" in counted)
@@ -58,11 +60,12 @@ class Sexes:
 
     def letters_of_three(self, words: set[str], given: dict[str, str]) -> dict[str, str]:
         """The words of letters that stand together for a male, a female and a castrated male, where no other letter of
-        the column is a sex. One that begins a word of the column for one sex stands for that."""
-        single = {word for word in words if len(word) == 1 and word.isalpha()}
+        the column is a sex. One that begins a word of the column for one sex stands for that; for one of them the
+        column may have another word."""
+        single = {word for word in words if len(word) == 1 and word.isalpha()} - given.keys()
         for three in THREE_LETTERS:
             by_letter = {plain(word)[0]: word for word in three}
-            if single - given.keys() == by_letter.keys():
+            if single == by_letter.keys() or is_all_but_one(single, by_letter, words):
                 longer = {letter: self.short.get(letter, []) for letter in by_letter}
                 alone = {letter for letter in by_letter if len({sex for _, sex in longer[letter]}) == 1}
                 return {letter: longer[letter][0][0] if letter in alone else by_letter[letter] for letter in by_letter}
@@ -79,6 +82,8 @@ class Sexes:
         if text in self.counted:
             return Meaning(self.counted[text], False, "")
         word = sex_word(text)
+        if word in self.given_castrated:
+            return Meaning("M", True, "")
         if whole := self.letters.get(word):
             sex = self.known[sex_word(whole)]
             return Meaning(sex, sex == "M" and has_word(whole, KNOWN_CASTRATED), whole)
@@ -110,6 +115,16 @@ class Sexes:
         counts = sorted(self.taken_for.items())
         taken = tuple(SexWord(TextCount(text, count), whole) for (text, whole), count in counts)
         return [SexWordsShort(taken)] if taken else []
+
+
+def is_all_but_one(single: set[str], by_letter: Mapping[str, str], words: set[str]) -> bool:
+    """Are letters, none of which is known by itself, all of three but one, of whose kind the column has a word?"""
+    others = by_letter.keys() - single
+    if len(others) != 1 or not single < by_letter.keys() or not single.isdisjoint(KNOWN_SEXES):
+        return False
+    meant = plain(by_letter[others.pop()])
+    kind = KNOWN_SEXES[meant], meant in KNOWN_CASTRATED
+    return any((KNOWN_SEXES.get(word), word in KNOWN_CASTRATED) == kind for word in words)
 
 
 def is_castrated(text: str) -> bool:

@@ -87,6 +87,8 @@ class Sheet:
     remarks: list[Remark] = field(default_factory=list)
     # the title of that column, by the lines whose cell for an exit is its word
     of_status: Mapping[int, str] = field(default_factory=dict)
+    # what that column says beside the day of an exit, by lines
+    reasons: Mapping[int, str] = field(default_factory=dict)
     decision: Decision | None = None
     # the worksheets of a workbook, and the one that is taken since it was named before
     worksheets: tuple[str, ...] = ()
@@ -100,8 +102,8 @@ class Sheet:
 
     def is_same(self, meant: Sheet) -> bool:
         """Has another sheet that was made of the same one the same rows?"""
-        return (meant.rows, meant.unseen, meant.remarks, meant.of_status) == (
-            self.rows, self.unseen, self.remarks, self.of_status
+        return (meant.rows, meant.unseen, meant.remarks, meant.of_status, meant.reasons) == (
+            self.rows, self.unseen, self.remarks, self.of_status, self.reasons
         )  # fmt: skip
 
     def column(self, at: int) -> list[str]:

@@ -10,10 +10,16 @@ from gudokeyi.domain.kinds import Field
 from gudokeyi.domain.messages import Mistake, some_of
 from gudokeyi.ingest.messages import SheetFault
 from gudokeyi.ingest.texts import composed, listed, plain
-from gudokeyi.ingest.words import KNOWN_EXITS, KNOWN_SEXES, sex_word
+from gudokeyi.ingest.words import CASTRATED_MALE, KNOWN_CASTRATED, KNOWN_EXITS, KNOWN_SEXES, sex_word
 
 # What a column of a sheet may have, and the usual titles in English, German and French.
 
+# titles of columns that say why an animal left: all that stands there tells of an exit
+REASONS = (
+    "Abgangsgrund, Abgangsursache, Grund des Abgangs, Todesursache, exit reason, reason for exit, reason for leaving, "
+    "reason left, cause of death, motif de sortie, motif de la sortie, cause de sortie, cause de la sortie, raison de la "
+    "sortie, cause de mort, cause du décès"
+)
 # The usual titles, the likelier first: where a sheet has both a column of days and one of words, as `Abgangsdatum` and
 # `Abgang`, the one of days is read; a column of all exits is read before one of deaths alone. They are compared in
 # small letters, without accents, blanks and signs. A parent's column may also have a word for the parent beside one
@@ -72,8 +78,8 @@ TITLES = {
     Field.EMBRYO: "embryo, embryo calf, stored embryo, embryo transfer, et, et calf, Embryotransfer, ET-Kalb, "
     "Embryokalb, embryon, transfert d'embryon",
     Field.STATUS: "status, Tierstatus, statut, état, Verbleib, fate, whereabouts, disposal, devenir, Zustand, "
-    "Lebensstatus, Lebenszustand, Abgangsgrund, exit reason, reason for leaving, motif de sortie, situation, lebt, "
-    "lebend, aktiv, im Bestand, alive, living, active, vivant, en vie, actif",
+    "Lebensstatus, Lebenszustand, " + REASONS + ", situation, lebt, "
+    "lebend, lebendig, aktiv, im Bestand, alive, living, active, vivant, en vie, actif",
 }  # fmt: skip
 # the sire and the dam of a sheet that has one column for each of a pair, and none of the titles above
 PAIRS = {Field.SIRE: "dog, stallion, ram, buck, bull, Rüde, Hengst, Bock, Bulle, étalon, bélier, chien",
@@ -115,6 +121,20 @@ def usual_titles(field: Field) -> list[str]:
 KNOWN_TITLES: dict[str, list[str]] = {field: usual_titles(field) for field in TITLES}
 KNOWN_PAIRS = {field: {plain(title) for title in listed(titles)} for field, titles in PAIRS.items()}
 KNOWN_DOUBTFUL = {plain(title) for title in listed(DOUBTFUL_EXITS)}
+KNOWN_STATUSES, KNOWN_REASONS = {*KNOWN_TITLES[Field.STATUS]}, {plain(title) for title in listed(REASONS)}
+# columns in which yes is said of the living, with what stands before the title where no is said
+OF_LIVING = {
+    plain(title): negation
+    for negation, titles in (
+        ("nicht", "lebt, lebend, lebendig, aktiv, im Bestand"), ("not", "alive, living, active"),
+        ("pas", "vivant, en vie, actif"),
+    )
+    for title in listed(titles)
+}  # fmt: skip
+# columns of states, of which many are no exits
+KNOWN_STATES = {*OF_LIVING} | {
+    plain(title) for title in listed("status, Tierstatus, statut, état, Zustand, Lebensstatus, Lebenszustand, situation")
+}  # fmt: skip
 
 
 def known_titles(titles: list[str]) -> int:
@@ -153,13 +173,14 @@ def read_given(words: list[str]) -> dict[str, str]:
 
 
 def read_sexes(words: list[str]) -> dict[str, str]:
-    """The words and sexes of `--sexes Aue=f,Bk=m`, each word as it is compared."""
+    """The words and sexes of `--sexes Aue=f,Bk=m,H=mc`, each word as it is compared; any word that is known for a
+    castrated male stands for one."""
     given = {}
     for part in parts_of(words):
         word, equals, sex = (piece.strip() for piece in part.partition("="))
         if not equals or not word or plain(sex) not in KNOWN_SEXES:
             raise Mistake(SheetFault.SEX_OPTION.said(part=part))
-        given[sex_word(word)] = KNOWN_SEXES[plain(sex)]
+        given[sex_word(word)] = CASTRATED_MALE if plain(sex) in KNOWN_CASTRATED else KNOWN_SEXES[plain(sex)]
     return given
 
 

@@ -28,7 +28,7 @@ SEXES = {
     "Rammler, Eselhengst, maennlich, Hahn, coq, baudet, männlich, männl, männliche, Bulle, Jungbulle, Zuchtbulle, Deckbulle, Stier, Jungstier, Zuchtstier, Muni, Bock, "
     "Schafbock, Ziegenbock, Zuchtbock, Jungbock, Altbock, Bocklamm, Widder, Hengst, Junghengst, Eber, Rüde, Kater, "
     "Bullenkalb, Stierkalb, Hengstfohlen, mâle, taureau, taurillon, bélier, bouc, étalon, poulain, chien, "
-    "agneau mâle, verrat, masculin, masc",
+    "agneau mâle, verrat, entier, mâle entier, masculin, masc",
     "F": "f, fs, fn, bs, female, fem, cow, heifer, ewe, gimmer, doe, nanny, mare, filly, sow, gilt, bitch, brood bitch, "
     "queen, jenny, jennet, ♀, w, weiblich, weibl, spayed, spayed female, Häsin, Zippe, Eselin, Eselstute, Henne, poule, "
     "ânesse, lapine, "
@@ -37,6 +37,8 @@ SEXES = {
     "Jungziege, Stute, Jungstute, Zuchtstute, Stutfohlen, Sau, Hündin, Kätzin, Katze, femelle, vache, génisse, brebis, "
     "antenaise, agnelle, agneau femelle, chèvre, chevrette, jument, pouliche, truie, chienne, féminin, fém",
 }
+# what stands for the sex of a castrated male where words for sexes are said
+CASTRATED_MALE = "C"
 # males that have no offspring any more
 CASTRATED = (
     "ox, steer, bullock, wether, gelding, barrow, neutered male, castrated, castrate, male castrated, kastr, Ochse, Hammel, "
@@ -121,6 +123,8 @@ NO_NAMES = (
 BORN_DEAD = "totgeburt, totgeboren, stillborn, still born, stillbirth, mort-né, mort-née, mortné, mortinato"
 # with one of these a word for a living animal tells of one that has left
 NEGATIONS = "nicht, kein, keine, nimmer, not, no, never, pas, plus, non"
+# what stands for no exit where one would stand
+NOTHING = "néant, RAS, R.A.S, rien, rien à signaler, aucun, aucune, kein, keine, keiner, keins, nichts, none, nothing, nil"
 YES = "1, x, yes, y, true, et, embryo, ja, j, wahr, oui, o, vrai"
 NO = "0, -, no, n, false, nein, falsch, non, faux"
 # ids of rows that count or sum up
@@ -167,6 +171,7 @@ KNOWN_RETURNS = {plain(word) for word in listed(RETURNS)}
 KNOWN_NO_PARENTS = {plain(word) for word in listed(NO_PARENTS)}
 KNOWN_NO_OWNERS = {plain(word) for word in listed(NO_OWNERS)}
 KNOWN_NO_NAMES = {plain(word) for word in listed(NO_NAMES)}
+KNOWN_NOTHING = {plain(word) for word in listed(NOTHING)}
 KNOWN_NEGATIONS = {plain(word) for word in listed(NEGATIONS)}
 KNOWN_BORN_DEAD = {plain(word) for word in listed(BORN_DEAD)}
 # how all of them begin: few lists have one
@@ -224,9 +229,14 @@ DEAD = re.compile(r"†|✝|^\+(?=\s*\d)|^\(?\+\)?$")
 
 def lives(text: str) -> bool:
     """Does it say that the animal hasn't left, as `lebt (Stand 2024)`?"""
-    if not text or text.casefold() in KNOWN_NO:
+    if not text or text.casefold() in KNOWN_NO or plain(text) in KNOWN_NOTHING:
         return True
     return has_word(text, KNOWN_STAYS) and not has_word(text, TELLING_EXITS | KNOWN_NEGATIONS)
+
+
+def says_lives(text: str) -> bool:
+    """The same in words, and not by nothing or by a no."""
+    return text.casefold() not in KNOWN_NO and plain(text) not in KNOWN_NOTHING and lives(text) and bool(text)
 
 
 def is_still_there(text: str) -> bool:

@@ -11,7 +11,7 @@ from gudokeyi.domain.collections import made
 from gudokeyi.domain.commands import Command, RegisterRecord, leave, lines_of, text_of
 from gudokeyi.domain.kinds import CommandKind
 from gudokeyi.domain.messages import Mistake, why
-from gudokeyi.domain.provenance import NO_DAY, ExitBasis
+from gudokeyi.domain.provenance import NO_DAY, ExitBasis, reason_of
 from gudokeyi.domain.refusals import Refusal
 from gudokeyi.domain.wording import SEXES
 from gudokeyi.engine.program import Herdbook
@@ -204,8 +204,12 @@ class Filing:
             and animal.embryo == record.embryo and animal.castrated == in_book.castrated
             and animal.owner == owner and animal.id not in self.owners.other_days
             and (
-                animal.left is not None or animal.exit_basis is in_book.exit
-                or animal.exit_basis.day_is_unknown == in_book.exit.day_is_unknown
+                animal.exit_basis is in_book.exit
+                or reason_of(animal.left, animal.exit_basis) == reason_of(record.left, in_book.exit)
+                and (
+                    animal.left is not None
+                    or animal.exit_basis.day_is_unknown == in_book.exit.day_is_unknown
+                )
             )
         )  # fmt: skip
 
@@ -224,6 +228,9 @@ class Filing:
             ("stored embryo", YES[record.embryo], YES[animal.embryo]),
             ("castrated", YES[in_book.castrated], YES[animal.castrated]),
         ]
+        if animal.left == record.left:
+            reasons = reason_of(record.left, in_book.exit), reason_of(animal.left, animal.exit_basis)
+            pairs.append(("exit in the sheet", *reasons))
         if animal.id in self.owners.other_days:
             since = record.since if owner_day_known(self.book, in_book, record.from_owner, record.since) else ""
             pairs.append(("owner since", since, self.owners.other_days[animal.id]))

@@ -13,6 +13,7 @@ from gudokeyi.domain.kinds import CommandKind, Field
 from gudokeyi.domain.provenance import GIVEN_EXIT, ExitBasis, ExitSource
 from gudokeyi.domain.refusals import Refusal
 from gudokeyi.ingest.animals import LINE_OF, SheetAnimal
+from gudokeyi.ingest.words import lives, says_lives
 from gudokeyi.reconcile.findings.animals import KeptByHand, KeptFromBook
 from gudokeyi.reconcile.findings.by_hand import ValueChanged
 from gudokeyi.reconcile.findings.plausibility import ExitsWithdrawn, MostChanged, RowOf
@@ -23,6 +24,8 @@ from gudokeyi.reconcile.next_book import NextBook
 # speaks
 # against it; else the link of the one offspring is. One that is left out is tried again where the book is to keep it.
 
+# of a day as `2001-03-01`
+DAY_LETTERS = 10
 # so many offspring outweigh an exit
 SEVERAL_OFFSPRING = 2
 
@@ -36,18 +39,21 @@ def exit_in_book(in_book: SocietyRecord, record: RegisterRecord, born: datetime.
     """The exit that an animal has in the book, or that was left out, since a sheet made it impossible, and can be with
     this birth day."""
     day = given_day(in_book.exit)
-    return Exit(day, GIVEN_EXIT) if day and day >= born else Exit(record.left, in_book.exit)
+    if day is None or day < born:
+        return Exit(record.left, in_book.exit)
+    return Exit(day, GIVEN_EXIT.with_reason(in_book.exit.text[DAY_LETTERS:].strip(" ()")))
 
 
 def given_day(basis: ExitBasis) -> datetime.date | None:
-    """The day of an exit that was left out, where it was kept as it is."""
-    if not basis.day_is_unknown:
+    """The day of an exit that was left out, where it was kept as it is; a reason may stand behind it."""
+    if not basis.day_is_unknown or basis.text[DAY_LETTERS : DAY_LETTERS + 2] not in ("", " ("):
         return None
+    text = basis.text[:DAY_LETTERS]
     try:
-        day = datetime.date.fromisoformat(basis.text)
+        day = datetime.date.fromisoformat(text)
     except ValueError:
         return None
-    return day if day.isoformat() == basis.text else None
+    return day if day.isoformat() == text else None
 
 
 def leave_out_early_exits(next_book: NextBook) -> None:
@@ -71,11 +77,13 @@ def leave_out_exit(next_book: NextBook, animal: SheetAnimal, refusal: Refusal, l
     """The animal counts as gone, on a day that isn't known."""
     assert animal.left is not None
     day, period, is_kept = animal.left.isoformat(), animal.exit_basis.period, animal.id in next_book.exits_of_book
+    reason = animal.exit_basis.text
     last = max(later, key=lambda one: (one.born, one.id), default=None)
     id, line = (last.id, last.line) if last else ("", 0)
     text = "" if is_kept else animal.cells.get(Field.EXIT, "")
     animal.left = None
-    animal.exit_basis = ExitBasis(ExitSource.UNKNOWN_DAY, text=text or (period.text if period else day))
+    basis = ExitBasis(ExitSource.UNKNOWN_DAY, text=text or (period.text if period else day))
+    animal.exit_basis = basis.with_reason(reason)
     if is_kept:
         entries = next_book.report.entries
         next_book.report.entries = [one for one in entries if not tells_of_exit(one, animal)]
@@ -101,7 +109,7 @@ def is_left_out_already(next_book: NextBook, animal: SheetAnimal) -> bool:
 # Changes of many animals at once, which are taken, and told in a sentence: exits that are taken back, and what most
 # animals have otherwise than before.
 
-# so many exits that are taken back are told, and the first of them
+# so many exits that are taken back are told whatever their cells say, and the first of them
 SEVERAL_WITHDRAWN, FIRST = 3, 3
 # changes of so few animals are ordinary corrections, also where these are most of the flock
 FEW_CHANGED = 5
@@ -112,10 +120,24 @@ LOOKED_AT = ("name", "owner", "exit")
 def tell_withdrawn_exits(next_book: NextBook) -> None:
     animals, gone = next_book.animals, next_book.in_book.left
     before = [animals[id] for id in animals if id in gone] if gone else []
-    withdrawn = [animal for animal in before if not animal.left and not animal.exit_basis.is_inferred]
-    if len(withdrawn) >= SEVERAL_WITHDRAWN:
+    withdrawn = [animal for animal in before if not has_left(animal)]
+    if len(withdrawn) < SEVERAL_WITHDRAWN:
+        # what a cell says is told by itself
+        withdrawn = [animal for animal in withdrawn if says_nothing(animal.cells.get(Field.EXIT, ""))]
+    if withdrawn:
         first = tuple(RowOf(animal.id, animal.line) for animal in withdrawn[:FIRST])
-        next_book.report.add(0, "", ExitsWithdrawn(len(withdrawn), first))
+        others = [animal.id for animal in animals.values() if animal.line and has_left(animal)]
+        other = others[0] if len(others) >= len(withdrawn) else ""
+        next_book.report.add(0, "", ExitsWithdrawn(len(withdrawn), first, other))
+
+
+def has_left(animal: SheetAnimal) -> bool:
+    return animal.left is not None or animal.exit_basis.is_inferred
+
+
+def says_nothing(exit: str) -> bool:
+    """Does a cell tell of no exit, without saying that the animal lives?"""
+    return lives(exit) and not says_lives(exit)
 
 
 def tell_most_changed(next_book: NextBook) -> None:

@@ -307,9 +307,8 @@ class OwnerDays:
         if not animal.owner or self.herd_of(animal.owner) == record.owner_code:
             return False
         if self.is_later(animal):
-            # it isn't one yet
-            animal.owner = self.book.owner_of(record.owner_code)
-            return False
+            # the sheet names him now, and the day alone can't be
+            animal.since = None
         return True
 
     def other_days_of(self, animal: SheetAnimal, record: RegisterRecord) -> Span | None:

@@ -24,7 +24,7 @@ VALUES = operator.attrgetter(
 )  # fmt: skip
 SINCE_OF = operator.attrgetter("since")
 # of a row that has all in its cells
-ALL_GIVEN: tuple[object, ...] = ("", [], GIVEN_BIRTH, GIVEN_EXIT, SexSource.GIVEN)
+ALL_GIVEN: tuple[object, ...] = ("", [], GIVEN_BIRTH)
 
 
 @dataclass(frozen=True)
@@ -80,7 +80,7 @@ class RowsOfBook:
         return (
             in_book.name, in_book.registration_number[6], Span(record.born, record.born), self.ids[record.sire],
             self.ids[record.dam], self.names[record.owner_code], record.left, record.embryo, in_book.castrated,
-            *ALL_GIVEN,
+            *ALL_GIVEN, in_book.exit, SexSource.GIVEN,
         )  # fmt: skip
 
     def others(self, rows: Mapping[str, SheetAnimal]) -> dict[str, SheetAnimal]:
@@ -127,6 +127,6 @@ def is_given(in_book: SocietyRecord) -> bool:
     return (
         in_book.standing is Standing.ROW and not in_book.by_hand and in_book.sex is SexSource.GIVEN
         and (in_book.birth is GIVEN_BIRTH or in_book.birth == GIVEN_BIRTH)
-        and (in_book.exit is GIVEN_EXIT or in_book.exit == GIVEN_EXIT)
+        and (in_book.exit is GIVEN_EXIT or not in_book.exit.is_inferred)
         and not in_book.written_sire and not in_book.written_dam
     )  # fmt: skip

@@ -12,8 +12,9 @@ from gudokeyi.domain.kinds import Field, Role
 from gudokeyi.domain.provenance import SexSource
 from gudokeyi.ingest.animals import DAM_OF, ID_OF, NAME_OF, SEX_OF, SIRE_OF, UNREAD_OF, Link, SheetAnimal
 from gudokeyi.reconcile.findings.animals import SexInferred, SexNotKnown
+from gudokeyi.reconcile.findings.by_hand import ValueChanged
 from gudokeyi.reconcile.findings.parents import Couple, NoSexesFit, ParentsSwapped
-from gudokeyi.reconcile.findings.same_animals import SexAgainstOffspring
+from gudokeyi.reconcile.findings.same_animals import SexAgainstOffspring, SexOfAnother
 from gudokeyi.reconcile.last_found import Kept
 from gudokeyi.reconcile.next_book import NextBook
 from gudokeyi.reconcile.plausibility import FEW_REFUSED
@@ -71,6 +72,17 @@ def mend_sexes(next_book: NextBook, gone: Mapping[str, SheetAnimal]) -> None:
         told = SexAgainstOffspring(written, role.sex, role, len(its), min(its), in_book)
         next_book.report.add(animal.line, animal.id, told)
         animal.sex, animal.sex_source, animal.castrated = role.sex, SexSource(role.value), False
+
+
+def tell_sexes_of_others(next_book: NextBook) -> None:
+    """Females that are castrated males now, and castrated males that are females, once it is told what changed."""
+    known, report = next_book.book.society_records, next_book.report
+    changed = [one for one in report.entries if isinstance(one.finding, ValueChanged) and one.finding.name == "sex"]
+    for line, id in [(one.line, one.id) for one in changed if one.line]:
+        animal, in_book = next_book.animals[id], known[id]
+        are_given = not animal.sex_source.is_inferred and not in_book.sex.is_inferred
+        if are_given and (animal.castrated or in_book.castrated):
+            report.add(line, id, SexOfAnother(animal.cells.get(Field.SEX, ""), in_book.castrated))
 
 
 def contradiction(next_book: NextBook, id: str, by_role: Mapping[Role, set[str]]) -> Contradiction | None:

@@ -3,12 +3,13 @@ hand."""
 from __future__ import annotations
 
 import datetime
+from dataclasses import replace
 
 from gudokeyi.domain.animals import SocietyRecord
 from gudokeyi.domain.commands import RegisterRecord
 from gudokeyi.domain.findings import Entry
 from gudokeyi.domain.kinds import CELL_FIELDS, Field, Role
-from gudokeyi.domain.provenance import Period
+from gudokeyi.domain.provenance import GIVEN_EXIT, ExitBasis, Period, reason_of
 from gudokeyi.ingest.animals import SheetAnimal, birth_in_book
 from gudokeyi.ingest.days import ANY_DAY, DayFault, Span
 from gudokeyi.ingest.findings.cells import DayLeftOut
@@ -50,6 +51,7 @@ class Keeping:
         self.has_embryos, self.has_sexes = "embryo" in self.given, Field.SEX in self.given
 
     def keep(self, animal: SheetAnimal, in_book: SocietyRecord, record: RegisterRecord) -> None:
+        reason = reason_of(animal.left, animal.exit_basis)
         if in_book.by_hand:
             self.keep_by_hand(animal, in_book, record)
         unread = animal.unread
@@ -68,6 +70,8 @@ class Keeping:
             animal.left, animal.exit_basis = record.left, in_book.exit
             self.kept_exits.add(animal.line)
             self.tell_kept(animal, Field.EXIT, str(record.left))
+        if animal.left:
+            self.keep_reason(animal, reason, in_book.exit if animal.left == record.left else GIVEN_EXIT)
         if not self.has_embryos or "embryo" in unread:
             animal.embryo = record.embryo
         if not animal.owner and (owner := self.book.owner_of(record.owner_code)):
@@ -88,6 +92,13 @@ class Keeping:
     def keep_exit(self, animal: SheetAnimal, exit: Exit) -> None:
         animal.left, animal.exit_basis = exit
         self.next_book.exits_of_book.add(animal.id)
+
+    def keep_reason(self, animal: SheetAnimal, reason: str, in_book: ExitBasis) -> None:
+        """What the sheet says beside the day of an exit, or what the book has beside that day where no column says
+        it."""
+        text = reason or animal.exit_basis.text or ("" if Field.STATUS in self.given else in_book.text)
+        if text != animal.exit_basis.text:
+            animal.exit_basis = replace(animal.exit_basis, text=text)
 
     def may_keep_exit(self, animal: SheetAnimal, exit: Exit) -> bool:
         """Has the book a day for the exit, though it may be left out? One before the birth isn't kept where it is told

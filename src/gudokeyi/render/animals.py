@@ -9,6 +9,7 @@ from gudokeyi.domain.messages import counted
 from gudokeyi.reconcile.owner_day_known import owner_day_known
 from gudokeyi.render.history import told_of_animal
 from gudokeyi.services.animals import Relatives, column_of_breeders, owners_of_dams, relatives_of
+from gudokeyi.services.facts import exit_in_sheet
 from gudokeyi.services.own_columns import values_of
 from gudokeyi.store.animal_rows import AnimalRow, exit_of, society_record_of
 from gudokeyi.store.book import Book
@@ -51,7 +52,7 @@ class AnimalView:
             ("number", animal.registration_number),
             ("sex", SEXES[animal.registration_number[6]] + animal.sex.mark() + ", castrated" * animal.castrated),
             ("born", f"{row.born}{basis(animal.birth.words())}" + ", from a stored embryo" * bool(row.embryo)),
-            ("exit", exit_of_row(row) or "none"),
+            ("exit", (exit_of_row(row) or "none") + in_sheet(exit_in_sheet(row))),
             ("owner", f"{owner}{since}" if owner else "not known"),
             ("coefficient", f"{coefficient.fraction} = {coefficient.decimal()} ({coefficient.percent}%)"),
         ]
@@ -70,9 +71,7 @@ class AnimalView:
             yield f"note {note.number}, {note.day}, {note.author}: {' '.join(note.text.split())}"
 
     def parent(self, role: Role, row: AnimalRow | None) -> str:
-        written = self.animal.written(role)
-        in_sheet = f" (in the sheet: {written})" if written else ""
-        return (self.line(row) if row else "unknown") + in_sheet
+        return (self.line(row) if row else "unknown") + in_sheet(self.animal.written(role))
 
     def line(self, row: AnimalRow) -> str:
         """Another animal in a line."""
@@ -117,6 +116,11 @@ def basis(words: str) -> str:
     if not words or words == "invented":
         return f" ({words})" * bool(words)
     return f" (inferred, {words})"
+
+
+def in_sheet(written: str) -> str:
+    """What a sheet has in the place of what stands before it, or beside it."""
+    return f" (in the sheet: {written})" if written else ""
 
 
 def exit_of_row(row: AnimalRow) -> str:

@@ -34,6 +34,7 @@ class Fact(enum.StrEnum):
     SEX_BASIS = "basis of the sex"
     WRITTEN_SIRE = "sire in the sheet"
     WRITTEN_DAM = "dam in the sheet"
+    WRITTEN_EXIT = "exit in the sheet"
     BY_HAND = "filed by hand"
 
 
@@ -108,6 +109,7 @@ def facts_of(row: AnimalRow, ids: Mapping[str, str], owners: Mapping[int, str]) 
         Fact.SEX_BASIS: animal.sex if animal.sex.is_inferred else "",
         Fact.WRITTEN_SIRE: row.written_sire,
         Fact.WRITTEN_DAM: row.written_dam,
+        Fact.WRITTEN_EXIT: exit_in_sheet(row),
         Fact.BY_HAND: FiledFields(tuple(field for field in Field if field in animal.by_hand)) if animal.by_hand else "",
     }
 
@@ -123,6 +125,11 @@ def exit_of(row: AnimalRow) -> Told | str:
     if row.departed:
         return MarkedDay(row.departed, basis.is_inferred)
     return UnknownExitDay(basis.text) if basis.day_is_unknown else ""
+
+
+def exit_in_sheet(row: AnimalRow) -> str:
+    """What a sheet says beside the day of an exit of why the animal left."""
+    return row.exit_text or "" if row.departed else ""
 
 
 def owner_day_of(row: AnimalRow) -> MarkedDay:

@@ -12,6 +12,7 @@ from gudokeyi.ingest.pedigree_files import given_file
 from gudokeyi.ingest.titles import parts_of as parts_of, read_given as read_given, read_sexes as read_sexes
 from gudokeyi.ingest.findings.cells import IdUsedAgain as IdUsedAgain
 from gudokeyi.ingest.unknown_parents import unknown_words
+from gudokeyi.ingest.words import CASTRATED_MALE as CASTRATED_MALE
 from gudokeyi.reconcile.findings.obstacles import LettersUnsaid as LettersUnsaid
 from gudokeyi.reconcile.findings.by_hand import YoungParent as YoungParent
 from gudokeyi.reconcile.findings.plausibility import BirthsNearerThanUsual as BirthsNearerThanUsual

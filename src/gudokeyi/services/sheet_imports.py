@@ -15,6 +15,7 @@ from gudokeyi.ingest.animals import LINE_OF
 from gudokeyi.ingest.files import GivenFile
 from gudokeyi.ingest.findings.columns import ColumnUntitled
 from gudokeyi.ingest.parents_beside import tell_parents_named_otherwise
+from gudokeyi.ingest.statuses import reasons_beside
 from gudokeyi.process import keep
 from gudokeyi.reconcile.all_animals import complete
 from gudokeyi.reconcile.cells_as_notes import keep_as_notes
@@ -40,6 +41,7 @@ from gudokeyi.reconcile.owners import (
 from gudokeyi.reconcile.parents import may_be_unknown
 from gudokeyi.reconcile.pedigree_links import refuse_lost_links
 from gudokeyi.reconcile.plausibility import PlausibilityChecks, tell_swapped_columns
+from gudokeyi.reconcile.sexes import tell_sexes_of_others
 from gudokeyi.services.book_program import BookProgram
 from gudokeyi.services.output_files import check_place
 from gudokeyi.services.prepared_changes import Prepared
@@ -117,6 +119,7 @@ def file(
         refuse_left_out(next_book, import_options)
     tell_renamed_owners(next_book)
     filing.tell_changes()
+    tell_sexes_of_others(next_book)
     tell_most_changed(next_book)
     after = book_after(next_book, filed, import_options, about)
     return filed, Outcome(
@@ -221,7 +224,8 @@ def understood_of(
     path: pathlib.Path, read: ReadSheet, remembered: list[Option], before: dict[str, str], own: OwnSheetColumns
 ) -> Understood:
     sheet, columns = read.sheet, read.columns
-    kept = tuple(sheet.titles[at] for at in sorted(own.places.values()))
+    of_reasons = reasons_beside(sheet.titles, read.columns.found)
+    kept = tuple(sheet.titles[at] for at in sorted({*own.places.values(), *of_reasons}))
     titles = tuple(ColumnRead(Field(name), title) for name, title in columns.titles_found())
     return Understood(
         str(path),

@@ -181,7 +181,8 @@ def birth_texts(basis: BirthBasis) -> tuple[str, str | None, str | None]:
 
 
 def exit_texts(basis: ExitBasis) -> tuple[str, str | None, str | None, str | None]:
-    return basis.source.value, *period_texts(basis.period), basis.text if basis.day_is_unknown else None
+    text = basis.text if basis.day_is_unknown else basis.text or None
+    return basis.source.value, *period_texts(basis.period), text
 
 
 def period_texts(period: Period | None) -> tuple[str | None, str | None]:

@@ -74,7 +74,7 @@ STANDING_WORDS = {standing.value: word for standing, word in STANDINGS.items()}
 BASES = f"""
     iif(
         birth_source = '{BirthSource.GIVEN.value}' AND sex_source = '{SexSource.GIVEN.value}'
-        AND exit_source = '{ExitSource.GIVEN.value}', NULL,
+        AND exit_source = '{ExitSource.GIVEN.value}' AND exit_text IS NULL, NULL,
         json_array(
             birth_source, birth_period, birth_no_such_day, sex_source, exit_source, exit_period, exit_no_such_day,
             exit_text

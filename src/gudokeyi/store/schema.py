@@ -356,5 +356,15 @@ UPDATE sqlite_schema SET sql = replace(
 PRAGMA writable_schema = RESET;
 """
 
-MIGRATIONS = (FIRST, SECOND, THIRD, FOURTH, FIFTH, SIXTH, LITTERS, PICTURE, WORKSHEET)
+# an exit with a day may have a text too: what the sheet says beside the day
+EXIT_TEXT = f"""
+PRAGMA writable_schema = ON;
+UPDATE sqlite_schema SET sql = replace(
+    sql, '(exit_source = ''{ExitSource.UNKNOWN_DAY.value}'') = (exit_text IS NOT NULL)',
+    'exit_source <> ''{ExitSource.UNKNOWN_DAY.value}'' OR exit_text IS NOT NULL'
+) WHERE name = 'animal';
+PRAGMA writable_schema = RESET;
+"""
+
+MIGRATIONS = (FIRST, SECOND, THIRD, FOURTH, FIFTH, SIXTH, LITTERS, PICTURE, WORKSHEET, EXIT_TEXT)
 VERSION = len(MIGRATIONS)

@@ -18,6 +18,7 @@ class DayReading(Worded):
     WITHIN = "within"
     ONE_OF = "one of"
     UNSURE = "unsure"
+    PERIOD_WITHIN = "period within"
 
     def words(self) -> str:
         return READINGS[self]
@@ -29,6 +30,7 @@ READINGS = {
     DayReading.WITHIN: "a day and a text",
     DayReading.ONE_OF: "one of several days",
     DayReading.UNSURE: "a day that isn't sure",
+    DayReading.PERIOD_WITHIN: "a text with a month, a week or a season",
 }
 
 

@@ -6,7 +6,7 @@ from collections.abc import Mapping, Sequence
 from dataclasses import dataclass
 from typing import NamedTuple
 
-from gudokeyi.domain.findings import Finding, Severity, What
+from gudokeyi.domain.findings import Finding, Severity, Suggestion, What, tells_of_no_exit
 from gudokeyi.domain.provenance import ExitBasis
 from gudokeyi.domain.wording import Counted, OptionalPart, Quoted, Text
 from gudokeyi.ingest.findings.columns import SheetFinding
@@ -25,11 +25,17 @@ class ExitInferred(Finding):
 
     what = What.INFERRED
     code = "exit inferred"
-    message = Text("exit on {day}{maybe_basis_period}{maybe_text}")
+    message = Text("exit on {day}{maybe_basis_period}{maybe_unended}{maybe_text}")
     parts = {
-        "maybe_basis_period": OptionalPart(", the last day of {basis_period}"),
+        "maybe_basis_period": OptionalPart(", the last day of {basis_period}", when="has_ended"),
+        "maybe_unended": OptionalPart(", the day of the import, as {basis_period} hasn't ended", when="is_unended"),
         "maybe_text": OptionalPart(", from '{text}'"),
     }
+
+    def values(self) -> Mapping[str, object]:
+        period, after = self.basis.period, self.day + datetime.timedelta(1)
+        has_ended = after.day == 1 and (after.month == 1 or period is not None and "-" in period.text)
+        return {"has_ended": has_ended, "is_unended": period is not None and not has_ended}
 
 
 @dataclass(frozen=True, slots=True)
@@ -61,14 +67,17 @@ class ExitsInOtherWords(SheetFinding):
 
     code = "exits in other words"
     message = Text(
-        "a day beside words that tell of no exit stands in {cells}, the first in line {cells_line}: "
-        "{cells_texts}{maybe_cells_more}: each counts as an exit on this day; where the animal hasn't left, write "
-        "nothing or alive, lebt or vivant",
+        "a day, a month or a year beside words that tell of no exit stands in {cells}, the first in line {cells_line}: "
+        "{cells_texts}{maybe_cells_more}: each counts as an exit then; where the animal hasn't left, write nothing or "
+        "alive, lebt or vivant",
         "cells_count",
     )
     parts = {
         "maybe_cells_more": OptionalPart(" and {cells_more} more"),
     }
+
+    def suggestions(self) -> tuple[Suggestion, ...]:
+        return (tells_of_no_exit(self.cells.texts[0].text),)
 
 
 @dataclass(frozen=True, slots=True)

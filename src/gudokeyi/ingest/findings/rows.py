@@ -208,7 +208,7 @@ class FieldUnread(SheetFinding):
 
 @dataclass(frozen=True, slots=True)
 class ExitsInRemarks(SheetFinding):
-    """Some cells of a column that isn't read tell that animals left."""
+    """Some cells of a column that isn't read for exits tell that animals left, whose exits no other column has."""
 
     title: str
     count: int
@@ -218,10 +218,11 @@ class ExitsInRemarks(SheetFinding):
     severity = Severity.FACTS
     code = "exits in remarks"
     message = Counted(
-        "the column '{title}' isn't read, and {count} cell of it tells that an animal left: '{text}' in line {line}; the "
-        "animal counts as living unless its exit stands in the column for exits",
-        "the column '{title}' isn't read, and {count} cells of it tell that animals left, the first is '{text}' in line "
-        "{line}; the animals count as living unless their exits stand in the column for exits",
+        "the column '{title}' isn't read for exits, and {count} cell of it tells that an animal left which has no exit: "
+        "'{text}' in line {line}; the animal counts as living: if it left, write that into the column for exits",
+        "the column '{title}' isn't read for exits, and {count} cells of it tell that animals left which have no exit, the "
+        "first is '{text}' in line {line}; these animals count as living: if one left, write that into the column for "
+        "exits",
         "count",
     )
 

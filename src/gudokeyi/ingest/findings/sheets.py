@@ -5,7 +5,7 @@ from collections.abc import Mapping
 from dataclasses import dataclass
 
 from gudokeyi.domain.changes import Option
-from gudokeyi.domain.findings import Suggestion
+from gudokeyi.domain.findings import Suggestion, tells_of_no_exit
 from gudokeyi.domain.kinds import Field
 from gudokeyi.domain.messages import Worded
 from gudokeyi.domain.wording import Counted, OptionalPart, Quoted, Text, Told
@@ -149,14 +149,17 @@ ADVICE = {
         "write days as 2001-03-01 or 01.03.2001, or 03.2001 or 2001 alone; or name another column by --columns"
     ),
     Advice.EXIT: (
-        "write days as 2001-03-01 or 01.03.2001, a word such as sold, verkauft or vendu where the day isn't known, and "
-        "nothing or alive, lebt or vivant where the animal hasn't left; or name another column by --columns"
+        "such an animal counts as gone; write days as 2001-03-01 or 01.03.2001, a word such as sold, verkauft or vendu "
+        "where the day isn't known, and nothing or alive, lebt or vivant where the animal hasn't left; or name another "
+        "column by --columns"
     ),
     Advice.SINCE: "write days as 2001-03-01 or 01.03.2001; or name another column by --columns",
     Advice.EMBRYO: "write 1 or nothing; or name another column by --columns",
 }
 # of the columns whose cells can't be read
 OF_FIELDS = {Field(advice.value): advice for advice in Advice}
+# letters that may stand for a castrated male, as for a gelding or a hongre
+OF_CASTRATED = ("g", "h")
 # columns that a sheet may lack
 OPTIONAL = (Field.EXIT, Field.SINCE, Field.EMBRYO)
 
@@ -186,11 +189,14 @@ class CellsUnread(SheetFinding):
         field, word = self.cells.field, self.cells.texts[0].text
         is_word = not {",", "="} & {*word} and not any(map(str.isdigit, word))
         if field is Field.SEX and is_word:
-            sexes = ("m", "male"), ("f", "female")
+            sexes = [("m", "male"), ("f", "female")]
+            sexes += [("mc", "a castrated male")] if word.casefold() in OF_CASTRATED else []
             return tuple(Suggestion(f"if '{word}' is {sex}", (Option("--sexes", f"{word}={m}"),)) for m, sex in sexes)
-        if field in OPTIONAL:
-            return (Suggestion(f"if no column tells of {OPTIONAL_WORDS[field]}", (column(field, ""),)),)
-        return ()
+        found = (tells_of_no_exit(word),) if field is Field.EXIT else ()
+        # where most is read the column is the right one
+        if field in OPTIONAL and 2 * self.cells.count >= self.cells.said:
+            found += (Suggestion(f"if no column tells of {OPTIONAL_WORDS[field]}", (column(field, ""),)),)
+        return found
 
 
 OPTIONAL_WORDS = {Field.EXIT: "exits", Field.SINCE: "changes of owners", Field.EMBRYO: "stored embryos"}

@@ -267,10 +267,12 @@ class ManyOldAsLiving(PlausibilityWarning):
 
 @dataclass(frozen=True, slots=True)
 class ExitsWithdrawn(PlausibilityWarning):
-    """Animals that had left count as living again: how many, and the first of them."""
+    """Animals that had left count as living again: how many, and the first of them. `other` has an exit in the sheet,
+    as so many others have: then the column is the right one."""
 
     animals: int
     first: tuple[RowOf, ...]
+    other: str = ""
 
     severity = Severity.ANIMALS
     code = "exits withdrawn"
@@ -282,6 +284,8 @@ class ExitsWithdrawn(PlausibilityWarning):
     )
 
     def suggestions(self) -> tuple[Suggestion, ...]:
+        if self.other:
+            return ()
         option = columns({Field.EXIT: ""})
         return (Suggestion("if the sheet doesn't tell of exits", (option,), undoes=True),)
 

@@ -44,6 +44,28 @@ class SexAgainstOffspring(PlausibilityWarning):
 
 
 @dataclass(frozen=True, slots=True)
+class SexOfAnother(PlausibilityWarning):
+    """A female of the book that is a castrated male in the sheet, or the other way about: no animal becomes that."""
+
+    word: str
+    was_castrated: bool
+
+    severity = Severity.ANIMALS
+    code = "sex of another"
+    message = Text(
+        "its sex is '{word}', and the book has it as {maybe_castrated}{maybe_female}: it is taken as the sheet says; if "
+        "the row has the id of another animal, mend that, and if the word is wrong, mend the word"
+    )
+    parts = {
+        "maybe_castrated": OptionalPart("a castrated male", when="was_castrated"),
+        "maybe_female": OptionalPart("a female", when="was_female"),
+    }
+
+    def values(self) -> Mapping[str, object]:
+        return {"was_female": not self.was_castrated}
+
+
+@dataclass(frozen=True, slots=True)
 class NewTag(PlausibilityWarning):
     """A new row that has the name, the birth day and the parents of an animal that has no row any more."""
 

@@ -38,6 +38,7 @@ OF_FINDINGS: dict[enum.Enum, str] = {
     DayReading.WITHIN: "a day and a text",
     DayReading.ONE_OF: "one of several days",
     DayReading.UNSURE: "a day that isn't sure",
+    DayReading.PERIOD_WITHIN: "a text with a month, a week or a season",
     BirthSource.GIVEN: "as given",
     BirthSource.PERIOD: "from a month or year",
     BirthSource.OFFSPRING: "from its offspring",
@@ -80,8 +81,8 @@ OF_FINDINGS: dict[enum.Enum, str] = {
     Advice.SEX: "write M or F",
     Advice.BIRTH: "write days as 2001-03-01 or 01.03.2001, or 03.2001 or 2001 alone; or choose another column",
     Advice.EXIT: (
-        "write days as 2001-03-01 or 01.03.2001, a word such as sold where the day isn't known, and nothing or alive "
-        "where the animal hasn't left; or choose another column"
+        "such an animal counts as gone; write days as 2001-03-01 or 01.03.2001, a word such as sold where the day isn't "
+        "known, and nothing or alive where the animal hasn't left; or choose another column"
     ),
     Advice.SINCE: "write days as 2001-03-01 or 01.03.2001; or choose another column",
     Advice.EMBRYO: "write 1 or nothing; or choose another column",
@@ -144,6 +145,7 @@ FACTS = {
     Fact.SEX_BASIS: "basis of the sex",
     Fact.WRITTEN_SIRE: "sire in the sheet",
     Fact.WRITTEN_DAM: "dam in the sheet",
+    Fact.WRITTEN_EXIT: "exit in the sheet",
     Fact.BY_HAND: "filed by hand",
 }
 

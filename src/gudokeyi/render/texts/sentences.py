@@ -85,7 +85,7 @@ SENTENCES: dict[Message, str] = {
     SheetFault.CANT_BE_READ: "{path} can't be read: {error}",
     SheetFault.NO_WORKBOOK: "{path} can't be read as an .xlsx file: save the sheet as CSV, and take that",
     SheetFault.COLUMN_OPTION: "a column is named wrongly: '{part}'",
-    SheetFault.SEX_OPTION: "words for the sexes: '{part}' isn't written as WORD=m or WORD=f",
+    SheetFault.SEX_OPTION: "words for the sexes: '{part}' isn't written as WORD=m, WORD=f or WORD=mc (castrated)",
     ImportFault.OWNER_OPTION: "owners: '{word}' isn't written as OLD=NEW, as Meier=Meyer",
     ImportFault.OWNER_LACKS: "owners: the book has no owner '{before}': its owners are {owners}",
     ImportFault.NO_OWNERS: "owners: no animal of the book has an owner yet",

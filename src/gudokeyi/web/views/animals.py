@@ -17,7 +17,7 @@ from gudokeyi.render.pedigree_pictures import Pedigree
 from gudokeyi.services.animals import (
     SEX_SOURCES, AnimalRow, Coefficient, Relatives, column_of_breeders, former_ids, owners_of_dams, society_record_of,
 )  # fmt: skip
-from gudokeyi.services.facts import birth_of, exit_of, owner_day_said
+from gudokeyi.services.facts import birth_of, exit_in_sheet, exit_of, owner_day_said
 from gudokeyi.services.found_animals import Asked, Order
 from gudokeyi.services.opening import Book
 from gudokeyi.services.option_values import years, years_of
@@ -134,6 +134,7 @@ class Shower:
         words, line = self.words, self.line(row)
         castrated, embryo = f", {words.gettext('castrated')}", f", {words.gettext('from a stored embryo')}"
         reason = f", {name_of(ExitReason(animal.exit_reason), words)}" if animal.exit_reason else ""
+        reason += f" {words.gettext('(in the sheet: {})', written)}" if (written := exit_in_sheet(row)) else ""
         day = owner_day_said(self.book, row)
         since = f" {words.gettext('(since {})', said(day, words))}" if day else ""
         found = [

@@ -14,7 +14,7 @@ from gudokeyi.domain.options import IMPORT
 from gudokeyi.render.page_language import PageLanguage, name_of
 from gudokeyi.render.page_wording import MessageView, sentence_of
 from gudokeyi.services.imports import (
-    BirthsNearerThanUsual, BirthsTooNear, IdUsedAgain, YoungParent, parts_of, read_given, read_sexes,
+    CASTRATED_MALE, BirthsNearerThanUsual, BirthsTooNear, IdUsedAgain, YoungParent, parts_of, read_given, read_sexes,
 )  # fmt: skip
 from gudokeyi.web.files import Upload
 from gudokeyi.web.forms import BETWEEN
@@ -67,7 +67,7 @@ def proposed(suggestions: Sequence[Suggestion], words: PageLanguage) -> list[Pro
     for one in suggestions:
         options = [option for option in one.options if option != DROP_GONE or len(one.options) == 1]
         for those in decisions(options):
-            label = "; ".join(label for option in those for label in labels_of(option, words))
+            label = "; ".join(label for option in those for label in labels_of(option, words, one.of_exits))
             found.append(Proposed(label, (*those,)))
     return list(dict.fromkeys(found))
 
@@ -108,7 +108,8 @@ def is_choice(suggestion: Suggestion) -> bool:
     return bool(suggestion.options) and not suggestion.without
 
 
-def labels_of(option: Option, words: PageLanguage) -> list[str]:
+def labels_of(option: Option, words: PageLanguage, of_exits: bool = False) -> list[str]:
+    """What an option means; of an exit a word for what isn't known says that there is none."""
     if option.option == COLUMNS:
         titles = [(name_of(Field(name), words), title) for name, title in read_given([option.word]).items()]
         return [
@@ -118,7 +119,7 @@ def labels_of(option: Option, words: PageLanguage) -> list[str]:
     if option.option == SEXES:
         said = [part.partition("=")[0].strip() for part in parts_of([option.word])]
         sexes = zip(said, read_sexes([option.word]).values())
-        return [words.gettext("'{}' means: {}", text, words.sex(sex)) for text, sex in sexes]
+        return [words.gettext("'{}' means: {}", text, sex_meant(sex, words)) for text, sex in sexes]
     if option.option == OWNER:
         before, _, now = option.word.partition("=")
         return [words.gettext("'{}' is written '{}' from now on", before, now)]
@@ -126,9 +127,14 @@ def labels_of(option: Option, words: PageLanguage) -> list[str]:
         pairs = [part.partition("=")[::2] for part in parts_of([option.word])]
         return [words.gettext("{} has the tag {} from now on", before, now) for before, now in pairs]
     if option.option == "--unknown":
-        return [words.gettext("'{}' means: {}", option.word, words.gettext("unknown parent"))]
+        meant = words.gettext("no exit") if of_exits else words.gettext("unknown parent")
+        return [words.gettext("'{}' means: {}", option.word, meant)]
     label = words.gettext(IMPORT[option.option.removeprefix("--")].label)
     return [f"{label}{words.colon} {option.word}" if option.word else label]
+
+
+def sex_meant(sex: str, words: PageLanguage) -> str:
+    return words.gettext("castrated male") if sex == CASTRATED_MALE else words.sex(sex)
 
 
 def field_of(option: Option) -> str:

@@ -1,0 +1,196 @@
+"""Columns of words such as `Status` beside that of the exits: what they say of exits, and of why an animal left."""
+from __future__ import annotations
+
+import functools
+import re
+from collections.abc import Mapping, Sequence
+from dataclasses import dataclass, field
+from typing import Container, NamedTuple
+
+from gudokeyi.domain.findings import Report
+from gudokeyi.domain.kinds import Field
+from gudokeyi.ingest.day_cells import is_other_state
+from gudokeyi.ingest.findings.exits import NoExits, Remark
+from gudokeyi.ingest.findings.rows import StatusDisagrees, StatusRead
+from gudokeyi.ingest.sheets import Sheet, SheetRow
+from gudokeyi.ingest.texts import plain
+from gudokeyi.ingest.titles import KNOWN_REASONS, KNOWN_STATES, KNOWN_STATUSES, OF_LIVING
+from gudokeyi.ingest.words import DEAD, KNOWN_YES, exit_word, is_still_there, lives, says_lives
+
+# what says no in a column of living animals
+NO_WORDS = {"nein", "n", "no", "non", "false", "falsch", "faux", "0"}
+# an owner who takes an animal
+TAKER = re.compile(
+    r"\b(?:verkauft|verkauf|verk|abgegeben|weggegeben|verschenkt|umgestellt|gewechselt|geht|ging|sold|sale|transferred|"
+    r"given|went|vendue?|vente|cédée?|donnée?)\b\.?"
+    r".*?\b(?:an|zu|to|à|a|au|aux)\s+(?P<taker>\S.*)",
+    re.IGNORECASE,
+)
+# so many different texts a column of words has at most
+MOST_TEXTS = 2000
+# so many such columns are looked at
+MOST_COLUMNS = 20
+
+
+def said_of(status: str, title: str) -> str:
+    """What a status says, as a cell of exits says it."""
+    if negation := OF_LIVING.get(plain(title)):
+        if status.casefold() in KNOWN_YES or status == "+":
+            return title
+        if status.casefold() in NO_WORDS:
+            return f"{negation} {title}"
+    return status
+
+
+def exits_of_living(rows: list[SheetRow], title: str, at: int) -> dict[int, str]:
+    """By the places of rows what a column that tells which animals live says of exits, where that is another text."""
+    if plain(title) not in OF_LIVING:
+        return {}
+    cells = [cell_of(row, at) for row in rows]
+    said = {text: said_of(text, title) for text in {*cells}}
+    return {place: said[text] for place, text in enumerate(cells) if said[text] != text}
+
+
+def cell_of(row: SheetRow, at: int) -> str:
+    return row.cells[at] if at < len(row.cells) else ""
+
+
+class Said(NamedTuple):
+    """What a text of a status says: what a cell of exits would say in its place; whether that tells of an exit, that
+    the animal is still there, of another state, or no exit; whether it says in words that the animal lives, or more of
+    an exit than that there was one; and whether it names who took it."""
+
+    text: str
+    tells: bool
+    is_still_there: bool
+    is_other_state: bool
+    tells_none: bool
+    lives: bool
+    is_reason: bool
+    has_taker: bool
+
+
+@dataclass
+class Exits:
+    """What is found in a status beside the exits: the texts for exits, by the places of rows, and the lines of those
+    that are a word of the status alone; the reasons beside days of exits, by their lines; and what is to be kept as
+    notes."""
+
+    texts: dict[int, str] = field(default_factory=dict)
+    of_status: dict[int, str] = field(default_factory=dict)
+    reasons: dict[int, str] = field(default_factory=dict)
+    remarks: list[Remark] = field(default_factory=list)
+
+
+class Statuses:
+    """Takes what the status says where the column of exits says nothing, keeps it as a reason beside a day, and tells
+    where they disagree."""
+
+    def __init__(self, sheet: Sheet, columns: Mapping[str, int], unknown: Container[str], report: Report) -> None:
+        self.sheet, self.unknown, self.report = sheet, unknown, report
+        self.id, self.exit, self.status = (columns[one] for one in (Field.ID, Field.EXIT, Field.STATUS))
+        self.titles = sheet.titles[self.exit], sheet.titles[self.status]
+        self.is_of_states = plain(self.titles[1]) in KNOWN_STATES
+        # the same texts stand in many cells
+        self.said, self.says_exit = functools.cache(self.read), functools.cache(self.tells_exit)
+        self.found, self.taken = Exits(), 0
+
+    def find(self, rows: list[SheetRow]) -> Exits:
+        for place, row in enumerate(rows):
+            exit, status = cell_of(row, self.exit), cell_of(row, self.status)
+            if status and (said := self.said(status)):
+                self.look(place, row, exit, said)
+        if self.taken:
+            self.report.add(0, "", StatusRead(self.titles[1], self.titles[0], self.taken))
+        if self.found.remarks:
+            self.report.add(0, "", NoExits.of(self.found.remarks))
+        return self.found
+
+    def read(self, status: str) -> Said | None:
+        """Nothing for a text that says nothing."""
+        text = said_of(status, self.titles[1])
+        if not text or self.is_unknown(text):
+            return None
+        tells, tells_none = bool(exit_word(text)), lives(text)
+        # a state such as `pet only` is no exit unless a word or a day says so
+        is_other = self.is_of_states and is_other_state(text)
+        is_there, has_taker = is_still_there(text), TAKER.search(text) is not None
+        is_reason = text == status and not (tells_none or is_there or text.casefold() in KNOWN_YES)
+        return Said(text, tells, is_there, is_other, tells_none, says_lives(text), is_reason, has_taker)
+
+    def is_unknown(self, text: str) -> bool:
+        return text in self.unknown and not DEAD.search(text)
+
+    def tells_exit(self, exit: str) -> bool:
+        return not self.is_unknown(exit) and not lives(exit)
+
+    def look(self, place: int, row: SheetRow, exit: str, said: Said) -> None:
+        says_exit = bool(exit) and self.says_exit(exit)
+        if says_exit and said.tells and said.has_taker:
+            self.found.texts[place] = f"{said.text} {exit}"
+        if says_exit and said.is_reason:
+            self.found.reasons[row.line] = said.text
+        elif said.is_still_there or said.is_other_state:
+            self.found.remarks.append(Remark(row.line, self.titles[1], said.text))
+        elif says_exit and said.lives:
+            self.tell(row, exit, True)
+        elif not says_exit and not said.tells_none and (said.tells or not exit or self.is_unknown(exit)):
+            self.take(place, row, exit, said.text)
+
+    def take(self, place: int, row: SheetRow, exit: str, said: str) -> None:
+        """The word of the status stands for an exit of which its column says nothing, or that there is none."""
+        self.found.texts[place], self.found.of_status[row.line] = said, self.titles[1]
+        if not exit or self.is_unknown(exit):
+            self.taken += 1
+        else:
+            self.tell(row, exit, False)
+
+    def tell(self, row: SheetRow, exit: str, has_day: bool) -> None:
+        found = StatusDisagrees(self.titles[0], exit, self.titles[1], cell_of(row, self.status), has_day)
+        self.report.add(row.line, cell_of(row, self.id), found)
+
+
+def tell_living_by_others(
+    rows: list[SheetRow], sheet: Sheet, columns: Mapping[str, int], unknown: Container[str], report: Report
+) -> None:
+    """Other columns with a usual title for a status aren't read; where one says that an animal lives which has an exit,
+    that is told."""
+    read, exit_at = {*columns.values()}, columns[Field.EXIT]
+    titles = enumerate(sheet.titles)
+    for at in [at for at, title in titles if at not in read and plain(title) in KNOWN_STATUSES][:MOST_COLUMNS]:
+        texts, title = {*sheet.column(at)} - {""}, sheet.titles[at]
+        living = {one for one in texts if says_lives(said_of(one, title))} if len(texts) <= MOST_TEXTS else set[str]()
+        for row in rows if living else ():
+            exit, status = cell_of(row, exit_at), cell_of(row, at)
+            if status in living and exit and not lives(exit) and (exit not in unknown or DEAD.search(exit)):
+                found = StatusDisagrees(sheet.titles[exit_at], exit, title, status)
+                report.add(row.line, cell_of(row, columns[Field.ID]), found)
+
+
+def exits_said(
+    rows: list[SheetRow], sheet: Sheet, columns: Mapping[str, int], unknown: Container[str], report: Report
+) -> Exits:
+    """What columns of words say of the exits of rows."""
+    tell_living_by_others(rows, sheet, columns, unknown, report)
+    at = columns[Field.EXIT]
+    if Field.STATUS not in columns:
+        return Exits(exits_of_living(rows, sheet.titles[at], at))
+    exits = Statuses(sheet, columns, unknown, report).find(rows)
+    for of_reasons in reasons_beside(sheet.titles, columns):
+        add_reasons(exits, rows, of_reasons, at, unknown)
+    return exits
+
+
+def reasons_beside(titles: Sequence[str], columns: Mapping[str, int]) -> list[int]:
+    """The place of a column that says why animals left, beside another one that is read as the status."""
+    read = {*columns.values()} if Field.STATUS in columns else {*range(len(titles))}
+    return [at for at, title in enumerate(titles) if at not in read and plain(title) in KNOWN_REASONS][:1]
+
+
+def add_reasons(exits: Exits, rows: list[SheetRow], of_reasons: int, at: int, unknown: Container[str]) -> None:
+    """What such a column says beside exits, which column ever tells of these."""
+    says = functools.cache(lambda text: not lives(text) and (text not in unknown or DEAD.search(text) is not None))
+    for place, row in enumerate(rows):
+        reason = cell_of(row, of_reasons)
+        if reason and says(reason) and says(exits.texts.get(place) or cell_of(row, at)):
+            exits.reasons[row.line] = reason

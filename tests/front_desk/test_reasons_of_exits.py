@@ -1,0 +1,181 @@
+"""Columns of words beside that of the days of exits: why animals left is kept beside the day, states such as `pet only`
+are no exits, and a column of living animals tells which aren't any more."""
+from __future__ import annotations
+
+import datetime
+import json
+
+import pytest
+
+from front_desk.desk import Desk
+from front_desk.test_cells_as_notes import notes
+from gudokeyi.domain.provenance import ExitBasis, ExitSource, Period
+from gudokeyi.ingest.findings.exits import ExitInferred
+
+HORSES = "N° SIRE;Nom;Sexe;Né(e) le;Père;Mère;Propriétaire;Sorti le;Motif de sortie\n"
+ROWS = (
+    "A;Amiral;Étalon;21/02/2010;;;GAEC;14/03/2023;Mort (colique)\nB;Bichette;Jument;05/06/2011;;;Moreau;11/2022;Boucherie\n"
+    "C;Jo;Hongre;27/06/2019;A;B;EARL;;\nD;Ja;Hongre;27/06/2019;A;B;EARL;néant;RAS\n"
+)
+
+
+def reason(desk: Desk, id: str) -> tuple[str, str]:
+    """The day of an exit, and what is kept beside it."""
+    animal = json.loads(desk.good("show", id, "--json").out)["animal"]
+    return animal["left"] or "", animal["exit_basis"]["text"]
+
+
+def exits(desk: Desk) -> dict[str, str]:
+    return {row["id"]: row["exit"] for row in desk.table("book/ids.csv") if row["exit"]}
+
+
+def test_reason_beside_the_day(desk: Desk) -> None:
+    """It is shown, listed and told with the history; the same sheet says nothing new, and what a sheet without such a
+    column doesn't say stays."""
+    assert "can't be read" not in desk.take(HORSES + ROWS).told
+    assert reason(desk, "A") == ("2023-03-14", "Mort (colique)") and reason(desk, "B") == ("2022-11-30", "Boucherie")
+    assert reason(desk, "C") == reason(desk, "D") == ("", "")
+    assert "  exit          2023-03-14 (in the sheet: Mort (colique))\n" in desk.good("show", "A").out
+    assert "exit 2023-03-14; exit in the sheet Mort (colique)" in desk.good("history", "1").out
+    assert exits(desk) == {"A": "'Mort (colique)'", "B": "the month 2022-11: 'Boucherie'"}
+    assert " 0 changed" in desk.take(HORSES + ROWS).last
+    without = "".join(f"{row.rpartition(';')[0]}\n" for row in (HORSES + ROWS).splitlines())
+    assert " 0 changed" in desk.take(without).last and reason(desk, "A") == ("2023-03-14", "Mort (colique)")
+    rows = ROWS.replace("Boucherie", "Accident").replace("Mort (colique)", "").replace("EARL;;", "EARL;2.3.2024;Volé")
+    done = desk.take(HORSES + rows)
+    done.tells(
+        "line 2: A: changed: exit in the sheet: none, before Mort (colique)",
+        "line 3: B: changed: exit in the sheet: Accident, before Boucherie",
+        "line 4: C: changed: exit: 2024-03-02, before none",
+    )
+    assert done.told.count("C: changed") == 1
+    assert [reason(desk, id)[1] for id in "ABC"] == ["", "Accident", "Volé"]
+    desk.good("undo")
+    assert reason(desk, "A")[1] == "Mort (colique)"
+    desk.good("verify")
+
+
+def test_reason_and_another_day(desk: Desk) -> None:
+    """A reason is that of its day; where the sheet gives the day of the book as a month it stays."""
+    desk.take(HORSES + ROWS)
+    without = HORSES.replace(";Motif de sortie", "") + "A;Amiral;Étalon;21/02/2010;;;GAEC;{}\n"
+    desk.take(without.format("03/2023"), "--anyway")
+    assert reason(desk, "A") == ("2023-03-14", "Mort (colique)")
+    desk.take(without.format("15/04/2023"), "--anyway")
+    assert reason(desk, "A") == ("2023-04-15", "")
+
+
+def test_reason_of_a_day_that_cannot_be(desk: Desk) -> None:
+    """It stands behind the cell: of one that can't be read, and of an exit before offspring were born."""
+    rows = ROWS.replace("14/03/2023", "14/13/20x3").replace("11/2022", "01/01/2015")
+    desk.take(HORSES + rows)
+    assert exits(desk) == {
+        "A": "day unknown: '14/13/20x3 (Mort (colique))'", "B": "day unknown: '01/01/2015 (Boucherie)'",
+    }  # fmt: skip
+    # once the offspring have no such dam the day is taken
+    desk.take(HORSES + rows.replace("A;B;EARL", "A;;EARL"))
+    assert reason(desk, "B") == ("2015-01-01", "Boucherie")
+
+
+def test_reasons_beside_a_status(desk: Desk) -> None:
+    """A third column is kept as reasons where the status is another one, which tells of exits; where it is the status
+    the other one still tells what disagrees, and whom no exit is known of."""
+    titles = "id;sex;birth;sire;dam;Sorti le;Motif de sortie;Statut\n"
+    rows = "a;M;2001-01-01;;;2020-01-01;Mort;Sorti\nb;F;2001-01-01;;;2020-01-02;Volée;Vivante\n"
+    rows += "d;F;2001-01-01;;;;Vendue;Sortie\n"
+    told = "line 3: b: to look at: 'Sorti le' says '2020-01-02', and 'Statut' says 'Vivante': the animal counts as gone"
+    done = desk.take(titles + rows)
+    assert "status from 'Statut'; kept: 'Motif de sortie'\n" in done.out and told in done.out
+    assert exits(desk) == {"a": "'Mort'", "b": "'Volée'", "d": "day unknown: 'Sortie (Vendue)'"}
+    states = "Poulinière", "Inscrite", "Sortie", "Foal", "Inscrite", "Foal"
+    others = "".join(f"e{at};F;2001-01-01;;;;;{state}\n" for at, state in enumerate(states))
+    done = desk.take(titles + rows + others, "--book", "two")
+    assert "status from 'Motif de sortie'; not read: 'Statut'\n" in done.out and told in done.out
+    done.shows(
+        "to look at: the column 'Statut' isn't read for exits, and 1 cell of it tells that an animal left which has no "
+        "exit: 'Sortie' in line 7; the animal counts as living: if it left, write that into the column for exits"
+    )
+
+
+def test_no_reason(desk: Desk) -> None:
+    """A cell that says only that there was an exit is none, nor is one that says what the other says."""
+    rows = "a;M;2001-01-01;;;{}\nb;M;2001-01-01;;;2020-01-01;oui\nc;M;2001-01-01;;;tot;tot\nd;M;2001-01-01;;;;tot\n"
+    desk.take("id;sex;birth;sire;dam;exit;Status\n" + rows.format("2020-01-01;x"))
+    assert exits(desk) == {"c": "day unknown: 'tot'", "d": "day unknown: 'tot'"} and reason(desk, "a")[0] == "2020-01-01"
+    desk.take("id;sex;birth;sire;dam;exit;Lebt\n" + rows.format("2020-01-01;nein"), "--book", "two", "--columns", "status=Lebt")
+    assert not [row for row in desk.table("two/ids.csv") if "nicht" in row["exit"]]
+
+
+@pytest.mark.parametrize("cell", ["néant", "RAS", "R.A.S.", "keine", "none", "aucune", "nichts", "NIL"])
+def test_no_exit(desk: Desk, cell: str) -> None:
+    """Such a word stands for no exit, under any title and beside a day."""
+    row = "a;M;2001-01-01;;;{}\nb;F;2001-01-01;;;1.2.2010\n"
+    for book, titles, cells in (
+        ("one", "exit\n", cell), ("two", "exit;Abgangsgrund\n", f";{cell}"), ("three", "Status\n", cell),
+    ):  # fmt: skip
+        done = desk.take("id;sex;birth;sire;dam;" + titles + row.format(cells), "--book", book)
+        assert [one["id"] for one in desk.listed("list", "--living", "--book", book)] == ["a"]
+        assert "look at" not in done.out and "left out (" not in done.last
+
+
+STATES = "Not for export", "Pet only", "Endorsed", "Export ped. not allowed", "Zuchtverbot 3.4.2020"
+
+
+@pytest.mark.parametrize("titles", ["Died;Status", "Status"])
+def test_state_that_is_no_exit(desk: Desk, titles: str) -> None:
+    """Of a column of states only words and days of exits count; the others are kept as notes, and told once. What
+    stands beside the day of an exit is kept there."""
+    beside = ";" * titles.count(";")
+    cells = [*STATES, "Deceased", "1.2.2010", "alive", "alive", "dead", "sold", "lost"]
+    rows = "".join(f"a{at};M;2001-01-01;;;{beside}{cell}\n" for at, cell in enumerate(cells))
+    rows += "p;M;2001-01-01;;;2010-01-01;Endorsed\n" if beside else ""
+    done = desk.take(f"id;sex;birth;sire;dam;{titles}\n" + rows)
+    told = "5 cells of the column 'Status' tell of something else than exits, the first in line 2: 'Not for export'"
+    assert told in done.told
+    living = {one["id"] for one in desk.listed("list", "--living")}
+    assert living == {"a0", "a1", "a2", "a3", "a4", "a7", "a8"}
+    assert [notes(desk)[f"a{at}"] for at in range(5)] == [{f"Status: {cell}"} for cell in STATES]
+    assert not beside or reason(desk, "p") == ("2010-01-01", "Endorsed")
+
+
+def test_word_that_is_said_to_be_no_exit(desk: Desk) -> None:
+    """A column that tells where animals are may have any word: they count as gone, and the command that is suggested
+    says that one doesn't."""
+    cells = "potted", "sold", "lebt", "lebt", "dead"
+    rows = "".join(f"a{at};M;2001-01-01;;;;{cell}\n" for at, cell in enumerate(cells))
+    done = desk.take("id;sex;birth;sire;dam;Left on;Whereabouts\n" + rows, "--breed", "HOL", "--country", "GBR")
+    assert "the first in line 2: 'potted': such an animal counts as gone; write days as" in done.out
+    assert "if 'potted' tells of no exit:\n" in done.out and "if no column tells of exits" not in done.out
+    desk.typed(next(one for one in done.commands() if one.endswith("--unknown potted")))
+    assert [one["id"] for one in desk.listed("list", "--living")] == ["a0", "a2", "a3"]
+
+
+@pytest.mark.parametrize(
+    "title, yes, no, said",
+    [("Alive", "Y", "N", "not Alive"), ("Vivant", "oui", "non", "pas Vivant"), ("Lebt", "ja", "nein", "nicht Lebt"),
+     ("Active", "1", "0", "not Active"), ("Vivant", "VRAI", "FAUX", "pas Vivant")],
+)  # fmt: skip
+@pytest.mark.parametrize("beside", ["", "Died;"])
+def test_column_of_the_living(desk: Desk, title: str, yes: str, no: str, said: str, beside: str) -> None:
+    """Whom it denies has left, also where no other column tells of exits."""
+    cells = ";" * bool(beside)
+    rows = f"a;M;2001-01-01;;;{cells}{no}\nb;F;2001-01-01;;;{cells}{yes}\nc;F;2001-01-01;;;{cells}{yes}\n"
+    done = desk.take(f"id;sex;birth;sire;dam;{beside}{title}\n" + rows)
+    assert exits(desk) == {"a": f"day unknown: '{said}'"}
+    assert f"1 of 1 cell that tells of an exit in the column '{title}', the first in line 2: '{said}'" in done.out
+    assert " 0 changed" in desk.take(f"id;sex;birth;sire;dam;{beside}{title}\n" + rows).last
+
+
+def test_exit_within_the_year(desk: Desk) -> None:
+    """A month or a year that hasn't ended ends with the day of the import."""
+
+    def told(day: str, period: str) -> str:
+        basis = ExitBasis(ExitSource.PERIOD, Period(period))
+        return ExitInferred(datetime.date.fromisoformat(day), basis, "").words()
+
+    assert told("2020-12-31", "2020") == "exit on 2020-12-31, the last day of the year 2020"
+    assert told("2020-02-29", "2020-02") == "exit on 2020-02-29, the last day of the month 2020-02"
+    assert told("2020-02-29", "2020") == "exit on 2020-02-29, the day of the import, as the year 2020 hasn't ended"
+    assert told("2020-02-28", "2020-02") == "exit on 2020-02-28, the day of the import, as the month 2020-02 hasn't ended"
+    done = desk.take("id;sex;birth;sire;dam;exit\na;M;2001-01-01;;;courant 2020\n")
+    done.tells("line 2: a: inferred: exit on 2020-12-31, the last day of the year 2020, from 'courant 2020'")

@@ -1,0 +1,48 @@
+"""What a page says of exits in words: why an animal left, words that are no exits, and animals that live again."""
+from __future__ import annotations
+
+import pytest
+
+from web.looks import Says, buttons_of, look_at, part, press
+from web.site import Site, shown
+
+TITLES = "Ohrmarke;Geschlecht;geb;Vater;Mutter;Besitzer;Abgang am;Verbleib\n"
+ROWS = (
+    "001;m;01.02.2010;;;Huber;;lebt\n002;w;03.02.2010;;;Huber;1.2.2020;verkauft an Zoo\n003;w;3.2.2013;001;002;Huber;;Zirkus\n"
+    "004;w;3.2.2013;001;002;Huber;;lebt\n"
+)
+
+
+@pytest.mark.parametrize(("language", "button"), [
+    ("en", "'Zirkus' means: no exit"), ("de", "„Zirkus“ heißt: kein Abgang"), ("fr", "« Zirkus » signifie : aucune sortie"),
+])  # fmt: skip
+def test_word_that_is_no_exit(empty_site: Site, language: str, button: str) -> None:
+    """It is said by a button, and what stands beside a day is shown on the animal's page."""
+    site = empty_site
+    site.get(f"/language/{language}")
+    address, page = look_at(site, TITLES + ROWS)
+    assert button in buttons_of(page)
+    press(site, address, page, button)
+    site.take(address)
+    with site.desk.opened() as book:
+        assert book and not book.society_records["003"].exit.day_is_unknown
+        sold = book.society_records["002"]
+    assert sold.exit.text == "verkauft an Zoo"
+    assert Says(language)("(in the sheet: {})", sold.exit.text) in shown(site.page(f"/animal/{sold.registration_number}"))
+
+
+@pytest.mark.parametrize(("language", "told"), [
+    ("en", "1 animal that had left counts as living again, 002 (line 3): does the column of exits lack it?"),
+    ("de", "1 abgegangenes Tier zählt wieder als lebend, 002 (Zeile 3): fehlt sein Abgang in der Spalte?"),
+    ("fr", "1 animal sorti compte de nouveau comme vivant, 002 (ligne 3) : sa sortie manque-t-elle dans la colonne ?"),
+])  # fmt: skip
+def test_exit_that_vanishes(empty_site: Site, language: str, told: str) -> None:
+    """One is told as several are, by its animal; no button makes a column unread that has others."""
+    site, titles = empty_site, TITLES.replace(";Verbleib", "")
+    rows = "002;w;03.02.2010;;;Huber;{}\n003;w;3.2.2013;001;002;Huber;3.4.2021\n"
+    address, _ = look_at(site, titles + "001;m;01.02.2010;;;Huber;\n" + rows.format("1.2.2020"))
+    site.take(address)
+    site.get(f"/language/{language}")
+    _, page = look_at(site, titles + "001;m;01.02.2010;;;Huber;\n" + rows.format(""))
+    assert told in shown(page).replace("\u202f", " ").replace("\xa0", " ")
+    assert not [one for one in buttons_of(page) if "Abgang" in one or "sortie" in one or "exit" in one]
