@@ -22,6 +22,11 @@ def test_no_owner(desk: Desk) -> None:
     assert desk.owners() == [(1, "Mrs X")]
 
 
+def test_cross(desk: Desk) -> None:
+    """Where the owner stands it says that the animal died, which isn't lost."""
+    assert "line 2: A101: to look at: '†' stands where 1 animal has its owner" in take(desk, ("†", "Mrs X"))
+
+
 def test_no_name(desk: Desk) -> None:
     """Each is told once, and is an owner of this name; so is one whose name has such a word in it."""
     told = take(desk, (*WORDS, *NAMES, WORDS[1])).splitlines()

@@ -47,6 +47,16 @@ def test_young_parents(desk: Desk) -> None:
     assert "days old" not in desk.take(TITLES + "p;M;2001;;;\nq;F;2001-08-01;p;;\n", "--book", "inferred").out
 
 
+def test_old_parents(desk: Desk) -> None:
+    """One that would be older than animals get; as old as semen may be is nothing odd, nor is an inferred day."""
+    rows = "s;M;1905-06-26;;;\nd;F;1959-03-02;;;\nu;M;1910;;;\nc;M;2019-03-01;s;d;\ne;F;2019-03-02;u;d;\n"
+    told = "its sire s (line 2) would have been 113 years old at its birth: is one of the birth days wrong?"
+    done = desk.take(TITLES + rows)
+    done.shows(f"line 5: c: to look at: {told}")
+    assert done.told.count("would have been") == 2 and "its dam d" not in done.told and "its sire u" not in done.told
+    assert desk.parents()["c"] == ("s", "d")
+
+
 def test_young_parents_by_hand() -> None:
     """They are told where they are younger than the book says, at least a day old, and no day of theirs is inferred."""
     sire, dam, calf = (SocietyRecord(f"SKUDEU{'F' if at else 'M'}{at:012}", id) for at, id in enumerate("sdc"))

@@ -12,6 +12,7 @@ from gudokeyi.ingest.words import KNOWN_NO_OWNERS, UNKNOWN, is_error_value
 # signs alone, as `?`, `*` and `---`, zeros alone, as `00` and `0.0`, and the usual numbers as pandas writes them, as
 # `-9.0`
 SIGNS = re.compile(r"[-–—?.*/_~+†✝×]+|[-+]?0[0.,]*|-(?:1|9{1,4})[.,]0+")
+CROSS = re.compile("[†✝]")
 BEGIN_OF_SIGNS = frozenset("-–—?.*/_~+†✝×0")
 POINTS = re.compile(r"\.\s*")
 # the words of a geneticist's pedigree
@@ -96,6 +97,6 @@ USUAL = UnknownParents()
 @functools.lru_cache(10_000)
 def names_no_owner(text: str) -> bool:
     """Is it one of the usual texts for what isn't known, or says that there is none? Two letters may be initials of an
-    owner."""
-    is_unknown = USUAL.is_one(text) and not (len(text) == INITIALS and text.isalpha())
+    owner, and a cross says that the animal died."""
+    is_unknown = USUAL.is_one(text) and not (len(text) == INITIALS and text.isalpha()) and not CROSS.search(text)
     return is_unknown or plain(text) in KNOWN_NO_OWNERS

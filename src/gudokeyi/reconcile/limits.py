@@ -1,9 +1,12 @@
-"""Limits in days: how old a parent is at least at a birth, and how far two births of one dam are from one another."""
+"""Limits in days: how old a parent is at least and at most at a birth, and how far two births of one dam are from one
+another."""
 from __future__ import annotations
 
 from dataclasses import dataclass
 
 YOUNGEST, APART = 180, 100
+# of sixty years; the semen of a sire may be as old
+OLDEST = 21_915
 
 
 @dataclass(frozen=True, slots=True)

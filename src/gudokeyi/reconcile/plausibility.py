@@ -20,10 +20,10 @@ from gudokeyi.ingest.days import Precision
 from gudokeyi.reconcile.findings.by_hand import YoungParent
 from gudokeyi.reconcile.findings.plausibility import (
     BirthsNearerThanUsual, BirthsTooNear, CastratedSire, ColumnsSwapped, ManyOldAsLiving, NameAndDayTwice, OldAsLiving,
-    SireLeftLongBefore,
+    OldParent, SireLeftLongBefore,
 )  # fmt: skip
 from gudokeyi.reconcile.last_found import FoundBy, Kept, LastFound, NothingKept
-from gudokeyi.reconcile.limits import Limits
+from gudokeyi.reconcile.limits import OLDEST, Limits
 from gudokeyi.store.book import Book
 
 if TYPE_CHECKING:
@@ -135,12 +135,13 @@ class PlausibilityChecks:
     def likely_too_young(
         self, dated: Sequence[SheetAnimal], days: Mapping[str, int], left: Collection[str]
     ) -> list[SheetAnimal]:
-        """Those with a parent that was young at the birth, or not older, or with a sire that left."""
+        """Those with a parent that was young at the birth, or not older, or very old, or with a sire that left."""
         never, youngest = itertools.repeat(NEVER), self.limits.youngest
         ages = zip(dated, *(map(days.get, map(of, dated), never) for of in (ID_OF, SIRE_OF, DAM_OF)))
         return [
             animal for animal, day, of_sire, of_dam in ages
             if day - of_sire < youngest or day - of_dam < youngest or animal.sire in left
+            or OLDEST < day - of_sire < -NEVER // 2 or OLDEST < day - of_dam < -NEVER // 2
         ]  # fmt: skip
 
     def look_at_parents(
@@ -155,6 +156,11 @@ class PlausibilityChecks:
             self.report.add(offspring.line, offspring.id, found)
         if dam and 0 < born - days[dam] < youngest:
             self.tell_young(offspring, DAM, dam, born - days[dam])
+        for role, parent in offspring.parents():
+            if born - days[parent] > OLDEST and self.animals[parent].has_day():
+                years = (born - days[parent]) * 100 // 36525
+                told = OldParent(role, parent, self.animals[parent].line, years)
+                self.report.add(offspring.line, offspring.id, told)
 
     def tell_young(self, offspring: SheetAnimal, role: Role, id: str, days: int) -> None:
         parent = self.animals[id]

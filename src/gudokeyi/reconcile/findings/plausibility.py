@@ -8,7 +8,7 @@ from dataclasses import dataclass
 
 from gudokeyi.domain.changes import Option
 from gudokeyi.domain.findings import PlausibilityWarning, Severity, Suggestion, columns
-from gudokeyi.domain.kinds import Field
+from gudokeyi.domain.kinds import Field, Role
 from gudokeyi.domain.messages import AnyOf
 from gudokeyi.domain.wording import AllOf, Counted, OptionalPart, Text, Told
 
@@ -146,6 +146,25 @@ class BirthsNearerThanUsual(PlausibilityWarning):
 
     def suggestions(self) -> tuple[Suggestion, ...]:
         return (Suggestion("if that can be", (Option("--apart", str(self.days)),)),)
+
+
+@dataclass(frozen=True, slots=True)
+class OldParent(PlausibilityWarning):
+    """A parent that was older than an animal gets when its offspring was born: one of the two days may be wrong."""
+
+    role: Role
+    parent: str
+    line: int
+    years: int
+
+    severity = Severity.PARENTS
+    code = "old parent"
+    message = Text(
+        "its {role} {parent}{maybe_line} would have been {years} years old at its birth: is one of the birth days wrong?"
+    )
+    parts = {
+        "maybe_line": OptionalPart(" (line {line})"),
+    }
 
 
 @dataclass(frozen=True, slots=True)
