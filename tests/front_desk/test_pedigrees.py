@@ -221,7 +221,7 @@ def test_pedigree_that_grows_and_shrinks(desk: Desk) -> None:
     assert ", 1 new, " in desk.good("import", "--pedigree", grown, "--leave-out").last
     done = desk.good("import", "--pedigree", both, "--leave-out", "--drop-gone")
     assert "book: 6 animals, 0 new, " in done.last
-    assert ", 1 gone: " in done.last
+    assert ", 1 gone (1 dropped): " in done.last
     took = [line.partition(": took ")[2].partition(" (")[0] for line in desk.good("history").out.splitlines()]
     assert took == ["the pedigree both.txt", "the pedigree more.txt", "the pedigree both.txt"]
 

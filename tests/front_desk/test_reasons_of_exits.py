@@ -179,3 +179,13 @@ def test_exit_within_the_year(desk: Desk) -> None:
     assert told("2020-02-28", "2020-02") == "exit on 2020-02-28, the day of the import, as the month 2020-02 hasn't ended"
     done = desk.take("id;sex;birth;sire;dam;exit\na;M;2001-01-01;;;courant 2020\n")
     done.tells("line 2: a: inferred: exit on 2020-12-31, the last day of the year 2020, from 'courant 2020'")
+
+
+def test_cross_in_another_status(desk: Desk) -> None:
+    """A cross in a column of states that isn't read tells of an exit as a word does."""
+    rows = "A;Amiral;Étalon;21/02/2010;;;GAEC;Inscrit;14/03/2023;Mort\nB;Bichette;Jument;2011;;;M;† 03/2026;;\n"
+    told = desk.take(HORSES.replace("Propriétaire;", "Propriétaire;Statut;") + rows, "--columns", "status=Motif de sortie")
+    told.shows(
+        "to look at: the column 'Statut' isn't read for exits, and 1 cell of it tells that an animal left which has no "
+        "exit: '† 03/2026' in line 3; the animal counts as living: if it left, write that into the column for exits"
+    )

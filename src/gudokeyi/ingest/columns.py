@@ -220,7 +220,8 @@ def tell_other_statuses(columns: Columns) -> None:
     for at in columns.titled(KNOWN_TITLES[Field.STATUS]):
         title, texts = columns.title(at), {*columns.cells(at)}
         said = {text: said_of(text, title) for text in texts} if len(texts) <= MOST_DIFFERENT else {}
-        tell_remarks(columns, at, {text for text, meant in said.items() if has_word(meant, TELLING_EXITS)})
+        telling = {text for text, meant in said.items() if has_word(meant, TELLING_EXITS) or DEAD.search(meant)}
+        tell_remarks(columns, at, telling)
 
 
 def tell_remarks(columns: Columns, at: int, texts: set[str]) -> None:
