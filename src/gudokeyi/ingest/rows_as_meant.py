@@ -15,7 +15,7 @@ from gudokeyi.domain.kinds import Field
 from gudokeyi.ingest.findings.cells import UnseenInId
 from gudokeyi.ingest.findings.rows import CellsRepeated, MarksAreNames, NoteRow, NothingRepeated
 from gudokeyi.ingest.findings.sheets import UnseenDropped
-from gudokeyi.ingest.sheets import Sheet, SheetRow
+from gudokeyi.ingest.sheets import Sheet, SheetRow, cell_of
 from gudokeyi.ingest.statuses import TAKER, Exits, exits_said
 from gudokeyi.ingest.texts import nearly, plain
 from gudokeyi.ingest.unknown_parents import UnknownParents
@@ -222,10 +222,6 @@ def repeated(rows: list[SheetRow], at: int, marks: set[str]) -> Repeated:
             row = with_cell(row, at, "")
         found.rows.append(row)
     return found
-
-
-def cell_of(row: SheetRow, at: int) -> str:
-    return row.cells[at] if at < len(row.cells) else ""
 
 
 def with_cell(row: SheetRow, at: int, text: str) -> SheetRow:

@@ -63,6 +63,11 @@ class SheetRow(NamedTuple):
     cells: list[str]
 
 
+def cell_of(row: SheetRow, at: int) -> str:
+    """Its text at a place, which a short row may lack."""
+    return row.cells[at] if at < len(row.cells) else ""
+
+
 @dataclass(frozen=True)
 class Sheet:
     """The row of titles with its line, the rows below it, how the file was read, in words, and what keeps it from
@@ -126,6 +131,12 @@ def column_of(rows: list[SheetRow], at: int) -> list[str]:
         return [cells[at] if at < len(cells) else "" for _, cells in rows]
 
 
+def marked_by_grey(grey: list[int], line: int, rows: int) -> list[int]:
+    """The grey lines below that of the titles; none where so many rows are grey that it marks none, as every second."""
+    below = [one for one in grey if one > line]
+    return below if len(below) <= MOST_GREY * rows else []
+
+
 def read_sheet(file: GivenFile, score: Score, worksheet: str = "", before: NamedBefore = NamedBefore()) -> Sheet:
     """The rows of a file. `score` says how many titles of a row are known: the separator that gives most is taken, and
     the worksheet where none is named, or was before."""
@@ -160,9 +171,7 @@ def read_sheet(file: GivenFile, score: Score, worksheet: str = "", before: Named
     line, titles = rows[at]
     check_bounds(path, rows, at + 1)
     below, above = rows[at + 1 :], rows[at - 1].cells if at else []
-    grey = [one for one in grey if one > line]
-    # where so many rows are that this marks none, as every second
-    grey = grey if len(grey) <= MOST_GREY * len(below) else []
+    grey = marked_by_grey(grey, line, len(below))
     decision = Decision(tops, best, taken, first, at)
     return Sheet(
         line, titles, below, how, faults, {}, unseen, formulas, unread, above, decision=decision, worksheets=worksheets,

@@ -12,7 +12,7 @@ from gudokeyi.domain.kinds import Field
 from gudokeyi.ingest.day_cells import is_other_state
 from gudokeyi.ingest.findings.exits import NoExits, Remark
 from gudokeyi.ingest.findings.rows import StatusDisagrees, StatusRead
-from gudokeyi.ingest.sheets import Sheet, SheetRow
+from gudokeyi.ingest.sheets import Sheet, SheetRow, cell_of
 from gudokeyi.ingest.texts import plain
 from gudokeyi.ingest.titles import KNOWN_REASONS, KNOWN_STATES, KNOWN_STATUSES, OF_LIVING
 from gudokeyi.ingest.words import DEAD, KNOWN_YES, exit_word, is_still_there, lives, says_lives
@@ -49,10 +49,6 @@ def exits_of_living(rows: list[SheetRow], title: str, at: int) -> dict[int, str]
     cells = [cell_of(row, at) for row in rows]
     said = {text: said_of(text, title) for text in {*cells}}
     return {place: said[text] for place, text in enumerate(cells) if said[text] != text}
-
-
-def cell_of(row: SheetRow, at: int) -> str:
-    return row.cells[at] if at < len(row.cells) else ""
 
 
 class Said(NamedTuple):

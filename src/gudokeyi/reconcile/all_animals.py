@@ -115,13 +115,17 @@ def add_others(next_book: NextBook, drop_gone: bool, columns: Columns | None = N
         add_gone(animals, gone, book, drop_gone, report)
     leave_out_unread_sexes(next_book, are_all_there=have_rows and not has_gone)
     if has_gone or not have_rows:
-        names = Names(animals, report, next_book.last_found, with_id, before)
-        if columns and names.lacking:
-            names.elsewhere = ids_elsewhere(columns, animals.values(), names.lacking)
-        names.advise_unknown(next_book.is_pedigree)
-        names.add_parents()
+        add_founders(next_book, Names(animals, report, next_book.last_found, with_id, before), columns)
     if len(animals) > MOST_ANIMALS:
         raise too_many(next_book)
+
+
+def add_founders(next_book: NextBook, names: Names, columns: Columns | None) -> None:
+    """Adds the parents without a row, of whom is told which may be meant, and which texts may stand for nobody."""
+    if columns and names.lacking:
+        names.elsewhere = ids_elsewhere(columns, next_book.animals.values(), names.lacking)
+    names.advise_unknown(next_book.is_pedigree)
+    names.add_parents()
 
 
 def too_many(next_book: NextBook) -> Mistake:

@@ -102,17 +102,11 @@ def file(
     if about.understood:
         tell_swapped_columns(next_book, about.understood)
     if not next_book.is_pedigree:
-        checks = PlausibilityChecks(next_book.animals, about.limits, report, last=next_book.last_found)
-        checks.tell_births(book, next_book.rows_otherwise())
-        checks.tell("exit" in next_book.given)
+        tell_plausibility(next_book, about.limits)
     # what is told of owners' days comes behind what may be wrong
     report.entries += told
     filed = filed or filing.filed(program, import_options.preview)
-    tell_respelt_owners(next_book, owners_before)
-    tell_owners_alike(next_book)
-    tell_mistyped_owners(next_book, owners_before)
-    tell_owners_with_more(next_book, owners_before)
-    tell_doubtful_owners(next_book, owners_before)
+    tell_owners(next_book, owners_before)
     tell_born_dead(next_book)
     tell_withdrawn_exits(next_book)
     if import_options.strict and any(entry.what is What.LEFT_OUT for entry in report.entries):
@@ -126,6 +120,22 @@ def file(
         book.folder, about.call.after(), about.understood, tuple(about.read), tuple(next_book.obstacles), report, after,
         next_book.own_values,
     )  # fmt: skip
+
+
+def tell_plausibility(next_book: NextBook, limits: Limits) -> None:
+    """What may be wrong of animals that are taken as they stand."""
+    checks = PlausibilityChecks(next_book.animals, limits, next_book.report, last=next_book.last_found)
+    checks.tell_births(next_book.book, next_book.rows_otherwise())
+    checks.tell("exit" in next_book.given)
+
+
+def tell_owners(next_book: NextBook, owners_before: set[str]) -> None:
+    """What may be wrong of owners' names, beside those that the book had."""
+    tell_respelt_owners(next_book, owners_before)
+    tell_owners_alike(next_book)
+    tell_mistyped_owners(next_book, owners_before)
+    tell_owners_with_more(next_book, owners_before)
+    tell_doubtful_owners(next_book, owners_before)
 
 
 def refuse_unsaid_letters(next_book: NextBook, import_options: ImportOptions) -> None:
