@@ -86,6 +86,9 @@ def test_sheet_beside_clerks(served: Served, monkeypatch: pytest.MonkeyPatch) ->
     clerks = [Visitor(served, name) for name in ("Clara", "Kim") * 4]
     files = [functools.partial(file_births, one, at, is_over, waits) for at, one in enumerate(clerks)]
     filing, began = [Background(file) for file in files], time.monotonic()
+    # one at least is filed before the sheet
+    while not waits and time.monotonic() < began + 60:
+        time.sleep(0.05)
     address = looked_at(carl, 1)
     carl.take(address)
     took = time.monotonic() - began
