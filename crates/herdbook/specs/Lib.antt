@@ -4,4 +4,5 @@ pub mod Ending
 pub mod FaultText
 pub mod Pedigrees
 pub mod Program
+pub mod Serving
 pub mod Sessions

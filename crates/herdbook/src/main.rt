@@ -10,17 +10,19 @@
 //! | | definition (`specs/`) | code (`src/`) | proof (`proofs/`) |
 //! |---|---|---|---|
 //! | what the program does for its words | `Program` | `program` | `ProgramFacts` |
+//! | what it does for a request of the words | `Serving` | `serving` | |
 //! | how it ends, what is told on standard error | `Ending`, `FaultText` | `ending`, `request_fault`, `fault_text` | |
-//! | how reports of a pedigree end it | `Pedigrees` | `ending`, `request_fault` | `ProgramFacts` |
-//! | how a check of a certificate ends it | `Checks` | `ending` | `ProgramFacts` |
-//! | how clerks end it | `Clerks` | `ending`, `request_fault` | `ProgramFacts` |
-//! | how a session ends it | `Sessions` | `ending`, `request_fault` | `ProgramFacts` |
+//! | how reports of a pedigree end it | `Pedigrees` | `ending`, `request_fault` | |
+//! | how a check of a certificate ends it | `Checks` | `ending` | |
+//! | how clerks end it | `Clerks` | `ending`, `request_fault` | |
+//! | how a session ends it | `Sessions` | `ending`, `request_fault` | |
 #![tactic(auto)]
 
 mod ending;
 mod fault_text;
 mod program;
 mod request_fault;
+mod serving;
 
 use ending::Ending;
 use program::carry_out;
