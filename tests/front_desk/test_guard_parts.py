@@ -15,6 +15,7 @@ from gudokeyi.domain.provenance import BirthBasis, BirthSource, SexSource
 from gudokeyi.ingest.animals import SheetAnimal
 from gudokeyi.ingest.columns import Columns
 from gudokeyi.ingest.days import Precision, Span
+from gudokeyi.reconcile.animals_of_book import AnimalsOfBook
 from gudokeyi.reconcile.findings.obstacles import (
     Changed, Guard, LooksLike, ManyDropped, ManyGone, ManyOthers, ParentsLack,
 )  # fmt: skip
@@ -123,6 +124,7 @@ def test_sexes_and_parents_of_other_animals() -> None:
         one.book.records = {at: record._replace(sire=before) for at, record in one.book.records.items()}
         sire_before = one.book.society_records["a59"]._replace(standing=more.get("standing", Standing.ROW))
         one.book.society_records = {**one.book.society_records, "a59": sire_before}
+        one.in_book = AnimalsOfBook(one.book)
         one.given = more.get("given", one.given)
         return told(one.other_parents())
 

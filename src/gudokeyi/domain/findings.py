@@ -313,8 +313,8 @@ class Report:
 
     def in_order(self) -> list[Entry]:
         """By what they are about, and by line."""
-        order = list(What)
-        return sorted(self.entries, key=lambda entry: (order.index(entry.what), entry.line))
+        places = {what: at for at, what in enumerate(What)}
+        return sorted(self.entries, key=lambda entry: (places[entry.what], entry.line))
 
 
 class Obstacle(Finding):

@@ -7,6 +7,7 @@ import functools
 import io
 import os
 import pathlib
+import re
 import resource
 import shlex
 import signal
@@ -28,6 +29,8 @@ if TYPE_CHECKING:
 
 # so much memory and time a run may use
 MOST_BYTES, MOST_SECONDS = 4 << 30, 1200
+# the reply to a command that is refused: its number in the journal, and that of the refusal
+REFUSED = re.compile(rb"^(\d+),refused,(\d+)$", re.MULTILINE)
 # so long it may take to say its version
 SECONDS_TO_ANSWER = 30
 # so much a pipe may hold, if the system allows it
@@ -200,9 +203,9 @@ class Herdbook:
 
     def file_text(self, book: bytes, count: int) -> dict[int, Refusal]:
         """The same of a command file with so many commands."""
-        replies = self.lines(["file"], book)
-        if len(replies) != count:
+        answers = self.run_bytes(["file"], (book,))
+        replies = answers.count(b"\n")
+        if replies != count:
             commands = Count(count, "command")
-            raise ProgramFailed(ProgramFault.REPLIES_LACK.said(replies=len(replies), commands=commands, path=self.path))
-        refused = (line.split(",") for line in replies if not line.endswith(",accepted"))
-        return {int(serial) - 1: Refusal(int(refusal)) for serial, _, refusal in refused}
+            raise ProgramFailed(ProgramFault.REPLIES_LACK.said(replies=replies, commands=commands, path=self.path))
+        return {int(serial) - 1: Refusal(int(refusal)) for serial, refusal in REFUSED.findall(answers)}

@@ -4,7 +4,7 @@ from __future__ import annotations
 import datetime
 import itertools
 import operator
-from collections.abc import Collection, Iterable
+from collections.abc import Collection, Iterable, Mapping
 from dataclasses import dataclass, field
 
 from gudokeyi.domain.animals import SocietyRecord
@@ -89,7 +89,7 @@ SEX_OF, SIRE_OF, DAM_OF = operator.attrgetter("sex"), operator.attrgetter("sire"
 OWNER_OF, UNREAD_OF, CASTRATED_OF = (operator.attrgetter(name) for name in ("owner", "unread", "castrated"))
 BORN_OF, NUMBER_OF = operator.attrgetter("born"), operator.attrgetter("registration_number")
 EMBRYO_OF, LEFT_OF, BIRTH_OF = operator.attrgetter("embryo"), operator.attrgetter("left"), operator.attrgetter("birth")
-FIRST_OF = operator.attrgetter("birth.first")
+FIRST_OF, CELLS_OF = operator.attrgetter("birth.first"), operator.attrgetter("cells")
 
 
 def by_age(animals: Iterable[SheetAnimal]) -> list[SheetAnimal]:
@@ -114,6 +114,16 @@ def links_outside(progeny: Collection[SheetAnimal], ids: Collection[str]) -> lis
             found.append((offspring, SIRE, offspring.sire))
         if offspring.dam in outside:
             found.append((offspring, DAM, offspring.dam))
+    return found
+
+
+def ancestors_among(progeny: Iterable[SheetAnimal], animals: Mapping[str, SheetAnimal]) -> set[str]:
+    """The ancestors of some animals that are reached through these, from parent to parent."""
+    found, new = set[str](), [*progeny]
+    while new:
+        parents = ({*map(SIRE_OF, new), *map(DAM_OF, new)} - found) & animals.keys()
+        found |= parents
+        new = [animals[id] for id in parents]
     return found
 
 

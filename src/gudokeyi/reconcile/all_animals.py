@@ -7,8 +7,7 @@ import itertools
 from gudokeyi.domain.findings import ImportRefused, Report
 from gudokeyi.domain.kinds import Role, Standing
 from gudokeyi.domain.messages import Mistake
-from gudokeyi.domain.pedigree_order import ancestors
-from gudokeyi.ingest.animals import DAM_OF, SIRE_OF, SheetAnimal, birth_in_book, links_outside
+from gudokeyi.ingest.animals import DAM_OF, SIRE_OF, SheetAnimal, ancestors_among, birth_in_book, links_outside
 from gudokeyi.ingest.columns import Columns
 from gudokeyi.reconcile.birth_days import find_days
 from gudokeyi.reconcile.exits import exit_in_book
@@ -52,15 +51,12 @@ def add_gone(
     animals: dict[str, SheetAnimal], gone: dict[str, SheetAnimal], book: Book, drop: bool, report: Report
 ) -> None:
     """Adds those of the book, or drops them but for the ancestors of an animal that has a row, and tells of them."""
-
-    def gone_parents(id: str) -> list[str]:
-        return [parent for parent in (animals.get(id) or gone[id]).parent_ids() if parent in gone]
-
     if not gone:
         return
     # those that were filed by hand had no row in any sheet yet
     filed = {id for id in gone if book.society_records[id].standing is Standing.FILED}
-    kept = filed | ancestors([*animals, *filed], gone_parents) if drop else set(gone)
+    of_filed = map(gone.__getitem__, filed)
+    kept = filed | ancestors_among([*animals.values(), *of_filed], gone) if drop else {*gone}
     those = [*animals.values(), *gone.values()]
     parents = {*map(SIRE_OF, those), *map(DAM_OF, those)}
     for id, animal in gone.items():
@@ -86,25 +82,28 @@ def add_others(next_book: NextBook, drop_gone: bool, columns: Columns | None = N
         # rows that lacked something have it of the book now
         next_book.compare(next_book.rows_of_book)
     has_sires, has_dams = Role.SIRE in next_book.given, Role.DAM in next_book.given
-    next_book.texts = {id: (one.sire * has_sires, one.dam * has_dams) for id, one in animals.items()}
+    sires, dams = ([*map(of, animals.values())] for of in (SIRE_OF, DAM_OF))
+    nothing = itertools.repeat("")
+    next_book.texts = dict(zip(animals, zip(sires if has_sires else nothing, dams if has_dams else nothing)))
     gone = animals_of_book(next_book)
     next_book.exits_of_book |= gone.keys()
     all_animals = animals | gone
     # in most sheets each parent has a row, and all of the book do
-    have_rows, has_gone = not links_outside(animals.values(), animals), bool(gone)
+    lacking = {row.id: row for row, *_ in links_outside(animals.values(), animals)}
+    have_rows, has_gone = not lacking, bool(gone)
     with_id = animals.keys() | next_book.in_book.given
     if not have_rows:
-        keep_parents_named(next_book, all_animals)
+        keep_parents_named(next_book, lacking, all_animals)
     if not next_book.is_pedigree:
         mend_sexes(next_book, gone)
-        near = NearIds(animals, all_animals, with_id, next_book.last_found)
+        near = NearIds(lacking, all_animals, with_id, next_book.last_found)
         if not have_rows:
-            ParentsInTexts(animals, all_animals, with_id, next_book.last_found).find(report)
+            ParentsInTexts(lacking, all_animals, with_id, next_book.last_found).find(report)
             near.find_parents(report)
         near.tell_alike(report)
     before = Names(all_animals, report, next_book.last_found, with_id)
     if not have_rows:
-        before.find_parents(animals, next_book, with_id)
+        before.find_parents(lacking, next_book, with_id)
     try_parents_again(next_book, gone, all_animals)
     if not next_book.is_pedigree:
         tell_new_tags(next_book, gone, columns)

@@ -53,6 +53,11 @@ class AnimalsOfBook:
         return dict.fromkeys(id for id, in_book in self.society_records.items() if in_book.standing in standings)
 
     @functools.cached_property
+    def had_row_by_number(self) -> dict[str, str]:
+        """The same ids by the animals' numbers."""
+        return {self.numbers[id]: id for id in self.had_row}
+
+    @functools.cached_property
     def with_row(self) -> dict[str, None]:
         """Of those that had one in the last sheet."""
         return dict.fromkeys(id for id, in_book in self.society_records.items() if in_book.standing is Standing.ROW)

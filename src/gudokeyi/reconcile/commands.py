@@ -21,7 +21,7 @@ from gudokeyi.reconcile.findings.by_hand import NewAnimal, ValueChanged
 from gudokeyi.reconcile.findings.rows import CommandLeftOut
 from gudokeyi.reconcile.last_found import Kept
 from gudokeyi.reconcile.messages import ImportFault
-from gudokeyi.reconcile.next_book import NextBook
+from gudokeyi.reconcile.next_book import NextBook, exits_of
 from gudokeyi.reconcile.owner_day_known import owner_day_known
 from gudokeyi.reconcile.owner_days import OwnerDays
 from gudokeyi.store.journal import Filed, Step, alike
@@ -150,7 +150,7 @@ class Filing:
         animals, owners = self.next_book.by_birth, self.owners.of_all(self.next_book.by_birth)
         births = self.next_book.births_of(animals, [one.first_herd for one in owners])
         transfers = [*itertools.chain.from_iterable(one.transfers for one in owners)]
-        return births + transfers + [leave(one.registration_number, one.left) for one in animals if one.left]
+        return births + transfers + exits_of(animals)
 
     # -- what is told
 
@@ -170,7 +170,7 @@ class Filing:
 
     def may_be_changed(self) -> list[SheetAnimal]:
         """The animals but for those that are known to be as the book has them."""
-        animals, others = self.next_book.animals, self.others
+        animals, others = self.next_book.animals, self.found_otherwise() if self.others is None else self.others
         if others is None:
             return [*animals.values()]
         return [animal for id, animal in animals.items() if id in others or id in self.owners.other_days]

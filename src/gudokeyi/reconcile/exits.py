@@ -57,18 +57,19 @@ def given_day(basis: ExitBasis) -> datetime.date | None:
 
 
 def leave_out_early_exits(next_book: NextBook) -> None:
-    left = {id: animal for id, animal in next_book.animals.items() if animal.left is not None}
+    known, records = next_book.book.society_records, next_book.book.records
+    # where the book has the same one all offspring was born before
+    new = {
+        id: animal for id, animal in next_book.animals.items() if animal.left is not None and not (
+            (in_book := known.get(id)) and records[in_book.registration_number].left == animal.left
+        )
+    }  # fmt: skip
     progeny = collections.defaultdict[str, list[SheetAnimal]](list)
-    for animal in next_book.animals.values() if left else ():
-        if animal.dam in left and not animal.embryo:
+    for animal in next_book.animals.values() if new else ():
+        if animal.dam in new and not animal.embryo:
             progeny[animal.dam].append(animal)
-    for dam in left.values():
-        if dam.left is None or dam.id not in progeny:
-            continue
-        record = next_book.record(dam.id)
-        if record and record.left == dam.left:
-            continue
-        later = [offspring for offspring in progeny[dam.id] if offspring.born > dam.left]
+    for dam in new.values():
+        later = [offspring for offspring in progeny[dam.id] if dam.left and offspring.born > dam.left]
         if len(later) >= SEVERAL_OFFSPRING or any(next_book.has_in_book(offspring.id, dam.id) for offspring in later):
             leave_out_exit(next_book, dam, Refusal.LATER_OFFSPRING, later)
 

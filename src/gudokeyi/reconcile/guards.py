@@ -10,7 +10,7 @@ from collections.abc import Collection, Mapping, Sized
 from gudokeyi.domain.animals import SocietyRecord
 from gudokeyi.domain.commands import RegisterRecord
 from gudokeyi.domain.kinds import Role
-from gudokeyi.ingest.animals import SheetAnimal, links_outside
+from gudokeyi.ingest.animals import DAM_OF, SIRE_OF, SheetAnimal, links_outside
 from gudokeyi.ingest.columns import Columns
 from gudokeyi.ingest.texts import nearly
 from gudokeyi.reconcile.animals_of_book import AnimalsOfBook
@@ -98,8 +98,7 @@ class OtherAnimals:
     def other_parents(self) -> Guard | None:
         """Animals that have another animal with a row as a parent than in the book, or none. A parent that is added or
         that had no row, one whose cell can't be read, and one that has a new tag itself, are ordinary."""
-        known = self.book.society_records.values() if self.otherwise else ()
-        had_row = {in_book.registration_number: in_book.id for in_book in known if in_book.standing.had_row()}
+        had_row = self.in_book.had_row_by_number if self.otherwise else {}
         changed: list[tuple[SheetAnimal, list[tuple[str, str]]]] = []
         for row, _, record in self.otherwise:
             read = [role for role in Role if role in self.given and role not in row.unread]
@@ -207,8 +206,8 @@ class Guards(OtherAnimals):
         lost = [parent for *_, parent in outside if parent not in self.book.society_records]
         if len(set(lost)) < FEW_PARENTS:
             return None
-        links = [parent for row in self.rows.values() for parent in row.parent_ids()]
-        if 2 * len(lost) <= len(links):
+        links = sum(map(bool, itertools.chain.from_iterable(map(of, self.rows.values()) for of in (SIRE_OF, DAM_OF))))
+        if 2 * len(lost) <= links:
             return None
         words = sum(not any(map(str.isdigit, parent)) for parent in lost)
         ids = sum(any(map(str.isdigit, id)) for id in self.rows)
@@ -218,7 +217,7 @@ class Guards(OtherAnimals):
         like = LooksLike.PARENTS_BY_NAME if is_name else LooksLike.PARENTS_BY_ANOTHER_ID
         if 2 * sum(not self.rows.keys().isdisjoint(PARTS.split(parent)) for parent in lost) > len(lost):
             like = LooksLike.IDS_AND_MORE
-        return ParentsLack(len(lost), len(links), tuple(dict.fromkeys(lost))[:3], like, title)
+        return ParentsLack(len(lost), links, tuple(dict.fromkeys(lost))[:3], like, title)
 
     def column_of(self, parents: set[str]) -> str:
         """The title of a column that isn't read, and in which most of these parents are found."""

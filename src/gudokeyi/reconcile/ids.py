@@ -37,12 +37,12 @@ def nearly_of_sheet(ids: tuple[str, ...]) -> list[str]:
 
 class NearIds:
     """The animals that have a row, had one, or were filed by hand, by what their ids have but for case, blanks and
-    zeros. `animals` are those of the sheet and of the book."""
+    zeros. `animals` are those of the sheet and of the book, and `lacking` the rows that name a parent without one."""
 
     def __init__(
-        self, rows: dict[str, SheetAnimal], animals: dict[str, SheetAnimal], with_id: Set[str], last: LastFound
+        self, lacking: dict[str, SheetAnimal], animals: dict[str, SheetAnimal], with_id: Set[str], last: LastFound
     ) -> None:
-        self.rows, self.animals, self.with_id, self.last = rows, animals, with_id, last
+        self.lacking, self.animals, self.with_id, self.last = lacking, animals, with_id, last
         self.ids = tuple(filter(with_id.__contains__, animals))
         self.nearly = nearly_of_sheet(self.ids)
 
@@ -59,7 +59,7 @@ class NearIds:
 
     def find_parents(self, report: Report) -> None:
         """A parent that is no id, but differs so from just one, is that animal where it can be it."""
-        for offspring, role, text in links_outside(self.rows.values(), self.with_id):
+        for offspring, role, text in links_outside(self.lacking.values(), self.with_id):
             near = self.near.get(nearly(text), [])
             if len(near) == 1 and near[0] != offspring.id and can_be(self.animals[near[0]], role, offspring):
                 offspring.set_parent(role, near[0])

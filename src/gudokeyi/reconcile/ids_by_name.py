@@ -6,7 +6,7 @@ import bisect
 import collections
 import functools
 import itertools
-from collections.abc import Iterable, Iterator, Mapping, Sequence
+from collections.abc import Callable, Iterable, Iterator, Mapping, Sequence
 
 from gudokeyi.domain.spelling import as_digits, closest, folded, folded_all
 from gudokeyi.ingest.texts import without_accents
@@ -20,6 +20,12 @@ ALIKE, LONGER = 0.8, 2
 # of so many animals at most that weren't there before names are added: else all are looked at anew
 ADDED = 0.1
 
+# ids by what is compared of the animals' names, or of themselves
+Ids = dict[str, list[str]]
+KeysOf = Callable[[Sequence[str]], list[str]]
+# names with their forms
+Forms = list[tuple[str, str]]
+
 
 class NamesEver:
     """The ids and names of all animals that were there at some look, by what is compared of them. Each is found where
@@ -29,53 +35,67 @@ class NamesEver:
         self.names: dict[str, str] = {}
 
     def has(self, ids: Sequence[str], names: Sequence[str]) -> bool:
-        """Are these among them, or few of them new? Nothing is known of one that has another name than before."""
+        """Are these among them, or few of them new or with another name than before?"""
         before = [*map(self.names.get, ids)]
         if before == [*names]:
             return True
         new = {id: name for id, name, known in zip(ids, names, before) if known is not name and known != name}
-        if len(new) > ADDED * len(ids) or not new.keys().isdisjoint(self.names):
+        if len(new) > ADDED * len(ids):
             return False
-        self.names |= new
-        built = self.__dict__
-        for name, add in ("named", add_named), ("of_names", add_names), ("of_ids", add_ids):
-            if new and name in built:
-                add(built[name], new)
-        if new:
-            self.of_letters.cache_clear()
-        for name in ("accented", "letters", "forms", "of_bare_names") if any(new.values()) else ():
-            built.pop(name, None)
+        self.take(new)
         return True
 
+    def take(self, new: Mapping[str, str]) -> None:
+        """Takes animals that are new, or have these names now."""
+        built, former = self.__dict__, {id: self.names[id] for id in new if id in self.names}
+        self.names |= new
+        for index, keys_of in KEYS_OF.items():
+            if index in built:
+                take_out(built[index], keys_of, former)
+                add_to(built[index], keys_of, new)
+        if "of_ids" in built:
+            fresh = [id for id in new if id not in former]
+            add_each(self.of_ids, folded_all(fresh), fresh)
+        self.of_letters.cache_clear()
+        # names that nobody has any more stand for nobody
+        self.take_names([*filter(None, new.values())])
+
+    def take_names(self, names: Sequence[str]) -> None:
+        """Takes names into what is kept of all of them, where anything is."""
+        built = self.__dict__
+        if "accented" in built:
+            add_accented(self.accented, names)
+        if "letters" in built:
+            self.letters = letters_in([self.letters, *folded_all(names)])
+        if "forms" in built:
+            for kept, more in zip(self.forms, forms_of(names)):
+                kept += more
+                kept.sort()
+
     @functools.cached_property
-    def named(self) -> dict[str, list[str]]:
+    def named(self) -> Ids:
         """The ids by names in small letters."""
-        return add_named(collections.defaultdict(list), self.names)
+        return add_to(collections.defaultdict(list), casefolded_all, self.names)
 
     @functools.cached_property
     def accented(self) -> dict[str, list[str]]:
         """Names in small letters with accents, by those without."""
-        found = collections.defaultdict[str, list[str]](list)
-        for name in itertools.filterfalse(str.isascii, self.named):
-            if (key := without_accents(name)) != name:
-                found[key].append(name)
-        return found
+        return add_accented(collections.defaultdict(list), self.named)
 
     @functools.cached_property
-    def of_names(self) -> dict[str, list[str]]:
+    def of_names(self) -> Ids:
         """The ids by letters and digits of names."""
-        return add_names(collections.defaultdict(list), self.names)
+        return add_to(collections.defaultdict(list), folded_all, self.names)
 
     @functools.cached_property
-    def of_ids(self) -> dict[str, list[str]]:
+    def of_ids(self) -> Ids:
         """The ids by their own letters and digits."""
-        return add_ids(collections.defaultdict(list), self.names)
+        return add_each(collections.defaultdict(list), folded_all([*self.names]), self.names)
 
     @functools.cached_property
-    def of_bare_names(self) -> dict[str, list[str]]:
+    def of_bare_names(self) -> Ids:
         """The ids by names without titles, letters and remarks."""
-        named = {id: name for id, name in self.names.items() if name}
-        return add_each(collections.defaultdict(list), bare_all([*named.values()]), named)
+        return add_to(collections.defaultdict(list), bare_all, self.names)
 
     @functools.cached_property
     def of_letters(self) -> functools._lru_cache_wrapper[dict[str, list[str]]]:
@@ -92,16 +112,13 @@ class NamesEver:
     @functools.cached_property
     def letters(self) -> str:
         """All that stand in names, but for digits."""
-        return "".join(sorted({one for name in self.of_names for one in name if not one.isdigit()}))
+        return letters_in(self.of_names)
 
     @functools.cached_property
-    def forms(self) -> tuple[list[tuple[str, str]], list[tuple[str, str]]]:
+    def forms(self) -> tuple[Forms, Forms]:
         """The names of several words with the forms with which their parts begin and end alike, as `as_digits` has
         them, in the order of these; and the same in the order of the forms from behind."""
-        names = [*dict.fromkeys(name for name in self.names.values() if " " in name)]
-        words = (name if name.count(" ") < MOST_WORDS else " ".join(name.split()[:MOST_WORDS]) for name in names)
-        forms = [*map(as_digits, folded_all([*words]))]
-        return sorted(zip(forms, names)), sorted((form[::-1], name) for form, name in zip(forms, names))
+        return forms_of([*dict.fromkeys(self.names.values())])
 
     def with_form(self, form: str) -> list[str]:
         """The names of several words whose form begins or ends with one."""
@@ -109,7 +126,7 @@ class NamesEver:
         return [*dict.fromkeys([*beginning_with(form, ahead), *beginning_with(form[::-1], behind)])]
 
 
-def beginning_with(form: str, names: Sequence[tuple[str, str]]) -> list[str]:
+def beginning_with(form: str, names: Forms) -> list[str]:
     """Those of some names, in the order of their forms, whose form begins with one."""
     first = bisect.bisect_left(names, (form,))
     found = itertools.takewhile(lambda one: one[0].startswith(form), itertools.islice(names, first, None))
@@ -127,29 +144,49 @@ def with_letter_otherwise(text: str, letters: str) -> Iterator[str]:
             yield from (before + letter + behind[1:] for letter in letters if letter != behind[0])
 
 
-Ids = dict[str, list[str]]
-
-
-def add_named(found: Ids, names: Mapping[str, str]) -> Ids:
-    for id, name in names.items():
-        if name:
-            found[name.casefold()].append(id)
-    return found
-
-
-def add_names(found: Ids, names: Mapping[str, str]) -> Ids:
+def add_to(found: Ids, keys_of: KeysOf, names: Mapping[str, str]) -> Ids:
+    """Adds animals by what is compared of their names."""
     named = {id: name for id, name in names.items() if name}
-    return add_each(found, folded_all([*named.values()]), named)
-
-
-def add_ids(found: Ids, names: Mapping[str, str]) -> Ids:
-    return add_each(found, folded_all([*names]), names)
+    return add_each(found, keys_of([*named.values()]), named)
 
 
 def add_each(found: Ids, keys: Iterable[str], ids: Iterable[str]) -> Ids:
     for key, id in zip(keys, ids):
         found[key].append(id)
     return found
+
+
+def take_out(found: Ids, keys_of: KeysOf, names: Mapping[str, str]) -> None:
+    """Takes out animals that were added with these names."""
+    named = {id: name for id, name in names.items() if name}
+    for key, id in zip(keys_of([*named.values()]), named):
+        found[key].remove(id)
+
+
+def casefolded_all(names: Sequence[str]) -> list[str]:
+    return [*map(str.casefold, names)]
+
+
+# the indexes of `NamesEver` with what is compared in them
+KEYS_OF: dict[str, KeysOf] = {"named": casefolded_all, "of_names": folded_all, "of_bare_names": bare_all}
+
+
+def add_accented(found: dict[str, list[str]], names: Iterable[str]) -> dict[str, list[str]]:
+    for name in dict.fromkeys(map(str.casefold, itertools.filterfalse(str.isascii, names))):
+        if (key := without_accents(name)) != name and name not in found[key]:
+            found[key].append(name)
+    return found
+
+
+def letters_in(names: Iterable[str]) -> str:
+    return "".join(sorted({one for name in names for one in name if not one.isdigit()}))
+
+
+def forms_of(names: Iterable[str]) -> tuple[Forms, Forms]:
+    several = [name for name in names if " " in name]
+    words = (name if name.count(" ") < MOST_WORDS else " ".join(name.split()[:MOST_WORDS]) for name in several)
+    forms = [*map(as_digits, folded_all([*words]))]
+    return sorted(zip(forms, several)), sorted((form[::-1], name) for form, name in zip(forms, several))
 
 
 class IdsByName:

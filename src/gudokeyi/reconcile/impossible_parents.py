@@ -6,22 +6,23 @@ import operator
 from collections.abc import Callable, Sequence
 
 from gudokeyi.domain.animals import SocietyRecord
-from gudokeyi.domain.commands import HEADER, day_text, leave, lines_of
+from gudokeyi.domain.commands import HEADER, day_text, lines_of
 from gudokeyi.domain.findings import Report
 from gudokeyi.domain.kinds import Field, Role
 from gudokeyi.domain.messages import MessageText, Mistake, Some, why
-from gudokeyi.domain.pedigree_order import ancestors, in_order, longest_paths, offspring_by_parent, round_from
+from gudokeyi.domain.pedigree_order import in_order, longest_paths, offspring_by_parent, round_from
 from gudokeyi.domain.refusals import Refusal
 from gudokeyi.engine.program import Herdbook
 from gudokeyi.ingest.animals import (
-    BIRTH_OF, BORN_OF, DAM_OF, EMBRYO_OF, ID_OF, LEFT_OF, NUMBER_OF, SIRE_OF, SheetAnimal, parents_of_all,
+    BIRTH_OF, BORN_OF, DAM_OF, EMBRYO_OF, ID_OF, LEFT_OF, NUMBER_OF, SIRE_OF, SheetAnimal, ancestors_among,
+    parents_of_all,
 )  # fmt: skip
-from gudokeyi.ingest.days import Precision
+from gudokeyi.ingest.days import Span
 from gudokeyi.ingest.messages import Where
 from gudokeyi.reconcile.findings.parents import DayFact, OwnAncestor, ParentRefused
 from gudokeyi.reconcile.last_found import FoundBy, Kept, LastFound, NothingKept
 from gudokeyi.reconcile.messages import ImportFault
-from gudokeyi.reconcile.next_book import NextBook
+from gudokeyi.reconcile.next_book import NextBook, exits_of
 from gudokeyi.reconcile.parents import take_back
 from gudokeyi.store.book import Book
 
@@ -44,23 +45,33 @@ def cut_cycles(
     """Leaves out one parent of each animal that would be its own ancestor: of a cycle a link that the book doesn't
     have, one whose days can't be, or else that of the latest row. Answers the animals without a day, parents before
     their offspring."""
-    undated = {id: animal for id, animal in animals.items() if animal.birth.precision is not Precision.DAY}
-    younger = not_surely_older(animals, found or NothingKept())
+    those = animals.values()
+    by = [*animals], [*map(BIRTH_OF, those)], [*map(SIRE_OF, those)], [*map(DAM_OF, those)]
+    undated = (found or NothingKept()).of(Kept.UNDATED, by, lambda: undated_in_order(animals, *by[1:]))
+    if undated is not None:
+        return undated
+    order = in_order(parents_of_all(animals))
+    cut_all(animals, animals.keys() - order, report, in_book)
+    return [id for id in in_order(parents_of_all(animals)) if not animals[id].has_day()]
+
+
+def undated_in_order(
+    animals: dict[str, SheetAnimal], births: list[Span], sires: list[str], dams: list[str]
+) -> list[str] | None:
+    """The animals without a day, parents before their offspring; None where any would be its own ancestor."""
+    undated = {id: animal for id, animal in animals.items() if not animal.has_day()}
+    younger = not_surely_older(animals, births, sires, dams)
     if not younger:
         return by_age(undated)
     # these stand in one order, whether the others do or not
     some = with_ancestors(animals, {*undated, *younger})
     order = in_order(parents_of_all(some))
-    if len(order) < len(some):
-        order = in_order(parents_of_all(animals))
-        cut_all(animals, animals.keys() - order, report, in_book)
-        order = in_order(parents_of_all(animals))
-    return [id for id in order if id in undated]
+    return [id for id in order if id in undated] if len(order) == len(some) else None
 
 
 def with_ancestors(animals: dict[str, SheetAnimal], ids: set[str]) -> dict[str, SheetAnimal]:
     """Some animals and their ancestors, in the order of all."""
-    found = ids | ancestors(ids, lambda id: animals[id].parent_ids())
+    found = ids | ancestors_among(map(animals.__getitem__, ids), animals)
     return {id: animal for id, animal in animals.items() if id in found}
 
 
@@ -75,18 +86,14 @@ def cut_all(animals: dict[str, SheetAnimal], left: set[str], report: Report, in_
         left -= set(in_order(parents_of_all({id: animals[id] for id in left})))
 
 
-def not_surely_older(animals: dict[str, SheetAnimal], found: LastFound) -> list[str]:
+def not_surely_older(
+    animals: dict[str, SheetAnimal], births: list[Span], sires: list[str], dams: list[str]
+) -> list[str]:
     """The animals with a parent that may not be older by the days of both: in each cycle there is one."""
-    those = animals.values()
-    births, sires, dams = [*map(BIRTH_OF, those)], [*map(SIRE_OF, those)], [*map(DAM_OF, those)]
-
-    def find() -> list[str]:
-        last = dict(zip(animals, map(LAST, births)))
-        last[""] = datetime.date.min
-        all_values = zip(animals, map(FIRST, births), sires, dams)
-        return [id for id, first, sire, dam in all_values if last[sire] >= first or last[dam] >= first]
-
-    return found.of(Kept.NOT_OLDER, ([*animals], births, sires, dams), find)
+    last = dict(zip(animals, map(LAST, births)))
+    last[""] = datetime.date.min
+    all_values = zip(animals, map(FIRST, births), sires, dams)
+    return [id for id, first, sire, dam in all_values if last[sire] >= first or last[dam] >= first]
 
 
 def by_age(animals: dict[str, SheetAnimal]) -> list[str]:
@@ -203,20 +210,22 @@ ROLES = {
 }
 
 
-def leave_out_faulty_parents(next_book: NextBook, program: Herdbook, is_refused: bool = False) -> None:
-    """Files all animals with their parents, the oldest first, where it isn't known that anything is refused. Then it
-    files them without, and asks for the parents of each until none is refused."""
-    by_age = next_book.by_birth
+def leave_out_faulty_parents(next_book: NextBook, program: Herdbook, is_refused: bool = False) -> bool:
+    """Files all animals with their parents, the oldest first, where it isn't likely that anything is refused. Then it
+    files them without, and asks for the parents of each until none is refused; answers whether any was."""
+    by_age, are_refused = next_book.by_birth, False
     if not is_refused and not is_any_refused(next_book, program):
-        return
+        return False
     while faults := refused_parents(next_book, program, by_age):
         # paths come last: without a parent that is refused they may be shorter
         deep = [animal for animal, refusal in faults if refusal is Refusal.PATH_TOO_LONG]
         if len(deep) == len(faults) and not take_back(next_book):
             raise too_deep(next_book.animals, deep, next_book.is_pedigree)
         leave_out_parents(next_book, program, faults)
+        are_refused = True
         if not deep:
-            return
+            break
+    return are_refused
 
 
 # an animal whose parents the program refuses, and why
@@ -238,7 +247,7 @@ def is_any_refused(next_book: NextBook, program: Herdbook) -> bool:
 
 def refuses_any(next_book: NextBook, program: Herdbook) -> bool:
     by_age = next_book.by_birth
-    exits = [leave(animal.registration_number, animal.left) for animal in by_age if animal.left]
+    exits = exits_of(by_age)
     births = HEADER + next_book.births_text(by_age) + lines_of(exits)
     return bool(program.file_text(births, len(by_age) + len(exits)))
 
@@ -260,7 +269,7 @@ def asked_about(
 ) -> list[tuple[str, Refusal]]:
     """The ids of offspring whose parents the program refuses, where those are filed without."""
     numbers = next_book.numbers
-    exits = [leave(animal.registration_number, animal.left) for animal in those if animal.left]
+    exits = exits_of(those)
     asked = [animal for animal in progeny if animal.sire or animal.dam]
     births = (f"birth,{one.registration_number},{day_text(one.born)},0,0,,1,{'1' * one.embryo}\n" for one in those)
     links = (f"parents,{one.registration_number},,{numbers[one.sire]},{numbers[one.dam]},,,\n" for one in asked)

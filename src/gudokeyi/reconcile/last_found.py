@@ -33,8 +33,8 @@ class Kept(enum.Enum):
     FAULTS = enum.auto()
     FAULTS_OF_SOME = enum.auto()
     ANY_FAULT = enum.auto()
-    # the animals with a parent that may not be older
-    NOT_OLDER = enum.auto()
+    # the animals without a day, parents before their offspring
+    UNDATED = enum.auto()
     # what is told of parents' ages, of births of one dam, and of animals that are there twice
     YOUNG_PARENTS = enum.auto()
     BIRTHS_OF_DAMS = enum.auto()
@@ -54,6 +54,8 @@ class LastFound:
     def __init__(self) -> None:
         self.kept = collections.defaultdict[Kept, list[tuple[FoundBy, object]]](list)
         self.names: NamesEver | None = None
+        # whether the program refused the parents of any
+        self.are_parents_refused = False
 
     def of(self, what: Kept, by: FoundBy, find: Callable[[], Value]) -> Value:
         last = self.kept[what]

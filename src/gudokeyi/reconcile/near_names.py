@@ -2,6 +2,7 @@
 are written like no id."""
 from __future__ import annotations
 
+import itertools
 import re
 from collections.abc import Collection, Iterator
 
@@ -30,8 +31,8 @@ def parts_of(text: str) -> Iterator[str]:
 
 def have_digits(ids: Collection[str]) -> bool:
     """Have nearly all of some ids a digit?"""
-    without = sum(not DIGITS.search(id) for id in ids)
-    return len(ids) >= LEAST_IDS and TENTH * without < len(ids)
+    without = [*itertools.filterfalse(DIGITS.search, ids)]
+    return len(ids) >= LEAST_IDS and TENTH * len(without) < len(ids)
 
 
 def is_like_word(text: str) -> bool:

@@ -203,6 +203,12 @@ def births_made(
     return [made(Command, one) for one in values]
 
 
+def exits_of(animals: Iterable[SheetAnimal]) -> list[Command]:
+    """The exits of those that have left."""
+    left = [(animal.registration_number, day_text(animal.left)) for animal in animals if animal.left]
+    return [made(Command, ("exit", number, day, "", "", "", "", "")) for number, day in left]
+
+
 # What is known of each animal after an import.
 
 # of an animal whose parents are written as they are

@@ -11,7 +11,9 @@ from gudokeyi.domain.findings import Finding, Report
 from gudokeyi.domain.kinds import Field, Role, Standing
 from gudokeyi.domain.pedigree_order import ancestors
 from gudokeyi.domain.requests import MOST_IN_ID
-from gudokeyi.ingest.animals import LINE_OF, NAME_OF, Link, SheetAnimal, links_outside
+from gudokeyi.ingest.animals import (
+    CELLS_OF, DAM_OF, LINE_OF, NAME_OF, SIRE_OF, Link, SheetAnimal, links_outside,
+)  # fmt: skip
 from gudokeyi.ingest.findings.cells import TextTooLong
 from gudokeyi.ingest.texts import nearly, without_accents
 from gudokeyi.ingest.words import KNOWN_NO_PARENTS, has_word
@@ -37,6 +39,7 @@ FEW_NAMED = 50
 # one in so many offspring of a name may be one that its animal can't have
 FEW_OF_NAME = 2
 FIELDS = {Role.SIRE: Field.SIRE, Role.DAM: Field.DAM}
+PARENT_OF = {Field.SIRE: SIRE_OF, Field.DAM: DAM_OF}
 
 
 class Names:
@@ -58,8 +61,9 @@ class Names:
     @functools.cached_property
     def of_given(self) -> IdsByName:
         """The same of the animals whose ids were given."""
-        given = {id: animal.name for id, animal in self.animals.items() if id in self.with_id}
-        return IdsByName([*given], [*given.values()], self.by_name.ever)
+        are_given = [*map(self.with_id.__contains__, self.animals)]
+        ids, names = (itertools.compress(of_all, are_given) for of_all in (self.by_name.ids, self.by_name.names))
+        return IdsByName([*ids], [*names], self.by_name.ever)
 
     @functools.cached_property
     def tags(self) -> NearTags:
@@ -70,13 +74,14 @@ class Names:
         """The ids of the animals of a name; of those that stay too these are sought among all."""
         return (self.before or self).by_name.same(name)
 
-    def find_parents(self, rows: dict[str, SheetAnimal], next_book: NextBook, with_id: Collection[str]) -> None:
+    def find_parents(self, lacking: dict[str, SheetAnimal], next_book: NextBook, with_id: Collection[str]) -> None:
         """A parent that is none of the ids that were given, but the name of one animal alone, is taken for that one
-        where it can be it. What is the parent in the book stays it, whatever other animals have its name."""
+        where it can be it. What is the parent in the book stays it, whatever other animals have its name. `lacking` are
+        the rows that name a parent without one."""
         book, ids = next_book.book, next_book.in_book.ids
-        links = links_outside(rows.values(), with_id)
+        links = links_outside(lacking.values(), with_id)
         links = [(offspring, role, text) for offspring, role, text in links if self.same(text)]
-        others = self.of_others(links, rows)
+        others = self.of_others(links, next_book.animals)
         for offspring, role, text in links:
             in_book = book.society_records.get(offspring.id)
             former = ids.get(book.records[in_book.registration_number].parent(role)) if in_book else None
@@ -201,8 +206,8 @@ class Names:
     def parents_have_digits(self) -> bool:
         """Have nearly all parents one as the rows name them?"""
         rows = [animal for animal in self.animals.values() if animal.line]
-        named = [(row, field) for row in rows for role, field in FIELDS.items() if row.parent(role)]
-        return have_digits([row.cells.get(field, "") for row, field in named])
+        named = ((field, [*map(CELLS_OF, itertools.compress(rows, map(of, rows)))]) for field, of in PARENT_OF.items())
+        return have_digits([cells.get(field, "") for field, all_cells in named for cells in all_cells])
 
     def meant(self, offspring: SheetAnimal, role: Role, text: str) -> tuple[str, tuple[str, ...]]:
         """Which id may be meant by a text that is none, or several that have it as their name. Where few parents lack a
@@ -246,11 +251,14 @@ def can_be(parent: SheetAnimal, role: Role, offspring: SheetAnimal) -> bool:
 # Parents whose cells are as in the last sheet: who was meant by a name then is meant by it now.
 
 
-def keep_parents_named(next_book: NextBook, animals: dict[str, SheetAnimal]) -> None:
+def keep_parents_named(
+    next_book: NextBook, lacking: dict[str, SheetAnimal], animals: dict[str, SheetAnimal]
+) -> None:
     """A text that is no animal's id, and by which the book has a parent, means this one where it can be it, whatever
-    it is called now. `animals` are those of the sheet and of the book."""
-    rows, book = next_book.animals, next_book.book
-    for offspring, role, text in links_outside(rows.values(), rows) if book.society_records else ():
+    it is called now. `lacking` are the rows that name a parent without one; `animals` are those of the sheet and of the
+    book."""
+    book = next_book.book
+    for offspring, role, text in links_outside(lacking.values(), next_book.animals) if book.society_records else ():
         in_book = book.society_records.get(offspring.id)
         if in_book is None or in_book.written(role) != text or is_id(book, text):
             continue

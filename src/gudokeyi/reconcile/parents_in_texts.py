@@ -92,16 +92,16 @@ def name_key(text: str) -> str:
 
 
 class ParentsInTexts:
-    """`animals` are those of the sheet and of the book."""
+    """`animals` are those of the sheet and of the book, and `lacking` the rows that name a parent without one."""
 
     def __init__(
-        self, rows: dict[str, SheetAnimal], animals: Mapping[str, SheetAnimal], with_id: Set[str], last: LastFound
+        self, lacking: dict[str, SheetAnimal], animals: Mapping[str, SheetAnimal], with_id: Set[str], last: LastFound
     ) -> None:
         """`with_id` are the ids that were given."""
-        self.rows, self.animals, self.with_id, self.last = rows, animals, with_id, last
+        self.lacking, self.animals, self.with_id, self.last = lacking, animals, with_id, last
 
     def find(self, report: Report) -> None:
-        links = links_outside(self.rows.values(), self.with_id)
+        links = links_outside(self.lacking.values(), self.with_id)
         links = [link for link in links if " " in link[2] or BETWEEN.search(link[2])]
         if not links:
             return

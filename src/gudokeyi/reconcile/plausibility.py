@@ -14,7 +14,7 @@ from typing import TYPE_CHECKING
 from gudokeyi.domain.findings import Entry, Report
 from gudokeyi.domain.kinds import Field, Role
 from gudokeyi.ingest.animals import (
-    BORN_OF, CASTRATED_OF, DAM, DAM_OF, ID_OF, LINE_OF, NAME_OF, SIRE, SIRE_OF, YEARS_LATER, SheetAnimal,
+    BORN_OF, CASTRATED_OF, DAM, DAM_OF, ID_OF, LEFT_OF, LINE_OF, NAME_OF, SIRE, SIRE_OF, YEARS_LATER, SheetAnimal,
 )  # fmt: skip
 from gudokeyi.ingest.days import Precision
 from gudokeyi.reconcile.findings.by_hand import YoungParent
@@ -93,7 +93,7 @@ class PlausibilityChecks:
         self.tell_found(Kept.TWICE, lambda: values_of(self.dated, NAME_OF), self.look_at_names)
 
     def values_of_young(self) -> FoundBy:
-        left = [(one.id, one.left, one.line) for one in self.animals.values() if one.left]
+        left = [*self.animals], [*map(LEFT_OF, self.animals.values())], [*map(LINE_OF, self.animals.values())]
         return *values_of(self.dated, SIRE_OF, DAM_OF), left, self.limits.youngest
 
     def values_of_dams(self) -> FoundBy:
@@ -133,14 +133,18 @@ class PlausibilityChecks:
                 self.look_at_parents(animal, self.days, left)
 
     def likely_too_young(
-        self, dated: Sequence[SheetAnimal], days: Mapping[str, int], left: Collection[str]
+        self, dated: Sequence[SheetAnimal], days: Mapping[str, int], left: Mapping[str, datetime.date]
     ) -> list[SheetAnimal]:
-        """Those with a parent that was young at the birth, or not older, or very old, or with a sire that left."""
+        """Those with a parent that was young at the birth, or not older, or very old, or with a sire that left long
+        before."""
         never, youngest = itertools.repeat(NEVER), self.limits.youngest
-        ages = zip(dated, *(map(days.get, map(of, dated), never) for of in (ID_OF, SIRE_OF, DAM_OF)))
+        gone = dict(zip(left, map(datetime.date.toordinal, left.values())))
+        sires, stays = [*map(SIRE_OF, dated)], itertools.repeat(-NEVER)
+        parents = (map(days.get, of, never) for of in (sires, map(DAM_OF, dated)))
+        ages = zip(dated, map(days.__getitem__, map(ID_OF, dated)), *parents, map(gone.get, sires, stays))
         return [
-            animal for animal, day, of_sire, of_dam in ages
-            if day - of_sire < youngest or day - of_dam < youngest or animal.sire in left
+            animal for animal, day, of_sire, of_dam, of_exit in ages
+            if day - of_sire < youngest or day - of_dam < youngest or day - of_exit > YEAR
             or OLDEST < day - of_sire < -NEVER // 2 or OLDEST < day - of_dam < -NEVER // 2
         ]  # fmt: skip
 

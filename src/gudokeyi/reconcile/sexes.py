@@ -48,6 +48,10 @@ def role_of_both(next_book: NextBook, id: str, sires: int, dams: int) -> Role:
     return Role.SIRE if sires >= dams else Role.DAM
 
 
+# the role of offspring that speak against a sex
+AGAINST = {Role.SIRE.sex: Role.DAM, Role.DAM.sex: Role.SIRE}
+
+
 class Contradiction(NamedTuple):
     """The offspring that speak against the cell of a sex, and whether the book does too."""
 
@@ -62,7 +66,11 @@ def mend_sexes(next_book: NextBook, gone: Mapping[str, SheetAnimal]) -> None:
     offspring, and the book, speak as much as the cell."""
     # most sheets have nothing of the kind, and large ones aren't looked at closer
     evidence = progeny_by_role(next_book, gone) if may_disagree(next_book, gone) else {}
-    found = [one for id, by_role in evidence.items() if (one := contradiction(next_book, id, by_role))]
+    animals = next_book.animals
+    likely = [
+        id for id, by_role in evidence.items() if (row := animals.get(id)) and row.sex and by_role[AGAINST[row.sex]]
+    ]  # fmt: skip
+    found = [one for id in likely if (one := contradiction(next_book, id, evidence[id]))]
     # sires in the column of dams are told as such
     new = sum(len(one.progeny) for one in found if not one.in_book)
     if new > FEW_REFUSED and 2 * new > sum(len(its) for by_role in evidence.values() for its in by_role.values()):

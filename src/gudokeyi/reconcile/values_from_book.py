@@ -24,6 +24,29 @@ from gudokeyi.reconcile.owner_days import DaysOfOthers
 TOO_EARLY = (DayFault.BEFORE_BIRTH, DayFault.WITHIN_BEFORE_BIRTH)
 
 
+def keep_unsaid(next_book: NextBook) -> bool:
+    """Gives the animals of the rows the names, sexes, parents and owners that the book has, where no column says these:
+    with them most rows are as those of the book. Answers whether any of these columns lacks."""
+    lacks = [field not in next_book.given for field in (Field.NAME, Field.SEX, Field.SIRE, Field.DAM, Field.OWNER)]
+    lacks_name, lacks_sex, lacks_sire, lacks_dam, lacks_owner = lacks
+    known, records, ids = next_book.book.society_records, next_book.book.records, next_book.in_book.ids
+    both = ((animal, known[id]) for id, animal in next_book.animals.items() if id in known)
+    for animal, in_book in both if any(lacks) else ():
+        record = records[in_book.registration_number]
+        if lacks_name:
+            animal.name = in_book.name
+        if lacks_sex and not animal.sex and not in_book.sex.is_inferred:
+            animal.sex, animal.castrated = in_book.registration_number[6], in_book.castrated
+        if lacks_sire:
+            animal.sire = ids[record.sire]
+        if lacks_dam:
+            animal.dam = ids[record.dam]
+        # a word for an exit may name one
+        if lacks_owner and not animal.owner:
+            animal.owner = next_book.book.owner_of(record.owner_code)
+    return any(lacks)
+
+
 def keep_values(next_book: NextBook) -> None:
     """Gives the animals of the rows what the book has of them and the sheet doesn't say."""
     book, keeping = next_book.book, Keeping(next_book)

@@ -42,6 +42,7 @@ from gudokeyi.reconcile.parents import may_be_unknown
 from gudokeyi.reconcile.pedigree_links import refuse_lost_links
 from gudokeyi.reconcile.plausibility import PlausibilityChecks, tell_swapped_columns
 from gudokeyi.reconcile.sexes import tell_sexes_of_others
+from gudokeyi.reconcile.values_from_book import keep_unsaid
 from gudokeyi.services.book_program import BookProgram
 from gudokeyi.services.output_files import check_place
 from gudokeyi.services.prepared_changes import Prepared
@@ -93,10 +94,13 @@ def file(
     filing = Filing(next_book, OwnerDays(book, report, import_options.day))
     owners_before = set(book.owners)
     told_before = len(report.entries)
-    filed = filing.filed_at_once(program, import_options.preview)
+    # parents that a look before left out are most likely refused again
+    are_refused = bool(book.journal.length) and next_book.last_found.are_parents_refused
+    filed = None if are_refused else filing.filed_at_once(program, import_options.preview)
     told = report.cut_off(told_before) if book.journal.length else []
     if filed is None:
-        leave_out_faulty_parents(next_book, program, filing.refuses_births)
+        are_refused = leave_out_faulty_parents(next_book, program, are_refused or filing.refuses_births)
+    next_book.last_found.are_parents_refused = are_refused
     if next_book.is_pedigree and not import_options.leave_out:
         refuse_lost_links(report)
     if about.understood:
@@ -211,8 +215,9 @@ def import_sheet_into(
         book, read.animals, set(read.columns.found), read.report, read.rows.cells.days, in_book=read.in_book,
         last_found=last.found if last else None,
     )  # fmt: skip
+    are_other_rows = keep_unsaid(next_book) or are_renamed
     if last and book.society_records:
-        next_book.compare(last.rows_of(book), frozenset() if are_renamed else last.same_rows(book))
+        next_book.compare(last.rows_of(book), frozenset() if are_other_rows else last.same_rows(book))
     complete(next_book, read.columns, import_options)
     tell_parents_named_otherwise(read.columns, next_book.animals, next_book.report)
     own = find_own_columns(book, read.columns, import_options.own)

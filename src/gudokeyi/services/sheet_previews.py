@@ -120,7 +120,7 @@ def changes_by_animal(outcome: Outcome, drops_gone: bool) -> dict[str, bytes]:
     some of the first alone. What has no row stays as it is, unless it is dropped, and so does what was filed by hand; a
     new animal has whichever number is free."""
     told = collections.defaultdict[str, list[str]](list)
-    for entry in outcome.report.in_order():
+    for entry in outcome.report.entries:
         stays = isinstance(entry.finding, (*STAYS, OwnValueWritten)) or (entry.what is What.GONE and not drops_gone)
         if entry.id and not stays:
             values = "" if isinstance(entry.finding, NewAnimal) else repr(entry.finding)

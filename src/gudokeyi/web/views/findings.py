@@ -262,8 +262,10 @@ def line_of(entry: Entry, words: PageLanguage, days: Days | None) -> Line:
 
 def places_of(entry: Entry) -> tuple[What, ...]:
     """The kinds under which it stands: what may be wrong stands there, also where it is of another kind."""
-    may_be_wrong = entry.finding.does() is not Severity.NONE and entry.what is not What.LEFT_OUT
-    return tuple(dict.fromkeys([What.WARNING, entry.what] if may_be_wrong else [entry.what]))
+    what = entry.what
+    if what is What.WARNING or what is What.LEFT_OUT or entry.finding.does() is Severity.NONE:
+        return (what,)
+    return What.WARNING, what
 
 
 def totals_of(entries: Iterable[Entry]) -> collections.Counter[What]:
