@@ -6,7 +6,7 @@ import collections
 import functools
 import operator
 import re
-from collections.abc import Callable, Collection, Iterable, Mapping
+from collections.abc import Callable, Collection, Iterable, Mapping, Sequence
 from dataclasses import dataclass, replace
 from typing import Container, NamedTuple
 
@@ -56,6 +56,8 @@ SIGNS = ":;.,=–-"
 MARKED = re.compile(r"[-=*_~#–—>.]{2,}.*|.*[-=*_~–—]{2,}|.*:", re.DOTALL)
 WORD = re.compile(r"[^\W\d_]{4,}")
 LETTERS, NUMBERS = re.compile(r"[^\W\d_]+"), re.compile(r"\d+")
+# stands in no id
+BETWEEN = "\0"
 # so few other rows of a shape may be headings too
 FEW = 5
 
@@ -63,6 +65,12 @@ FEW = 5
 def shape(id: str) -> str:
     """What ids that are written alike have in common: `CH 120.1` is `A 9.9`."""
     return NUMBERS.sub("9", LETTERS.sub("A", id))
+
+
+def shapes_of(ids: Sequence[str]) -> collections.Counter[str]:
+    """How many ids have each shape; all are looked at as one text."""
+    shapes = shape(BETWEEN.join(ids)).split(BETWEEN)
+    return collections.Counter(shapes if len(shapes) == len(ids) else map(shape, ids))
 
 
 class Notes:
@@ -88,9 +96,8 @@ class Notes:
         if not likely or 2 * len(likely) > len(self.sheet.rows):
             return {}
         lines = {row.line for row in likely}
-        shapes = collections.Counter(
-            shape(row.cells[self.id]) for row in self.sheet.rows if row.line not in lines and self.id < len(row.cells)
-        )
+        rows = [row for row in self.sheet.rows if row.line not in lines and self.id < len(row.cells)]
+        shapes = shapes_of([row.cells[self.id] for row in rows])
         parents = {
             nearly(cell) for role in (Field.SIRE, Field.DAM) if role in self.columns
             for cell in set(self.sheet.column(self.columns[role]))
