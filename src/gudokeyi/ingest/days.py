@@ -268,6 +268,12 @@ def is_span(text: str) -> bool:
 
 def span_within(text: str, month_first: bool = False) -> Span | None:
     """The only day, month or year within a text, if there is one."""
+    said = {span_said(one, month_first) for one in places_within(text)}
+    return said.pop() if len(said) == 1 else None
+
+
+def places_within(text: str) -> list[re.Match[str]]:
+    """Where days, months or years stand within a text."""
     found = list[re.Match[str]]()
     for form in forms()[:-1]:
         # a form may fit a part of what an earlier one fits
@@ -275,9 +281,7 @@ def span_within(text: str, month_first: bool = False) -> Span | None:
             one for one in within(form, text, r"(?!\d|[./-]\d)") if not any(overlap(one, other) for other in found)
         ]
     # a year alone ends the text: other numbers may be prices
-    found = found or within(forms()[-1], text, r"(?=[).]*$)")
-    said = {span_said(one, month_first) for one in found}
-    return said.pop() if len(said) == 1 else None
+    return found or within(forms()[-1], text, r"(?=[).]*$)")
 
 
 def within(form: re.Pattern[str], text: str, behind: str) -> list[re.Match[str]]:
