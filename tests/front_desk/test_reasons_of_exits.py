@@ -139,6 +139,34 @@ def test_state_that_is_no_exit(desk: Desk, titles: str) -> None:
     assert not beside or reason(desk, "p") == ("2010-01-01", "Endorsed")
 
 
+GONE = (
+    "PTS, pet only", "sold,pet only", "died-colic", "eingeschl., Kolik", "RIP; alt", "put to sleep (colic)", "culled/pet",
+    "lebt, verkauft an Weber", "lebt – wurde verkauft", "vivant, mais vendu",
+)  # fmt: skip
+LIVING = (
+    "lebt, verkauft 2 Lämmer", "alive - sold 3 lambs in 2020", "vivante; agneau vendu", "lebt (Lamm geschlachtet)",
+    "lebt, Mutter tot", "verkauft: noch nicht", "85 PTS",
+)  # fmt: skip
+
+
+@pytest.mark.parametrize("titles", ["Died;Status", "Status"])
+def test_exit_with_more_text(desk: Desk, titles: str) -> None:
+    """A cell that begins with an exit tells of it, with what stands behind; one that begins with a word for living
+    tells of others. Both are kept."""
+    beside = ";" * titles.count(";")
+    rows = "".join(f'a{at};M;2001-01-01;;;{beside}"{cell}"\n' for at, cell in enumerate((*GONE, *LIVING)))
+    rows += 'p;M;2001-01-01;;;2010-01-01;"PTS, pet only"\nq;M;2001-01-01;;;2010-01-01;"lebt, verkauft 2 Lämmer an Weber"\n'
+    sheet = f"id;sex;birth;sire;dam;{titles}\n" + (rows if beside else rows[: rows.index("p;")])
+    done = desk.take(sheet)
+    kept = {f"a{at}": f"day unknown: '{cell}'" for at, cell in enumerate(GONE)}
+    assert exits(desk) == kept | ({"p": "'PTS, pet only'"} if beside else {})
+    noted = {f"a{at}": {f"Status: {cell}"} for at, cell in enumerate(LIVING, len(GONE))}
+    assert {id: one for id, one in notes(desk).items() if one and id != "q"} == noted
+    told = "'Died' says '2010-01-01', and 'Status' says 'lebt, verkauft 2 Lämmer an Weber': the animal counts as gone"
+    assert (told in done.told) == bool(beside)
+    assert " 0 new, 0 changed" in desk.take(sheet).last
+
+
 def test_word_that_is_said_to_be_no_exit(desk: Desk) -> None:
     """A column that tells where animals are may have any word: they count as gone, and the command that is suggested
     says that one doesn't."""

@@ -19,7 +19,7 @@ from gudokeyi.ingest.sheets import Sheet, SheetRow, cell_of
 from gudokeyi.ingest.statuses import TAKER, Exits, exits_said
 from gudokeyi.ingest.texts import nearly, plain
 from gudokeyi.ingest.unknown_parents import UnknownParents
-from gudokeyi.ingest.words import KNOWN_EXITS, KNOWN_SEXES, KNOWN_SUMS, sex_word
+from gudokeyi.ingest.words import KNOWN_EXITS, KNOWN_SEXES, KNOWN_SUMS, lives_besides, sex_word
 
 # Cells with signs that no one sees: they are read without, but an id, which others write otherwise than it is seen.
 
@@ -288,6 +288,8 @@ class Takers:
     def named(self, text: str) -> tuple[str, ...]:
         """The owners who are named behind `verkauft an`, or in a text that begins with whom."""
         found = TAKER.search(text) or TO_WHOM.match(text)
+        if lives_besides(text):
+            return ()
         return self.called(found["taker"]) if found else ()
 
     def within(self, text: str) -> tuple[str, ...]:

@@ -15,7 +15,7 @@ from gudokeyi.ingest.findings.rows import StatusDisagrees, StatusRead
 from gudokeyi.ingest.sheets import Sheet, SheetRow, cell_of
 from gudokeyi.ingest.texts import plain
 from gudokeyi.ingest.titles import KNOWN_REASONS, KNOWN_STATES, KNOWN_STATUSES, OF_LIVING
-from gudokeyi.ingest.words import DEAD, KNOWN_YES, exit_word, is_still_there, lives, says_lives
+from gudokeyi.ingest.words import DEAD, KNOWN_YES, exit_word, is_still_there, lives, lives_besides, says_lives
 
 # what says no in a column of living animals
 NO_WORDS = {"nein", "n", "no", "non", "false", "falsch", "faux", "0"}
@@ -110,7 +110,7 @@ class Statuses:
         tells, tells_none = bool(exit_word(text)), lives(text)
         # a state such as `pet only` is no exit unless a word or a day says so
         is_other = self.is_of_states and is_other_state(text)
-        is_there, has_taker = is_still_there(text), TAKER.search(text) is not None
+        is_there, has_taker = is_still_there(text), TAKER.search(text) is not None and not lives_besides(text)
         is_reason = text == status and not (tells_none or is_there or text.casefold() in KNOWN_YES)
         return Said(text, tells, is_there, is_other, tells_none, says_lives(text), is_reason, has_taker)
 
@@ -128,10 +128,10 @@ class Statuses:
             self.found.reasons[row.line] = said.text
         elif said.is_still_there or said.is_other_state:
             self.found.remarks.append(Remark(row.line, self.titles[1], said.text))
-        elif says_exit and said.lives:
-            self.tell(row, exit, True)
         elif not says_exit and not said.tells_none and (said.tells or not exit or self.is_unknown(exit)):
             self.take(place, row, exit, said.text)
+        if says_exit and said.lives:
+            self.tell(row, exit, True)
 
     def take(self, place: int, row: SheetRow, exit: str, said: str) -> None:
         """The word of the status stands for an exit of which its column says nothing, or that there is none."""
