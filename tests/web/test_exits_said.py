@@ -45,6 +45,22 @@ def test_exit_with_more_text(empty_site: Site) -> None:
         assert book and book.society_records["003"].exit.text == "PTS, pet only"
 
 
+def test_day_of_a_sale_elsewhere(empty_site: Site) -> None:
+    """A preview says of a sale within the society since when, and speaks of no empty text."""
+    site, rows = empty_site, ROWS.replace("Huber", "Zoo", 1)
+    address, _ = look_at(site, TITLES + rows.replace("1.2.2020;verkauft an Zoo", ";"))
+    site.take(address)
+    address, page = look_at(site, TITLES + rows)
+    told = Says("en")(
+        "owner {}, before {}: '{}' names an owner of the society, so it hasn't left", "Zoo", "Huber",
+        "verkauft an Zoo 1.2.2020",
+    )  # fmt: skip
+    assert told in shown(page) and "''" not in shown(page)
+    site.take(address)
+    with site.desk.opened() as book:
+        assert book and book.records[book.society_records["002"].registration_number].since.isoformat() == "2020-02-01"
+
+
 @pytest.mark.parametrize(("language", "told"), [
     ("en", "1 animal that had left counts as living again, 002 (line 3): does the column of exits lack it?"),
     ("de", "1 abgegangenes Tier zählt wieder als lebend, 002 (Zeile 3): fehlt sein Abgang in der Spalte?"),

@@ -10,11 +10,12 @@ from typing import Container, NamedTuple
 from gudokeyi.domain.findings import Report
 from gudokeyi.domain.kinds import Field
 from gudokeyi.ingest.day_cells import is_other_state
+from gudokeyi.ingest.days import is_span, places_within
 from gudokeyi.ingest.findings.exits import NoExits, Remark
 from gudokeyi.ingest.findings.rows import StatusDisagrees, StatusRead
 from gudokeyi.ingest.sheets import Sheet, SheetRow, cell_of
 from gudokeyi.ingest.texts import plain
-from gudokeyi.ingest.titles import KNOWN_REASONS, KNOWN_STATES, KNOWN_STATUSES, OF_LIVING
+from gudokeyi.ingest.titles import KNOWN_REASONS, KNOWN_STATES, KNOWN_STATUSES, OF_LIVING, names_exits_alone
 from gudokeyi.ingest.words import DEAD, KNOWN_YES, exit_word, is_still_there, lives, lives_besides, says_lives
 
 # what says no in a column of living animals
@@ -26,10 +27,22 @@ TAKER = re.compile(
     r".*?\b(?:an|zu|to|à|a|au|aux)\s+(?P<taker>\S.*)",
     re.IGNORECASE,
 )
+# the same of a text that stands for an owner
+WITH_NOW = re.compile(
+    r"(?:jetzt|nun|now|maintenant|désormais|neuer (?:besitzer|halter)|new owner|nouveau propriétaire)\b[: ]*"
+    r"(?:bei |an |with |to |chez |à )?(?P<taker>\S.*)",
+    re.IGNORECASE,
+)
 # so many different texts a column of words has at most
 MOST_TEXTS = 2000
 # so many such columns are looked at
 MOST_COLUMNS = 20
+
+
+def taker_of_owner(text: str) -> str:
+    """Who has an animal whose owner is written as `verkauft an Meier`; empty where the text tells of no sale."""
+    found = TAKER.search(text) or WITH_NOW.match(text)
+    return found["taker"] if found else ""
 
 
 def said_of(status: str, title: str) -> str:
@@ -169,12 +182,28 @@ def exits_said(
     """What columns of words say of the exits of rows."""
     tell_living_by_others(rows, sheet, columns, unknown, report)
     at = columns[Field.EXIT]
-    if Field.STATUS not in columns:
-        return Exits(exits_of_living(rows, sheet.titles[at], at))
-    exits = Statuses(sheet, columns, unknown, report).find(rows)
-    for of_reasons in reasons_beside(sheet.titles, columns):
-        add_reasons(exits, rows, of_reasons, at, unknown)
+    if Field.STATUS in columns:
+        exits = Statuses(sheet, columns, unknown, report).find(rows)
+        for of_reasons in reasons_beside(sheet.titles, columns):
+            add_reasons(exits, rows, of_reasons, at, unknown)
+    else:
+        exits = Exits(exits_of_living(rows, sheet.titles[at], at))
+    add_days_of_sales(exits, rows, sheet.titles, columns)
     return exits
+
+
+def add_days_of_sales(exits: Exits, rows: list[SheetRow], titles: Sequence[str], columns: Mapping[str, int]) -> None:
+    """The day of a sale to somebody stands in the only other column such as `verkauft am`."""
+    read, exit_at, owner_at = {*columns.values()}, columns[Field.EXIT], columns.get(Field.OWNER)
+    of_days = [at for at, title in enumerate(titles) if at not in read and names_exits_alone(title)]
+    if len(of_days) != 1:
+        return
+    for place, row in enumerate(rows):
+        exit, day = exits.texts.get(place) or cell_of(row, exit_at), cell_of(row, of_days[0])
+        said = exit or (cell_of(row, owner_at) if owner_at is not None else "")
+        has_taker = TAKER.search(said) if exit else taker_of_owner(said)
+        if is_span(day) and has_taker and not places_within(said):
+            exits.texts[place] = f"{exit} {day}".strip()
 
 
 def reasons_beside(titles: Sequence[str], columns: Mapping[str, int]) -> list[int]:

@@ -74,6 +74,11 @@ EXITS = (
     "réformée, réforme, sorti, sortie, exporté, exportée, volé, volée, euthanasié, euthanasiée, décès, dcd, inactif, "
     "inactive"
 )
+# those of a sale, or of any exit
+SALES = (
+    "verkauft, verk, Verkauf, abgegeben, abgeg, abg, abgegangen, Abgang, weg, sold, sale, gone, left, vendu, vendue, "
+    "vente, sorti, sortie"
+)
 # what may stand beside such a word that tells of the animal itself
 AROUND_EXITS = (
     "aber, wurde, wird, ist, jetzt, nun, inzwischen, seit, am, im, in, an, ab, zu, nach, ins, bei, für, um, mit, wegen, "
@@ -172,6 +177,7 @@ KNOWN_YES = {word.casefold() for word in listed(YES)}
 KNOWN_NO = {word.casefold() for word in listed(NO)}
 KNOWN_STAYS = {plain(word) for word in listed(STAYS)}
 KNOWN_EXITS = {plain(word) for word in listed(EXITS)}
+KNOWN_SALES = {plain(word) for word in listed(SALES)}
 KNOWN_AROUND_EXITS = KNOWN_EXITS | {plain(word) for word in listed(AROUND_EXITS)}
 KNOWN_STILL_THERE = {plain(word) for word in listed(STILL_THERE)}
 KNOWN_NO_EXITS = KNOWN_STILL_THERE | {plain(word) for word in listed(OTHER_EVENTS)}
