@@ -159,6 +159,8 @@ class Precision(enum.Enum):
     """How much of a day is known."""
 
     DAY = enum.auto()
+    # one of a few days that follow one another, perhaps of two months
+    DAYS = enum.auto()
     MONTH = enum.auto()
     YEAR = enum.auto()
     NOTHING = enum.auto()
@@ -182,8 +184,8 @@ class Span(NamedTuple):
         return self.first <= day <= self.last
 
     def period(self) -> Period:
-        """The month or the year."""
-        is_month = self.precision is Precision.MONTH
+        """The month or the year; of a few days that of the first."""
+        is_month = self.precision in (Precision.DAYS, Precision.MONTH)
         return Period(f"{self.first:%Y-%m}" if is_month else str(self.first.year), self.wrong)
 
     def before(self) -> Span:
