@@ -129,3 +129,9 @@ def test_exit_after_a_sale(desk: Desk) -> None:
     desk.take(TITLES.replace("Abgang", "Abgang;seit") + ROWS.replace(";\n", ";;\n") + rows, "--book", "two")
     left = [line.split(",")[2] for line in desk.text("two/commands.csv").splitlines() if line.startswith("exit")]
     assert left == ["2023-05-12", "2023-05-12"]
+    # a column of deaths has no day of a sale
+    rows = "004;B;w;3.2.2014;001;002;verkauft an Meier;12.5.2023;\n"
+    rows += "005;C;w;3.2.2015;001;002;Huber;12.5.2023;verkauft an Meier\n"
+    desk.take(TITLES.replace("Abgang", "gestorben am;Status") + ROWS.replace(";\n", ";;\n") + rows, "--book", "three")
+    left = [line.split(",")[2] for line in desk.text("three/commands.csv").splitlines() if line.startswith("exit")]
+    assert left == ["2023-05-12", "2023-05-12"]

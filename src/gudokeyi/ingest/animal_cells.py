@@ -30,6 +30,7 @@ from gudokeyi.ingest.sexes import Sexes
 from gudokeyi.ingest.sheets import Sheet
 from gudokeyi.ingest.statuses import taker_of_owner
 from gudokeyi.ingest.texts import plain
+from gudokeyi.ingest.titles import names_other_exits
 from gudokeyi.ingest.unknown_parents import UnknownParents, names_no_owner
 from gudokeyi.ingest.words import KNOWN_NO, KNOWN_SALES, KNOWN_YES, exit_word, is_error_value, is_in_doubt
 
@@ -331,7 +332,9 @@ class AnimalCells:
         """Is it the day on which the owner took the animal, whose cell tells of that without a day?"""
         text, reason = animal.cells.get(Field.OWNER, ""), exit.reason or self.reasons.get(animal.line, "")
         is_told = text != animal.owner and taker_of_owner(text) and animal.since in (None, exit.day.span)
-        if not is_told or plain(reason) not in KNOWN_SALES | {""} and not taker_of_owner(reason):
+        if not is_told or names_other_exits(self.unread.titles[Field.EXIT]):
+            return False
+        if plain(reason) not in KNOWN_SALES | {""} and not taker_of_owner(reason):
             return False
         self.unread.read[Field.EXIT] += 1
         animal.since, animal.is_since_sale = exit.day.span, True

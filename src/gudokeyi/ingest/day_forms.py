@@ -16,6 +16,7 @@ from gudokeyi.ingest.days import (
 )  # fmt: skip
 from gudokeyi.ingest.findings.columns import SheetFinding
 from gudokeyi.ingest.findings.days import DayReading, DaysReadSo
+from gudokeyi.ingest.words import LETTER
 
 
 # the days of a spreadsheet are counted from this one, and those that animals of a book may have have five digits
@@ -81,7 +82,6 @@ UNSURE = re.compile(
 )
 # two days, or a week, of which the text has one
 BETWEEN = re.compile(r"\b(?:zw|zwischen|between|entre|nuit|night|Nacht|week|Woche|semaine|w/c)\b", re.IGNORECASE)
-LETTER = re.compile(r"[^\W\d_]")
 # a year of four digits
 YEAR = re.compile(r"(?<!\d)(?:19|20)\d{2}(?!\d)")
 

@@ -278,9 +278,7 @@ class Takers:
     def named(self, text: str) -> tuple[str, ...]:
         """The owners who are named behind `verkauft an`, or in a text that begins with whom."""
         found = TAKER.search(text) or TO_WHOM.match(text)
-        if lives_besides(text):
-            return ()
-        return self.called(found["taker"]) if found else ()
+        return self.called(found["taker"]) if found and not lives_besides(text) else ()
 
     def within(self, text: str) -> tuple[str, ...]:
         """The owners whose names stand whole in a text without saying that they took the animal."""

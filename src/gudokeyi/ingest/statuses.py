@@ -15,7 +15,9 @@ from gudokeyi.ingest.findings.exits import NoExits, Remark
 from gudokeyi.ingest.findings.rows import StatusDisagrees, StatusRead
 from gudokeyi.ingest.sheets import Sheet, SheetRow, cell_of
 from gudokeyi.ingest.texts import plain
-from gudokeyi.ingest.titles import KNOWN_REASONS, KNOWN_STATES, KNOWN_STATUSES, OF_LIVING, names_exits_alone
+from gudokeyi.ingest.titles import (
+    KNOWN_REASONS, KNOWN_STATES, KNOWN_STATUSES, OF_LIVING, names_exits_alone, names_other_exits,
+)  # fmt: skip
 from gudokeyi.ingest.words import DEAD, KNOWN_YES, exit_word, is_still_there, lives, lives_besides, says_lives
 
 # what says no in a column of living animals
@@ -100,6 +102,7 @@ class Statuses:
         self.id, self.exit, self.status = (columns[one] for one in (Field.ID, Field.EXIT, Field.STATUS))
         self.titles = sheet.titles[self.exit], sheet.titles[self.status]
         self.is_of_states = plain(self.titles[1]) in KNOWN_STATES
+        self.may_be_sales = not names_other_exits(self.titles[0])
         # the same texts stand in many cells
         self.said, self.says_exit = functools.cache(self.read), functools.cache(self.tells_exit)
         self.found, self.taken = Exits(), 0
@@ -135,7 +138,7 @@ class Statuses:
 
     def look(self, place: int, row: SheetRow, exit: str, said: Said) -> None:
         says_exit = bool(exit) and self.says_exit(exit)
-        if says_exit and said.tells and said.has_taker:
+        if says_exit and said.tells and said.has_taker and self.may_be_sales:
             self.found.texts[place] = f"{said.text} {exit}"
         if says_exit and said.is_reason:
             self.found.reasons[row.line] = said.text
@@ -196,6 +199,7 @@ def add_days_of_sales(exits: Exits, rows: list[SheetRow], titles: Sequence[str],
     """The day of a sale to somebody stands in the only other column such as `verkauft am`."""
     read, exit_at, owner_at = {*columns.values()}, columns[Field.EXIT], columns.get(Field.OWNER)
     of_days = [at for at, title in enumerate(titles) if at not in read and names_exits_alone(title)]
+    of_days = [at for at in of_days if not names_other_exits(titles[at])]
     if len(of_days) != 1:
         return
     for place, row in enumerate(rows):

@@ -70,9 +70,9 @@ EXITS = (
     "notgeschlachtet, eingeschläfert, eingeschl, euth, getötet, verunglückt, abgegeben, gestohlen, gerissen, "
     "weg, inaktiv, sold, sale, slaughtered, "
     "slaughter, dead, died, death, deceased, culled, exported, gone, left, lost, stolen, killed, euthanised, "
-    "euthanized, put to sleep, put down, rehomed, vendu, vendue, vente, abattu, abattue, abattage, mort, morte, décédé, décédée, réformé, "
-    "réformée, réforme, sorti, sortie, exporté, exportée, volé, volée, euthanasié, euthanasiée, décès, dcd, inactif, "
-    "inactive"
+    "euthanized, put to sleep, put down, rehomed, vendu, vendue, vente, abattu, abattue, abattage, mort, morte, "
+    "décédé, décédée, décès, dcd, réformé, réformée, réforme, sorti, sortie, exporté, exportée, volé, volée, "
+    "euthanasié, euthanasiée, inactif, inactive"
 )
 # those of a sale, or of any exit
 SALES = (
@@ -239,7 +239,7 @@ NEGATED = re.compile(
 )
 # the same behind the word, as `verkauft: noch nicht`
 DENIED = re.compile(
-    r"(?P<word>\w+)\.?\s*[,;:(–—-]\s*(?:nicht|noch nicht|nein|no|not|not yet|non|pas encore)\W*$", re.IGNORECASE
+    r"\b(?P<word>\w+)\.?\s*[,;:(–—-]\s*(?:nicht|noch nicht|nein|no|not|not yet|non|pas encore)\W*$", re.IGNORECASE
 )
 # the signs of a death, and the letters for one, where they don't count points
 DEAD = re.compile(r"†|✝|^\+(?=\s*\d)|^\(?\+\)?$|(?<![\w.])(?<!\d )(?:PTS|R\.I\.P|RIP)(?!\w)")
