@@ -8,6 +8,7 @@ import pytest
 
 from front_desk.desk import Desk
 from gudokeyi.ingest.day_forms import DayForms
+from gudokeyi.ingest.days import Unreadable
 from gudokeyi.ingest.findings.days import DayReading
 
 TITLES = "KC Number;Name;Sex;Whelped;Sire;Dam;Owner\n"
@@ -31,7 +32,23 @@ ONE_OF = {
     "12/13.06.1819": (None, None),
     "before 12/13 June 2019": (None, None),
     "12/13.06.2019 or 20.06.2020": (None, None),
+    # days that have their months
+    "31.05./01.06.2019": ("2019-05-31", "2019-06-01"),
+    "31.5/1.6.2019": ("2019-05-31", "2019-06-01"),
+    "31.5.-1.6.19": ("2019-05-31", "2019-06-01"),
+    "31/5 - 1/6/2019": ("2019-05-31", "2019-06-01"),
+    "31. Mai / 1. Juni 2019": ("2019-05-31", "2019-06-01"),
+    "Nacht vom 31.5. auf den 1.6.2019": ("2019-05-31", "2019-06-01"),
+    "2019-05-31/2019-06-01": ("2019-05-31", "2019-06-01"),
+    "01.06./31.05.2019": ("2019-05-31", "2019-06-01"),
+    "31.12./1.1.2019": ("2018-12-31", "2019-01-01"),
+    "31.12.2018 oder 1.1.2019": ("2018-12-31", "2019-01-01"),
+    "vor 31.05./01.06.2019": (None, None),
+    "31.04./01.05.2019": (None, None),
+    "31.05./01.06.2019, nicht 2020": (None, None),
 }
+# both are days, and one isn't beside the other
+FAR = ("31.05./09.06.2019", "1.4.2018/13.4.2018", "12./20.4.2018", "1 May or 9 May 2019")
 UNSURE = (
     "1/4/2019 (est.)", "ca. 1.4.2019", "1.4.2019?", "~ 1 April 2019", "1.4.19 (geschätzt)", "vers le 1er avril 2019",
 )  # fmt: skip
@@ -45,6 +62,12 @@ def test_one_of_several(text: str) -> None:
     span, reading = found if found else (None, None)
     days = (str(span.first), str(span.last)) if span and reading is DayReading.ONE_OF else (None, None)
     assert days == ONE_OF[text] and (reading is not DayReading.ONE_OF or span and not span.is_day)
+
+
+@pytest.mark.parametrize("text", FAR)
+def test_days_far_apart(text: str) -> None:
+    with pytest.raises(Unreadable):
+        FORMS.read(text)
 
 
 @pytest.mark.parametrize("text", [*UNSURE, *SURE])
@@ -87,6 +110,26 @@ def test_told_and_inferred(desk: Desk) -> None:
     marked = {one["id"] for one in desk.listed("list", "--columns", "id,birth") if "(inferred)" in one["birth"]}
     assert marked == {"A1", "A2", "A3", "A4", "A7"}
     assert " 0 changed" in desk.take(TITLES + ROWS, *OPTIONS).last and desk.born() == born
+
+
+def test_night_between_two_days(desk: Desk) -> None:
+    """The first of them is taken and marked, and what may be wrong says which days are read; days that are far from
+    one another are told as unread."""
+    rows = "A1;Foo;m;31.05./01.06.2019;;;X\nA2;Bar;f;12./13.4.2018;;;X\nA3;Baz;f;31.05./09.06.2019;;;X\n"
+    rows += "A4;Qux;f;2.6.2019;;;X\n"
+    done = desk.take(TITLES + rows, *OPTIONS)
+    assert [desk.born()[id] for id in ("A1", "A2")] == ["2019-05-31", "2018-04-12"]
+    done.shows(
+        "to look at: one of several days in 2 cells of the column 'Whelped': '31.05./01.06.2019' in line 2 is read as "
+        "2019-05-31 to 2019-06-01, and the others alike",
+    )
+    assert "can't be read, the first in line 4: '31.05./09.06.2019'" in done.out
+    done.tells("line 2: A1: inferred: birth day 2019-05-31, from the month 2019-05 of '31.05./01.06.2019'")
+    assert " 0 changed" in desk.take(TITLES + rows, *OPTIONS).last
+    # a dam that was born on the day before leaves the second day alone, of another month
+    rows = rows.replace("2019;;;X\nA2;Bar;f;12./13.4.2018", "2019;;A2;X\nA2;Bar;f;31.5.2019")
+    desk.take(TITLES + rows, *OPTIONS, "--anyway")
+    assert "  born          2019-06-01 (inferred, from the month 2019-06)" in desk.good("show", "A1").out
 
 
 def test_between_parents_and_offspring(desk: Desk) -> None:

@@ -12,7 +12,8 @@ TELLS = "seems to tell of an exit, and it counts as living"
 @pytest.mark.parametrize(
     "name",
     ["Susi †", "Viola † 12.3.2022", "Hans +", "Berta (tot)", "Olga verk.", "Rex sold", "Ida (verkauft 2022)",
-     "Uwe - tot", "Mia +2022", "Ute geschl. 5/22", "Zora Verkauft", "Belle (vendue)"],
+     "Uwe - tot", "Mia +2022", "Ute geschl. 5/22", "Zora Verkauft", "Belle (vendue)", "Berta RIP", "Max (eingeschl.)",
+     "Luna ✝", "Ina euth.", "Otto (rip 2020)", "R.I.P. Bella", "Ute eingeschl. 2020", "Bob PTS"],
 )  # fmt: skip
 def test_exit_in_a_name(desk: Desk, name: str) -> None:
     """It is told of an animal that counts as living, and not of one that has an exit."""
@@ -26,8 +27,10 @@ def test_exit_in_a_name(desk: Desk, name: str) -> None:
 
 
 @pytest.mark.parametrize(
-    "name", ["Walking Dead", "Gone With The Wind", "Lotte", "Mort", "Totila", "Sold Out", "Gestüt Max", "C+A", "Verka"]
-)
+    "name",
+    ["Walking Dead", "Gone With The Wind", "Lotte", "Mort", "Totila", "Sold Out", "Gestüt Max", "C+A", "Verka", "Ripley",
+     "Tripoli", "TRIPOLI", "Rip van Winkle", "Lady Rip", "RIP Curl", "GRIP"],
+)  # fmt: skip
 def test_name_alone(desk: Desk, name: str) -> None:
     assert "its name" not in desk.take(f"{TITLES}a1;{name};f;2019-03-24;;;X;\na2;Eva;f;2019-03-02;;;X;\n").told
 

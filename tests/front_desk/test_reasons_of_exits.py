@@ -11,6 +11,7 @@ from front_desk.desk import Desk
 from front_desk.test_cells_as_notes import notes
 from gudokeyi.domain.provenance import ExitBasis, ExitSource, Period
 from gudokeyi.ingest.findings.exits import ExitInferred
+from gudokeyi.ingest.words_beside import words_beside
 
 HORSES = "N° SIRE;Nom;Sexe;Né(e) le;Père;Mère;Propriétaire;Sorti le;Motif de sortie\n"
 ROWS = (
@@ -138,6 +139,34 @@ def test_state_that_is_no_exit(desk: Desk, titles: str) -> None:
     assert not beside or reason(desk, "p") == ("2010-01-01", "Endorsed")
 
 
+GONE = (
+    "PTS, pet only", "sold,pet only", "died-colic", "eingeschl., Kolik", "RIP; alt", "put to sleep (colic)", "culled/pet",
+    "lebt, verkauft an Weber", "lebt – wurde verkauft", "vivant, mais vendu",
+)  # fmt: skip
+LIVING = (
+    "lebt, verkauft 2 Lämmer", "alive - sold 3 lambs in 2020", "vivante; agneau vendu", "lebt (Lamm geschlachtet)",
+    "lebt, Mutter tot", "verkauft: noch nicht", "85 PTS",
+)  # fmt: skip
+
+
+@pytest.mark.parametrize("titles", ["Died;Status", "Status"])
+def test_exit_with_more_text(desk: Desk, titles: str) -> None:
+    """A cell that begins with an exit tells of it, with what stands behind; one that begins with a word for living
+    tells of others. Both are kept."""
+    beside = ";" * titles.count(";")
+    rows = "".join(f'a{at};M;2001-01-01;;;{beside}"{cell}"\n' for at, cell in enumerate((*GONE, *LIVING)))
+    rows += 'p;M;2001-01-01;;;2010-01-01;"PTS, pet only"\nq;M;2001-01-01;;;2010-01-01;"lebt, verkauft 2 Lämmer an Weber"\n'
+    sheet = f"id;sex;birth;sire;dam;{titles}\n" + (rows if beside else rows[: rows.index("p;")])
+    done = desk.take(sheet)
+    kept = {f"a{at}": f"day unknown: '{cell}'" for at, cell in enumerate(GONE)}
+    assert exits(desk) == kept | ({"p": "'PTS, pet only'"} if beside else {})
+    noted = {f"a{at}": {f"Status: {cell}"} for at, cell in enumerate(LIVING, len(GONE))}
+    assert {id: one for id, one in notes(desk).items() if one and id != "q"} == noted
+    told = "'Died' says '2010-01-01', and 'Status' says 'lebt, verkauft 2 Lämmer an Weber': the animal counts as gone"
+    assert (told in done.told) == bool(beside)
+    assert " 0 new, 0 changed" in desk.take(sheet).last
+
+
 def test_word_that_is_said_to_be_no_exit(desk: Desk) -> None:
     """A column that tells where animals are may have any word: they count as gone, and the command that is suggested
     says that one doesn't."""
@@ -189,3 +218,62 @@ def test_cross_in_another_status(desk: Desk) -> None:
         "to look at: the column 'Statut' isn't read for exits, and 1 cell of it tells that an animal left which has no "
         "exit: '† 03/2026' in line 3; the animal counts as living: if it left, write that into the column for exits"
     )
+
+
+CELLS = "id;sex;birth;sire;dam;Abgang\n"
+WITH_WORDS = (
+    "a;F;2001-01-01;;;2024-05-01 geschlachtet\nb;F;2001-01-01;;;geschlachtet 1.5.2024\nc;F;2001-01-01;;;1.5.2024 (Wolf)\n"
+    "d;F;2001-01-01;;;verkauft 05/2023\ne;F;2001-01-01;;;x 1.5.2024\nf;F;2001-01-01;;;1.5.2024\n"
+)
+
+
+def test_word_in_the_cell_of_a_day(desk: Desk) -> None:
+    """It is kept beside the day as a word of a status is. A list without the word drops it; one that says less of the
+    day, or nothing of exits, doesn't."""
+    desk.take(CELLS + WITH_WORDS)
+    kept = {"a": "'geschlachtet'", "b": "'geschlachtet'", "c": "'Wolf'", "d": "the month 2023-05: 'verkauft'"}
+    assert exits(desk) == kept
+    assert "  exit          2024-05-01 (in the sheet: Wolf)\n" in desk.good("show", "c").out
+    without = "".join(f"{row.rpartition(';')[0]}\n" for row in (CELLS + WITH_WORDS).splitlines())
+    for again in CELLS + WITH_WORDS, without, CELLS + WITH_WORDS.replace("1.5.2024 (Wolf)", "05/2024"):
+        assert " 0 changed" in desk.take(again).last and exits(desk) == kept
+    rows = WITH_WORDS.replace(" geschlachtet", "").replace("geschlachtet 1", "Wolf 1")
+    done = desk.take(CELLS + rows)
+    done.tells(
+        "line 2: a: changed: exit in the sheet: none, before geschlachtet",
+        "line 3: b: changed: exit in the sheet: Wolf, before geschlachtet",
+    )
+    assert " 2 changed" in done.last
+
+
+def test_word_beside_a_day_by_hand(desk: Desk) -> None:
+    """The word of a cell whose day was corrected is that of the other day; another word is kept."""
+    desk.take(CELLS + WITH_WORDS)
+    desk.good("correct", "c", "--exit", "2024-05-02")
+    assert " 0 changed" in desk.take(CELLS + WITH_WORDS).last and reason(desk, "c") == ("2024-05-02", "")
+    desk.take(CELLS + WITH_WORDS.replace("Wolf", "Luchs"))
+    assert reason(desk, "c") == ("2024-05-02", "Luchs")
+
+
+def test_word_beside_a_day_and_a_status(desk: Desk) -> None:
+    """Both are kept, once where they say the same; a day that can't be stays with its cell."""
+    rows = (
+        "a;F;2001-01-01;;;1.5.2024 (Wolf);gerissen\nb;F;2001-01-01;;;geschl. 1.5.2024;geschl.\nc;F;2010-01-01;;;;\n"
+        "d;F;2001-01-01;;;Wolf am 1.5.2004;gerissen\ne;F;2007-01-01;;d;;\nf;F;2008-01-01;;d;;\n"
+    )
+    desk.take(CELLS.replace("\n", ";Grund\n") + rows, "--columns", "status=Grund")
+    assert exits(desk) == {"a": "'Wolf (gerissen)'", "b": "'geschl.'", "d": "day unknown: 'Wolf am 1.5.2004 (gerissen)'"}
+
+
+@pytest.mark.parametrize(
+    "text, words",
+    [("Mort (colique) 1.5.2024", "Mort (colique)"), ("Wolf (1.5.2024)", "Wolf"), ("1.5.2024 [Wolf]", "Wolf"),
+     ("verkauft am 12.11.22", "verkauft"), ("vendu le 03/04/2021 à M. Dupont", "vendu à M. Dupont"), ("† 1.5.2024", "†"),
+     ("verkauft? 1.5.2024", "verkauft?"), ("verkauft ca. 1.5.2024", "verkauft ca. 1.5.2024"), ("ca. 1.5.2024", ""),
+     ("verkauft vor 2020", "verkauft vor 2020"), ("vor dem 1.5.2020", ""), ("Herbst 2021", ""), ("courant 2020", ""),
+     ("Wolf, Herbst 2021", "Wolf, Herbst 2021"), ("2024-05-31 (inferred)", ""), ("2021-02-03 10:00", ""),
+     ("sold 3.4.2020 or 5.6.2021", "sold 3.4.2020 or 5.6.2021"), ("ja, 1.5.2024", ""), ("31.02.2020 verkauft", "verkauft"),
+     ("sept.-21", ""), ("44317", "")],
+)  # fmt: skip
+def test_words_beside_a_day(text: str, words: str) -> None:
+    assert words_beside(text) == words

@@ -63,7 +63,7 @@ STATUS = TITLES.replace("\n", " am;Status\n")
     [
         ("Huber;;tot", "Huber", "day unknown: 'tot'", "tells of an exit in 1 row where 'Abgang am' doesn't"),
         ("Huber;;†", "Huber", "day unknown: '†'", "tells of an exit in 1 row"),
-        ("Huber;;geschlachtet Herbst 2021", "Huber", "the month 2021-11", "tells of an exit in 1 row"),
+        ("Huber;;geschlachtet Herbst 2021", "Huber", "the month 2021-11: 'geschlachtet Herbst 2021'", "tells of an exit in 1 row"),
         ("Huber;03.04.2022;lebt", "Huber", "2022-04-03", "'Abgang am' says '03.04.2022', and 'Status' says 'lebt'"),
         ("Huber;lebt;verendet", "Huber", "day unknown: 'verendet'", "'Abgang am' says 'lebt', and 'Status' says"),
         ("Huber;sept.-21;tot", "Huber", "the month 2021-09: 'tot'", "'sept.-21' in line 4 is read as 2021-09"),

@@ -80,3 +80,58 @@ def test_owner_in_an_exit(desk: Desk, cell: str) -> None:
     assert (told in done.out) == is_within
     done = desk.take(TITLES + ROWS.replace("001;002;Huber;\n", "001;002;Huber;gestorben bei Huber 13.1.2021\n"))
     assert "name of an owner in it" not in done.out
+
+
+BESIDE = TITLES.replace(";Abgang", "")
+
+
+@pytest.mark.parametrize(
+    "titles, cells",
+    [
+        ("Besitzer;Abgang;Status", "Huber;12.05.2023;verkauft an Meier"),
+        ("Besitzer;Abgang", "Huber;verkauft an Meier 12.5.2023"),
+        ("Besitzer;verkauft am", "verkauft an Meier Ida;12.05.2023"),
+        ("Besitzer;Abgang;seit", "verkauft an Meier;verk. 12.5.2023;"),
+        ("Besitzer;Abgang;verkauft am", "Huber;verkauft an Meier;12.05.2023"),
+        ("Besitzer;Abgang;verkauft am", "jetzt bei Meier;;12.05.2023"),
+        ("Besitzer;Status;verkauft am", "Huber;verkauft an Meier;12.05.2023"),
+        ("Besitzer;Status;verkauft am", "verkauft an Meier;lebt;12.05.2023"),
+        ("Besitzer;seit;Abgang", "Huber;12.05.2023;verkauft an Meier"),
+        ("Besitzer;seit;Abgang", "verkauft an Meier;12.05.2023;12.05.2023"),
+        ("Besitzer;seit;Abgang", "Huber;3.2.2013;verkauft an Meier am 12.05.2023"),
+    ],
+)
+@pytest.mark.parametrize("is_second", [True, False])
+def test_day_of_a_sale_elsewhere(desk: Desk, titles: str, cells: str, is_second: bool) -> None:
+    """The day of the transfer stands in another column of the row: it is taken, the animal hasn't left, and no
+    sentence is about an empty text. The same list says nothing new."""
+    rest = ";" * (titles.count(";") - 1)
+    first = BESIDE.replace("Besitzer", titles) + "".join(f"{row}{rest}\n" for row in ROWS.splitlines()[:2])
+    if is_second:
+        desk.take(BESIDE + ROWS.replace(";\n", "\n"))
+    sheet = first + f"003;A;w;3.2.2013;001;002;{cells}\n"
+    done = desk.take(sheet)
+    assert owner_of(desk, "003") == "Meier Ida" and desk.transfer_days() == ["2023-05-12"]
+    assert "''" not in done.told and "the animal counts as gone" not in done.told
+    assert "since no cell says the day" not in done.told and "so it hasn't left" in done.told or "seit" in titles
+    assert not [row for row in desk.table("book/ids.csv") if row["exit"]] and "exit," not in "\n".join(desk.commands())
+    assert " 0 new, 0 changed" in desk.take(sheet).last
+
+
+def test_exit_after_a_sale(desk: Desk) -> None:
+    """An exit that another word tells of, or that is later than the sale, stays one; and so does the sale to somebody
+    who is no owner of the society."""
+    rows = "004;B;w;3.2.2014;001;002;verkauft an Meier;{}\n005;C;w;3.2.2015;001;002;verkauft an Zoo;12.5.2023\n"
+    desk.take(TITLES + ROWS + rows.format("gestorben 12.5.2023"))
+    assert [line.split(",")[2] for line in desk.commands() if line.startswith("exit")] == ["2023-05-12", "2023-05-12"]
+    assert owner_of(desk, "004") == "Meier Ida" and owner_of(desk, "005") == "verkauft an Zoo"
+    rows = rows.format("12.5.2023;1.2.2020").replace("Zoo;12.5.2023", "Zoo;12.5.2023;")
+    desk.take(TITLES.replace("Abgang", "Abgang;seit") + ROWS.replace(";\n", ";;\n") + rows, "--book", "two")
+    left = [line.split(",")[2] for line in desk.text("two/commands.csv").splitlines() if line.startswith("exit")]
+    assert left == ["2023-05-12", "2023-05-12"]
+    # a column of deaths has no day of a sale
+    rows = "004;B;w;3.2.2014;001;002;verkauft an Meier;12.5.2023;\n"
+    rows += "005;C;w;3.2.2015;001;002;Huber;12.5.2023;verkauft an Meier\n"
+    desk.take(TITLES.replace("Abgang", "gestorben am;Status") + ROWS.replace(";\n", ";;\n") + rows, "--book", "three")
+    left = [line.split(",")[2] for line in desk.text("three/commands.csv").splitlines() if line.startswith("exit")]
+    assert left == ["2023-05-12", "2023-05-12"]

@@ -15,7 +15,8 @@ from gudokeyi.domain.settings import LANGUAGES
 TITLES = "N° SIRE;Nom;Sexe;Né(e) le;Père;Mère;Propriétaire\n"
 LIST = TITLES + (
     "100;Idem;F;03/04/2008;;;GAEC des Bruyères\n101;Amiral;M;21/02/2010;;;»\n102;Églantine;F;05/06/2011;;;Moreau\n"
-    "103;Jockey;M;27/06/2019;101;;//\n104;Képi;M;12/13.06.2020;//;dito;\n105;Lutin;M;1/4/2021 (est.);101;Idem;d°\n"
+    "103;Jockey;M;27/06/2019;101;;//\n104;Képi;M;31.05./01.06.2020;//;dito;\n"
+    "105;Lutin;M;1/4/2021 (est.);101;Idem;d°\n"
     "106;03-déc.;F;2022-05-06;101;102;Éleveur\nEN COURS;Nil;M;2023-05-06;101;102;néant\n"
 )
 SAID = (
@@ -23,7 +24,7 @@ SAID = (
     "1 cell of the column 'Propriétaire' has a mark for the cell above, and nothing stands there: d° in line 7",
     "1 cell of the column 'Mère' has a mark for the cell above, and nothing stands there: dito in line 6",
     "an animal is called 'Idem', so 1 cell of the column 'Mère', in line 7, means that one",
-    "one of several days in 1 cell of the column 'Né(e) le': '12/13.06.2020' in line 6 is read as 2020-06-12 to 2020-",
+    "one of several days in 1 cell of the column 'Né(e) le': '31.05./01.06.2020' in line 6 is read as 2020-05-31 to 2020-",
     "a day that isn't sure in 1 cell of the column 'Né(e) le': '1/4/2021 (est.)' in line 7 is read as 2021-04-01",
     "its name is the day 03-déc., which spreadsheets make of texts such as 3/12",
     "'EN COURS' reads like no id, but as if the animal had none yet",
@@ -32,13 +33,13 @@ SAID = (
 IN_OTHERS = {
     "de": ("2 Zellen der Spalte „Propriétaire“ wiederholen", "dort steht nichts: d° in Zeile 7",
            "ein Tier heißt „Idem“",
-           "mit einem von mehreren Tagen: „12/13.06.2020“ in Zeile 6 ist als 12.06.2020 bis 13.06.2020 gelesen",
+           "mit einem von mehreren Tagen: „31.05./01.06.2020“ in Zeile 6 ist als 31.05.2020 bis 01.06.2020 gelesen",
            "mit einem Tag, der nicht sicher ist: „1/4/2021 (est.)“ in Zeile 7 ist als 01.04.2021 gelesen",
            "ist der Tag 03-déc., wie ihn Tabellen", "„EN COURS“ liest sich nicht wie eine Ohrmarke",
            "„Éleveur“ steht bei 1 Tier"),
     "fr": ("2 cellules de la colonne « Propriétaire » répètent", "où il n'y a rien : d° à la ligne 7",
            "un animal s'appelle « Idem »",
-           "un jour parmi plusieurs : « 12/13.06.2020 » à la ligne 6 est lu comme 12/06/2020 au 13/06/2020",
+           "un jour parmi plusieurs : « 31.05./01.06.2020 » à la ligne 6 est lu comme 31/05/2020 au 01/06/2020",
            "un jour qui n'est pas sûr : « 1/4/2021 (est.) » à la ligne 7 est lu comme 01/04/2021",
            "le jour 03-déc., comme des tableurs", "« EN COURS » n'a pas l'air d'un numéro", "« Éleveur »"),
 }  # fmt: skip

@@ -31,6 +31,36 @@ def test_word_that_is_no_exit(empty_site: Site, language: str, button: str) -> N
     assert Says(language)("(in the sheet: {})", sold.exit.text) in shown(site.page(f"/animal/{sold.registration_number}"))
 
 
+def test_exit_with_more_text(empty_site: Site) -> None:
+    """One that begins a cell tells of itself, one behind a word for living of others, which a preview says."""
+    rows = ROWS.replace("verkauft an Zoo", "lebt, verkauft 2 Lämmer an Huber").replace("Zirkus", "PTS, pet only")
+    address, page = look_at(empty_site, TITLES + rows)
+    told = Says("en")(
+        "'{}' says '{}', and '{}' says '{}': the animal counts as gone, on the day of the first", "Abgang am", "1.2.2020",
+        "Verbleib", "lebt, verkauft 2 Lämmer an Huber",
+    )  # fmt: skip
+    assert told in shown(page)
+    empty_site.take(address)
+    with empty_site.desk.opened() as book:
+        assert book and book.society_records["003"].exit.text == "PTS, pet only"
+
+
+def test_day_of_a_sale_elsewhere(empty_site: Site) -> None:
+    """A preview says of a sale within the society since when, and speaks of no empty text."""
+    site, rows = empty_site, ROWS.replace("Huber", "Zoo", 1)
+    address, _ = look_at(site, TITLES + rows.replace("1.2.2020;verkauft an Zoo", ";"))
+    site.take(address)
+    address, page = look_at(site, TITLES + rows)
+    told = Says("en")(
+        "owner {}, before {}: '{}' names an owner of the society, so it hasn't left", "Zoo", "Huber",
+        "verkauft an Zoo 1.2.2020",
+    )  # fmt: skip
+    assert told in shown(page) and "''" not in shown(page)
+    site.take(address)
+    with site.desk.opened() as book:
+        assert book and book.records[book.society_records["002"].registration_number].since.isoformat() == "2020-02-01"
+
+
 @pytest.mark.parametrize(("language", "told"), [
     ("en", "1 animal that had left counts as living again, 002 (line 3): does the column of exits lack it?"),
     ("de", "1 abgegangenes Tier zählt wieder als lebend, 002 (Zeile 3): fehlt sein Abgang in der Spalte?"),

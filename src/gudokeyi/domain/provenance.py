@@ -3,6 +3,7 @@ from __future__ import annotations
 
 import datetime
 import enum
+import re
 from collections.abc import Mapping
 from dataclasses import dataclass, replace
 
@@ -131,13 +132,19 @@ class ExitBasis:
         return mark(self.is_inferred)
 
     def with_reason(self, reason: str) -> ExitBasis:
-        """The same with what a sheet says beside it; behind the cell of a day that isn't known in brackets."""
-        if not reason or reason == self.text:
+        """The same with what a sheet says beside it; what isn't said yet stands in brackets behind the text."""
+        if not reason or has_whole(self.text, reason):
             return self
-        return replace(self, text=f"{self.text} ({reason})" if self.day_is_unknown and self.text else reason)
+        is_more = not self.text or (has_whole(reason, self.text) and not self.day_is_unknown)
+        return replace(self, text=reason if is_more else f"{self.text} ({reason})")
 
 
 GIVEN_EXIT = ExitBasis()
+
+
+def has_whole(text: str, words: str) -> bool:
+    """Do some words stand whole in a text?"""
+    return text == words or re.search(rf"(?<!\w){re.escape(words)}(?!\w)", text) is not None
 
 
 def reason_of(left: datetime.date | None, basis: ExitBasis) -> str:

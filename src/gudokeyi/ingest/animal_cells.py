@@ -21,15 +21,18 @@ from gudokeyi.ingest.findings.cells import (
 )  # fmt: skip
 from gudokeyi.ingest.findings.columns import SheetFinding
 from gudokeyi.ingest.findings.exits import ExitInDoubt, ExitInferred, ExitsInOtherWords, ExitsWithoutDay, NoExits, Remark
-from gudokeyi.ingest.findings.rows import OwnerInExit, OwnerSold, SoldWithin, TakerUnclear
+from gudokeyi.ingest.findings.rows import OwnerInExit, OwnerSold, SoldWithin, StatusDisagrees, TakerUnclear
 from gudokeyi.ingest.findings.sheets import (
     MOST_TEXTS, Cells, CellsUnread, ErrorCells, ErrorColumn, NarrowCells, NarrowColumn, TextCount,
 )  # fmt: skip
-from gudokeyi.ingest.rows_as_meant import Takers, taker_of_owner
+from gudokeyi.ingest.rows_as_meant import Takers
 from gudokeyi.ingest.sexes import Sexes
 from gudokeyi.ingest.sheets import Sheet
+from gudokeyi.ingest.statuses import taker_of_owner
+from gudokeyi.ingest.texts import plain
+from gudokeyi.ingest.titles import names_other_exits
 from gudokeyi.ingest.unknown_parents import UnknownParents, names_no_owner
-from gudokeyi.ingest.words import KNOWN_NO, KNOWN_YES, exit_word, is_error_value, is_in_doubt
+from gudokeyi.ingest.words import KNOWN_NO, KNOWN_SALES, KNOWN_YES, exit_word, is_error_value, is_in_doubt
 
 # The cells of a sheet that can't be read: which texts there are, and whether they are most of a column.
 
@@ -189,6 +192,8 @@ class AnimalCells:
         self.readings, self.takers = Readings(unread.titles), Takers({})
         # what stands beside the days of exits, by lines
         self.reasons: Mapping[int, str] = {}
+        # the animals that an owner took on the day of their exit
+        self.sold: set[str] = set()
 
     def read_otherwise(self, others: AnimalCells, field: Field, texts: Collection[str]) -> set[str]:
         """The texts of a column that may be read otherwise by others."""
@@ -278,6 +283,8 @@ class AnimalCells:
             self.unread.read[Field.EXIT] += 1
             self.unread.no_exits.append((text, animal.line))
             return
+        if exit.day.span and self.is_day_of_sale(animal, exit):
+            return
         left = self.span(animal, Field.EXIT, text, exit.day)
         if left and left.last < animal.birth.first:
             if exit.is_span:
@@ -317,8 +324,30 @@ class AnimalCells:
         self.unread.read[Field.EXIT] += 1
         before = animal.owner if animal.owner != owner else ""
         animal.owner, animal.owner_before, animal.since = owner, before, exit.day.span or animal.since
+        animal.is_since_sale = exit.day.span is not None
         self.report.add(animal.line, animal.id, SoldWithin(owner, before, text))
         return True
+
+    def is_day_of_sale(self, animal: SheetAnimal, exit: ExitCell) -> bool:
+        """Is it the day on which the owner took the animal, whose cell tells of that without a day?"""
+        text, reason = animal.cells.get(Field.OWNER, ""), exit.reason or self.reasons.get(animal.line, "")
+        is_told = text != animal.owner and taker_of_owner(text) and animal.since in (None, exit.day.span)
+        if not is_told or names_other_exits(self.unread.titles[Field.EXIT]):
+            return False
+        if plain(reason) not in KNOWN_SALES | {""} and not taker_of_owner(reason):
+            return False
+        self.unread.read[Field.EXIT] += 1
+        animal.since, animal.is_since_sale = exit.day.span, True
+        self.sold.add(animal.id)
+        self.report.add(animal.line, animal.id, SoldWithin(animal.owner, "", f"{text} {animal.cells[Field.EXIT]}"))
+        return True
+
+    def take_back(self) -> None:
+        """Those who were sold so live, as another column may say."""
+        entries = self.report.entries
+        if self.sold:
+            is_none = [one.id in self.sold and isinstance(one.finding, StatusDisagrees) for one in entries]
+            self.report.entries = [one for one, is_wrong in zip(entries, is_none) if not is_wrong]
 
     def read_taker(self, animal: SheetAnimal, text: str, taker: str) -> None:
         """The owner of an animal is written as `verkauft an Meier`, who is an owner of other animals."""
@@ -327,7 +356,7 @@ class AnimalCells:
             return
         [animal.owner], day = named, self.days.day(Field.EXIT, text)
         if day.span:
-            animal.since = day.span
+            animal.since, animal.is_since_sale = day.span, True
         if day.reading and day.span:
             self.readings.add(Field.OWNER, day.reading, animal.line, text, day.span)
         self.report.add(animal.line, animal.id, OwnerSold(text, animal.owner))

@@ -53,6 +53,8 @@ class SheetAnimal:
     unread: list[str] = field(default_factory=list)
     # the owner of its row, where a word for its exit names one of the list to whom it was sold
     owner_before: str = ""
+    # does another cell than that of such days say since when, which tells of a sale?
+    is_since_sale: bool = False
 
     def parents(self) -> list[tuple[Role, str]]:
         """The known parents, each with its role."""

@@ -140,7 +140,7 @@ def usual_column(columns: Columns, name: str) -> None:
     if name == Field.EXIT:
         # words that tell of exits are read beside a column of days, also where that has nothing yet
         of_days = [at for at in titled if plain(columns.title(at)) not in KNOWN_DOUBTFUL]
-        titled = of_days or titled
+        titled = of_days or days_of_exits(columns) or titled
     # one that has nothing is read where no other has its field
     for at in sorted(titled, key=lambda one: not any(columns.cells(one))):
         title = plain(columns.title(at))
@@ -148,6 +148,13 @@ def usual_column(columns: Columns, name: str) -> None:
         if not is_doubtful or tells_exits(columns, at, is_told=name != Field.STATUS):
             columns.found[name] = at
             return
+
+
+def days_of_exits(columns: Columns) -> list[int]:
+    """The only column such as `verkauft am`, most of whose cells are days."""
+    titled = [at for at, title in enumerate(columns.sheet.titles) if columns.is_free(at) and names_exits_alone(title)]
+    cells = [*filter(None, columns.cells(titled[0]))] if len(titled) == 1 else []
+    return titled if 2 * sum(map(is_span, cells)) > len(cells) else []
 
 
 def column_of_words(columns: Columns, name: Field, tells: Callable[[str], bool]) -> None:

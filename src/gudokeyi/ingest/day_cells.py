@@ -19,7 +19,8 @@ from gudokeyi.ingest.days import (
 from gudokeyi.ingest.findings.cells import DayLeftOut
 from gudokeyi.ingest.findings.days import DayReading
 from gudokeyi.ingest.findings.sheets import NoOrderShown, Place, WrongOrder
-from gudokeyi.ingest.words import exit_word, is_still_there, lives, word_fault
+from gudokeyi.ingest.words import DEAD, exit_word, is_still_there, lives, word_fault
+from gudokeyi.ingest.words_beside import words_beside
 
 # Whether days with slashes or hyphens have the day first or the month, as a sheet's own days show.
 
@@ -98,13 +99,16 @@ class ExitCell(NamedTuple):
     is_later: bool
     # it tells of something else, as `on loan`: the animal hasn't left
     is_none: bool = False
+    # what stands beside the day
+    reason: str = ""
 
     @property
     def basis(self) -> ExitBasis:
         """Of an exit on a day that the text has."""
         span = self.day.span
         assert span is not None
-        return GIVEN_EXIT if span.is_day else ExitBasis(ExitSource.PERIOD, span.period())
+        basis = GIVEN_EXIT if span.is_day else ExitBasis(ExitSource.PERIOD, span.period())
+        return basis.with_reason(self.reason)
 
 
 NO_EXIT = ExitCell(SAYS_NOTHING, False, False, True)
@@ -145,7 +149,10 @@ class DayCells:
             return NO_EXIT
         day = self.day(Field.EXIT, text)
         is_no_more = is_day or is_span(text) or (day.reading is not None and not exit_word(text))
-        return ExitCell(day, is_no_more, day.fault is not None and self.is_later(text))
+        reason = words_beside(text) if day.span and not is_day else ""
+        is_reason = reason not in self.unknown or DEAD.search(reason)
+        is_later = day.fault is not None and self.is_later(text)
+        return ExitCell(day, is_no_more, is_later, reason=reason if is_reason else "")
 
     def read_day(self, field: Field, text: str) -> DayCell:
         if (day := usual_day(text)) and text not in self.unknown:

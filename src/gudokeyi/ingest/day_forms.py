@@ -11,11 +11,12 @@ from collections.abc import Iterable
 
 from gudokeyi.domain.kinds import Field
 from gudokeyi.ingest.days import (
-    FIRST_DAY, FIRST_YEAR, LAST_YEAR, MONTHS, NAME, NOT_THAT_YEAR, Precision, Span, Unreadable, compared, is_span,
-    month_of, span_within, year_of,
+    FIRST_DAY, FIRST_YEAR, LAST_YEAR, MONTHS, NAME, NOT_THAT_YEAR, DayFault, Precision, Span, Unreadable, compared,
+    is_span, month_of, read_span, span_within, year_of,
 )  # fmt: skip
 from gudokeyi.ingest.findings.columns import SheetFinding
 from gudokeyi.ingest.findings.days import DayReading, DaysReadSo
+from gudokeyi.ingest.words import LETTER
 
 
 # the days of a spreadsheet are counted from this one, and those that animals of a book may have have five digits
@@ -61,6 +62,15 @@ ONE_OF = re.compile(
     r"'?(?P<year>\d{4}|\d{2})(?![\w/-]|\.\d)",
     re.IGNORECASE,
 )
+# the same of days that have their months, as `31.05./01.06.2019`: what has both, and what stands between them
+FROM_DIGIT_TO_DIGIT = re.compile(r"\d.*\d", re.DOTALL)
+BETWEEN_DAYS = re.compile(
+    r"\s*[/–—&+-]\s*|\s(?:or|and|to|oder|und|bis|auf|ou|et|au|à)\s(?:(?:den|dem|the|le)\s)?", re.IGNORECASE
+)
+# a longer text has more than these
+MOST_LETTERS = 60
+# a day without its month
+SHORTENED = re.compile(r"\d{1,2}(?:\.|er|st|nd|rd|th)", re.IGNORECASE)
 # how far the first may lie before the last: a number farther away may be another one
 DAYS_BEFORE = [datetime.timedelta(days) for days in range(1, 8)]
 # a day that isn't sure; `est né` is French
@@ -96,6 +106,8 @@ class DayForms:
         sure is that of no exit: the word for that tells it."""
         if is_span(text) or MARKED.match(text):
             return None
+        if not is_exit and (two_days := self.two_days(text)):
+            return two_days, DayReading.ONE_OF
         if not is_exit and (days := ONE_OF.search(text)):
             span = self.one_of(days)
             # what stands around it may say that it is none of them, or another one
@@ -141,6 +153,40 @@ class DayForms:
         years = [year for year in (1900 + int(digits), 2000 + int(digits)) if year <= self.today.year]
         return min(years, key=lambda one: abs(one - self.usual_year))
 
+    def two_days(self, text: str) -> Span | None:
+        """Two days of which a text leaves open which it is, as `31.05./01.06.2019`; those that are far from one another
+        are none."""
+        core = FROM_DIGIT_TO_DIGIT.search(text) if len(text) <= MOST_LETTERS else None
+        around = text[: core.start()] + text[core.end() :] if core else ""
+        if core is None or NOT_THAT_YEAR.search(around) or YEAR.search(around):
+            return None
+        signs = BETWEEN_DAYS.finditer(core[0])
+        pairs = (self.pair(core[0][: sign.start()], core[0][sign.end() :]) for sign in signs)
+        first, last = next(filter(None, pairs), (FIRST_DAY, FIRST_DAY))
+        if last - first > DAYS_BEFORE[-1] and not LETTER.search(around):
+            raise Unreadable(DayFault.NO_DAY, text)
+        return days_of(first, last, text) if first < last <= first + DAYS_BEFORE[-1] else None
+
+    def whole_day(self, text: str) -> datetime.date | None:
+        """The day of a text that is nothing but one."""
+        try:
+            two = TWO.fullmatch(text)
+            span = self.two_digits(two) if two else read_span(text, self.month_first, legible=False)
+        except Unreadable:
+            return None
+        return span.first if span and span.is_day else None
+
+    def pair(self, before: str, behind: str) -> tuple[datetime.date, datetime.date] | None:
+        """Both days in their order; that before may have the year of the other one, or be in the year before."""
+        other, said = self.whole_day(behind), before.rstrip(" .")
+        if other is None:
+            return None
+        years = [f"{said}{sign}{year}" for year in (other.year, other.year - 1) for sign in "./ "]
+        own = self.whole_day(said)
+        days = [own] if own else [day for day in map(self.whole_day, years) if day]
+        apart = {abs(day - other): day for day in days}
+        return (min(apart[min(apart)], other), max(apart[min(apart)], other)) if apart else None
+
     def one_of(self, found: re.Match[str]) -> Span | None:
         """The days of which a text leaves open which it is."""
         if self.month_first and found["sign"]:
@@ -154,7 +200,10 @@ class DayForms:
         except ValueError:
             return None
         first = next((day for day in map(last.__sub__, DAYS_BEFORE) if day.day == int(found["from"])), None)
-        return month_of(year, month)._replace(first=first, last=last) if first else None
+        if first is None and found[0] == found.string and SHORTENED.match(found[0]) and int(found["from"]) < last.day:
+            # both are days, and far from one another
+            raise Unreadable(DayFault.NO_DAY, found[0])
+        return days_of(first, last) if first else None
 
     def within(self, text: str) -> tuple[Span, DayReading] | None:
         """The only day, week, month or season within a text; none where the text says that it isn't that one."""
@@ -179,6 +228,11 @@ class DayForms:
             return self.read(text) is not None
         except Unreadable:
             return False
+
+
+def days_of(first: datetime.date, last: datetime.date, text: str = "") -> Span:
+    """A few days, of which it is one."""
+    return Span(first, last, "", text, Precision.DAYS)
 
 
 def not_that(before: str) -> bool:

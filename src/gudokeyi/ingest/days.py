@@ -159,6 +159,8 @@ class Precision(enum.Enum):
     """How much of a day is known."""
 
     DAY = enum.auto()
+    # one of a few days that follow one another, perhaps of two months
+    DAYS = enum.auto()
     MONTH = enum.auto()
     YEAR = enum.auto()
     NOTHING = enum.auto()
@@ -182,8 +184,8 @@ class Span(NamedTuple):
         return self.first <= day <= self.last
 
     def period(self) -> Period:
-        """The month or the year."""
-        is_month = self.precision is Precision.MONTH
+        """The month or the year; of a few days that of the first."""
+        is_month = self.precision in (Precision.DAYS, Precision.MONTH)
         return Period(f"{self.first:%Y-%m}" if is_month else str(self.first.year), self.wrong)
 
     def before(self) -> Span:
@@ -268,6 +270,12 @@ def is_span(text: str) -> bool:
 
 def span_within(text: str, month_first: bool = False) -> Span | None:
     """The only day, month or year within a text, if there is one."""
+    said = {span_said(one, month_first) for one in places_within(text)}
+    return said.pop() if len(said) == 1 else None
+
+
+def places_within(text: str) -> list[re.Match[str]]:
+    """Where days, months or years stand within a text."""
     found = list[re.Match[str]]()
     for form in forms()[:-1]:
         # a form may fit a part of what an earlier one fits
@@ -275,9 +283,7 @@ def span_within(text: str, month_first: bool = False) -> Span | None:
             one for one in within(form, text, r"(?!\d|[./-]\d)") if not any(overlap(one, other) for other in found)
         ]
     # a year alone ends the text: other numbers may be prices
-    found = found or within(forms()[-1], text, r"(?=[).]*$)")
-    said = {span_said(one, month_first) for one in found}
-    return said.pop() if len(said) == 1 else None
+    return found or within(forms()[-1], text, r"(?=[).]*$)")
 
 
 def within(form: re.Pattern[str], text: str, behind: str) -> list[re.Match[str]]:

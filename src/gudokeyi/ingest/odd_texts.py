@@ -23,13 +23,19 @@ SURE = listed(
     "notgeschlachtet, notgetötet, abgegangen, slaughtered, deceased, euthanised, euthanized, rehomed, vendu, vendue, "
     "abattu, abattue, décédé, décédée, euthanasié, euthanasiée, exporté, exportée"
 )
-SHORT = listed("verk, gest, verst, verend, geschl, schl, abg, abgeg, euth, décéd")
-SMALL = listed("tot, weg, verk, gest, dead, died, sold, culled, exported, gone, mort, morte, dcd")
+SHORT = listed("verk, gest, verst, verend, geschl, schl, eingeschl, abg, abgeg, euth, décéd")
+SMALL = listed(
+    "tot, weg, verk, gest, eingeschl, euth, dead, died, sold, culled, exported, gone, rip, pts, mort, morte, dcd"
+)
+# letters that stand for words, in capitals at the end of a name; another name may begin with them
+LETTERS = listed("RIP, PTS")
+WITH_POINTS = "r.i.p"
 SIGNS = ("†", "✝", "+")
 # a cross before a day or in brackets, or a plus alone at the end
 EXIT = re.compile(
     rf"[†✝]|\+ ?(?=\d)|(?<= )\+$|\( ?\+|(?i:\b(?:{'|'.join(SURE)})\b)|(?i:\b(?:{'|'.join(SHORT)})\.(?!\w))|"
-    rf"(?i:[(\[] ?(?:{'|'.join(SMALL)})\b[^)\]]*[)\]])|(?<=[ ,;/–-])(?:{'|'.join(SMALL)})[.!]?(?: +[\d./-]+)?$"
+    rf"(?i:[(\[] ?(?:{'|'.join(SMALL)})\b[^)\]]*[)\]])|(?i:\br\.i\.p\b)|"
+    rf"(?<=[ ,;/–-])(?:{'|'.join((*SMALL, *LETTERS))})[.!]?(?: +[\d./-]+)?$"
 )
 
 
@@ -37,14 +43,14 @@ def names_with_exits(names: Iterable[str]) -> set[str]:
     """Those of many names that tell of an exit. Those alone are looked at that have one of the words within."""
     in_small = {name: name.lower() for name in names}
     together = "\n".join(in_small.values())
-    words = [word for word in (*SIGNS, *SURE, *SHORT, *SMALL) if word in together]
+    words = [word for word in (*SIGNS, *SURE, *SHORT, *SMALL, WITH_POINTS) if word in together]
     likely = {name for word in words for name, small in in_small.items() if word in small and stands_in(small, word)}
     return {name for name in likely if EXIT.search(name)}
 
 
 def stands_in(text: str, word: str) -> bool:
     """Does a word that a text has stand there whole?"""
-    return word in SIGNS or re.search(rf"\b{word}\b", text) is not None
+    return word in SIGNS or re.search(rf"\b{re.escape(word)}\b", text) is not None
 
 
 def tell_exits_in_names(animals: Mapping[str, SheetAnimal], names: Iterable[str], report: Report) -> None:

@@ -19,8 +19,8 @@ from gudokeyi.ingest.animals import SheetAnimal
 from gudokeyi.ingest.day_cells import ExitCell
 from gudokeyi.ingest.days import ANY_DAY, Span
 from gudokeyi.ingest.encodings import LOST, decoded_twice
-from gudokeyi.ingest.rows_as_meant import taker_of_owner
 from gudokeyi.ingest.sheets import Sheet
+from gudokeyi.ingest.statuses import taker_of_owner
 from gudokeyi.ingest.texts import plain
 from gudokeyi.ingest.unknown_parents import UnknownParents, names_no_owner
 from gudokeyi.ingest.words import KNOWN_NO, KNOWN_SUMS, KNOWN_YES

@@ -16,10 +16,10 @@ from gudokeyi.ingest.findings.cells import UnseenInId
 from gudokeyi.ingest.findings.rows import CellsRepeated, MarksAreNames, NoteRow, NothingRepeated
 from gudokeyi.ingest.findings.sheets import UnseenDropped
 from gudokeyi.ingest.sheets import Sheet, SheetRow, cell_of
-from gudokeyi.ingest.statuses import TAKER, Exits, exits_said
+from gudokeyi.ingest.statuses import TAKER, Exits, exits_said, taker_of_owner
 from gudokeyi.ingest.texts import nearly, plain
 from gudokeyi.ingest.unknown_parents import UnknownParents
-from gudokeyi.ingest.words import KNOWN_EXITS, KNOWN_SEXES, KNOWN_SUMS, sex_word
+from gudokeyi.ingest.words import KNOWN_EXITS, KNOWN_SEXES, KNOWN_SUMS, lives_besides, sex_word
 
 # Cells with signs that no one sees: they are read without, but an id, which others write otherwise than it is seen.
 
@@ -266,22 +266,12 @@ def as_meant(
 
 # one who takes an animal, in a text that begins with whom
 TO_WHOM = re.compile(r"(?:an|zu|to|à|au)\s+(?P<taker>\S.*)", re.IGNORECASE)
-# the same of a text that stands for an owner
-WITH_NOW = re.compile(
-    r"(?:jetzt|nun|now|maintenant|désormais|neuer (?:besitzer|halter)|new owner|nouveau propriétaire)\b[: ]*(?:bei |an |with |to |chez |à )?(?P<taker>\S.*)", re.IGNORECASE
-)
 # what stands before the number of a member
 MEMBER_NAME = "Mitglied"
 MEMBER = {plain(word) for word in ("Mitglied", "Mitgl.", "Mitgliednr.", "Mitgliedsnr.", "member", "membre", "adhérent")}
 # a name with less letters may be anything in a text
 SHORTEST = 4
 NUMBER = {plain(word) for word in ("Nr.", "Nummer", "No.", "N°", "number", "numéro")}
-
-
-def taker_of_owner(text: str) -> str:
-    """Who has an animal whose owner is written as `verkauft an Meier`; empty where the text tells of no sale."""
-    found = TAKER.search(text) or WITH_NOW.match(text)
-    return found["taker"] if found else ""
 
 
 class Takers:
@@ -295,7 +285,7 @@ class Takers:
     def named(self, text: str) -> tuple[str, ...]:
         """The owners who are named behind `verkauft an`, or in a text that begins with whom."""
         found = TAKER.search(text) or TO_WHOM.match(text)
-        return self.called(found["taker"]) if found else ()
+        return self.called(found["taker"]) if found and not lives_besides(text) else ()
 
     def within(self, text: str) -> tuple[str, ...]:
         """The owners whose names stand whole in a text without saying that they took the animal."""

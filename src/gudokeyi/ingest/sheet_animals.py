@@ -355,6 +355,7 @@ class Rows:
     def look_at_all(self, animals: dict[str, SheetAnimal]) -> None:
         """What is told of the sheet as a whole, and of rows that seem to count or to sum up."""
         self.errors.leave_out(animals, self.report)
+        self.cells.take_back()
         self.look_at_ids(animals)
         tell_exits_in_names(animals, self.plain.different.get(Field.NAME, ()), self.report)
         for field in (Field.NAME, Field.OWNER):

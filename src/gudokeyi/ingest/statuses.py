@@ -10,12 +10,15 @@ from typing import Container, NamedTuple
 from gudokeyi.domain.findings import Report
 from gudokeyi.domain.kinds import Field
 from gudokeyi.ingest.day_cells import is_other_state
+from gudokeyi.ingest.days import is_span, places_within
 from gudokeyi.ingest.findings.exits import NoExits, Remark
 from gudokeyi.ingest.findings.rows import StatusDisagrees, StatusRead
 from gudokeyi.ingest.sheets import Sheet, SheetRow, cell_of
 from gudokeyi.ingest.texts import plain
-from gudokeyi.ingest.titles import KNOWN_REASONS, KNOWN_STATES, KNOWN_STATUSES, OF_LIVING
-from gudokeyi.ingest.words import DEAD, KNOWN_YES, exit_word, is_still_there, lives, says_lives
+from gudokeyi.ingest.titles import (
+    KNOWN_REASONS, KNOWN_STATES, KNOWN_STATUSES, OF_LIVING, names_exits_alone, names_other_exits,
+)  # fmt: skip
+from gudokeyi.ingest.words import DEAD, KNOWN_YES, exit_word, is_still_there, lives, lives_besides, says_lives
 
 # what says no in a column of living animals
 NO_WORDS = {"nein", "n", "no", "non", "false", "falsch", "faux", "0"}
@@ -26,10 +29,22 @@ TAKER = re.compile(
     r".*?\b(?:an|zu|to|à|a|au|aux)\s+(?P<taker>\S.*)",
     re.IGNORECASE,
 )
+# the same of a text that stands for an owner
+WITH_NOW = re.compile(
+    r"(?:jetzt|nun|now|maintenant|désormais|neuer (?:besitzer|halter)|new owner|nouveau propriétaire)\b[: ]*"
+    r"(?:bei |an |with |to |chez |à )?(?P<taker>\S.*)",
+    re.IGNORECASE,
+)
 # so many different texts a column of words has at most
 MOST_TEXTS = 2000
 # so many such columns are looked at
 MOST_COLUMNS = 20
+
+
+def taker_of_owner(text: str) -> str:
+    """Who has an animal whose owner is written as `verkauft an Meier`; empty where the text tells of no sale."""
+    found = TAKER.search(text) or WITH_NOW.match(text)
+    return found["taker"] if found else ""
 
 
 def said_of(status: str, title: str) -> str:
@@ -87,6 +102,7 @@ class Statuses:
         self.id, self.exit, self.status = (columns[one] for one in (Field.ID, Field.EXIT, Field.STATUS))
         self.titles = sheet.titles[self.exit], sheet.titles[self.status]
         self.is_of_states = plain(self.titles[1]) in KNOWN_STATES
+        self.may_be_sales = not names_other_exits(self.titles[0])
         # the same texts stand in many cells
         self.said, self.says_exit = functools.cache(self.read), functools.cache(self.tells_exit)
         self.found, self.taken = Exits(), 0
@@ -110,7 +126,7 @@ class Statuses:
         tells, tells_none = bool(exit_word(text)), lives(text)
         # a state such as `pet only` is no exit unless a word or a day says so
         is_other = self.is_of_states and is_other_state(text)
-        is_there, has_taker = is_still_there(text), TAKER.search(text) is not None
+        is_there, has_taker = is_still_there(text), TAKER.search(text) is not None and not lives_besides(text)
         is_reason = text == status and not (tells_none or is_there or text.casefold() in KNOWN_YES)
         return Said(text, tells, is_there, is_other, tells_none, says_lives(text), is_reason, has_taker)
 
@@ -122,16 +138,16 @@ class Statuses:
 
     def look(self, place: int, row: SheetRow, exit: str, said: Said) -> None:
         says_exit = bool(exit) and self.says_exit(exit)
-        if says_exit and said.tells and said.has_taker:
+        if says_exit and said.tells and said.has_taker and self.may_be_sales:
             self.found.texts[place] = f"{said.text} {exit}"
         if says_exit and said.is_reason:
             self.found.reasons[row.line] = said.text
         elif said.is_still_there or said.is_other_state:
             self.found.remarks.append(Remark(row.line, self.titles[1], said.text))
-        elif says_exit and said.lives:
-            self.tell(row, exit, True)
         elif not says_exit and not said.tells_none and (said.tells or not exit or self.is_unknown(exit)):
             self.take(place, row, exit, said.text)
+        if says_exit and said.lives:
+            self.tell(row, exit, True)
 
     def take(self, place: int, row: SheetRow, exit: str, said: str) -> None:
         """The word of the status stands for an exit of which its column says nothing, or that there is none."""
@@ -169,12 +185,29 @@ def exits_said(
     """What columns of words say of the exits of rows."""
     tell_living_by_others(rows, sheet, columns, unknown, report)
     at = columns[Field.EXIT]
-    if Field.STATUS not in columns:
-        return Exits(exits_of_living(rows, sheet.titles[at], at))
-    exits = Statuses(sheet, columns, unknown, report).find(rows)
-    for of_reasons in reasons_beside(sheet.titles, columns):
-        add_reasons(exits, rows, of_reasons, at, unknown)
+    if Field.STATUS in columns:
+        exits = Statuses(sheet, columns, unknown, report).find(rows)
+        for of_reasons in reasons_beside(sheet.titles, columns):
+            add_reasons(exits, rows, of_reasons, at, unknown)
+    else:
+        exits = Exits(exits_of_living(rows, sheet.titles[at], at))
+    add_days_of_sales(exits, rows, sheet.titles, columns)
     return exits
+
+
+def add_days_of_sales(exits: Exits, rows: list[SheetRow], titles: Sequence[str], columns: Mapping[str, int]) -> None:
+    """The day of a sale to somebody stands in the only other column such as `verkauft am`."""
+    read, exit_at, owner_at = {*columns.values()}, columns[Field.EXIT], columns.get(Field.OWNER)
+    of_days = [at for at, title in enumerate(titles) if at not in read and names_exits_alone(title)]
+    of_days = [at for at in of_days if not names_other_exits(titles[at])]
+    if len(of_days) != 1:
+        return
+    for place, row in enumerate(rows):
+        exit, day = exits.texts.get(place) or cell_of(row, exit_at), cell_of(row, of_days[0])
+        said = exit or (cell_of(row, owner_at) if owner_at is not None else "")
+        has_taker = TAKER.search(said) if exit else taker_of_owner(said)
+        if is_span(day) and has_taker and not places_within(said):
+            exits.texts[place] = f"{exit} {day}".strip()
 
 
 def reasons_beside(titles: Sequence[str], columns: Mapping[str, int]) -> list[int]:

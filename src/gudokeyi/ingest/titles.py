@@ -10,7 +10,7 @@ from gudokeyi.domain.kinds import Field
 from gudokeyi.domain.messages import Mistake, some_of
 from gudokeyi.ingest.messages import SheetFault
 from gudokeyi.ingest.texts import composed, listed, plain
-from gudokeyi.ingest.words import CASTRATED_MALE, KNOWN_CASTRATED, KNOWN_EXITS, KNOWN_SEXES, sex_word
+from gudokeyi.ingest.words import CASTRATED_MALE, KNOWN_CASTRATED, KNOWN_EXITS, KNOWN_SALES, KNOWN_SEXES, sex_word
 
 # What a column of a sheet may have, and the usual titles in English, German and French.
 
@@ -213,3 +213,13 @@ def names_both_sexes(title: str) -> bool:
 def names_exits_alone(title: str) -> bool:
     words = {plain(word) for word in BETWEEN_WORDS.split(title)} - BESIDE_EXITS - {""}
     return bool(words) and words <= KNOWN_EXITS
+
+
+# titles of one word that name a death and a day
+DEATHS = {plain(title) for title in ("Todesdatum", "Todestag", "Sterbedatum", "Sterbetag", "Schlachtdatum")}
+
+
+def names_other_exits(title: str) -> bool:
+    """Does a title such as `gestorben am` name exits of which none is a sale?"""
+    words = {plain(word) for word in BETWEEN_WORDS.split(title)} & KNOWN_EXITS
+    return plain(title) in DEATHS or bool(words) and words.isdisjoint(KNOWN_SALES)

@@ -5,7 +5,7 @@ import itertools
 import re
 from collections.abc import Iterator
 
-from gudokeyi.ingest.days import DayFault
+from gudokeyi.ingest.days import DayFault, places_within
 from gudokeyi.ingest.texts import listed, plain
 
 # The words that cells of sheets have, in English, German and French.
@@ -67,11 +67,23 @@ EXITS = (
     "ja, yes, oui, x, verkauft, verk, Verkauf, geschlachtet, Schlachtung, geschl, schl, gestorben, gest, verstorben, "
     "verst, verendet, verend, abg, abgeg, gestrichen, gelöscht, ausgetragen, radié, radiée, deregistered, "
     "eingegangen, tot, Tod, abgegangen, Abgang, ausgeschieden, exportiert, gekeult, euthanasiert, notgetötet, "
-    "notgeschlachtet, eingeschläfert, getötet, verunglückt, abgegeben, gestohlen, gerissen, "
+    "notgeschlachtet, eingeschläfert, eingeschl, euth, getötet, verunglückt, abgegeben, gestohlen, gerissen, "
     "weg, inaktiv, sold, sale, slaughtered, "
     "slaughter, dead, died, death, deceased, culled, exported, gone, left, lost, stolen, killed, euthanised, "
-    "euthanized, rehomed, vendu, vendue, vente, abattu, abattue, abattage, mort, morte, décédé, décédée, réformé, "
-    "réformée, réforme, sorti, sortie, exporté, exportée, volé, volée, euthanasié, euthanasiée, inactif, inactive"
+    "euthanized, put to sleep, put down, rehomed, vendu, vendue, vente, abattu, abattue, abattage, mort, morte, "
+    "décédé, décédée, décès, dcd, réformé, réformée, réforme, sorti, sortie, exporté, exportée, volé, volée, "
+    "euthanasié, euthanasiée, inactif, inactive"
+)
+# those of a sale, or of any exit
+SALES = (
+    "verkauft, verk, Verkauf, abgegeben, abgeg, abg, abgegangen, Abgang, weg, sold, sale, gone, left, vendu, vendue, "
+    "vente, sorti, sortie"
+)
+# what may stand beside such a word that tells of the animal itself
+AROUND_EXITS = (
+    "aber, wurde, wird, ist, jetzt, nun, inzwischen, seit, am, im, in, an, ab, zu, nach, ins, bei, für, um, mit, wegen, "
+    "durch, als, und, oder, but, was, is, has, been, now, since, on, at, to, for, from, by, due, as, with, and, or, "
+    "mais, est, a, été, maintenant, depuis, le, en, à, au, aux, pour, par, chez, comme, avec, et, ou"
 )
 # what such cells tell of animals that are still there, beside a day or alone: of rest, loans, castrations, matings,
 # care and sales that aren't made
@@ -165,6 +177,8 @@ KNOWN_YES = {word.casefold() for word in listed(YES)}
 KNOWN_NO = {word.casefold() for word in listed(NO)}
 KNOWN_STAYS = {plain(word) for word in listed(STAYS)}
 KNOWN_EXITS = {plain(word) for word in listed(EXITS)}
+KNOWN_SALES = {plain(word) for word in listed(SALES)}
+KNOWN_AROUND_EXITS = KNOWN_EXITS | {plain(word) for word in listed(AROUND_EXITS)}
 KNOWN_STILL_THERE = {plain(word) for word in listed(STILL_THERE)}
 KNOWN_NO_EXITS = KNOWN_STILL_THERE | {plain(word) for word in listed(OTHER_EVENTS)}
 KNOWN_RETURNS = {plain(word) for word in listed(RETURNS)}
@@ -223,8 +237,16 @@ NEGATED = re.compile(
     r"\b(?:nicht|kein\w*|nie|niemals|not|no|never|pas|non|jamais)\s+(?:(?:yet|been|encore|noch|mehr|de)\s+)*(?P<word>\w+)\.?",
     re.IGNORECASE,
 )
-# the signs of a death
-DEAD = re.compile(r"†|✝|^\+(?=\s*\d)|^\(?\+\)?$")
+# the same behind the word, as `verkauft: noch nicht`
+DENIED = re.compile(
+    r"\b(?P<word>\w+)\.?\s*[,;:(–—-]\s*(?:nicht|noch nicht|nein|no|not|not yet|non|pas encore)\W*$", re.IGNORECASE
+)
+# the signs of a death, and the letters for one, where they don't count points
+DEAD = re.compile(r"†|✝|^\+(?=\s*\d)|^\(?\+\)?$|(?<![\w.])(?<!\d )(?:PTS|R\.I\.P|RIP)(?!\w)")
+# the words for exits that are several
+PHRASES = re.compile(rf"\b(?:{'|'.join(word for word in listed(EXITS) if ' ' in word)})\b", re.IGNORECASE)
+# what stands between a word and what else a text says; a hyphen or a slash may stand within a word too
+SIGN, TIGHT_SIGN = re.compile(r"[,;:(–—]|\s[-/]|\.\s"), re.compile(r"[-/]")
 
 
 def lives(text: str) -> bool:
@@ -235,8 +257,9 @@ def lives(text: str) -> bool:
 
 
 def says_lives(text: str) -> bool:
-    """The same in words, and not by nothing or by a no."""
-    return text.casefold() not in KNOWN_NO and plain(text) not in KNOWN_NOTHING and lives(text) and bool(text)
+    """The same in words, and not by nothing or by a no; it may say more of others."""
+    is_word = bool(text) and text.casefold() not in KNOWN_NO and plain(text) not in KNOWN_NOTHING
+    return is_word and (lives(text) or lives_besides(text))
 
 
 def is_still_there(text: str) -> bool:
@@ -244,11 +267,31 @@ def is_still_there(text: str) -> bool:
     `nicht verkauft`?"""
     if not LETTER.search(text) or DEAD.search(text):
         return False
+    if lives_besides(text):
+        return True
     sold = SALE_NOT_MADE.sub(" ", text)
-    rest = NEGATED.sub(lambda found: " " if plain(found["word"]) in TELLING_EXITS else found[0], sold)
+    rest = sold
+    for negated in (NEGATED, DENIED):
+        rest = negated.sub(lambda found: " " if plain(found["word"]) in TELLING_EXITS else found[0], rest)
     if has_word(rest, TELLING_EXITS) or says_gone(rest):
         return False
     return rest != sold or has_word(text, KNOWN_NO_EXITS)
+
+
+def lives_besides(text: str) -> bool:
+    """Does it say first that the animal lives, and then what became of others, as `lebt, verkauft 2 Lämmer`?"""
+    begin, *others = SIGN.split(text, 1)
+    rest = others[0] if others else ""
+    return bool(rest) and says_lives(begin.strip()) and has_word(rest, TELLING_EXITS) and not tells_of_itself(rest)
+
+
+def tells_of_itself(text: str) -> bool:
+    """Does nothing stand beside the word for an exit that tells of others, as `2 Lämmer`?"""
+    for day in places_within(text):
+        text = text.replace(day[0], " ")
+    words = [plain(word) for word in re.split(r"\W+", text) if word]
+    at = next((at for at, word in enumerate(words) if word in TELLING_EXITS), len(words))
+    return KNOWN_AROUND_EXITS.issuperset([*words[:at], *words[at + 1 : at + 2]])
 
 
 def says_gone(text: str) -> bool:
@@ -267,9 +310,16 @@ def exit_word(text: str) -> str:
         return "died"
     if not LETTER.search(text):
         return ""
-    words = text.split()
-    known = next((word for word in words if plain(word) in KNOWN_EXITS), "")
+    known = next((word for word in text.split() if plain(word) in KNOWN_EXITS), "") or first_exit(text)
     return known or (text if says_gone(text) else "")
+
+
+def first_exit(text: str) -> str:
+    """An exit of several words, or one with which it begins, and behind which a sign stands, as `sold,pet only`."""
+    if phrase := PHRASES.search(text):
+        return phrase[0]
+    begin, tight = (sign.split(text, 1)[0].strip() for sign in (SIGN, TIGHT_SIGN))
+    return begin if plain(begin) in TELLING_EXITS else tight if plain(tight) in PLAIN_EXITS else ""
 
 
 def word_fault(text: str) -> DayFault:

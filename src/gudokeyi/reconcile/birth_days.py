@@ -9,7 +9,7 @@ import itertools
 from gudokeyi.domain.findings import Report
 from gudokeyi.domain.kinds import Field
 from gudokeyi.domain.pedigree_order import Waiting, offspring_by_parent
-from gudokeyi.domain.provenance import GIVEN_BIRTH, BirthBasis, BirthSource
+from gudokeyi.domain.provenance import GIVEN_BIRTH, BirthBasis, BirthSource, Period
 from gudokeyi.ingest.animals import DAM_OF, SIRE_OF, SheetAnimal, parents_of_all
 from gudokeyi.ingest.days import ANY_DAY, FIRST_DAY, Precision, Span
 from gudokeyi.reconcile.findings.animals import BirthDayInferred
@@ -110,11 +110,11 @@ class Days:
         by_calves = [self.likely_day(offspring) - GENERATION for offspring in progeny if self.has_likely_day(offspring)]
         dated = [parent for _, parent in animal.parents() if self.animals[parent].birth != ANY_DAY]
         if animal.birth != ANY_DAY:
-            self.likely[id] = middle(animal.birth), BirthBasis(BirthSource.PERIOD, animal.birth.period())
+            self.likely[id] = likeliest(animal.birth), BirthBasis(BirthSource.PERIOD, animal.birth.period())
         elif by_calves:
             self.likely[id] = min(by_calves), FROM_OFFSPRING
         elif dated:
-            youngest = max(middle(self.animals[parent].birth) for parent in dated)
+            youngest = max(likeliest(self.animals[parent].birth) for parent in dated)
             self.likely[id] = youngest + GENERATION, FROM_PARENTS
 
     def has_likely_day(self, id: str) -> bool:
@@ -142,7 +142,7 @@ class Days:
         # a day that stays has the reason that it had, whatever is known today
         if self.stays(animal, day):
             basis = basis_before
-        return datetime.date.fromordinal(day), basis
+        return datetime.date.fromordinal(day), of_month(basis, datetime.date.fromordinal(day), animal.birth)
 
 
 def offspring_of(animals: dict[str, SheetAnimal], some: list[str]) -> dict[str, list[str]]:
@@ -157,7 +157,17 @@ def offspring_of(animals: dict[str, SheetAnimal], some: list[str]) -> dict[str, 
     return found
 
 
-def middle(span: Span) -> int:
+def of_month(basis: BirthBasis, day: datetime.date, span: Span) -> BirthBasis:
+    """Of a few days of two months the month is that of the day which is taken."""
+    if span.precision is not Precision.DAYS or basis.period is None:
+        return basis
+    return BirthBasis(basis.source, Period(f"{day:%Y-%m}"))
+
+
+def likeliest(span: Span) -> int:
+    """The middle of a month or a year, and the first of a few days, of which it is one."""
+    if span.precision is Precision.DAYS:
+        return span.first.toordinal()
     return (span.first.toordinal() + span.last.toordinal() + 1) // 2
 
 

@@ -14,6 +14,7 @@ from gudokeyi.domain.provenance import GIVEN_EXIT, ExitBasis, ExitSource
 from gudokeyi.domain.refusals import Refusal
 from gudokeyi.ingest.animals import LINE_OF, SheetAnimal
 from gudokeyi.ingest.words import lives, says_lives
+from gudokeyi.ingest.words_beside import words_beside
 from gudokeyi.reconcile.findings.animals import KeptByHand, KeptFromBook
 from gudokeyi.reconcile.findings.by_hand import ValueChanged
 from gudokeyi.reconcile.findings.plausibility import ExitsWithdrawn, MostChanged, RowOf
@@ -78,10 +79,10 @@ def leave_out_exit(next_book: NextBook, animal: SheetAnimal, refusal: Refusal, l
     """The animal counts as gone, on a day that isn't known."""
     assert animal.left is not None
     day, period, is_kept = animal.left.isoformat(), animal.exit_basis.period, animal.id in next_book.exits_of_book
-    reason = animal.exit_basis.text
     last = max(later, key=lambda one: (one.born, one.id), default=None)
     id, line = (last.id, last.line) if last else ("", 0)
     text = "" if is_kept else animal.cells.get(Field.EXIT, "")
+    reason = not_in_cell(animal.exit_basis.text, text)
     animal.left = None
     basis = ExitBasis(ExitSource.UNKNOWN_DAY, text=text or (period.text if period else day))
     animal.exit_basis = basis.with_reason(reason)
@@ -91,6 +92,14 @@ def leave_out_exit(next_book: NextBook, animal: SheetAnimal, refusal: Refusal, l
     if not (is_kept and is_left_out_already(next_book, animal)):
         found = CommandLeftOut(CommandKind.EXIT, day, refusal, id, line)
         next_book.report.add(animal.line, animal.id, found)
+
+
+def not_in_cell(reason: str, cell: str) -> str:
+    """What is said of why an animal left but by the cell of the exit itself."""
+    beside = words_beside(cell)
+    if reason == beside:
+        return ""
+    return reason[len(beside) + 2 : -1] if beside and reason.startswith(f"{beside} (") else reason
 
 
 def tells_of_exit(entry: Entry, animal: SheetAnimal) -> bool:

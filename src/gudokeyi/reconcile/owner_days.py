@@ -99,7 +99,7 @@ class DaysOfOthers:
 
     def leave_out(self, animal: SheetAnimal, record: RegisterRecord) -> None:
         since = animal.since
-        if since is None or not animal.owner or since.first > self.today:
+        if since is None or animal.is_since_sale or not animal.owner or since.first > self.today:
             return
         if since.has(record.since) and self.are_one(animal.owner, self.book.owner_of(record.owner_code)):
             return
@@ -331,7 +331,7 @@ class OwnerDays:
     def is_later(self, animal: SheetAnimal) -> bool:
         if animal.since is None or animal.since.first <= self.today:
             return False
-        text = animal.cells.get(Field.SINCE, str(animal.since.first))
+        text = animal.cells.get(Field.SINCE) or str(animal.since.first)
         self.tell(animal, DayLeftOut(Field.SINCE, DayFault.AFTER_TODAY, text))
         return True
 

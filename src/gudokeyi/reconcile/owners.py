@@ -8,7 +8,7 @@ import re
 from collections.abc import Collection, Iterator, Mapping
 
 from gudokeyi.ingest.animals import LINE_OF, NAME_OF, OWNER_OF
-from gudokeyi.ingest.rows_as_meant import taker_of_owner
+from gudokeyi.ingest.statuses import taker_of_owner
 from gudokeyi.ingest.texts import plain
 from gudokeyi.ingest.words import (
     BEGINS_BORN_DEAD, DEAD, KNOWN_BORN_DEAD, KNOWN_NO_NAMES, PLAIN_EXITS, TELLING_EXITS, has_word,

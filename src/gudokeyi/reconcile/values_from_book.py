@@ -14,6 +14,7 @@ from gudokeyi.ingest.animals import SheetAnimal, birth_in_book
 from gudokeyi.ingest.days import ANY_DAY, DayFault, Span
 from gudokeyi.ingest.findings.cells import DayLeftOut
 from gudokeyi.ingest.findings.exits import ExitInferred
+from gudokeyi.ingest.words_beside import words_beside
 from gudokeyi.reconcile.exits import Exit, exit_in_book, given_day
 from gudokeyi.reconcile.findings.animals import KeptByHand, KeptFromBook
 from gudokeyi.reconcile.impossible_parents import tried_again
@@ -77,6 +78,8 @@ class Keeping:
         reason = reason_of(animal.left, animal.exit_basis)
         if in_book.by_hand:
             self.keep_by_hand(animal, in_book, record)
+            if not self.has_other_reason(animal):
+                reason = reason_of(animal.left, animal.exit_basis)
         unread = animal.unread
         if not self.has_names or Field.NAME in unread:
             animal.name = in_book.name
@@ -106,6 +109,9 @@ class Keeping:
         if is_within and not in_book.birth.is_inferred:
             animal.birth = Span(record.born, record.born)
             self.tell_kept(animal, Field.BIRTH, str(record.born))
+        self.keep_sex(animal, in_book, record)
+
+    def keep_sex(self, animal: SheetAnimal, in_book: SocietyRecord, record: RegisterRecord) -> None:
         if not self.has_sexes or not animal.cells.get(Field.SEX):
             animal.castrated = in_book.castrated
         if not animal.sex and not in_book.sex.is_inferred:
@@ -119,9 +125,23 @@ class Keeping:
     def keep_reason(self, animal: SheetAnimal, reason: str, in_book: ExitBasis) -> None:
         """What the sheet says beside the day of an exit, or what the book has beside that day where no column says
         it."""
-        text = reason or animal.exit_basis.text or ("" if Field.STATUS in self.given else in_book.text)
+        text = reason or animal.exit_basis.text
+        if not text and Field.STATUS not in self.given:
+            # a word that the cell had, and has no more, is dropped
+            is_dropped = self.has_exits and in_book.text and self.reason_before(animal) == in_book.text
+            text = "" if is_dropped else in_book.text
         if text != animal.exit_basis.text:
             animal.exit_basis = replace(animal.exit_basis, text=text)
+
+    def has_other_reason(self, animal: SheetAnimal) -> bool:
+        """Does a sheet say anew why an animal left, whose exit may be by hand?"""
+        now = words_beside(animal.cells.get(Field.EXIT, ""))
+        return Field.STATUS in self.given or self.reason_before(animal) != now
+
+    def reason_before(self, animal: SheetAnimal) -> str:
+        """What stood beside the day in the cell of the exit in the last sheet."""
+        before = self.book.cells.get((animal.id,))
+        return words_beside(before[1 + CELL_FIELDS.index(Field.EXIT)] or "") if before else ""
 
     def may_keep_exit(self, animal: SheetAnimal, exit: Exit) -> bool:
         """Has the book a day for the exit, though it may be left out? One before the birth isn't kept where it is told
