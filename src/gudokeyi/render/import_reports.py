@@ -21,7 +21,7 @@ from gudokeyi.ingest.findings.exits import ExitsWithoutDay
 from gudokeyi.ingest.findings.sheets import CellsUnread, ErrorCells
 from gudokeyi.reconcile.findings.parents import WRONG, ParentRefused
 from gudokeyi.reconcile.findings.by_hand import YoungParent
-from gudokeyi.reconcile.findings.own_columns import OwnCells
+from gudokeyi.reconcile.findings.own_columns import OwnCells, OwnCellUnread
 from gudokeyi.reconcile.findings.plausibility import BirthsNearerThanUsual, BirthsTooNear
 from gudokeyi.reconcile.outcome import Outcome
 from gudokeyi.store.exports import COMMANDS
@@ -156,6 +156,9 @@ def fields_summed_up(report: Report) -> set[Field | type[ErrorCells]]:
 
 
 def is_summed_up(finding: Finding, summed_up: set[Field | type[ErrorCells]]) -> bool:
+    # one finding for each of the society's own columns sums up those of its cells
+    if isinstance(finding, OwnCellUnread):
+        return True
     if isinstance(finding, ErrorValue):
         return ErrorCells in summed_up
     return isinstance(finding, CellLeftOut) and finding.summed_up_as() in summed_up
