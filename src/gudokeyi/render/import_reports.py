@@ -23,6 +23,7 @@ from gudokeyi.reconcile.findings.parents import WRONG, ParentRefused
 from gudokeyi.reconcile.findings.by_hand import YoungParent
 from gudokeyi.reconcile.findings.own_columns import OwnCells, OwnCellUnread
 from gudokeyi.reconcile.findings.plausibility import BirthsNearerThanUsual, BirthsTooNear
+from gudokeyi.reconcile.findings.same_animals import IdsExchanged
 from gudokeyi.reconcile.outcome import Outcome
 from gudokeyi.store.exports import COMMANDS
 
@@ -175,8 +176,8 @@ def grouped(report: Report) -> list[list[Entry]]:
 
 
 def order_of(finding: Finding) -> tuple[Severity, bool]:
-    """What is left out comes before what is taken as it stands."""
-    return finding.does(), finding.what is not What.LEFT_OUT
+    """What is left out comes before what is taken as it stands, but for what explains why rows are left out."""
+    return finding.does(), finding.what is not What.LEFT_OUT and not isinstance(finding, IdsExchanged)
 
 
 # What is printed of an import: a screen that begins with what may be wrong, what does most harm first. All that was
