@@ -107,3 +107,15 @@ def test_own_cells_unread(empty_site: Site, desk: Desk, language: str, said: str
     assert "ca. 1 kg" not in shown(part(page, "May be wrong", language))
     empty_site.take(address)
     assert [row["Gewicht"] for row in desk.listed("export")][:2] == ["12,5", "ca. 1 kg"]
+
+
+@pytest.mark.parametrize(
+    "language, meant", [("en", "is 3/12 meant?"), ("de", "ist 3/12 gemeint?"), ("fr", "s'agit-il de 3/12 ?")]
+)
+def test_days_for_ids(empty_site: Site, language: str, meant: str) -> None:
+    """Of a parent's cell that a spreadsheet made a day of it is asked which animal is meant."""
+    empty_site.get(f"/language/{language}")
+    rows = "3/12;Cora;F;2012-05-01;;;\n1/14;Dora;F;2014-03-01;;03. Dez;\n2/14;Emil;M;2014-03-02;;3/12;\n"
+    _, page = look_at(empty_site, TITLES + rows)
+    told = plain(shown(part(page, "May be wrong", language))).replace("\u00a0", " ")
+    assert told.count(meant) == 1 and "03. Dez" in told, told
