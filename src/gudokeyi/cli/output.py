@@ -4,6 +4,7 @@ from __future__ import annotations
 import argparse
 import io
 import sys
+from collections.abc import Iterable
 from typing import TYPE_CHECKING, TextIO
 
 from gudokeyi.domain.cells import for_terminals
@@ -15,8 +16,13 @@ if TYPE_CHECKING:
     from gudokeyi.services.tables import Table
 
 
-# options that shape a table alone
-OF_TABLES = ("columns", "csv", "matrix", "semicolons", "table", "triples")
+# options that shape a table or a page alone
+SHAPING = {
+    "columns": "table", "csv": "table", "matrix": "table", "semicolons": "table", "table": "table", "triples": "table",
+    "title": "page",
+}  # fmt: skip
+# the language of pages where none is said
+ENGLISH = "en"
 # what a file is told to have, where it isn't a table
 JSON_IN_FILE = "JSON, in one line"
 
@@ -47,11 +53,13 @@ def tell(sentence: str) -> None:
     print(f"gudokeyi: {sentence}", file=sys.stderr)
 
 
-def refuse_beside_json(asked: argparse.Namespace, shaping: tuple[str, ...] = OF_TABLES) -> None:
-    """A mistake where an option that shapes a table stands beside --json, which writes none."""
-    for name in shaping:
+def refuse_beside_json(asked: argparse.Namespace, options: Iterable[str] = SHAPING) -> None:
+    """A mistake where an option that shapes a table or a page stands beside --json, which writes none."""
+    for name in options:
         if getattr(asked, name, None):
-            raise WrongWords(f"--json writes no table: leave out --{name}")
+            raise WrongWords(f"--json writes no {SHAPING[name]}: leave out --{name}")
+    if getattr(asked, "language", ENGLISH) != ENGLISH:
+        raise WrongWords("--json is in English: leave out --language")
 
 
 def give_json(asked: argparse.Namespace, book: Book, value: object) -> None:

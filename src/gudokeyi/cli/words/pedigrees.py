@@ -22,8 +22,8 @@ if TYPE_CHECKING:
     from gudokeyi.services.tables import Table
 
 IDS = "one id a line"
-# options that shape a table alone; here --columns says how a file is read
-SHAPING = ("matrix", "semicolons")
+# options of these words that shape a table alone: here --columns says how a file is read
+OF_TABLES = ("matrix", "semicolons")
 
 
 def add_words(words: CommandWords) -> None:
@@ -167,7 +167,7 @@ def do_inbreeding(asked: argparse.Namespace) -> None:
 
 def do_relationships(asked: argparse.Namespace) -> None:
     if asked.json:
-        refuse_beside_json(asked, SHAPING)
+        refuse_beside_json(asked, OF_TABLES)
     pedigree = pedigree_of(asked)
     from gudokeyi.services.pedigree_answers import related
     from gudokeyi.services.pedigree_tables import relationship_matrix, relationship_table
@@ -191,7 +191,7 @@ def do_measures(asked: argparse.Namespace) -> None:
     if not asked.among:
         raise WrongWords("measures are those of a reference population: name its animals in a file by --among")
     if asked.json:
-        refuse_beside_json(asked, SHAPING)
+        refuse_beside_json(asked, OF_TABLES)
     pedigree = pedigree_of(asked)
     from gudokeyi.services.pedigree_answers import measured
     from gudokeyi.services.pedigree_tables import measure_table
