@@ -164,6 +164,30 @@ def test_days_for_texts(desk: Desk) -> None:
     }
 
 
+@pytest.mark.parametrize(
+    "place, day, shown, dam, meant",
+    [("F4", datetime.date(2026, 12, 3), "d/m", "2026-12-03", "3/12"),
+     ("F4", datetime.date(2012, 3, 1), "mmm\\ yy", "2012-03", "3/12"),
+     ("A3", datetime.date(2026, 12, 3), "d/m", "3/12", "2026-12-03"),
+     ("A9", None, "General", "", "")],
+)  # fmt: skip
+def test_days_for_ids(
+    desk: Desk, place: str, day: datetime.date | None, shown: str, dam: str, meant: str
+) -> None:
+    """An id such as 3/12 is linked where both cells are texts; where one of them is a day it is told which is meant."""
+    found, born = openpyxl.Workbook(), datetime.date(2014, 3, 1)
+    for row in (
+        ["id", "name", "sex", "birth", "sire", "dam"], ["1/12", "Anton", "M", "2012-03-01", None, None],
+        ["3/12", "Cora", "F", "2012-05-01", None, None], ["1/14", "Dora", "F", born, "1/12", "3/12"],
+    ):  # fmt: skip
+        found.active.append(row)
+    found.active[place], found.active[place].number_format = day, shown
+    found.save(desk.room / "sheet.xlsx")
+    done = desk.good("import", "sheet.xlsx")
+    told = f"line 4: {dam}: added: the dam of 1/14 has no row: added without parents (is {meant} meant?)"
+    assert (told in done.out) == bool(dam) and (", 0 added" in done.last) == (day is None)
+
+
 IN_GERMAN = "Ohrmarke;Name;Geschlecht;geb;Vater;Mutter\n"
 SHOWN = ("05-Apr", "3-Dez", "avr.-68", "mai-68", "03. Dez", "Mrz-07")
 NOT_SHOWN = ("Mai 68", "5 April", "Apr-2007", "12-Max", "05-April-9", "May", "1968-05", "Sun-99")

@@ -75,6 +75,31 @@ def test_answers(society_desk: Desk, words: str) -> None:
     assert faults(found, schema(word))
 
 
+def test_files(society_desk: Desk) -> None:
+    """Each word that has a file written has its JSON written there too, by the same ways; what shapes a table alone
+    isn't passed over."""
+    society_desk.write("dams.txt", "GK-17/472c\n")
+    for words in (
+        "list --living", "find GK-17", "export", "kinship GK-17/472c GK-10/294b", "certificate GK-17/472c",
+        "mating --dam GK-17/472c GK-10/294b", "mating --dams dams.txt GK-10/294b", "plan --dams dams.txt", "breed",
+        "pedigree GK-17/472c", "trend", "inverse",
+    ):  # fmt: skip
+        shown = society_desk.good(*words.split(), "--json").out
+        done = society_desk.good(*words.split(), "--json", "--out", "answer.json", "--force")
+        assert done.out == "answer.json: JSON, in one line\n" and society_desk.text("answer.json") == shown, words
+    society_desk.wrong("answer.json is there already", "export", "--json", "--out", "answer.json")
+    society_desk.wrong("is a file of the book", "list", "--json", "--out", "book/ids.csv", "--force")
+    for words in (
+        "list --columns id", "list --semicolons", "export --triples", "kinship GK-17/472c --matrix kinship",
+        "mating --dams dams.txt --matrix", "plan --table", "breed --csv tables",
+    ):  # fmt: skip
+        option = words[words.rindex("--"):].partition(" ")[0]
+        society_desk.wrong(f"--json writes no table: leave out {option}", *words.split(), "--json", "--out", "a.json")
+    society_desk.wrong("no page: leave out --title", "certificate", "GK-17/472c", "--title", "A", "--json")
+    society_desk.wrong("in English: leave out --language", "trend", "--language", "de", "--json")
+    society_desk.wrong("--json has 3 generations", "certificate", "GK-17/472c", "--generations", "5", "--json")
+
+
 def test_values(society_desk: Desk) -> None:
     """They are those that are listed; a refusal has its number, its name and its sentence."""
     listed = society_desk.listed("list")
@@ -161,6 +186,8 @@ def test_pedigree_files(desk: Desk, words: str) -> None:
     if word != "audit":
         desk.good(word, *others, "--json", "--out", "answer.json")
         assert desk.text("answer.json") == text
+        if word in ("relationships", "measures"):
+            desk.wrong("leave out --semicolons", word, *others, "--json", "--semicolons")
     found.pop(next(iter(schema(word)["required"])))
     assert faults(found, schema(word))
 
@@ -197,3 +224,5 @@ def test_inverse_of_a_book(flock_desk: Desk) -> None:
     assert alone["ids"] == book["ids"] and len(book["elements"]) > len(book["ids"])
     assert {(*one.values(),) for one in alone["elements"]} == {(*one.values(),) for one in book["elements"]}
     flock_desk.wrong("leave out --matrix-market", "inverse", "--json", "--matrix-market", "i.mtx")
+    flock_desk.wrong("leave it out beside", "inverse", "--out", "i.mtx", "--matrix-market", "j.mtx")
+    flock_desk.wrong("--matrix-market is of a book", "inverse", "p.txt", "--out", "i.mtx", "--matrix-market", "j.mtx")

@@ -93,3 +93,66 @@ def test_letters_that_stand_for_others(desk: Desk, name: str, dam: str) -> None:
     """A name is the same without the letter that is two, and with another apostrophe."""
     desk.take(f"{TITLES}a;{name};f;2011-06-05;;\nb;Jockey;m;2019-06-27;;{dam}\n")
     assert desk.parents()["b"] == ("", "a")
+
+
+# the third animal of 2012 and some of its flock
+OF_YEARS = (
+    "1/12;Anton;m;2012-03-01;;\n2/12;Berta;f;2012-04-01;;\n{};Cora;f;2012-05-01;;\n2/14;Emil;m;2014-03-01;1/12;2/12\n"
+    "1/14;Dora;f;2014-03-01;1/12;{}\n1/15;Fee;f;2015-03-01;2/14;1/14\n"
+)  # fmt: skip
+MADE_DAYS = (
+    "03.12.", "03.12.2026", "03. Dez", "3-Dec", "3 déc.", "2026-12-03", "12/3/2026", "2012-03-01", "01.03.2012",
+    "Mrz 12", "mars-12", "Mar 2012", "2012-03", "46359", "40969",
+)  # fmt: skip
+
+
+def test_id_like_a_day(desk: Desk) -> None:
+    """In text cells of both columns it is linked, also beside animals that are called 3 and 12."""
+    rows = OF_YEARS.format("3/12", "3/12") + "3;Ida;f;2010-03-01;;\n12;Ute;f;2010-03-01;;\n"
+    assert ", 8 new, 0 changed, 0 inferred, 0 left out, 0 added" in desk.take(TITLES + rows).last
+    assert desk.parents()["1/14"] == ("1/12", "3/12")
+    # with a zero it is told which it is
+    done = desk.take(TITLES + OF_YEARS.format("3/12", "03/12"), "--book", "two")
+    done.tells(
+        "line 6: 1/14: inferred: its dam '03/12' is 3/12, whose id differs in case, blanks or zeros alone: if another "
+        "is meant, give that one a row"
+    )
+
+
+def test_day_for_a_parent(desk: Desk) -> None:
+    """Where a spreadsheet made a day of a parent's cell it is told which animal may be meant."""
+    rows = "".join(f"{at}/16;;f;2016-03-01;;{day}\n" for at, day in enumerate(MADE_DAYS, 1))
+    done = desk.take(TITLES + OF_YEARS.format("3/12", "3/12") + rows, "--anyway")
+    for at, day in enumerate(MADE_DAYS, 1):
+        done.tells(f"line {at + 7}: {day}: added: the dam of {at}/16 {ADDED} (is 3/12 meant?)")
+    # of those that stand for several ids the likeliest is said: the day before the month, and what can be the dam
+    others = "12/03;Ulla;f;2003-03-01;;\n1/3;Rex;m;2003-03-01;;\n3/14;Ina;f;2014-05-01;;\n1/05;Ute;f;2005-05-01;;\n"
+    days = {"03.12.": "3/12", "12. Mrz": "12/03", "2012-03-01": "3/12", "Mrz 14": "3/14", "2014-03-01": "3/14",
+            "2012-05-01": "1/05"}  # fmt: skip
+    rows = "".join(f"{at}/16;;f;2016-03-01;;{day}\n" for at, day in enumerate(days, 1))
+    done = desk.take(TITLES + OF_YEARS.format("3/12", "3/12") + others + rows, "--book", "two")
+    for at, (day, id) in enumerate(days.items(), 1):
+        done.tells(f"line {at + 11}: {day}: added: the dam of {at}/16 {ADDED} (is {id} meant?)")
+
+
+@pytest.mark.parametrize("day", ["03. Dez", "3 déc.", "Mrz 12", "2012-03-01", "2012-03", "46359"])
+def test_day_for_an_id(desk: Desk, day: str) -> None:
+    """Where it made one of the id that is told, and by the parent's cell too; a number or a year with another number
+    may be an id."""
+    done = desk.take(TITLES + OF_YEARS.format(day, "3/12"))
+    done.shows(f"line 6: 3/12: added: the dam of 1/14 {ADDED} (is {day} meant?)")
+    may_be_id = day in ("2012-03", "46359")
+    assert (f"line 4: {day}: to look at: its id is the day {day}, which" in done.out) != may_be_id
+
+
+def test_day_for_no_id(desk: Desk) -> None:
+    """A day of which no id is one is written like none; other ids that have the same numbers aren't meant."""
+    days, others = ("04. Jun", "Jun 04", "2026-06-04", "04.06."), ("12/3", "2/13", "2013-03-02", "3/12/4")
+    rows = "".join(f"{at}/16;;f;2016-03-01;;{dam}\n" for at, dam in enumerate(days + others, 1))
+    done = desk.take(TITLES + OF_YEARS.format("3/12", "3/12") + rows, "--anyway")
+    for day in days:
+        assert f"to look at: {day} has no row and is written like no id, and is the dam of 1" in done.told
+    assert "meant" not in done.told and len([one for one in done.report if ADDED in one]) == len(days + others)
+    # where ids are such days themselves none is told
+    done = desk.take(TITLES + "2012-03-01;A;m;2012-03-01;;\n2012-03-02;B;f;2012-03-02;;\n", "--book", "days")
+    assert "which spreadsheets make" not in done.told

@@ -55,6 +55,38 @@ def test_numbers_that_are_cut(desk: Desk, kind: str, cut: str) -> None:
     assert "has cut" not in done.out and values(desk, "Chip")[-1] == CHIPS[0] and " 0 left out" in done.last
 
 
+@pytest.mark.parametrize(
+    "kind, good, advice",
+    [("number", "12,5", "write numbers alone, as 12.5"), ("day", "1.2.2013", "write days as 2001-03-01 or 01.03.2001"),
+     ("yes-no", "ja", "write yes or no")],
+)  # fmt: skip
+def test_many_cells_that_cannot_be_read(desk: Desk, kind: str, good: str, advice: str) -> None:
+    """They are told in one line with the first of them; the report has each, and what the book has stays."""
+    desk.take(dogs("Weight", [good] * 3), "--own", f"Weight={kind}")
+    before = values(desk, "Weight")[0]
+    cells = [good, *(f"ca. {at} kg" for at in range(40)), ""]
+    done = desk.take(dogs("Weight", cells), "--own", f"Weight={kind}")
+    first = done.out.partition("rows below the titles")[0]
+    told = (
+        f"to look at: 40 of 41 cells of the column 'Weight' ({kind}) can't be read, the first in line 3: 'ca. 0 kg'; "
+        f"of these animals the book keeps what it has: {advice}, or keep the column as text"
+    )
+    assert first.splitlines()[0] == told and first.count("ca. ") == 1
+    done.shows("own columns: 'Weight' (40 unread)")
+    each = [row for row in desk.table("book/report.csv") if row["what"] == "left out"]
+    assert [(row["line"], row["id"]) for row in each] == [(f"{at}", f"a{at - 1:02}") for at in range(3, 43)]
+    assert each[39]["why"] == f"its cell in 'Weight' is left out: 'ca. 39 kg' can't be read as {kind}"
+    assert values(desk, "Weight") == [before] * 3 + [""] * 39
+    # whoever means texts says so once
+    [command] = done.commands()
+    assert command.count("--own") == 1
+    desk.typed(command)
+    assert values(desk, "Weight") == [before, *cells[1:]]
+    # of one cell it is told as of one
+    looked = desk.take(dogs("Weight", [good, "heavy"]), "--own", f"Weight={kind}", "--book", "two")
+    assert f"1 of 2 cells of the column 'Weight' ({kind}) can't be read, in line 3: 'heavy'; of this" in looked.out
+
+
 def test_counts_of_values(desk: Desk) -> None:
     """New values, changed ones and emptied ones are each counted, on the screen of a take too, and the first are told
     with their lines and what was there before."""

@@ -173,6 +173,10 @@ def test_verify_published(flock_desk: Desk) -> None:
         flock_desk.write("wrong.txt", text)
         done = flock_desk.run("verify", "--published", "wrong.txt")
         assert done.status == 1 and told in done.err, (text, done)
+    # also where JSON is asked for
+    flock_desk.write("wrong.txt", first + second.replace(second[-9:-1], "00000000"))
+    done = flock_desk.run("verify", "--json", "--published", "wrong.txt")
+    assert done.status == 1 and "line 2 differs: the journal's seal" in done.out
     flock_desk.good("undo")
     done = flock_desk.good("verify", "--published", "seals.txt")
     told = f"line 2: the journal was written anew since {TODAY}, by change 3: of the 17 commands of edition 1"

@@ -82,3 +82,41 @@ def test_days_of_a_workbook(empty_site: Site) -> None:
     found.save(file)
     page = empty_site.page(empty_site.drop("liste.xlsx", file.getvalue()))
     assert "its id is the day 2026-12-03, which spreadsheets make of texts" in plain(shown(part(page, "May be wrong")))
+
+
+WEIGHTS = "Ohrmarke;Name;Geschlecht;geb;Vater;Mutter;Gewicht\n" + "".join(
+    f"a{at};Tier {at};w;2012-05-13;;;{f'ca. {at} kg' if at else '12,5'}\n" for at in range(21)
+)
+
+
+@pytest.mark.parametrize(
+    "language, said, keep",
+    [("en", "20 of 21 cells of the column 'Gewicht' (number) can't be read, the first in line 3: 'ca. 1 kg'; of these",
+      "Keep the column 'Gewicht' as: text"),
+     ("de", "20 von 21 Zellen der Spalte „Gewicht“ (Zahl) lassen sich nicht lesen, die erste in Zeile 3: „ca. 1 kg“",
+      "Die Spalte „Gewicht“ behalten als: Text"),
+     ("fr", "20 cellules sur 21 de la colonne « Gewicht » (nombre) ne se lisent pas, la première à la ligne 3",
+      "Garder la colonne « Gewicht » comme : texte")],
+)  # fmt: skip
+def test_own_cells_unread(empty_site: Site, desk: Desk, language: str, said: str, keep: str) -> None:
+    """Many cells of an own column are one line of what may be wrong, and to keep them as texts is one click."""
+    empty_site.get(f"/language/{language}")
+    address, page = look_at(empty_site, WEIGHTS, **{"other-title-0": "Gewicht", "other-kind-0": "number"})
+    told = plain(shown(part(page, "May be wrong", language)))
+    assert told.count(said) == 1 and told.count("ca. ") == 1
+    page = press(empty_site, address, page, next(one for one in buttons_of(page) if one == keep))
+    assert "ca. 1 kg" not in shown(part(page, "May be wrong", language))
+    empty_site.take(address)
+    assert [row["Gewicht"] for row in desk.listed("export")][:2] == ["12,5", "ca. 1 kg"]
+
+
+@pytest.mark.parametrize(
+    "language, meant", [("en", "is 3/12 meant?"), ("de", "ist 3/12 gemeint?"), ("fr", "s'agit-il de 3/12 ?")]
+)
+def test_days_for_ids(empty_site: Site, language: str, meant: str) -> None:
+    """Of a parent's cell that a spreadsheet made a day of it is asked which animal is meant."""
+    empty_site.get(f"/language/{language}")
+    rows = "3/12;Cora;F;2012-05-01;;;\n1/14;Dora;F;2014-03-01;;03. Dez;\n2/14;Emil;M;2014-03-02;;3/12;\n"
+    _, page = look_at(empty_site, TITLES + rows)
+    told = plain(shown(part(page, "May be wrong", language))).replace("\u00a0", " ")
+    assert told.count(meant) == 1 and "03. Dez" in told, told

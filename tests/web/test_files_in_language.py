@@ -25,9 +25,11 @@ TITLES_OF = {
         "fr": "Propriétaire;Numéro de membre;Adresse;E-mail;Téléphone;Animaux;Vivants",
     },
     "year": {
-        "en": "day,what,id,number,name,sex,birth,sire,dam,from,owner,reason",
-        "de": "Tag;Art;Ohrmarke;Nummer;Name;Geschlecht;Geburtstag;Vater;Mutter;Bisheriger Besitzer;Besitzer;Grund",
-        "fr": "Jour;Genre;Boucle;Numéro;Nom;Sexe;Date de naissance;Père;Mère;Ancien propriétaire;Propriétaire;Motif",
+        "en": "day,what,id,number,name,sex,birth,sire,dam,from,owner,reason,exit_in_sheet",
+        "de": "Tag;Art;Ohrmarke;Nummer;Name;Geschlecht;Geburtstag;Vater;Mutter;Bisheriger Besitzer;Besitzer;Grund;"
+        "Abgang in der Tabelle",
+        "fr": "Jour;Genre;Boucle;Numéro;Nom;Sexe;Date de naissance;Père;Mère;Ancien propriétaire;Propriétaire;Motif;"
+        "Sortie dans le tableau",
     },
 }
 ADDRESSES = {"report": "/history/1/report.csv", "seals": "/seals.csv", "owners": "/owners.csv", "year": "/year/2001.csv"}

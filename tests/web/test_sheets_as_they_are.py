@@ -66,6 +66,41 @@ def test_new_tag(empty_site: Site, language: str) -> None:
         assert book and "777" in book.society_records and "003" not in book.society_records
 
 
+TWO = LIST.replace("003;A;w;3.2.13;001 / Chäspi;002", "003;Anna;w;3.2.2013;001;002").replace(
+    "006;D;w;14.05.1887;;", "006;Berta;w;14.05.2014;;"
+)
+SAID_OF_TWO = {
+    "en": "did it exchange its id with 003 (line 8)? Each has",
+    "de": "ist seine Ohrmarke mit der von 003 (Zeile 8) vertauscht?",
+    "fr": "sa boucle est-elle échangée avec celle de 003 (ligne 8) ?",
+}  # fmt: skip
+
+
+@pytest.mark.parametrize("language", LANGUAGES)
+def test_exchanged_ids(empty_site: Site, language: str) -> None:
+    """It is asked once, and one click says that two animals have each other's ids."""
+    site, words = empty_site, PageLanguage(language)
+    address, _ = look_at(site, TWO)
+    site.take(address)
+    with site.desk.opened() as book:
+        assert book
+        numbers = {one.name: one.registration_number for one in book.society_records.values()}
+    site.get(f"/language/{language}")
+    later = TWO.replace("003;Anna", "6;Anna").replace("006;Berta", "003;Berta").replace("6;Anna", "006;Anna")
+    address, page = look_at(site, later)
+    said = shown(part(page, "May be wrong", language)).replace("\u00a0", " ")
+    asked = SAID_OF_TWO[language]
+    assert said.count(asked) == 1, said
+    pairs = ("006", "003"), ("003", "006")
+    label = "; ".join(words.gettext("{} has the tag {} from now on", *pair) for pair in pairs)
+    page = press(site, address, page, label)
+    assert asked not in shown(page)
+    site.take(address)
+    with site.desk.opened() as book:
+        assert book and book.society_records["006"].name == "Anna"
+        assert {one.name: one.registration_number for one in book.society_records.values()} == numbers
+
+
 KIDS = "041;E;w;1.2.2012;001;002;Huber Hans;;lebt\n042;Kid;w;1.2.2019;001;041;Huber Hans;;lebt\n"
 FAMILY = LIST + KIDS + "043;Kit;w;1.2.2021;001;042;Huber Hans;;lebt\n"
 

@@ -13,13 +13,14 @@ from front_desk.society_lists import GOATS, HORSES, Style, with_planted
 from web.looks import PAIR, TITLES
 from web.site import Site, shown
 from gudokeyi.domain.changes import Option
+from gudokeyi.domain.findings import COLUMNS
 from gudokeyi.services.cache import StateKept
 from gudokeyi.services.sheet_reading import LastReading
 from gudokeyi.web import sheet_work, worker_processes
 from gudokeyi.web.files import Upload
 from gudokeyi.web.forms import SHEET_FIELDS
 from gudokeyi.web.sheet_work import Chosen, Look, looked_at
-from gudokeyi.web.views.findings import COLUMNS, choose, field_of, suggestions_of
+from gudokeyi.web.views.findings import choose, field_of, suggestions_of
 from gudokeyi.web.work_places import BREED, LOOKING
 from gudokeyi.web.worker_processes import MOST_KEPT
 from gudokeyi.web.workers import Job, Jobs, Stage

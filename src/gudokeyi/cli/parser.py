@@ -10,7 +10,7 @@ from collections.abc import Callable
 from typing import TYPE_CHECKING, NoReturn
 
 import gudokeyi
-from gudokeyi.cli.output import give_json, tell
+from gudokeyi.cli.output import give_json, refuse_beside_json, tell
 from gudokeyi.cli.statuses import ABOUT as STATUSES, Status
 from gudokeyi.domain.mistakes import WrongWords
 from gudokeyi.domain.spelling import closest
@@ -184,6 +184,8 @@ def with_book(
     of it, and the book's notes."""
 
     def does_with_book(asked: argparse.Namespace) -> None:
+        if answers and asked.json:
+            refuse_beside_json(asked)
         if group:
             from gudokeyi.packages import need
 
@@ -194,7 +196,7 @@ def with_book(
         program = BookProgram()
         with opened(asked.book, program) as book:
             if answers and asked.json:
-                give_json(answers(asked, book, program))
+                give_json(asked, book, answers(asked, book, program))
             else:
                 does(asked, book, program)
             faults = not_whole(book, program) if shows else ()

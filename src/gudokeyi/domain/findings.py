@@ -42,7 +42,7 @@ OPPOSITE = {
 # the folder of a book where none is named
 USUAL_BOOK = pathlib.Path("book")
 
-COLUMNS = "--columns"
+COLUMNS, OWN = "--columns", "--own"
 ANYWAY, LEAVE_OUT, DROP_GONE, PREVIEW = map(Option, ("--anyway", "--leave-out", "--drop-gone", "--preview"))
 
 
@@ -54,6 +54,16 @@ def columns(titles: Mapping[str, str]) -> Option:
 def quoted(text: str) -> str:
     """A text between commas."""
     return '"' + text.replace('"', '""') + '"' if "," in text or text[:1] == '"' else text
+
+
+def kept_as(title: str, kind: str) -> Option:
+    """The option by which another column is kept."""
+    return Option(OWN, f"{title}={kind}")
+
+
+def title_kept(option: Option) -> str:
+    """The title of the column that such an option names."""
+    return option.word.rpartition("=")[0]
 
 
 def is_no_animal(word: str) -> Option:
@@ -121,10 +131,12 @@ class Call:
 
 
 def is_replaced(option: Option, suggestion: Suggestion) -> bool:
-    """Is an option of the call left out for what is suggested? Of most options the last one holds, and a word is
-    either known or unknown."""
+    """Is an option of the call left out for what is suggested? Of most options the last one holds, a word is either
+    known or unknown, and a column is kept as one kind."""
     if option.option in suggestion.without:
         return True
+    if option.option == OWN:
+        return title_kept(option) in [title_kept(one) for one in suggestion.options if one.option == OWN]
     names = [one.option for one in suggestion.options]
     words = [one.word for one in suggestion.options if one.option == OPPOSITE.get(option.option)]
     return option.word in words or (option.option in names and option.option not in REPEATED)

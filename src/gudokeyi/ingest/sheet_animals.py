@@ -17,6 +17,7 @@ from gudokeyi.ingest.animals import DAM_OF, LINE_OF, ROLES, SIRE_OF, YEARS_LATER
 from gudokeyi.ingest.day_cells import Order
 from gudokeyi.ingest.day_forms import DayForms
 from gudokeyi.ingest.days import NAME, Span, Unreadable, read_span
+from gudokeyi.ingest.days_for_ids import days_among
 from gudokeyi.ingest.exchanged_days import exchanged
 from gudokeyi.ingest.findings.cells import (
     BETWEEN_CELLS, DAYS, DayForText, IdAgain, IdAlone, IdOfOtherAlphabet, IdToCome, IdTooLong, IdUnlikeOthers,
@@ -382,6 +383,7 @@ class Rows:
             # of a workbook's cells it is known which are days
             texts = () if self.sheet.worksheets else self.plain.different.get(field, ())
             lines = {*self.sheet.days.get(self.columns.get(field, NOWHERE), ())}
+            lines |= {animals[id].line for id in days_among(animals)} if field is Field.ID else set()
             told |= tell_days_for_texts(animals, field, lines, texts, self.report)
         told |= self.same_ids.born.keys()
         tell_odd_ids(animals, told | tell_several_ids(animals, told, self.report), self.report)

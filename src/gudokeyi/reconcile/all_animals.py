@@ -10,6 +10,7 @@ from gudokeyi.domain.messages import Mistake
 from gudokeyi.ingest.animals import DAM_OF, SIRE_OF, SheetAnimal, ancestors_among, birth_in_book, links_outside
 from gudokeyi.ingest.columns import Columns
 from gudokeyi.reconcile.birth_days import find_days
+from gudokeyi.reconcile.exchanged_ids import tell_exchanged_ids
 from gudokeyi.reconcile.exits import exit_in_book
 from gudokeyi.reconcile.findings.animals import RowIsGone
 from gudokeyi.reconcile.guards import Guards
@@ -147,6 +148,7 @@ def complete(next_book: NextBook, columns: Columns, import_options: ImportOption
         )
         if next_book.otherwise is not next_book.animals:
             next_book.otherwise = {row.id: row for row in next_book.rows_otherwise()}
+    tell_exchanged_ids(next_book, guards.otherwise)
     add_others(next_book, import_options.drop_gone, columns)
     found += guards.of_animals(next_book.animals)
     if found and not import_options.anyway:

@@ -86,7 +86,8 @@ class NearIds:
 def call_as_now(animals: dict[str, SheetAnimal], book: Book, report: Report) -> bool:
     """Rows with ids that animals of the book had before theirs were corrected are these animals, unless the sheet has a
     row with the id of now too; so are parents with such ids that no row has. Answers whether there may be any."""
-    now = (ids_now(book) if book.society_records else {}) | book.new_tags
+    renamed = {former: id for former, id in book.new_tags.items() if former not in book.society_records}
+    now = (ids_now(book) if book.society_records else {}) | renamed
     now = {former: id for former, id in now.items() if former not in animals or id not in animals}
     for former, id in now.items():
         if former in animals:
@@ -98,7 +99,7 @@ def call_as_now(animals: dict[str, SheetAnimal], book: Book, report: Report) -> 
         for role, parent in offspring.parents():
             if parent in now:
                 offspring.set_parent(role, now[parent])
-    return bool(now)
+    return bool(now or book.new_tags)
 
 
 # Ids that are used again for other animals, born years apart: the row is left out, and the animal of the book stays.

@@ -15,6 +15,7 @@ from gudokeyi.reconcile.findings.same_animals import NewTag, OldTag
 from gudokeyi.reconcile.messages import ImportFault
 from gudokeyi.reconcile.next_book import NextBook
 from gudokeyi.store.book import Book
+from gudokeyi.store.former_ids import former_ids_of
 
 
 def pairs_of(words: list[str]) -> dict[str, str]:
@@ -29,16 +30,14 @@ def pairs_of(words: list[str]) -> dict[str, str]:
 
 
 def call_anew(book: Book, words: list[str]) -> None:
-    """The animals have their new ids from now on, and are known by those of before."""
+    """The animals have their new ids from now on, and are known by those of before. Some may have each other's."""
     for before, now in pairs_of(words).items():
-        if now in book.society_records and before not in book.society_records:
-            # it was taken so before
+        if is_called_so(book, before, now):
             continue
         if before not in book.society_records:
             raise Mistake(ImportFault.NEW_TAG_LACKS.said(word=f"{before}={now}", before=before))
-        if now in book.society_records:
-            raise Mistake(ImportFault.NEW_TAG_IS_THERE.said(word=f"{before}={now}", now=now))
         book.new_tags[before] = now
+    refuse_twice(book)
     if book.new_tags:
         renamed = book.new_tags
         book.society_records = {
@@ -51,6 +50,21 @@ def call_anew(book: Book, words: list[str]) -> None:
             (renamed.get(str(key[0]), key[0]),): (renamed.get(str(key[0]), key[0]), *row[1:])
             for key, row in book.cells.items()
         }
+
+
+def is_called_so(book: Book, before: str, now: str) -> bool:
+    """Was the new id taken before? Of animals that exchanged their ids each has the other's former one."""
+    known = book.society_records.get(now)
+    return known is not None and (before not in book.society_records or before in former_ids_of(book, known.digits))
+
+
+def refuse_twice(book: Book) -> None:
+    """A mistake where two animals would have one id."""
+    stay = book.society_records.keys() - book.new_tags.keys()
+    for before, now in book.new_tags.items():
+        if now in stay:
+            raise Mistake(ImportFault.NEW_TAG_IS_THERE.said(word=f"{before}={now}", now=now))
+        stay.add(now)
 
 
 def tell_new_tags(next_book: NextBook, gone: Mapping[str, SheetAnimal], columns: Columns | None) -> None:

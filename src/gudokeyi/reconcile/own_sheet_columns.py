@@ -21,7 +21,7 @@ from gudokeyi.ingest.spellings import CUT
 from gudokeyi.ingest.texts import clean, plain
 from gudokeyi.reconcile.findings.animals import OwnValueWritten
 from gudokeyi.reconcile.findings.own_columns import (
-    OwnCellUnread, OwnColumnRead, OwnDaysAmongTexts, OwnNumbersCut, OwnValuesChanged, OwnValuesEmptied,
+    OwnCellsUnread, OwnCellUnread, OwnColumnRead, OwnDaysAmongTexts, OwnNumbersCut, OwnValuesChanged, OwnValuesEmptied,
 )  # fmt: skip
 from gudokeyi.reconcile.next_book import NextBook
 from gudokeyi.reconcile.own_values import value_read
@@ -159,17 +159,14 @@ class OwnColumnTaken:
             self.tell_cut([(animal.line, cell) for (animal, _), cell in zip(rows, cells) if cell in cut])
             others = [one for one in others if one.cell not in cut]
         self.tell_days(others, cells)
-        self.take_all(others)
+        self.tell_unread([one for one in others if self.read(one.cell) is None], len(cells) - cells.count(""))
+        self.take_all([one for one in others if self.read(one.cell) is not None])
         self.tell_counts()
 
     def take_all(self, others: Sequence[CellOtherwise]) -> None:
         place, own_values = self.column.place, self.next_book.own_values
         for animal, cell, key, was in others:
-            value = self.read(cell)
-            if value is None:
-                self.report.add(animal.line, animal.id, OwnCellUnread(self.column.title, cell, self.column.kind))
-                continue
-            before = str(was[2]) if was else ""
+            value, before = self.read(cell) or "", str(was[2]) if was else ""
             if value != before:
                 own_values.setdefault(animal.id, []).append((place, before, value))
                 self.new += not before
@@ -184,6 +181,15 @@ class OwnColumnTaken:
             return value_read(self.column, cell, self.month_first)
         except InvalidValue:
             return None
+
+    def tell_unread(self, unread: Sequence[CellOtherwise], said: int) -> None:
+        """Cells that can't be read, of so many that say something: the values stay."""
+        title, kind = self.column.title, self.column.kind
+        for one in unread:
+            self.report.add(one.animal.line, one.animal.id, OwnCellUnread(title, one.cell, kind))
+        if unread:
+            line, text = min((one.animal.line, one.cell) for one in unread)
+            self.report.add(0, "", OwnCellsUnread(title, kind, len(unread), said, line, text))
 
     def tell_one(self, animal: SheetAnimal, before: str, value: str) -> None:
         """Of values that were there until now the first are told: of those that are changed, and of those that are

@@ -14,6 +14,7 @@ from gudokeyi.domain.requests import MOST_IN_ID
 from gudokeyi.ingest.animals import (
     CELLS_OF, DAM_OF, LINE_OF, NAME_OF, SIRE_OF, Link, SheetAnimal, links_outside,
 )  # fmt: skip
+from gudokeyi.ingest.days_for_ids import DaysForIds, is_day
 from gudokeyi.ingest.findings.cells import TextTooLong
 from gudokeyi.ingest.texts import nearly, without_accents
 from gudokeyi.ingest.words import KNOWN_NO_PARENTS, has_word
@@ -69,6 +70,10 @@ class Names:
     def tags(self) -> NearTags:
         ids = [*filter(self.with_id.__contains__, self.animals)]
         return self.last.of(Kept.NEAR_TAGS, (ids,), lambda: NearTags(ids))
+
+    @functools.cached_property
+    def days(self) -> DaysForIds:
+        return DaysForIds([*filter(self.with_id.__contains__, self.animals)])
 
     def same(self, name: str) -> list[str]:
         """The ids of the animals of a name; of those that stay too these are sought among all."""
@@ -176,7 +181,7 @@ class Names:
         where parents have some, and means no animal by its name?"""
         if parent not in self.lacking or not self.have_digits:
             return False
-        is_odd = is_like_word(parent) or (DAY.fullmatch(parent) and not self.have_days)
+        is_odd = is_like_word(parent) or ((DAY.fullmatch(parent) or is_day(parent)) and not self.have_days)
         is_odd = is_odd or not any(map(str.isdigit, parent)) and self.parents_have_digits
         if not is_odd:
             return False
@@ -200,7 +205,8 @@ class Names:
     @functools.cached_property
     def have_days(self) -> bool:
         """Is any id written as a day is?"""
-        return any(map(DAY.fullmatch, [id for id, animal in self.animals.items() if animal.line]))
+        ids = [id for id, animal in self.animals.items() if animal.line]
+        return any(map(DAY.fullmatch, ids)) or any(map(is_day, ids))
 
     @functools.cached_property
     def parents_have_digits(self) -> bool:
@@ -220,6 +226,8 @@ class Names:
         alike = ids[0] if ids else by_name.meant(text.removesuffix(".0")) or by_name.meant(text)
         for likely in (self.elsewhere_of, self.tags.near, by_name.bare) if not alike else ():
             alike = alike or self.only_possible(likely(text), role, offspring)
+        for days in self.days.near(text) if not alike else ():
+            alike = alike or self.only_possible(days, role, offspring)
         if not alike and len(self.lacking) <= FEW:
             swapped = by_name.swapped(text)
             alike = next((id for id in swapped if can_be(self.animals[id], role, offspring)), "")

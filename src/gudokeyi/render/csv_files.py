@@ -33,6 +33,7 @@ TITLES = {
     "day": "Day",
     "from": "Owner before",
     "reason": "Reason",
+    "exit_in_sheet": "Exit in the sheet",
 }
 # columns of words that stand for something
 WORDS: dict[str, type[enum.Enum]] = {"what": CommandKind, "reason": ExitReason}

@@ -21,8 +21,9 @@ from gudokeyi.ingest.findings.exits import ExitsWithoutDay
 from gudokeyi.ingest.findings.sheets import CellsUnread, ErrorCells
 from gudokeyi.reconcile.findings.parents import WRONG, ParentRefused
 from gudokeyi.reconcile.findings.by_hand import YoungParent
-from gudokeyi.reconcile.findings.own_columns import OwnCells
+from gudokeyi.reconcile.findings.own_columns import OwnCells, OwnCellUnread
 from gudokeyi.reconcile.findings.plausibility import BirthsNearerThanUsual, BirthsTooNear
+from gudokeyi.reconcile.findings.same_animals import IdsExchanged
 from gudokeyi.reconcile.outcome import Outcome
 from gudokeyi.store.exports import COMMANDS
 
@@ -156,6 +157,9 @@ def fields_summed_up(report: Report) -> set[Field | type[ErrorCells]]:
 
 
 def is_summed_up(finding: Finding, summed_up: set[Field | type[ErrorCells]]) -> bool:
+    # one finding for each of the society's own columns sums up those of its cells
+    if isinstance(finding, OwnCellUnread):
+        return True
     if isinstance(finding, ErrorValue):
         return ErrorCells in summed_up
     return isinstance(finding, CellLeftOut) and finding.summed_up_as() in summed_up
@@ -172,8 +176,8 @@ def grouped(report: Report) -> list[list[Entry]]:
 
 
 def order_of(finding: Finding) -> tuple[Severity, bool]:
-    """What is left out comes before what is taken as it stands."""
-    return finding.does(), finding.what is not What.LEFT_OUT
+    """What is left out comes before what is taken as it stands, but for what explains why rows are left out."""
+    return finding.does(), finding.what is not What.LEFT_OUT and not isinstance(finding, IdsExchanged)
 
 
 # What is printed of an import: a screen that begins with what may be wrong, what does most harm first. All that was

@@ -10,6 +10,7 @@ from gudokeyi.domain.animals import NO_OWNER
 from gudokeyi.domain.kinds import CommandKind
 from gudokeyi.domain.mistakes import InvalidValue
 from gudokeyi.domain.requests import NotSuch
+from gudokeyi.services.facts import exit_in_sheet
 from gudokeyi.services.tables import Kind, Table
 from gudokeyi.store.animal_rows import AnimalRow
 from gudokeyi.store.book import Book
@@ -21,14 +22,14 @@ FIRST, LAST = 1000, 2999
 COLUMNS = (
     ("day", Kind.PLAIN), ("what", Kind.PLAIN), ("id", Kind.TEXT), ("number", Kind.PLAIN), ("name", Kind.TEXT),
     ("sex", Kind.PLAIN), ("birth", Kind.PLAIN), ("sire", Kind.TEXT), ("dam", Kind.TEXT), ("from", Kind.TEXT),
-    ("owner", Kind.TEXT), ("reason", Kind.PLAIN),
+    ("owner", Kind.TEXT), ("reason", Kind.PLAIN), ("exit_in_sheet", Kind.TEXT),
 )  # fmt: skip
 
 
 @dataclass(frozen=True, slots=True)
 class Event:
     """A birth, an exit or a transfer: its day, the animal with its parents' ids, its owner, of a transfer also who gave
-    it, and why it left."""
+    it, and why it left: as somebody filed it, and in the words of the sheet."""
 
     kind: CommandKind
     day: str
@@ -42,11 +43,16 @@ class Event:
     def reason(self) -> str:
         return (self.row.exit_reason or "") if self.kind is CommandKind.EXIT else ""
 
+    @property
+    def in_sheet(self) -> str:
+        return exit_in_sheet(self.row) if self.kind is CommandKind.EXIT else ""
+
     def cells(self) -> tuple[str, ...]:
         row = self.row
         return (
             self.day, self.kind.value, row.id, row.registration_number, row.name, row.registration_number[6],
             row.born or "", self.sire, self.dam, self.from_owner, self.owner, self.reason,
+            self.in_sheet,
         )  # fmt: skip
 
 

@@ -119,11 +119,15 @@ def told(asked: argparse.Namespace, book: Book, program: BookProgram) -> object:
 
 
 def seen(asked: argparse.Namespace, book: Book, program: BookProgram) -> object:
-    """Faults are written too."""
+    """Faults are written too, also of lines that were published."""
     from gudokeyi.services.answers import verified
+    from gudokeyi.services.seal_publishing import verify_published
 
     try:
         verify(book, program)
+        if asked.published:
+            for note in verify_published(book, program, asked.published)[1]:
+                tell(note)
     except BookNotWhole as mistake:
         asked.status = Status.NOT_DONE
         return verified(book, mistake.sentences)

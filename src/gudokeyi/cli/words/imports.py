@@ -11,7 +11,7 @@ from typing import TYPE_CHECKING
 
 from gudokeyi.bounds import bound_look, bounded_reading
 from gudokeyi.cli.arguments import add_described
-from gudokeyi.cli.output import give_json, tell
+from gudokeyi.cli.output import json_line, tell
 from gudokeyi.cli.parser import CommandWords
 from gudokeyi.domain.mistakes import InvalidValue, WrongWords
 from gudokeyi.domain.options import IMPORT
@@ -122,7 +122,7 @@ def imported(wished: Import, as_json: bool) -> list[str]:
         if as_json:
             from gudokeyi.services.library_answers import imported_value
 
-            give_json(imported_value(outcome, notes))
+            sys.stdout.write(json_line(imported_value(outcome, notes)))
             return []
         print("\n".join(lines_of(outcome)))
     return notes

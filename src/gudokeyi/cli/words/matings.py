@@ -95,8 +95,6 @@ def advice_for(asked: argparse.Namespace, book: Book, program: BookProgram) -> A
 def pairs_advised(asked: argparse.Namespace, book: Book, program: BookProgram) -> object:
     from gudokeyi.services.answers import matings
 
-    if asked.matrix:
-        raise WrongWords("--json has all pairs as a list: leave out --matrix")
     return matings(*pairs_asked(asked, book, program))
 
 

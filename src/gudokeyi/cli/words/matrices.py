@@ -20,7 +20,8 @@ def add_words(words: CommandWords) -> None:
         "pedigree", nargs="?", type=pathlib.Path, metavar="PEDIGREE", help=f"{pedigrees.FILE_HELP} [the book's animals]"
     )
     inverse.add_argument(
-        "--out", type=file, metavar="FILE", help="of a pedigree file: .mtx or .npz; the ids of the rows go to FILE.ids"
+        "--out", type=file, metavar="FILE",
+        help="of a pedigree file: .mtx or .npz; the ids of the rows go to FILE.ids; beside --json that, also of a book",
     )
     inverse.add_argument(
         "--matrix-market", type=file, metavar="FILE",
@@ -32,10 +33,14 @@ def add_words(words: CommandWords) -> None:
 
 
 def do_inverse(asked: argparse.Namespace) -> None:
+    if asked.pedigree and asked.matrix_market:
+        raise WrongWords("--matrix-market is of a book: name the file of a pedigree's by --out")
     if asked.pedigree:
         pedigrees.do_inverse(asked)
     elif asked.json and asked.matrix_market:
-        raise WrongWords("--json writes to the screen: leave out --matrix-market")
+        raise WrongWords("--json writes to the screen, or to --out FILE: leave out --matrix-market")
+    elif asked.out and asked.matrix_market:
+        raise WrongWords("--out is of a pedigree file, or beside --json: leave it out beside --matrix-market")
     elif asked.json or asked.matrix_market:
         with_book(do_book_inverse)(asked)
     else:
@@ -46,7 +51,7 @@ def do_book_inverse(asked: argparse.Namespace, book: Book, program: BookProgram)
     if asked.json:
         from gudokeyi.services.answers import inverse
 
-        give_json(inverse(book, program))
+        give_json(asked, book, inverse(book, program))
         return
     from gudokeyi.services.exports import write_inverse
 

@@ -68,6 +68,8 @@ def certified(asked: argparse.Namespace, book: Book, program: BookProgram) -> ob
     from gudokeyi.services.answers import Certificates
     from gudokeyi.services.book import Book as LibraryBook
 
+    if asked.generations != GENERATIONS:
+        raise WrongWords(f"--json has {GENERATIONS} generations of ancestors: `pedigree` has more beside --json")
     library = LibraryBook(asked.book, program)
     return Certificates(tuple(library.certificate(one.id) for one in animals_asked_for(asked, book)))
 

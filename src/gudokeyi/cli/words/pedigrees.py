@@ -10,9 +10,8 @@ from collections.abc import Iterable
 from typing import TYPE_CHECKING
 
 from gudokeyi.cli.arguments import add_force, add_output, file
-from gudokeyi.cli.output import tell
+from gudokeyi.cli.output import JSON_IN_FILE, json_line, refuse_beside_json, tell
 from gudokeyi.cli.parser import CommandWords, add_json
-from gudokeyi.domain.encoding import json_text
 from gudokeyi.domain.findings import ImportRefused
 from gudokeyi.domain.messages import Mistake, counted
 from gudokeyi.domain.mistakes import WrongWords
@@ -23,6 +22,8 @@ if TYPE_CHECKING:
     from gudokeyi.services.tables import Table
 
 IDS = "one id a line"
+# options of these words that shape a table alone: here --columns says how a file is read
+OF_TABLES = ("matrix", "semicolons")
 
 
 def add_words(words: CommandWords) -> None:
@@ -130,8 +131,8 @@ def pedigree_of(asked: argparse.Namespace) -> Pedigree:
     return pedigree
 
 
-def give(asked: argparse.Namespace, pieces: Iterable[str], rows: int) -> None:
-    """Writes a text to the screen or to a file."""
+def give(asked: argparse.Namespace, pieces: Iterable[str], what: str) -> None:
+    """Writes a text to the screen or to a file, and tells what that has."""
     from gudokeyi.services.written_files import write_beside
 
     if not asked.out:
@@ -139,16 +140,16 @@ def give(asked: argparse.Namespace, pieces: Iterable[str], rows: int) -> None:
             sys.stdout.write(piece)
         return
     write_beside(asked.pedigree, {asked.out: b"".join(piece.encode() for piece in pieces)}, asked.force)
-    print(f"{asked.out}: {counted(rows, 'row')}")
+    print(f"{asked.out}: {what}")
 
 
 def give_table(asked: argparse.Namespace, table: Table) -> None:
-    give(asked, [table.text(asked.semicolons)], len(table))
+    give(asked, [table.text(asked.semicolons)], counted(len(table), "row"))
 
 
 def give_json(asked: argparse.Namespace, value: object) -> None:
     """Writes a value as JSON, in a line."""
-    give(asked, [f"{json_text(value)}\n"], 1)
+    give(asked, [json_line(value)], JSON_IN_FILE)
 
 
 def do_inbreeding(asked: argparse.Namespace) -> None:
@@ -161,12 +162,12 @@ def do_inbreeding(asked: argparse.Namespace) -> None:
         return
     from gudokeyi.services.pedigree_tables import inbreeding_text
 
-    give(asked, inbreeding_text(pedigree), len(pedigree))
+    give(asked, inbreeding_text(pedigree), counted(len(pedigree), "row"))
 
 
 def do_relationships(asked: argparse.Namespace) -> None:
-    if asked.json and asked.matrix:
-        raise WrongWords("--json has all pairs as a list: leave out --matrix")
+    if asked.json:
+        refuse_beside_json(asked, OF_TABLES)
     pedigree = pedigree_of(asked)
     from gudokeyi.services.pedigree_answers import related
     from gudokeyi.services.pedigree_tables import relationship_matrix, relationship_table
@@ -189,6 +190,8 @@ def do_relationships(asked: argparse.Namespace) -> None:
 def do_measures(asked: argparse.Namespace) -> None:
     if not asked.among:
         raise WrongWords("measures are those of a reference population: name its animals in a file by --among")
+    if asked.json:
+        refuse_beside_json(asked, OF_TABLES)
     pedigree = pedigree_of(asked)
     from gudokeyi.services.pedigree_answers import measured
     from gudokeyi.services.pedigree_tables import measure_table
@@ -209,7 +212,8 @@ def do_audit(asked: argparse.Namespace) -> None:
 
     step(f"the exact values of {animals(len(pedigree))}")
     found = audit(pedigree, asked.against, Told(asked.what) if asked.what else None)
-    print(json_text(audited(found)) if asked.json else "\n".join(audit_lines(found)))
+    told = json_line(audited(found)) if asked.json else "".join(f"{line}\n" for line in audit_lines(found))
+    sys.stdout.write(told)
     asked.status = 3 if found.differs else 0
 
 

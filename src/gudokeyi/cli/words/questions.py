@@ -5,7 +5,7 @@ import argparse
 import pathlib
 import sys
 
-from gudokeyi.cli.output import give_table
+from gudokeyi.cli.output import give_file, give_table
 from gudokeyi.cli.arguments import add_output
 from gudokeyi.cli.parser import CommandWords
 from gudokeyi.domain.animals import SocietyRecord
@@ -128,9 +128,6 @@ def do_export(asked: argparse.Namespace, book: Book, program: BookProgram) -> No
         return
     rows = triples(book, kept)
     if asked.out:
-        from gudokeyi.services.output_files import write_outs
-
-        write_outs(book, {asked.out: triples_text(rows).encode()}, asked.force)
-        print(f"{asked.out}: {counted(len(rows), 'animal')}")
+        give_file(asked, book, triples_text(rows).encode(), counted(len(rows), "animal"))
     else:
         sys.stdout.write(triples_text(rows))

@@ -1,10 +1,13 @@
 """What is found of the society's own columns in a sheet: each kind as data, and in words."""
 from __future__ import annotations
 
+import enum
+from collections.abc import Hashable, Mapping
 from dataclasses import dataclass
 from typing import ClassVar
 
-from gudokeyi.domain.findings import Finding, LeftOut, Part, PlausibilityWarning, What
+from gudokeyi.domain.findings import Finding, LeftOut, Part, PlausibilityWarning, Suggestion, What, kept_as
+from gudokeyi.domain.messages import Worded
 from gudokeyi.domain.own_columns import OwnKind
 from gudokeyi.domain.wording import Counted, Text
 
@@ -87,7 +90,7 @@ class OwnValuesEmptied(OwnCells):
 
 @dataclass(frozen=True, slots=True)
 class OwnCellUnread(LeftOut):
-    """A cell can't be a value of its column; the value stays as it was."""
+    """A cell can't be a value of its column; the value stays as it was. `OwnCellsUnread` sums up those of a column."""
 
     title: str
     text: str
@@ -96,6 +99,65 @@ class OwnCellUnread(LeftOut):
     part = Part.CELL
     code = "own cell unread"
     message = Text("its cell in '{title}' is left out: '{text}' can't be read as {kind}")
+
+
+class OwnAdvice(Worded):
+    """What to write where cells of a column can't be read."""
+
+    TEXT = "text"
+    NUMBER = "number"
+    DAY = "day"
+    YES_OR_NO = "yes-no"
+    CHOICE = "choice"
+
+    def words(self) -> str:
+        return OWN_ADVICE[self]
+
+
+OWN_ADVICE: dict[enum.Enum, str] = {
+    OwnAdvice.TEXT: "write shorter texts, without signs that no one sees",
+    OwnAdvice.NUMBER: "write numbers alone, as 12.5, or keep the column as text",
+    OwnAdvice.DAY: "write days as 2001-03-01 or 01.03.2001, or keep the column as text",
+    OwnAdvice.YES_OR_NO: "write yes or no, or keep the column as text",
+    OwnAdvice.CHOICE: "write one of the column's choices, or keep it as text",
+}
+
+
+@dataclass(frozen=True, slots=True)
+class OwnCellsUnread(OwnCells, PlausibilityWarning):
+    """Of `said` cells of a column that say something so many can't be its values: the first of them."""
+
+    title: str
+    kind: OwnKind
+    count: int
+    said: int
+    line: int
+    text: str
+
+    word = "unread"
+    what_goes = True
+    code = "own cells unread"
+    message = Counted(
+        "{count} of {said} cells of the column '{title}' ({kind}) can't be read, in line {line}: '{text}'; of this "
+        "animal the book keeps what it has: {advice}",
+        "{count} of {said} cells of the column '{title}' ({kind}) can't be read, the first in line {line}: '{text}'; "
+        "of these animals the book keeps what it has: {advice}",
+        "count",
+    )
+
+    def values(self) -> Mapping[str, object]:
+        return {"advice": OwnAdvice(self.kind.value)}
+
+    def suggestions(self) -> tuple[Suggestion, ...]:
+        if self.kind is OwnKind.TEXT:
+            return ()
+        return (Suggestion(f"if '{self.title}' has texts", (kept_as(self.title, OwnKind.TEXT),)),)
+
+    def theme(self) -> Hashable:
+        return self.title
+
+    def cells(self) -> int:
+        return self.count
 
 
 @dataclass(frozen=True, slots=True)

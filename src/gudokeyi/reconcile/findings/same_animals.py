@@ -85,6 +85,39 @@ class NewTag(PlausibilityWarning):
 
 
 @dataclass(frozen=True, slots=True)
+class IdsExchanged(PlausibilityWarning):
+    """Two rows, each with the name, the birth day and the parents that the book has of the other one's id."""
+
+    id: str
+    other: str
+    line: int
+    name: str
+    other_name: str
+    is_left_out: bool
+
+    severity = Severity.ANIMALS
+    code = "ids exchanged"
+    message = Text(
+        "did it exchange its id with {other} (line {line})? Each has the name, the birth day and the parents of the "
+        "other: until now '{name}' was {other}, and '{other_name}' {id}{maybe_taken}; if the ids are exchanged in the "
+        "sheet alone, mend both lines, and take it again"
+    )
+    parts = {
+        "maybe_taken": OptionalPart(
+            "; as it stands each becomes the other, but for its offspring and notes", when="is_taken"
+        ),
+    }
+
+    def values(self) -> Mapping[str, object]:
+        return {"is_taken": not self.is_left_out}
+
+    def suggestions(self) -> tuple[Suggestion, ...]:
+        pairs = (self.id, self.other), (self.other, self.id)
+        said = ",".join(quoted(f"{before}={now}") for before, now in pairs)
+        return (Suggestion("if each has the other's id from now on", (Option(NEW_TAG, said),), undoes=True),)
+
+
+@dataclass(frozen=True, slots=True)
 class OldTag(PlausibilityWarning):
     """A new row with the id of an animal that has no row any more in a column that isn't read."""
 

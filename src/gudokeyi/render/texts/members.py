@@ -16,6 +16,7 @@ from gudokeyi.ingest.days import DayFault
 from gudokeyi.ingest.findings.days import DayReading
 from gudokeyi.ingest.findings.sheets import Advice
 from gudokeyi.reconcile.findings.obstacles import Changed, LooksLike
+from gudokeyi.reconcile.findings.own_columns import OWN_ADVICE
 from gudokeyi.services.facts import Fact
 from gudokeyi.services.plans import Step, Unmated
 
@@ -86,6 +87,7 @@ OF_FINDINGS: dict[enum.Enum, str] = {
     ),
     Advice.SINCE: "write days as 2001-03-01 or 01.03.2001; or choose another column",
     Advice.EMBRYO: "write 1 or nothing; or choose another column",
+    **OWN_ADVICE,
 }
 
 # what pages name

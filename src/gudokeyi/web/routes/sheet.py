@@ -9,7 +9,7 @@ from werkzeug.datastructures import FileStorage
 from werkzeug.wrappers import Response
 
 from gudokeyi.domain.changes import NO_MARK, Option
-from gudokeyi.domain.findings import DROP_GONE, Entry, What
+from gudokeyi.domain.findings import COLUMNS, DROP_GONE, OWN, Entry, What
 from gudokeyi.domain.kinds import Field
 from gudokeyi.domain.own_columns import OwnKind
 from gudokeyi.render.page_wording import MessageView, sentence_in, sentence_of, sentence_of_entry
@@ -23,7 +23,7 @@ from gudokeyi.web.language import gettext, ngettext, on_page, page_language, wit
 from gudokeyi.web.served_book import Answer, ServedBook, served_book
 from gudokeyi.web.sheet_work import LOOKING, Asked, Chosen, Imported, Look, Seen, imported, looked_at, seen_of
 from gudokeyi.web.views.findings import (
-    COLUMNS, Proposed, choose as choose_suggested, field_of, groups_of, labels_of, proposed, suggestions_of,
+    Proposed, choose as choose_suggested, field_of, groups_of, kind_kept, labels_of, proposed, suggestions_of,
 )  # fmt: skip
 from gudokeyi.web.views.own_columns import kinds
 from gudokeyi.web.workers import TAKING, Job, Key, Stage
@@ -207,9 +207,16 @@ def take_suggestion(token: str) -> Answer:
     """Chooses what a finding suggests, and looks anew, at the findings."""
     upload, given = upload_of(token), request.form
     options = [Option(name, word) for name, word in zip(given.getlist("option"), given.getlist("word"))]
-    choose_suggested(upload, [one for one in options if one.option == COLUMNS or field_of(one) in SHEET_FIELDS])
+    choose_suggested(upload, [*filter(is_of_page, options)])
     upload.look_anew()
     return redirect(url_for("sheet.look", token=upload.token, at=FINDINGS))
+
+
+def is_of_page(option: Option) -> bool:
+    """Can the page of a sheet choose it?"""
+    if option.option == OWN:
+        return kind_kept(option) in list(OwnKind)
+    return option.option == COLUMNS or field_of(option) in SHEET_FIELDS
 
 
 @page.post("/sheet/<token>/take")

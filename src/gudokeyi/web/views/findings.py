@@ -8,9 +8,12 @@ from dataclasses import dataclass
 from typing import NamedTuple
 
 from gudokeyi.domain.changes import Option
-from gudokeyi.domain.findings import DROP_GONE, OPPOSITE, REPEATED, Entry, Finding, Severity, Suggestion, What
+from gudokeyi.domain.findings import (
+    COLUMNS, DROP_GONE, OPPOSITE, OWN, REPEATED, Entry, Finding, Severity, Suggestion, What, title_kept,
+)  # fmt: skip
 from gudokeyi.domain.kinds import Field
 from gudokeyi.domain.options import IMPORT
+from gudokeyi.domain.own_columns import OwnKind
 from gudokeyi.render.page_language import PageLanguage, name_of
 from gudokeyi.render.page_wording import MessageView, sentence_of
 from gudokeyi.services.imports import (
@@ -21,7 +24,7 @@ from gudokeyi.web.forms import BETWEEN
 
 # What findings suggest for the reading of a sheet, as choices of its page.
 
-COLUMNS, SEXES, OWNER, NEW_TAG = "--columns", "--sexes", "--owner", "--new-tag"
+SEXES, OWNER, NEW_TAG = "--sexes", "--owner", "--new-tag"
 # options with a number of days below which something is told
 BOUNDS = ("--youngest", "--apart")
 # by these a row is left out, or taken
@@ -126,11 +129,19 @@ def labels_of(option: Option, words: PageLanguage, of_exits: bool = False) -> li
     if option.option == NEW_TAG:
         pairs = [part.partition("=")[::2] for part in parts_of([option.word])]
         return [words.gettext("{} has the tag {} from now on", before, now) for before, now in pairs]
+    if option.option == OWN:
+        kind = name_of(OwnKind(kind_kept(option)), words)
+        return [words.gettext("Keep the column '{}' as: {}", title_kept(option), kind)]
     if option.option == "--unknown":
         meant = words.gettext("no exit") if of_exits else words.gettext("unknown parent")
         return [words.gettext("'{}' means: {}", option.word, meant)]
     label = words.gettext(IMPORT[option.option.removeprefix("--")].label)
     return [f"{label}{words.colon} {option.word}" if option.word else label]
+
+
+def kind_kept(option: Option) -> str:
+    """What the column that such an option names is to be kept as."""
+    return option.word.rpartition("=")[2]
 
 
 def sex_meant(sex: str, words: PageLanguage) -> str:
@@ -145,11 +156,14 @@ def field_of(option: Option) -> str:
 def choose(upload: Upload, options: Iterable[Option]) -> None:
     """Chooses what is suggested for a file, beside what was chosen for it. Who looks at it meanwhile sees the one or
     the other."""
-    columns, chosen = {**upload.columns}, {**upload.options}
+    columns, chosen, others = {**upload.columns}, {**upload.options}, {**upload.others}
     for option in options:
         word = option.word[:MOST_LETTERS]
         if option.option == COLUMNS:
             columns |= read_given([word])
+            continue
+        if option.option == OWN:
+            others[title_kept(option)] = kind_kept(option)
             continue
         field = field_of(option)
         before = chosen.get(field, "")
@@ -161,7 +175,7 @@ def choose(upload: Upload, options: Iterable[Option]) -> None:
             chosen[field] = f"{before}{between}{word}"
         if option.option in OPPOSITE:
             take_back(chosen, field_of(Option(OPPOSITE[option.option])), word)
-    upload.columns, upload.options = columns, chosen
+    upload.columns, upload.options, upload.others = columns, chosen, others
 
 
 def take_back(chosen: dict[str, str], field: str, word: str) -> None:
