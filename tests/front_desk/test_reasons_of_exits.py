@@ -78,6 +78,16 @@ def test_reason_of_a_day_that_cannot_be(desk: Desk) -> None:
     assert reason(desk, "B") == ("2015-01-01", "Boucherie")
 
 
+def test_reason_that_comes_back(desk: Desk) -> None:
+    """A list without exits takes one again that was left out, with all of its words."""
+    rows = ROWS.replace("11/2022;Boucherie", "2015-01-01;Mort (âge)")
+    desk.take(HORSES + rows)
+    assert exits(desk)["B"] == "day unknown: '2015-01-01 (Mort (âge))'"
+    without = "".join(f"{row.rsplit(';', 2)[0]}\n" for row in (HORSES + rows).replace("A;B;EARL", "A;;EARL").splitlines())
+    desk.take(without)
+    assert reason(desk, "B") == ("2015-01-01", "Mort (âge)")
+
+
 def test_reasons_beside_a_status(desk: Desk) -> None:
     """A third column is kept as reasons where the status is another one, which tells of exits; where it is the status
     the other one still tells what disagrees, and whom no exit is known of."""

@@ -42,7 +42,8 @@ def exit_in_book(in_book: SocietyRecord, record: RegisterRecord, born: datetime.
     day = given_day(in_book.exit)
     if day is None or day < born:
         return Exit(record.left, in_book.exit)
-    return Exit(day, GIVEN_EXIT.with_reason(in_book.exit.text[DAY_LETTERS:].strip(" ()")))
+    # behind the day it stands in brackets, and may have some of its own
+    return Exit(day, GIVEN_EXIT.with_reason(in_book.exit.text[DAY_LETTERS + 2 : -1]))
 
 
 def given_day(basis: ExitBasis) -> datetime.date | None:
