@@ -82,10 +82,7 @@ def add_others(next_book: NextBook, drop_gone: bool, columns: Columns | None = N
     if next_book.rows_of_book:
         # rows that lacked something have it of the book now
         next_book.compare(next_book.rows_of_book)
-    has_sires, has_dams = Role.SIRE in next_book.given, Role.DAM in next_book.given
-    sires, dams = ([*map(of, animals.values())] for of in (SIRE_OF, DAM_OF))
-    nothing = itertools.repeat("")
-    next_book.texts = dict(zip(animals, zip(sires if has_sires else nothing, dams if has_dams else nothing)))
+    next_book.texts = parents_written(next_book)
     gone = animals_of_book(next_book)
     next_book.exits_of_book |= gone.keys()
     all_animals = animals | gone
@@ -118,6 +115,14 @@ def add_others(next_book: NextBook, drop_gone: bool, columns: Columns | None = N
         add_founders(next_book, Names(animals, report, next_book.last_found, with_id, before), columns)
     if len(animals) > MOST_ANIMALS:
         raise too_many(next_book)
+
+
+def parents_written(next_book: NextBook) -> dict[str, tuple[str, str]]:
+    """The sire and the dam of each row as the sheet writes them; empty where it has no such column."""
+    animals = next_book.animals
+    of_each = ((Role.SIRE, SIRE_OF), (Role.DAM, DAM_OF))
+    sires, dams = (map(of, animals.values()) if role in next_book.given else itertools.repeat("") for role, of in of_each)
+    return dict(zip(animals, zip(sires, dams)))
 
 
 def add_founders(next_book: NextBook, names: Names, columns: Columns | None) -> None:

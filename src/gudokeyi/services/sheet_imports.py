@@ -93,21 +93,13 @@ def file(
     leave_out_early_exits(next_book)
     filing = Filing(next_book, OwnerDays(book, report, import_options.day))
     owners_before = set(book.owners)
-    told_before = len(report.entries)
-    # parents that a look before left out are most likely refused again
-    are_refused = bool(book.journal.length) and next_book.last_found.are_parents_refused
-    filed = None if are_refused else filing.filed_at_once(program, import_options.preview)
-    told = report.cut_off(told_before) if book.journal.length else []
-    if filed is None:
-        are_refused = leave_out_faulty_parents(next_book, program, are_refused or filing.refuses_births)
-    next_book.last_found.are_parents_refused = are_refused
+    filed, told = filed_or_without_parents(filing, program, import_options.preview)
     if next_book.is_pedigree and not import_options.leave_out:
         refuse_lost_links(report)
     if about.understood:
         tell_swapped_columns(next_book, about.understood)
     if not next_book.is_pedigree:
         tell_plausibility(next_book, about.limits)
-    # what is told of owners' days comes behind what may be wrong
     report.entries += told
     filed = filed or filing.filed(program, import_options.preview)
     tell_owners(next_book, owners_before)
@@ -124,6 +116,23 @@ def file(
         book.folder, about.call.after(), about.understood, tuple(about.read), tuple(next_book.obstacles), report, after,
         next_book.own_values,
     )  # fmt: skip
+
+
+def filed_or_without_parents(
+    filing: Filing, program: BookProgram, is_preview: bool
+) -> tuple[Filed | None, list[Entry]]:
+    """What is filed where nothing is refused; else the parents that can't be are left out, and what stays is to be
+    filed. Answers besides what was told of owners' days, which comes behind what may be wrong."""
+    next_book, report, last = filing.next_book, filing.next_book.report, filing.next_book.last_found
+    has_journal, told_before = bool(next_book.book.journal.length), len(report.entries)
+    # parents that a look before left out are most likely refused again
+    are_refused = has_journal and last.are_parents_refused
+    filed = None if are_refused else filing.filed_at_once(program, is_preview)
+    told = report.cut_off(told_before) if has_journal else []
+    if filed is None:
+        are_refused = leave_out_faulty_parents(next_book, program, are_refused or filing.refuses_births)
+    last.are_parents_refused = are_refused
+    return filed, told
 
 
 def tell_plausibility(next_book: NextBook, limits: Limits) -> None:
