@@ -101,6 +101,25 @@ def test_exchanged_ids(empty_site: Site, language: str) -> None:
         assert {one.name: one.registration_number for one in book.society_records.values()} == numbers
 
 
+SAID_OF_TAG = {
+    "en": "is it another animal that got the tag of one of the book? There it is 'E'",
+    "de": "ist es ein anderes Tier, das die Ohrmarke eines Tieres im Herdbuch bekam? Dort ist es „E“",
+    "fr": "est-ce un autre animal qui a reçu la boucle d'un animal du livre ? Là c'est « E »",
+}  # fmt: skip
+
+
+@pytest.mark.parametrize("language", LANGUAGES)
+def test_tag_of_another(empty_site: Site, language: str) -> None:
+    """It is asked among what may be wrong, before what it changes."""
+    site, row = empty_site, "041;{};w;1.2.{};001;{};Huber Hans;;lebt\n"
+    address, _ = look_at(site, LIST + row.format("E", 2012, "002"))
+    site.take(address)
+    site.get(f"/language/{language}")
+    _, page = look_at(site, LIST + row.format("F", 2013, "005"))
+    said = shown(part(page, "May be wrong", language)).replace("\u00a0", " ").replace("\u202f", " ")
+    assert said.count(SAID_OF_TAG[language]) == 1, said
+
+
 KIDS = "041;E;w;1.2.2012;001;002;Huber Hans;;lebt\n042;Kid;w;1.2.2019;001;041;Huber Hans;;lebt\n"
 FAMILY = LIST + KIDS + "043;Kit;w;1.2.2021;001;042;Huber Hans;;lebt\n"
 
