@@ -33,7 +33,7 @@ from gudokeyi.ingest.odd_ids import Oddity, odd_ids
 from gudokeyi.ingest.odd_texts import first_days, tell_exits_in_names, tell_several_ids
 from gudokeyi.ingest.plain_rows import CELLS_OF, SIGNS, PlainRows, chooser, first_sum
 from gudokeyi.ingest.rows_as_meant import DITTO, Takers
-from gudokeyi.ingest.sexes import Sexes
+from gudokeyi.ingest.sexes import Sexes, one_sex_alone
 from gudokeyi.ingest.sheets import Sheet, SheetRow
 from gudokeyi.ingest.spellings import CUT
 from gudokeyi.ingest.titles import KNOWN_STATES, parts_of, words_of_sexes
@@ -380,6 +380,9 @@ class Rows:
         self.notes += [*self.sheet.unread, *self.grey_rows(animals), *self.cells.letters.told(), *self.errors.told()]
         self.notes += [note] if note else []
         self.notes += [*self.cells.readings.told(), *self.unread.found(), *self.sexes.told()]
+        if Field.SEX in self.columns:
+            title = self.sheet.titles[self.columns[Field.SEX]]
+            self.notes += one_sex_alone(title, self.texts(Field.SEX), self.sexes, animals.values())
         self.notes += first_days(animals, self.plain.different.get(Field.BIRTH, ()))
         self.notes += [] if self.month_first else self.exchanged_days()
 
