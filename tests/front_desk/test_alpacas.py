@@ -87,3 +87,46 @@ def test_owner_respelt_while_an_animal_is_sold(desk: Desk) -> None:
     desk.take(TITLES + text)
     later = text.replace("K. Huber", "Karl Huber").replace("A9;m;H;1.6.2009;;;Karl Huber", "A9;m;H;1.6.2009;;;Hof")
     assert "the 8 animals of 'K. Huber' are now of 'Karl Huber', whom the book didn't have" in desk.take(TITLES + later).out
+
+
+SHEEP = (
+    "1;Max;W;1.3.2017;;\n2;Alma;{0};1.3.2018;;\n3;Moritz;W;2.3.2019;Max;Alma\n4;Cilia;{0};3.3.2022;Max;Alma\n"
+    "5;Kuno;w;4.5.2022;;\n"
+)
+OF_SHEEP = "Ohrmarke;Name;Geschl.;Geb.;Vater;Mutter\n"
+
+
+def test_letter_for_males(desk: Desk) -> None:
+    """Where a letter for females is named, and `W` is read so too, it is asked whether that stands for the males."""
+    told = (
+        "to look at: each sex of the column 'Geschl.' is read as female: 'W' (3 animals), 'A' (2 animals): does one of "
+        "these words stand for male, 'W' as for Widder or wether?"
+    )
+    for words in ("--sexes", "A=f"), ():
+        # as the book remembers it
+        done = desk.take(OF_SHEEP + SHEEP.format("A"), *words)
+        assert done.out.splitlines().count(told) == 1 and desk.numbers()["5"][6] == "F"
+    [command] = [one for one in done.commands() if one.endswith("--sexes W=m")]
+    desk.typed(command)
+    assert "".join(number[6] for number in desk.numbers().values()) == "MFMFM"
+    assert "each sex of" not in desk.take(OF_SHEEP + SHEEP.format("A")).told
+    assert "each sex of" not in desk.take(OF_SHEEP + SHEEP.format("A"), "--sexes", "A=f,W=f", "--book", "two").told
+
+
+@pytest.mark.parametrize(
+    "rows, is_told",
+    [
+        (SHEEP.format("Aue"), True),
+        # a male, a word of one row, no parents, a sire whose row says no sex
+        (SHEEP.format("Aue") + "6;M;m;4.5.2022;;\n", False),
+        (SHEEP.format("W") + "6;M;Aue;4.5.2022;;\n", False),
+        (SHEEP.format("Aue").replace("Max;Alma", ";"), False),
+        (SHEEP.format("Aue").replace("Max;W", "Max;"), False),
+    ],
+)  # fmt: skip
+def test_two_words_for_one_sex(desk: Desk, rows: str, is_told: bool) -> None:
+    done = desk.take(OF_SHEEP + rows, "--preview")
+    told = "is read as female: 'W' (3 animals), 'Aue' (2 animals): does one of these words stand for male?"
+    assert (told in done.out) == ("each sex of" in done.out) == is_told
+    options = [one.rpartition(" --sexes ")[2] for one in done.commands() if " --sexes " in one]
+    assert options == (["W=m", "Aue=m"] if is_told else [])

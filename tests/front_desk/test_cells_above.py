@@ -75,3 +75,36 @@ def test_animal_called_so(desk: Desk, name: str, above: str) -> None:
     done = desk.take(TITLES + foals.replace("104;Képi", "105;Lutin"), "--append")
     assert desk.parents()["105"] == ("101", "090")
     done.tells(told.replace("line 6", "line 3"))
+
+
+MARKED = "\n".join([
+    "Tag;Name;Sexe;Né(e) le;Père;Mère;Propriétaire;Sorti le", "101;Max;M;21/02/2010;;;Huber;",
+    "102;Eva;F;05/06/2011;;;Huber;",
+    "103;A;F;27/06/2019;Max;Eva;Ritz, Daniel;", "104;B;F;27/06/2020;{0};{0};Huber;", "105;C;F;27/06/2020;Max;Eva;{0};", "",
+    "106;D;F;27/06/2020;Max;Eva;Meier;", "107;E;F;27/06/2021;Max;Eva;{0};", '108;F;F;27/06/2021;"Max";"Eva";"Meier; Ida";\n',
+])  # fmt: skip
+
+
+@pytest.mark.parametrize("separator", [";", "\t"])
+def test_marks_that_are_not_doubled(desk: Desk, separator: str) -> None:
+    """Two such marks of a row, or of two rows that are far from one another, take nothing away; that is told once."""
+    sheet = MARKED.replace(";", separator)
+    done = desk.take(sheet.format('"'))
+    last = f"Meier{separator} Ida".replace("\t", "")
+    assert owners(desk) == ["Huber", "Huber", "Ritz, Daniel", "Huber", "Huber", "Meier", "Meier", last]
+    assert {desk.parents()[f"10{at}"] for at in range(3, 9)} == {("101", "102")}
+    done.tells(
+        "to look at: 3 rows, the first in line 5, have quotation marks alone in cells: they are read as marks for the "
+        "cell above, and not as the beginning and the end of one text",
+        'to look at: 1 cell of the column \'Père\' repeats the one above: " in line 5 means \'Max\'',
+    )
+    # as somebody writes them who doubles them
+    again = desk.take(sheet.format('""""'))
+    assert " 0 new, 0 changed" in again.last and "alone in cells" not in again.told
+
+
+def test_texts_in_quotes(desk: Desk) -> None:
+    """A text that begins with a separator or an end of a line is one, where its row has all cells."""
+    rows = '101;Max;M;21/02/2010;;;";Huber";\n102;Eva;F;05/06/2011;;;"\nMeier";\n103;A;F;27/06/2019;;;";";\n'
+    done = desk.take(MARKED.split("\n")[0] + "\n" + rows)
+    assert "alone in cells" not in done.told and owners(desk) == [";Huber", "Meier", ";"]

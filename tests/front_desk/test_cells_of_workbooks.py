@@ -201,8 +201,11 @@ def test_days_for_texts_in_csv(desk: Desk) -> None:
     assert "line 16: 03-Dec: to look at: its id is the day 03-Dec, which spreadsheets make of texts" in told
 
 
-TO_COME = ("EN COURS", "in Arbeit", "pending", "tba", "(beantragt)", "à venir", "neu", "En attente…")
-IDS = ("Pending Star", "Neuling", "Neu 7", "En Cours de Route", "X-17")
+TO_COME = (
+    "EN COURS", "in Arbeit", "pending", "tba", "(beantragt)", "à venir", "neu", "En attente…", "Ohne", "verloren",
+    "keine", "nachtragen", "sans", "PERDUE", "Lost",
+)  # fmt: skip
+IDS = ("Pending Star", "Neuling", "Neu 7", "En Cours de Route", "X-17", "Sans Souci", "Ohneland", "Lost Star")
 
 
 def test_ids_to_come(desk: Desk) -> None:
@@ -212,7 +215,22 @@ def test_ids_to_come(desk: Desk) -> None:
         lines = desk.take(IN_GERMAN + rows).report
         found = [one for one in lines if "reads like no id, but as if the animal had none yet" in one]
         assert len(found) == len(TO_COME) and all(any(f"'{id}' reads" in one for one in found) for id in TO_COME)
+    # words for an unknown animal are no ids either
+    done = desk.take(f"{IN_GERMAN}{rows}fehlt;Q;m;1.2.2019;;\nNone;Q;m;1.2.2019;;\n")
+    assert sum("is a word for an unknown animal: give it another id" in one for one in done.report) == 2
     others = "".join(f"DE {at};B{at};w;1.2.2018;;\n" for at in range(100, 130))
     done = desk.take(f"{IN_GERMAN}{others}EN COURS;Q;m;1.2.2019;;\n", "--book", "other")
     assert len({one for one in done.out.splitlines() if ": EN COURS: " in one}) == 1
     assert done.commands()[0].endswith("--no-animal 'EN COURS'")
+
+
+def test_marks_for_the_cell_above(desk: Desk) -> None:
+    """An id and a name that are such marks are taken, and told at each take."""
+    rows = '"""";A;m;1.2.2019;;\nDito;B;m;1.2.2019;;\n1;"""";m;1.2.2019;;\n2;dito;m;1.2.2019;;\n3;Dita;m;1.2.2019;;\n'
+    others = "".join(f"DE {at};B{at};w;1.2.2018;;\n" for at in range(100, 130))
+    for _ in range(2):
+        done = desk.take(IN_GERMAN + rows + others)
+        told = "which stands for the cell above in other columns, and is taken as it is written"
+        found = [one.partition(f", {told}")[0] for one in done.report if told in one]
+        assert [one.split("its ")[1] for one in found] == ["id is '\"'", "id is 'Dito'", "name is '\"'", "name is 'dito'"]
+        assert "unlike nearly all others" not in done.told

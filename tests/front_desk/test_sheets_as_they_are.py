@@ -349,6 +349,54 @@ def test_exchanged_parents(desk: Desk) -> None:
         assert done.out.startswith("line 3: A2: to look at: did it exchange its id with A1 (line 4)?")
 
 
+LAMBS = (
+    "S1;Max;m;1.3.2017;;;Huber;\nD1;Alma;w;2.3.2017;;;Huber;\nD2;Berta;w;3.3.2017;;;Huber;\n"
+    "Lamm 1;Lola;w;16.3.2025;Max;Berta;Huber;\nLamm 2;Lisi;w;16.3.2025;Max;Berta;Huber;\n"
+)
+MINI = "Lamm 1;Mini;w;20.3.2026;Max;Alma;Huber;"
+
+
+def test_tag_of_another(desk: Desk) -> None:
+    """A row with another name, birth day and dam than the book's animal is told before what it changes, and taken."""
+    desk.take(TITLES + LAMBS)
+    later = LAMBS.replace("Lamm 1;Lola;w;16.3.2025;Max;Berta;Huber;", MINI)
+    told = (
+        "line 5: Lamm 1: to look at: is it another animal that got the tag of one of the book? There it is 'Lola', "
+        "born 2025-03-16, here 'Mini', born 2026-03-20, of other parents"
+    )
+    for options in ("--preview",), ():
+        done = desk.take(TITLES + later, *options)
+        assert done.out.startswith(f"{told}: if so, undo this, and give this one an id of its own; as it stands it ")
+        assert done.out.count("got the tag of") == 1 and " 0 new, 1 changed" in done.last
+    # taken once, it is as in the book
+    assert "got the tag of" not in desk.take(TITLES + later).told
+    desk.good("undo", "--to", "1")
+    # where the other one is now
+    done = desk.take(TITLES + later + "CH 7;Lola;w;16.3.2025;Max;Berta;Huber;\n", "--preview")
+    assert done.out.startswith(f"{told} (line 7 has 'Lola' as CH 7): if so")
+
+
+@pytest.mark.parametrize(
+    "later",
+    [
+        # a name, a name and a day, a day and a dam, twins, a parent that wasn't known, a day that isn't
+        "Lamm 1;Mini;w;16.3.2025;Max;Berta;Huber;", "Lamm 1;Mini;w;20.3.2026;Max;Berta;Huber;",
+        "Lamm 1;Lola;w;20.3.2026;Max;Alma;Huber;", "Lamm 1;Mini;w;18.3.2025;Max;Alma;Huber;",
+        "Lamm 1;Mini;w;20.3.2026;Max;;Huber;", "Lamm 1;Mini;w;2026;Max;Alma;Huber;",
+        # each the other's
+        "Lamm 1;Mini;w;16.3.2026;Max;Alma;Huber;\nLamm 2;Lola;w;16.3.2025;Max;Berta;Huber;",
+    ],
+)  # fmt: skip
+def test_no_tag_of_another(desk: Desk, later: str) -> None:
+    first = LAMBS
+    if "Lamm 2" in later:
+        first = LAMBS.replace("Lisi;w;16.3.2025;Max;Berta", "Mini;w;16.3.2026;Max;Alma")
+    desk.take(TITLES + first)
+    rows = [row for row in first.splitlines(keepends=True) if not row.startswith(("Lamm 1", later.split("\n")[-1][:6]))]
+    done = desk.take(TITLES + "".join(rows) + later + "\n")
+    assert "got the tag of" not in done.told and ("exchange its id" in done.told) == ("Lamm 2" in later)
+
+
 FAMILY = NAMED + "011;Kid;w;1.2.2019;001;006;Huber;\n012;Kit;w;1.2.2021;001;011;Huber;\n"
 
 

@@ -120,3 +120,22 @@ def test_days_for_ids(empty_site: Site, language: str, meant: str) -> None:
     _, page = look_at(empty_site, TITLES + rows)
     told = plain(shown(part(page, "May be wrong", language))).replace("\u00a0", " ")
     assert told.count(meant) == 1 and "03. Dez" in told, told
+
+
+MARKS = {
+    "en": "2 rows, the first in line 4, have quotation marks alone in cells",
+    "de": "2 Zeilen, zuerst Zeile 4, haben Anführungszeichen allein in Zellen",
+    "fr": "2 lignes, la première étant la ligne 4, ont des guillemets seuls dans des cellules",
+}  # fmt: skip
+
+
+@pytest.mark.parametrize("language", LANGUAGES)
+def test_marks_that_are_not_doubled(empty_site: Site, language: str) -> None:
+    """Two marks in two rows take no row away, and are told among what may be wrong."""
+    empty_site.get(f"/language/{language}")
+    rows = '101;Max;M;2010-02-21;;;Huber\n102;Eva;F;2011-06-05;;;Huber\n103;A;F;2019-06-27;101;102;"\n'
+    address, page = look_at(empty_site, TITLES + rows + '104;B;F;2020-06-27;101;102;"\n')
+    assert MARKS[language] in plain(shown(part(page, "May be wrong", language)))
+    empty_site.take(address)
+    with empty_site.desk.opened() as book:
+        assert book and {*book.society_records} == {"101", "102", "103", "104"}

@@ -8,7 +8,7 @@ import openpyxl
 import pytest
 from openpyxl.styles import PatternFill
 
-from web.looks import buttons_of, look_at, part, press
+from web.looks import Says, buttons_of, look_at, part, press
 from web.site import Site, shown
 from gudokeyi.domain.settings import LANGUAGES
 from gudokeyi.render.page_language import PageLanguage
@@ -99,6 +99,47 @@ def test_exchanged_ids(empty_site: Site, language: str) -> None:
     with site.desk.opened() as book:
         assert book and book.society_records["006"].name == "Anna"
         assert {one.name: one.registration_number for one in book.society_records.values()} == numbers
+
+
+SAID_OF_TAG = {
+    "en": "is it another animal that got the tag of one of the book? There it is 'E'",
+    "de": "ist es ein anderes Tier, das die Ohrmarke eines Tieres im Herdbuch bekam? Dort ist es „E“",
+    "fr": "est-ce un autre animal qui a reçu la boucle d'un animal du livre ? Là c'est « E »",
+}  # fmt: skip
+
+
+@pytest.mark.parametrize("language", LANGUAGES)
+def test_tag_of_another(empty_site: Site, language: str) -> None:
+    """It is asked among what may be wrong, before what it changes."""
+    site, row = empty_site, "041;{};w;1.2.{};001;{};Huber Hans;;lebt\n"
+    address, _ = look_at(site, LIST + row.format("E", 2012, "002"))
+    site.take(address)
+    site.get(f"/language/{language}")
+    _, page = look_at(site, LIST + row.format("F", 2013, "005"))
+    said = shown(part(page, "May be wrong", language)).replace("\u00a0", " ").replace("\u202f", " ")
+    assert said.count(SAID_OF_TAG[language]) == 1, said
+
+
+SHEEP = "Ohrmarke;Name;Geschl.;Geb.;Vater;Mutter\n" + (
+    "1;Max;W;1.3.2017;;\n2;Alma;Aue;1.3.2018;;\n3;Moritz;W;2.3.2019;Max;Alma\n4;Cilia;Aue;3.3.2022;Max;Alma\n"
+)
+SAID_OF_SEXES = {
+    "en": "each sex of the column 'Geschl.' is read as female: 'W' (2 animals), 'Aue' (2 animals): does one of",
+    "de": "jedes Geschlecht der Spalte „Geschl.“ ist als weiblich gelesen: „W“ (2-mal), „Aue“ (2-mal): steht",
+    "fr": "chaque sexe de la colonne « Geschl. » est lu comme femelle : « W » (2 fois), « Aue » (2 fois) :",
+}  # fmt: skip
+
+
+@pytest.mark.parametrize("language", LANGUAGES)
+def test_two_words_for_one_sex(empty_site: Site, language: str) -> None:
+    """One click says which is the other."""
+    site, says = empty_site, Says(language)
+    site.get(f"/language/{language}")
+    address, page = look_at(site, SHEEP)
+    said = shown(part(page, "May be wrong", language)).replace("\u00a0", " ").replace("\u202f", " ")
+    assert said.count(SAID_OF_SEXES[language]) == 1, said
+    page = press(site, address, page, says("'{}' means: {}", "W", says("male")))
+    assert says("'{}' means: {}", "Aue", says("male")) not in buttons_of(page)
 
 
 KIDS = "041;E;w;1.2.2012;001;002;Huber Hans;;lebt\n042;Kid;w;1.2.2019;001;041;Huber Hans;;lebt\n"

@@ -4,11 +4,12 @@ from __future__ import annotations
 import collections
 import functools
 import re
-from collections.abc import Mapping
+from collections.abc import Collection, Mapping, Sequence
 from typing import NamedTuple
 
+from gudokeyi.ingest.animals import DAM_OF, SIRE_OF, SheetAnimal
 from gudokeyi.ingest.findings.columns import SheetFinding
-from gudokeyi.ingest.findings.sheets import SexWord, SexWordsShort, TextCount
+from gudokeyi.ingest.findings.sheets import OneSexAlone, SexCount, SexWord, SexWordsShort, TextCount
 from gudokeyi.ingest.texts import plain
 from gudokeyi.ingest.words import (
     CASTRATED_MALE, COUNTED_SEXES, KNOWN_CASTRATED, KNOWN_NEGATIONS, KNOWN_NEUTERED, KNOWN_SEXES, has_word, sex_word,
@@ -36,6 +37,7 @@ class Sexes:
 
     def __init__(self, texts: list[str], given: dict[str, str]) -> None:
         self.known = KNOWN_SEXES | {word: "M" if sex == CASTRATED_MALE else sex for word, sex in given.items()}
+        self.given = given
         self.given_castrated = {word for word, sex in given.items() if sex == CASTRATED_MALE}
         counted = {text for text in {*texts} if NUMBER.fullmatch(text)}
         # `1.0` may be the number of a code where no `0.1` is
@@ -115,6 +117,45 @@ class Sexes:
         counts = sorted(self.taken_for.items())
         taken = tuple(SexWord(TextCount(text, count), whole) for (text, whole), count in counts)
         return [SexWordsShort(taken)] if taken else []
+
+
+# the letter of weiblich, which is that of Widder and wether too
+LIKELY_MALE = "w"
+
+
+def one_sex_alone(
+    title: str, texts: Sequence[str], sexes: Sexes, animals: Collection[SheetAnimal]
+) -> list[SheetFinding]:
+    """What is told of a column whose words mean one sex alone, of which one may stand for the other."""
+    counts = collections.Counter(texts)
+    read = {text: sex for text in counts if (sex := sexes.meaning(text).sex)}
+    if len({*read.values()}) != 1:
+        return []
+    words = collections.Counter[str]()
+    for text in read:
+        words[sex_word(text)] += counts[text]
+    [sex] = {*read.values()}
+    is_likely = sex == "F" and may_be_male(words, sexes.given)
+    several = {word for word in words if words[word] > 1}
+    is_open = len(several) > 1 and not several <= sexes.given.keys()
+    if not is_likely and not (is_open and are_both_parents(sex, animals)):
+        return []
+    # how a word is written first
+    written = {sex_word(text): text for text in reversed(read)}
+    told = tuple(SexCount(written[word], count) for word, count in words.most_common())
+    return [OneSexAlone(title, sex, told, written[LIKELY_MALE] if is_likely else "")]
+
+
+def may_be_male(words: Collection[str], given: Mapping[str, str]) -> bool:
+    """Is a letter for females named that is none elsewhere, and stands another one for these too?"""
+    letters = [word for word, sex in given.items() if sex == "F" and len(word) == 1 and KNOWN_SEXES.get(word) != sex]
+    return LIKELY_MALE in words and LIKELY_MALE not in given and not {*letters}.isdisjoint(words)
+
+
+def are_both_parents(sex: str, animals: Collection[SheetAnimal]) -> bool:
+    """Are animals that have one sex sires, and others dams, by their ids or their names?"""
+    called = {text.casefold() for one in animals if one.sex == sex for text in (one.id, one.name) if text}
+    return all(any(of(one).casefold() in called for one in animals) for of in (SIRE_OF, DAM_OF))
 
 
 def is_all_but_one(single: set[str], by_letter: Mapping[str, str], words: set[str]) -> bool:

@@ -13,15 +13,17 @@ from gudokeyi.domain.findings import Report
 from gudokeyi.domain.kinds import Field, Role
 from gudokeyi.domain.requests import MOST_IN_ID
 from gudokeyi.ingest.animal_cells import AnimalCells, ErrorValues, Unread
-from gudokeyi.ingest.animals import DAM_OF, LINE_OF, ROLES, SIRE_OF, YEARS_LATER, SheetAnimal, tell_used_again
+from gudokeyi.ingest.animals import (
+    DAM_OF, ID_OF, LINE_OF, NAME_OF, ROLES, SIRE_OF, YEARS_LATER, SheetAnimal, tell_used_again,
+)  # fmt: skip
 from gudokeyi.ingest.day_cells import Order
 from gudokeyi.ingest.day_forms import DayForms
 from gudokeyi.ingest.days import NAME, Span, Unreadable, read_span
 from gudokeyi.ingest.days_for_ids import days_among
 from gudokeyi.ingest.exchanged_days import exchanged
 from gudokeyi.ingest.findings.cells import (
-    BETWEEN_CELLS, DAYS, DayForText, IdAgain, IdAlone, IdOfOtherAlphabet, IdToCome, IdTooLong, IdUnlikeOthers,
-    IdWithFewerDigits, LikeASum, NoAnimal, NoId, TitlesAgain, TooManyCells, TruthValue,
+    BETWEEN_CELLS, DAYS, DayForText, DittoForText, IdAgain, IdAlone, IdOfOtherAlphabet, IdToCome, IdTooLong,
+    IdUnlikeOthers, IdWithFewerDigits, LikeASum, NoAnimal, NoId, TitlesAgain, TooManyCells, TruthValue,
 )  # fmt: skip
 from gudokeyi.ingest.findings.columns import SheetFinding
 from gudokeyi.ingest.findings.exits import Remark
@@ -30,8 +32,8 @@ from gudokeyi.ingest.findings.sheets import CutNumber, FormulaCell, Place
 from gudokeyi.ingest.odd_ids import Oddity, odd_ids
 from gudokeyi.ingest.odd_texts import first_days, tell_exits_in_names, tell_several_ids
 from gudokeyi.ingest.plain_rows import CELLS_OF, SIGNS, PlainRows, chooser, first_sum
-from gudokeyi.ingest.rows_as_meant import Takers
-from gudokeyi.ingest.sexes import Sexes
+from gudokeyi.ingest.rows_as_meant import DITTO, Takers
+from gudokeyi.ingest.sexes import Sexes, one_sex_alone
 from gudokeyi.ingest.sheets import Sheet, SheetRow
 from gudokeyi.ingest.spellings import CUT
 from gudokeyi.ingest.titles import KNOWN_STATES, parts_of, words_of_sexes
@@ -116,6 +118,16 @@ def tell_ids_to_come(animals: dict[str, SheetAnimal], report: Report) -> set[str
     for id in found:
         report.add(animals[id].line, id, IdToCome(id))
     return {*found}
+
+
+def tell_dittos(animals: dict[str, SheetAnimal], field: Field, texts: Iterable[str], report: Report) -> set[str]:
+    """Ids or names that are marks for the cell above, among these texts. Answers the ids of those that are told."""
+    marks = {text for text in texts if text.casefold() in DITTO}
+    of = ID_OF if field is Field.ID else NAME_OF
+    found = [animal for animal in animals.values() if of(animal) in marks] if marks else []
+    for animal in found:
+        report.add(animal.line, animal.id, DittoForText(field, of(animal)))
+    return {animal.id for animal in found}
 
 
 def tell_days_for_texts(
@@ -368,6 +380,9 @@ class Rows:
         self.notes += [*self.sheet.unread, *self.grey_rows(animals), *self.cells.letters.told(), *self.errors.told()]
         self.notes += [note] if note else []
         self.notes += [*self.cells.readings.told(), *self.unread.found(), *self.sexes.told()]
+        if Field.SEX in self.columns:
+            title = self.sheet.titles[self.columns[Field.SEX]]
+            self.notes += one_sex_alone(title, self.texts(Field.SEX), self.sexes, animals.values())
         self.notes += first_days(animals, self.plain.different.get(Field.BIRTH, ()))
         self.notes += [] if self.month_first else self.exchanged_days()
 
@@ -379,6 +394,8 @@ class Rows:
     def look_at_ids(self, animals: dict[str, SheetAnimal]) -> None:
         """What is told of ids, and of names that are days."""
         told = tell_odd_rows(animals, self.sheet.rows, self.report) | tell_ids_to_come(animals, self.report)
+        told |= tell_dittos(animals, Field.ID, animals, self.report)
+        tell_dittos(animals, Field.NAME, self.plain.different.get(Field.NAME, ()), self.report)
         for field in (Field.ID, Field.NAME):
             # of a workbook's cells it is known which are days
             texts = () if self.sheet.worksheets else self.plain.different.get(field, ())

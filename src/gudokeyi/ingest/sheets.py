@@ -20,8 +20,10 @@ from gudokeyi.ingest.encodings import decoding
 from gudokeyi.ingest.files import MOST_LETTERS, GivenFile, check_bounds
 from gudokeyi.ingest.findings.columns import SheetFinding
 from gudokeyi.ingest.findings.exits import Remark
+from gudokeyi.ingest.findings.files import MarksAlone
 from gudokeyi.ingest.messages import SheetFault
 from gudokeyi.ingest.shown_cells import Shown
+from gudokeyi.ingest.stray_quotes import with_marks_doubled
 from gudokeyi.ingest.texts import clean
 from gudokeyi.ingest.workbooks import Formulas, NamedBefore, best_of, read_workbook
 
@@ -160,7 +162,7 @@ def read_sheet(file: GivenFile, score: Score, worksheet: str = "", before: Named
         text, encoding, fault = decoding(path, data)
         tops, best = tops_of(text), best_separator
         taken = best(tops, score)
-        rows = read_records(text, taken)[is_named(text) :]
+        rows, unread = rows_of_text(text, taken, score)
         how = f"{encoding}, cells separated by " + {";": "semicolons", "\t": "tabs", ",": "commas"}[taken]
         faults = [fault] if fault else []
     rows, unseen = without_unseen(rows)
@@ -241,6 +243,17 @@ def is_clean(text: str, separator: str) -> bool:
         return False
     in_lines = text.replace("\n", "").replace("\r", "").replace(separator, "")
     return in_lines.isprintable() and unicodedata.is_normalized("NFC", text)
+
+
+def rows_of_text(text: str, separator: str, score: Score) -> tuple[list[SheetRow], list[SheetFinding]]:
+    """The rows, and what is told of marks that are no beginning of a text."""
+    rows = read_records(text, separator)[is_named(text) :]
+    first = [row.cells for row in rows[:BEGINNING]]
+    titles = len(first[title_row(first, score)]) if first else 0
+    doubled = with_marks_doubled(text, separator, titles)
+    if doubled is None:
+        return rows, []
+    return read_records(doubled.text, separator)[is_named(text) :], [MarksAlone(doubled.rows, doubled.first)]
 
 
 def read_records(text: str, separator: str) -> list[SheetRow]:

@@ -144,14 +144,16 @@ SUMS = (
     "Summe, gesamt, Gesamtsumme, Gesamtzahl, insgesamt, Anzahl, Zwischensumme, Durchschnitt, Mittelwert, Mittel, sum, "
     "total, totals, subtotal, grand total, count, average, mean, somme, nombre, moyenne, total général"
 )
-# what stands in place of an id that an animal doesn't have yet
+# what stands in place of an id that an animal doesn't have yet, or has no more
 TO_COME = (
     "pending, applied for, awaited, awaiting, to follow, to come, in progress, in process, not yet, none yet, no "
     "number, tba, tbc, tbd, to be advised, to be confirmed, to be allocated, provisional, temporary, new, "
     "in Arbeit, in Bearbeitung, beantragt, angemeldet, ausstehend, folgt, kommt, offen, noch offen, noch keine, noch "
     "nicht, ohne Nummer, keine Nummer, vorläufig, neu, "
     "en cours, en attente, en instance, à venir, à suivre, demandé, demandée, pas encore, sans numéro, provisoire, "
-    "nouveau, nouvelle"
+    "nouveau, nouvelle, "
+    "no tag, lost, missing, ohne, ohne Marke, ohne Ohrmarke, keine, keine Marke, keine Ohrmarke, verloren, nachtragen, "
+    "sans, sans boucle, aucun, aucune, perdu, perdue, manque"
 )
 # what spreadsheets show in place of a value that they can't compute
 ERROR_VALUE = re.compile(

@@ -24,6 +24,7 @@ from gudokeyi.reconcile.parents import Names, keep_parents_named, try_parents_ag
 from gudokeyi.reconcile.parents_in_texts import ParentsInTexts
 from gudokeyi.reconcile.sections import tell_births, tell_sections
 from gudokeyi.reconcile.sexes import find_sexes, leave_out_unread_sexes, mend_sexes
+from gudokeyi.reconcile.tags_of_others import tell_tags_of_others
 from gudokeyi.reconcile.values_from_book import keep_values
 from gudokeyi.store.book import Book
 
@@ -153,8 +154,9 @@ def complete(next_book: NextBook, columns: Columns, import_options: ImportOption
         )
         if next_book.otherwise is not next_book.animals:
             next_book.otherwise = {row.id: row for row in next_book.rows_otherwise()}
-    tell_exchanged_ids(next_book, guards.otherwise)
+    exchanged = tell_exchanged_ids(next_book, guards.otherwise)
     add_others(next_book, import_options.drop_gone, columns)
+    tell_tags_of_others(next_book, guards, exchanged)
     found += guards.of_animals(next_book.animals)
     if found and not import_options.anyway:
         next_book.obstacles += found

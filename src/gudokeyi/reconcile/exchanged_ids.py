@@ -43,12 +43,16 @@ class Otherwise(NamedTuple):
 
 def tell_exchanged_ids(
     next_book: NextBook, otherwise: Sequence[tuple[SheetAnimal, SocietyRecord, RegisterRecord]]
-) -> None:
-    """`otherwise` are the rows that say something else than the book, also those that are left out since then."""
+) -> set[str]:
+    """`otherwise` are the rows that say something else than the book, also those that are left out since then. Answers
+    the ids of those that are told."""
+    told = set[str]()
     for row, other in Exchanged(next_book, [Otherwise(*one) for one in otherwise]).pairs():
         is_left_out = not {row.id, other.id}.isdisjoint(next_book.used_again)
         found = IdsExchanged(row.id, other.id, other.line, row.name, other.name, is_left_out)
         next_book.report.add(row.line, row.id, found)
+        told |= {row.id, other.id}
+    return told
 
 
 class Exchanged:

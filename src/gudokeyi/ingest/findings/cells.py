@@ -266,6 +266,25 @@ class IdToCome(OddId):
 
 
 @dataclass(frozen=True, slots=True)
+class DittoForText(Finding):
+    """A name or an id that is a mark for the cell above, which no other animal's name or id is."""
+
+    field: Field
+    text: str
+
+    what = What.WARNING
+    severity = Severity.ANIMALS
+    code = "ditto for text"
+    message = Text(
+        "its {field} is '{text}', which stands for the cell above in other columns, and is taken as it is written: each "
+        "animal has its own: write that"
+    )
+
+    def suggestions(self) -> tuple[Suggestion, ...]:
+        return (Suggestion("if it is no animal", (is_no_animal(self.text),)),) if self.field is Field.ID else ()
+
+
+@dataclass(frozen=True, slots=True)
 class DayForText(Finding):
     """A name or an id that is a day of a spreadsheet."""
 

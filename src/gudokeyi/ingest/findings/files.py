@@ -43,6 +43,24 @@ class StrayBytes(SheetFinding):
 
 
 @dataclass(frozen=True, slots=True)
+class MarksAlone(SheetFinding):
+    """Quotation marks alone in cells of a text file, two of which would read as one text."""
+
+    count: int
+    line: int
+
+    severity = Severity.PARENTS
+    code = "marks alone"
+    message = Counted(
+        "{count} row, line {line}, has quotation marks alone in cells: they are read as marks for the cell above, and "
+        "not as the beginning and the end of one text",
+        "{count} rows, the first in line {line}, have quotation marks alone in cells: they are read as marks for the "
+        "cell above, and not as the beginning and the end of one text",
+        "count",
+    )
+
+
+@dataclass(frozen=True, slots=True)
 class TextInLine(Told):
     """A text with its first line, and what it was before its letters were decoded twice, if they were."""
 

@@ -8,7 +8,7 @@ from gudokeyi.domain.changes import Option
 from gudokeyi.domain.findings import Suggestion, tells_of_no_exit
 from gudokeyi.domain.kinds import Field
 from gudokeyi.domain.messages import Worded
-from gudokeyi.domain.wording import Counted, OptionalPart, Quoted, Text, Told
+from gudokeyi.domain.wording import SEXES, Counted, OptionalPart, Quoted, Text, Told
 from gudokeyi.ingest.findings.columns import SheetFinding, column
 
 # so many texts are shown
@@ -342,3 +342,44 @@ class SexWordsShort(SheetFinding):
 
     code = "sex words short"
     message = Text("words for sexes are read as others of the column: {taken}")
+
+
+@dataclass(frozen=True, slots=True)
+class SexCount(Told):
+    """A word for a sex, and how many animals have it."""
+
+    text: str
+    animals: int
+
+    message = Counted("'{text}' ({animals} animal)", "'{text}' ({animals} animals)", "animals")
+
+
+@dataclass(frozen=True, slots=True)
+class OneSexAlone(SheetFinding):
+    """All words of a column mean one sex, though one may stand for the other; `likely` is the one that does."""
+
+    title: str
+    sex: str
+    counts: tuple[SexCount, ...]
+    likely: str = ""
+
+    code = "one sex alone"
+    message = Text(
+        "each sex of the column '{title}' is read as {sex}: {counts}: does one of these words stand for {other}"
+        "{maybe_likely}?"
+    )
+    parts = {
+        "maybe_likely": OptionalPart(", '{likely}' as for Widder or wether"),
+    }
+
+    def values(self) -> Mapping[str, object]:
+        return {"sex": SEXES.get(self.sex, self.sex), "other": SEXES[self.other()]}
+
+    def other(self) -> str:
+        return "F" if self.sex == "M" else "M"
+
+    def suggestions(self) -> tuple[Suggestion, ...]:
+        words = [self.likely] if self.likely else [one.text for one in self.counts]
+        sex = self.other().lower()
+        said = [(word, Option("--sexes", f"{word}={sex}")) for word in words if not {",", "="} & {*word}]
+        return tuple(Suggestion(f"if '{word}' is {SEXES[self.other()].value}", (option,)) for word, option in said)

@@ -2,6 +2,7 @@
 words."""
 from __future__ import annotations
 
+import datetime
 from collections.abc import Mapping
 from dataclasses import dataclass
 
@@ -115,6 +116,38 @@ class IdsExchanged(PlausibilityWarning):
         pairs = (self.id, self.other), (self.other, self.id)
         said = ",".join(quoted(f"{before}={now}") for before, now in pairs)
         return (Suggestion("if each has the other's id from now on", (Option(NEW_TAG, said),), undoes=True),)
+
+
+@dataclass(frozen=True, slots=True)
+class TagOfAnother(PlausibilityWarning):
+    """A row with another name, another birth day and another parent than the animal of the book with its id. `id` and
+    `line` are those of a row with the name and the birth day of that one, empty where there is none."""
+
+    name_there: str
+    born_there: datetime.date
+    name_here: str
+    born_here: datetime.date
+    id: str = ""
+    line: int = 0
+
+    severity = Severity.ANIMALS
+    code = "tag of another"
+    message = Text(
+        "is it another animal that got the tag of one of the book? There it is '{name_there}', born {born_there}, here "
+        "'{name_here}', born {born_here}, of other parents{maybe_elsewhere}: if so, undo this, and give this one an id "
+        "of its own; as it stands it takes the place of the other"
+    )
+    page_message = Text(
+        "is it another animal that got the tag of one of the book? There it is '{name_there}', born {born_there}, here "
+        "'{name_here}', born {born_here}, of other parents{maybe_elsewhere}: if so, give this one an id of its own; as "
+        "it stands it takes the place of the other"
+    )
+    parts = {
+        "maybe_elsewhere": OptionalPart(" (line {line} has '{name_there}' as {id})", when="is_elsewhere"),
+    }
+
+    def values(self) -> Mapping[str, object]:
+        return {"is_elsewhere": bool(self.line)}
 
 
 @dataclass(frozen=True, slots=True)
