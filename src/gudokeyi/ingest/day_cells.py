@@ -148,8 +148,8 @@ class DayCells:
         if self.of_states and text not in self.unknown and is_other_state(text):
             return NO_EXIT
         day = self.day(Field.EXIT, text)
-        is_no_more = is_day or is_span(text) or (day.reading is not None and not exit_word(text))
         reason = words_beside(text) if day.span and not is_day else ""
+        is_no_more = is_day or is_span(text) or (day.reading is not None and not (exit_word(text) or reason))
         is_reason = reason not in self.unknown or DEAD.search(reason)
         is_later = day.fault is not None and self.is_later(text)
         return ExitCell(day, is_no_more, is_later, reason=reason if is_reason else "")
