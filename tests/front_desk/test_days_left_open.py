@@ -46,9 +46,18 @@ ONE_OF = {
     "vor 31.05./01.06.2019": (None, None),
     "31.04./01.05.2019": (None, None),
     "31.05./01.06.2019, nicht 2020": (None, None),
+    # words for or that are shortened, and two digits of the year
+    "3.4.2020 od. 5.4.2020": ("2020-04-03", "2020-04-05"),
+    "3.4.20 od. 5.4.20": ("2020-04-03", "2020-04-05"),
+    "12.3.20 - 15.3.20": ("2020-03-12", "2020-03-15"),
+    "zw. 3.4. und 5.4.20": ("2020-04-03", "2020-04-05"),
 }
 # both are days, and one isn't beside the other
 FAR = ("31.05./09.06.2019", "1.4.2018/13.4.2018", "12./20.4.2018", "1 May or 9 May 2019")
+# of two months or years with two digits none is a sure day
+NO_SURE_DAY = ("Dez. 19/Jan. 20", "März 20 / April 20", "3.4.20 oder 21", "3.4.20/21", "zw. 3.4. und 25.5.20")
+# a number beside a day may be another one than that of a day
+BESIDE = ("3.4.20 (4.2 kg)", "3.4.20, 12 Uhr", "3.4.20 14.30 Uhr", "3.4.20 (Mai)", "3.4.20 und 2 Brüder")
 UNSURE = (
     "1/4/2019 (est.)", "ca. 1.4.2019", "1.4.2019?", "~ 1 April 2019", "1.4.19 (geschätzt)", "vers le 1er avril 2019",
 )  # fmt: skip
@@ -64,10 +73,16 @@ def test_one_of_several(text: str) -> None:
     assert days == ONE_OF[text] and (reading is not DayReading.ONE_OF or span and not span.is_day)
 
 
-@pytest.mark.parametrize("text", FAR)
+@pytest.mark.parametrize("text", [*FAR, *NO_SURE_DAY])
 def test_days_far_apart(text: str) -> None:
     with pytest.raises(Unreadable):
         FORMS.read(text)
+
+
+@pytest.mark.parametrize("text", BESIDE)
+def test_numbers_beside_a_day(text: str) -> None:
+    found = FORMS.read(text)
+    assert found and str(found[0].first) == "2020-04-03" and found[0].is_day
 
 
 @pytest.mark.parametrize("text", [*UNSURE, *SURE])
@@ -130,6 +145,25 @@ def test_night_between_two_days(desk: Desk) -> None:
     rows = rows.replace("2019;;;X\nA2;Bar;f;12./13.4.2018", "2019;;A2;X\nA2;Bar;f;31.5.2019")
     desk.take(TITLES + rows, *OPTIONS, "--anyway")
     assert "  born          2019-06-01 (inferred, from the month 2019-06)" in desk.good("show", "A1").out
+
+
+def test_two_days_with_two_digits_of_the_year(desk: Desk) -> None:
+    """None of them is taken as a sure day: it is one of several, or told as unread; an exit's cell leaves it open. A
+    day with two digits beside words that tell of no exit is told as one with four is."""
+    cells = {
+        "12.03.17": "", "Dez. 19/Jan. 20": "", "3.4.20 od. 5.4.20": "", "3.3.18": "Dez. 24/Jan. 25",
+        "4.3.18": "verk. 3.3.24 oder 5.3.24", "5.3.18": "† 3.4.24", "6.3.18": "Tierarzt 4.5.25",
+        "7.3.18": "Ausstellung 3.5.2024",
+    }  # fmt: skip
+    rows = (f"A{at};Foo{at};f;{birth};;;X;{exit}\n" for at, (birth, exit) in enumerate(cells.items(), 1))
+    done = desk.take(TITLES.replace("\n", ";Died\n") + "".join(rows), *OPTIONS)
+    left = [line.split(",")[2] for line in desk.commands() if line.startswith("exit")]
+    assert desk.born()["A3"] == "2020-04-03" and sorted(left) == ["2024-04-03", "2024-05-03", "2025-05-04"]
+    assert "can't be read, the first in line 3: 'Dez. 19/Jan. 20'" in done.out
+    assert "'12.03.17' in line 2 is read as 2017-03-12" in done.out
+    assert "the first in line 6: 'verk. 3.3.24 oder 5.3.24': such an animal counts as gone" in done.out
+    assert "words that tell of no exit stands in 2 of 5 cells that tell of an exit in the column 'Died'" in done.out
+    assert "the first in line 8: 'Tierarzt 4.5.25', 'Ausstellung 3.5.2024'" in done.out
 
 
 def test_between_parents_and_offspring(desk: Desk) -> None:

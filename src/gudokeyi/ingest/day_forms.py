@@ -56,7 +56,7 @@ WEEK = re.compile(
 # one of some days that follow one another, as `12/13.06.2019` and `12 or 13 June 2019`
 ONE_OF = re.compile(
     r"(?<![\w./-])(?P<from>\d{1,2})(?:\.|er|st|nd|rd|th)?"
-    r"(?: ?[/–—&+-] ?| (?:or|and|to|oder|und|bis|auf|ou|et|au|à) )"
+    r"(?: ?[/–—&+-] ?| (?:or|and|to|oder|od\.?|und|bis|auf|ou|et|au|à) )"
     r"(?:(?P<until>\d{1,2})\. ?(?P<point>\d{1,2})\. ?|(?P<day>\d{1,2})(?P<sign>[/-])(?P<month>\d{1,2})(?P=sign)|"
     rf"(?P<last>\d{{1,2}})(?:\.|er|st|nd|rd|th)?[ ./-]*(?:of |de |d')?(?P<name>{NAME})[ ./,-]*)"
     r"'?(?P<year>\d{4}|\d{2})(?![\w/-]|\.\d)",
@@ -65,8 +65,19 @@ ONE_OF = re.compile(
 # the same of days that have their months, as `31.05./01.06.2019`: what has both, and what stands between them
 FROM_DIGIT_TO_DIGIT = re.compile(r"\d.*\d", re.DOTALL)
 BETWEEN_DAYS = re.compile(
-    r"\s*[/–—&+-]\s*|\s(?:or|and|to|oder|und|bis|auf|ou|et|au|à)\s(?:(?:den|dem|the|le)\s)?", re.IGNORECASE
+    r"\s*[/–—&+-]\s*|\s(?:or|and|to|oder|od\.?|und|bis|auf|ou|et|au|à)\s(?:(?:den|dem|the|le)\s)?", re.IGNORECASE
 )
+# what tells beside a day of another one: a day without its year, a day or a year with the name of its month
+ANOTHER_DAY = re.compile(
+    r"(?<![\w.,/-])(?:0?[1-9]|[12]\d|3[01])\. ?(?:0?[1-9]|1[0-2])\.(?!\d{3})|"
+    r"(?<![\w.,/-])\d{1,2}(?P<slash>[/-])\d{1,2}(?P=slash)\d{2}(?!\w)|"
+    rf"(?<!\w)\d{{1,2}}[ .]*{NAME}(?!\w)|(?<!\w){NAME}[ ./-]*'?\d{{2}}(?!\w)",
+    re.IGNORECASE,
+)
+# a month before what seems a day, and is the year of that month, as in `Dez. 19/Jan. 20`
+MONTH_BEFORE = re.compile(rf"(?<!\w){NAME}[ ./'-]*$", re.IGNORECASE)
+# a number behind a day that stands for another day, month or year, as in `3.4.20 oder 21`
+NUMBER_BEHIND = re.compile(rf"(?:{BETWEEN_DAYS.pattern})'?\d{{1,2}}\W*$", re.IGNORECASE)
 # a longer text has more than these
 MOST_LETTERS = 60
 # a day without its month
@@ -213,6 +224,8 @@ class DayForms:
             return None
         two = TWO.search(text)
         if two and not YEAR.search(text) and not re.search(r"[\w.,/-]", text[max(two.start() - 1, 0) : two.start()]):
+            if tells_another_day(two):
+                raise Unreadable(DayFault.NO_DAY, text)
             day = self.two_digits(two)
             return (day, DayReading.TWO_DIGITS) if day else None
         span = span_within(text, self.month_first)
@@ -233,6 +246,14 @@ class DayForms:
 def days_of(first: datetime.date, last: datetime.date, text: str = "") -> Span:
     """A few days, of which it is one."""
     return Span(first, last, "", text, Precision.DAYS)
+
+
+def tells_another_day(found: re.Match[str]) -> bool:
+    """Does a text have another day beside one with two digits of the year, as `3.3.24 oder 5.3.24`?"""
+    before, behind = found.string[: found.start()], found.string[found.end() :]
+    if found["name"] and MONTH_BEFORE.search(before) or NUMBER_BEHIND.match(behind):
+        return True
+    return ANOTHER_DAY.search(before) is not None or ANOTHER_DAY.search(behind) is not None
 
 
 def not_that(before: str) -> bool:
