@@ -172,6 +172,23 @@ def test_grey_rows(desk: Desk, workbook: openpyxl.Workbook, grey: openpyxl.style
     assert "grey fill" not in desk.good("import", "sheet.xlsx", "--book", "striped").out
 
 
+def test_hidden_rows(desk: Desk, workbook: openpyxl.Workbook) -> None:
+    """Animals' rows that are hidden are told once, however they are, and taken; empty rows are none."""
+    sheet = workbook["Tiere"]
+    for at in range(4, 12):
+        for column, text in enumerate((f"X{at}", "f", "2010-01-01", "B1", ""), 1):
+            sheet.cell(at, column, text)
+    sheet.row_dimensions[7].hidden = sheet.row_dimensions[20].hidden = True
+    sheet.row_dimensions.group(9, 10, hidden=True)
+    save(desk, workbook)
+    said = (
+        "to look at: 3 rows are hidden, the first is line 7: they are taken like all others; if their animals have "
+        "left, write exits"
+    )
+    done = desk.good("import", "sheet.xlsx")
+    assert done.out.count("hidden") == 1 and said in done.out and {"X7", "X9", "X10"} <= desk.born().keys()
+
+
 def test_names_like_truth_values(desk: Desk, workbook: openpyxl.Workbook) -> None:
     """A name that a spreadsheet took for a truth value is kept as that shows it, and told."""
     sheet = workbook["Tiere"]

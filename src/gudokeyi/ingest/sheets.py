@@ -100,6 +100,8 @@ class Sheet:
     as_before: str = ""
     # the lines of rows that are filled grey
     grey: list[int] = field(default_factory=list)
+    # and of those that a workbook hides
+    hidden: list[int] = field(default_factory=list)
     # the cells of a workbook of which it shows another text, by their lines and places
     shown: Shown = field(default_factory=dict)
     # the lines of cells of a workbook that are days, by the places of their columns
@@ -143,7 +145,7 @@ def read_sheet(file: GivenFile, score: Score, worksheet: str = "", before: Named
     path, data = file.path, file.data
     faults: list[SheetFinding]
     formulas: Formulas | None = None
-    unread, grey, shown = list[SheetFinding](), list[int](), Shown()
+    unread, grey, hidden, shown = list[SheetFinding](), list[int](), list[int](), Shown()
     days: Mapping[int, list[int]] = {}
     worksheets, as_before = tuple[str, ...](), ""
     if file.is_zipped() and not file.is_workbook():
@@ -152,7 +154,8 @@ def read_sheet(file: GivenFile, score: Score, worksheet: str = "", before: Named
         found = read_workbook(path, data, score, BEGINNING, worksheet, before)
         worksheets, as_before = found.titles, found.title * found.as_before
         rows, how, faults = [SheetRow(*one) for one in found.rows], found.how, found.faults
-        formulas, unread, grey, shown, days = found.formulas, found.unread, found.grey, found.shown, found.days
+        formulas, unread, grey, hidden = found.formulas, found.unread, found.grey, found.hidden
+        shown, days = found.shown, found.days
         tops, best, taken = found.tops, best_worksheet, found.title
     else:
         if worksheet:
@@ -175,7 +178,7 @@ def read_sheet(file: GivenFile, score: Score, worksheet: str = "", before: Named
     decision = Decision(tops, best, taken, first, at)
     return Sheet(
         line, titles, below, how, faults, {}, unseen, formulas, unread, above, decision=decision, worksheets=worksheets,
-        as_before=as_before, grey=grey, shown=shown, days=days,
+        as_before=as_before, grey=grey, hidden=hidden, shown=shown, days=days,
     )  # fmt: skip
 
 

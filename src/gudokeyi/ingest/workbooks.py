@@ -184,6 +184,8 @@ class Worksheet(NamedTuple):
     unread: list[SheetFinding]
     # the numbers of rows that are filled grey
     grey: list[int]
+    # and of those that it hides
+    hidden: list[int]
     # the cells of which it shows another text than is read
     shown: Shown
     # the rows of cells with days, by the places of their columns, from 0 on
@@ -221,7 +223,7 @@ def read_workbook(
     others = [f"'{title}'" for title in titles if title != titles[at]]
     how = f"the worksheet '{titles[at]}' of an .xlsx file" + (f"; not read: {', '.join(others)}" if others else "")
     how = how if others else "an .xlsx file"
-    found = faults(texts), formulas(values, texts), unread(values, struck), grey_lines(values)
+    found = faults(texts), formulas(values, texts), unread(values, struck), grey_lines(values), hidden_lines(values)
     besides = shown_cells(values), days_of(values)
     return Worksheet(rows, how, *found, *besides, titles[at], tops, tuple(titles), as_before)
 
@@ -366,6 +368,11 @@ def unread(sheet: Any, struck: Mapping[Place, StruckText]) -> list[SheetFinding]
         cell = sheet._cells[place].coordinate
         found.append(StruckWithin(len(parts), cell, clean(text.whole), clean(text.kept)))
     return found
+
+
+def hidden_lines(sheet: Any) -> list[int]:
+    """The numbers of the rows that aren't shown, by hand, by a filter or by an outline."""
+    return sorted(row for row, shown in sheet.row_dimensions.items() if shown.hidden or shown.height == 0)
 
 
 def cell_text(cell: Any) -> str:

@@ -201,6 +201,23 @@ class GreyRows(SheetFinding):
 
 
 @dataclass(frozen=True, slots=True)
+class HiddenRows(SheetFinding):
+    """Rows that a worksheet hides: how many, and the first of them."""
+
+    count: int
+    line: int
+
+    severity = Severity.FACTS
+    code = "hidden rows"
+    message = Counted(
+        "{count} row is hidden, line {line}: it is taken like all others; if its animal has left, write an exit",
+        "{count} rows are hidden, the first is line {line}: they are taken like all others; if their animals have "
+        "left, write exits",
+        "count",
+    )
+
+
+@dataclass(frozen=True, slots=True)
 class WorksheetUnclear(SheetFinding):
     """Several worksheets have titles that fit, or none has."""
 
