@@ -174,6 +174,26 @@ def test_between_parents_and_offspring(desk: Desk) -> None:
     assert desk.born()["A1"] == "2019-06-12" and desk.parents()["A1"] == ("", "A0")
 
 
+def test_month_of_an_exit_with_two_digits_of_the_year(desk: Desk) -> None:
+    """It is read as one with four is, also of a sale to another owner; a number that may be another one isn't."""
+    exits = (
+        "verk. 3/24", "geschl. 11.24", "geschl. 11.2024", "verk. März 24", "verk. an Hill 4/24", "verk. Nr. 3/24",
+        "verk. 13/24", "sold 11.50", "verk. vor 3/24",
+    )  # fmt: skip
+    rows = "A0;Foo;f;2015-01-01;;;Hill;\n"
+    rows += "".join(f"A{at};Foo{at};f;2015-01-01;;;X;{exit}\n" for at, exit in enumerate(exits, 1))
+    done = desk.take(TITLES.replace("\n", ";Exit\n") + rows, *OPTIONS)
+    left = [line.split(",")[2] for line in desk.commands() if line.startswith("exit")]
+    assert left == ["2024-03-31", "2024-11-30", "2024-11-30", "2024-03-31"] and desk.transfer_days() == ["2024-04-30"]
+    done.tells(
+        "line 3: A1: inferred: exit on 2024-03-31, the last day of the month 2024-03, from 'verk. 3/24'",
+        "line 4: A2: inferred: exit on 2024-11-30, the last day of the month 2024-11, from 'geschl. 11.24'",
+        "line 7: A5: inferred: owner since 2024-04-30, from the month 2024-04",
+    )
+    assert "in 3 cells of the column 'Exit': 'verk. 3/24' in line 3 is read as 2024-03, and the others alike" in done.out
+    assert "'verk. Nr. 3/24', 'verk. 13/24', 'sold 11.50'" in done.out
+
+
 def test_exits_stay_as_they_were(desk: Desk) -> None:
     """The word for an exit tells itself that its day isn't sure."""
     titles = TITLES.replace("\n", ";Died\n")

@@ -164,7 +164,8 @@ class DayCells:
         if field is Field.BIRTH and tells_other_event(text):
             return DayCell(fault=DayLeftOut(field, DayFault.OTHER_EVENT, text), is_unread=True)
         try:
-            form = self.forms.read(said, is_exit)
+            month = self.forms.month_of_exit(text) if has_left else None
+            form = (month, DayReading.TWO_DIGITS) if month else self.forms.read(said, is_exit)
             if form and (not is_exit or form[1] is not DayReading.WITHIN or form[0].text):
                 span, reading = form
                 read = self.possible(field, text, last_month(span) if is_exit else span)

@@ -31,6 +31,17 @@ TWO = re.compile(
 )
 # a month with such a year, as spreadsheets show a day by it: `avr.-07` and `Apr 07`
 MONTH = re.compile(rf"(?P<name>{NAME})[ ./-]+'?(?P<year>\d{{2}})", re.IGNORECASE)
+# the same within a text; and a number of a month before it in an exit's cell, as `verk. 3/24`, which nothing follows but
+# where the animal went, or why
+BEHIND_MONTH = r"(?=\W*$|\s*[(,;]|\s+(?:an|nach|zu|bei|wegen|durch|to|due|by|à|au|chez|pour)\b)"
+MONTH_WITHIN = re.compile(
+    rf"(?<![\w./-])(?P<name>{NAME})[ ./-]*'?(?P<year>\d{{2}})(?![\w?*#~]|[./-]\d)", re.IGNORECASE
+)
+MONTH_OF_EXIT = re.compile(rf"(?<= )(?P<month>0?[1-9]|1[0-2])[./](?P<year>\d{{2}}){BEHIND_MONTH}", re.IGNORECASE)
+# what stands before a number that is none of a month
+COUNTED = re.compile(r"\b(?:Nr|No|Los|lot|num\w*|tag|id)\.? $|[#°] ?$", re.IGNORECASE)
+# such a number of an earlier year is rather a price
+LONG_AGO = 40
 # a list marks days that were inferred for the book
 MARKED = re.compile(r".*\((?:inferred|invented)\)")
 # the first and the last month of a season; a winter has months of two years
@@ -228,12 +239,30 @@ class DayForms:
                 raise Unreadable(DayFault.NO_DAY, text)
             day = self.two_digits(two)
             return (day, DayReading.TWO_DIGITS) if day else None
+        if month := self.month_within(text):
+            return month._replace(text=text), DayReading.TWO_DIGITS
         span = span_within(text, self.month_first)
         if span is None or span.precision is Precision.YEAR:
             return None
         if span.is_day and BETWEEN.search(text):
             span = month_of(span.first.year, span.first.month)
         return (span if span.is_day else span._replace(text=text)), DayReading.WITHIN
+
+    def month_within(self, text: str) -> Span | None:
+        """The month of a text whose only number has two digits of the year, as of `Mitte März 20`."""
+        found = MONTH_WITHIN.search(text)
+        if found is None or not is_only_number(found):
+            return None
+        return month_of(self.year_near(found["year"]), MONTHS[compared(found["name"])])
+
+    def month_of_exit(self, text: str) -> Span | None:
+        """The same where the month is a number behind a word for an exit, as in `verk. 3/24`."""
+        found = MONTH_OF_EXIT.search(text)
+        before = text[: found.start()] if found else ""
+        if found is None or not is_only_number(found) or COUNTED.search(before) or not_that(before):
+            return None
+        year = self.year_near(found["year"])
+        return month_of(year, int(found["month"]))._replace(text=text) if self.today.year - year <= LONG_AGO else None
 
     def can_read(self, text: str) -> bool:
         """Is it such a day?"""
@@ -254,6 +283,11 @@ def tells_another_day(found: re.Match[str]) -> bool:
     if found["name"] and MONTH_BEFORE.search(before) or NUMBER_BEHIND.match(behind):
         return True
     return ANOTHER_DAY.search(before) is not None or ANOTHER_DAY.search(behind) is not None
+
+
+def is_only_number(found: re.Match[str]) -> bool:
+    """Has a text no digits besides?"""
+    return not re.search(r"\d", found.string[: found.start()] + found.string[found.end() :])
 
 
 def not_that(before: str) -> bool:
