@@ -190,8 +190,36 @@ def test_month_of_an_exit_with_two_digits_of_the_year(desk: Desk) -> None:
         "line 4: A2: inferred: exit on 2024-11-30, the last day of the month 2024-11, from 'geschl. 11.24'",
         "line 7: A5: inferred: owner since 2024-04-30, from the month 2024-04",
     )
-    assert "in 3 cells of the column 'Exit': 'verk. 3/24' in line 3 is read as 2024-03, and the others alike" in done.out
+    assert "in 3 cells of the column 'Exit': 'verk. 3/24' in line 3 is read as 2024-03, and the others" in done.out
     assert "'verk. Nr. 3/24', 'verk. 13/24', 'sold 11.50'" in done.out
+
+
+def test_winters_and_mistyped_days(desk: Desk) -> None:
+    """A winter is read as other seasons are, and a season or a month may have two digits of the year; of a mistyped day
+    the year alone is read, and that is told."""
+    texts = (
+        "Winter 2019", "Winter 2018/19", "Herbst 18", "Frühjahr 20", "Anf. Mai 26", "Mitte März 20", "Ende April 19",
+        "12..3.2020", "l2.3.2021", "ca. 2015",
+    )  # fmt: skip
+    rows = "".join(f"A{at};Foo{at};f;{text};;;X;\n" for at, text in enumerate(texts, 1))
+    rows += "B1;Bar;f;2015-01-01;;;X;verk. Herbst 18\nB2;Bar;f;2015-01-01;;;X;verk. Winter 2019\n"
+    done = desk.take(TITLES.replace("\n", ";Exit\n") + rows, *OPTIONS)
+    born = [desk.born()[f"A{at}"] for at in range(1, 10)]
+    assert [day[:4] for day in born] == ["2019", "2018", "2018", "2020", "2026", "2020", "2019", "2020", "2021"]
+    assert [int(day[5:7]) for day in born[:7]] == [1, 12, 10, 4, 5, 3, 4]
+    left = [line.split(",")[2] for line in desk.commands() if line.startswith("exit")]
+    assert left == ["2018-11-30", "2019-12-31"]
+    in_column = "of the column 'Whelped':"
+    done.tells(
+        f"to look at: a text with a month, a week or a season in 1 cell {in_column} 'Winter 2019' in line 2 is read as "
+        "2019",
+        f"to look at: one of several days in 1 cell {in_column} 'Winter 2018/19' in line 3 is read as 2018-12-01 to "
+        "2019-02-28",
+        f"to look at: a text of which the year alone can be read in 2 cells {in_column} '12..3.2020' in line 9 is read "
+        "as 2020, and the others alike",
+    )
+    for begin in (f"3 cells {in_column} 'Anf. Mai 26' in line 6", f"2 cells {in_column} 'Herbst 18' in line 4"):
+        assert f"two digits of the year in {begin}" in done.out
 
 
 def test_exits_stay_as_they_were(desk: Desk) -> None:

@@ -181,7 +181,8 @@ class DayCells:
             # a year that a book can't have is read, and told by itself
             is_unread = error.fault is not DayFault.YEAR
             return DayCell(fault=DayLeftOut(field, *told, is_exit), is_unread=is_unread)
-        return self.possible(field, text, span)
+        is_mistyped = not is_exit and len(re.findall(r"\d", span.text)) > 4
+        return self.possible(field, text, span)._replace(reading=DayReading.YEAR_ALONE if is_mistyped else None)
 
     def possible(self, field: Field, text: str, span: Span) -> DayCell:
         """A text with these days, which aren't taken where they are after today."""

@@ -31,8 +31,8 @@ TWO = re.compile(
 )
 # a month with such a year, as spreadsheets show a day by it: `avr.-07` and `Apr 07`
 MONTH = re.compile(rf"(?P<name>{NAME})[ ./-]+'?(?P<year>\d{{2}})", re.IGNORECASE)
-# the same within a text; and a number of a month before it in an exit's cell, as `verk. 3/24`, which nothing follows but
-# where the animal went, or why
+# the same within a text; and a number of a month before it in an exit's cell, as `verk. 3/24`, which nothing follows
+# but where the animal went, or why
 BEHIND_MONTH = r"(?=\W*$|\s*[(,;]|\s+(?:an|nach|zu|bei|wegen|durch|to|due|by|à|au|chez|pour)\b)"
 MONTH_WITHIN = re.compile(
     rf"(?<![\w./-])(?P<name>{NAME})[ ./-]*'?(?P<year>\d{{2}})(?![\w?*#~]|[./-]\d)", re.IGNORECASE
@@ -44,11 +44,12 @@ COUNTED = re.compile(r"\b(?:Nr|No|Los|lot|num\w*|tag|id)\.? $|[#°] ?$", re.IGNO
 LONG_AGO = 40
 # a list marks days that were inferred for the book
 MARKED = re.compile(r".*\((?:inferred|invented)\)")
-# the first and the last month of a season; a winter has months of two years
+# the first and the last month of a season; a winter has these of its year, where it is named by one alone
 SEASONS = {
     "frühjahr frühj frühling spring printemps": (3, 5),
     "sommer summer été ete": (6, 8),
     "herbst autumn fall automne": (9, 11),
+    "winter hiver": (1, 2),
     "anfang anf beginning early début debut": (1, 4),
     "mitte middle mid mi": (5, 8),
     "ende end late fin": (9, 12),
@@ -56,6 +57,17 @@ SEASONS = {
 SEASON_WORDS = {word: months for words, months in SEASONS.items() for word in words.split()}
 SEASON = re.compile(
     rf"\b({'|'.join(SEASON_WORDS)})\b[ .-]*(?:of |de |d'|du )?((?:19|20|21)\d{{2}})(?!\d)", re.IGNORECASE
+)
+# the same with two digits of the year
+SHORT_SEASON = re.compile(
+    rf"\b(?P<season>{'|'.join(SEASON_WORDS)})\b[ .-]*(?:of |de |d'|du )?'?(?P<year>\d{{2}})(?![\w?*#~]|[./,-]\d)",
+    re.IGNORECASE,
+)
+# a winter that has both of its years, as `Winter 2019/20`
+WINTER = re.compile(
+    r"\b(?:winter|hiver)\b[ .-]*(?:of |de |d'|du )?(?P<first>(?:19|20|21)?\d{2}) ?[/–-] ?(?P<last>(?:19|20|21)?\d{2})"
+    r"(?!\d)",
+    re.IGNORECASE,
 )
 # a week of a year, as `KW 12/2010` and `12. Woche 2010`
 WEEK = re.compile(
@@ -128,6 +140,8 @@ class DayForms:
         sure is that of no exit: the word for that tells it."""
         if is_span(text) or MARKED.match(text):
             return None
+        if winter := self.winter(text):
+            return winter, DayReading.ONE_OF
         if not is_exit and (two_days := self.two_days(text)):
             return two_days, DayReading.ONE_OF
         if not is_exit and (days := ONE_OF.search(text)):
@@ -231,6 +245,8 @@ class DayForms:
         """The only day, week, month or season within a text; none where the text says that it isn't that one."""
         if season := week_of(text) or season_of(text):
             return season, DayReading.WITHIN
+        if short_season := self.short_season(text):
+            return short_season, DayReading.TWO_DIGITS
         if NOT_THAT_YEAR.search(text):
             return None
         two = TWO.search(text)
@@ -247,6 +263,24 @@ class DayForms:
         if span.is_day and BETWEEN.search(text):
             span = month_of(span.first.year, span.first.month)
         return (span if span.is_day else span._replace(text=text)), DayReading.WITHIN
+
+    def winter(self, text: str) -> Span | None:
+        """The days of a winter that is named by both of its years, which follow one another."""
+        found = WINTER.search(text)
+        if found is None or not is_only_number(found) or NOT_THAT_YEAR.search(text[: found.start()]):
+            return None
+        first = int(found["first"]) if len(found["first"]) == 4 else self.year_near(found["first"])
+        if not f"{first + 1}".endswith(found["last"]):
+            raise Unreadable(DayFault.NO_DAY, text)
+        return days_of(month_of(first, 12).first, month_of(first + 1, 2).last, text)
+
+    def short_season(self, text: str) -> Span | None:
+        """The days of a season whose year has two digits, which are the only number of the text."""
+        found = SHORT_SEASON.search(text)
+        if found is None or not is_only_number(found) or not_that(text[: found.start()]):
+            return None
+        season = season_of(f"{found['season']} {self.year_near(found['year'])}")
+        return season._replace(text=text) if season else None
 
     def month_within(self, text: str) -> Span | None:
         """The month of a text whose only number has two digits of the year, as of `Mitte März 20`."""
@@ -321,7 +355,11 @@ def week_of(text: str) -> Span | None:
 
 
 def last_month(span: Span) -> Span:
-    """That of a season, on whose last day an exit is."""
+    """That of a season, on whose last day an exit is; of a winter with one year it is December."""
+    if span.precision is Precision.DAYS:
+        return month_of(span.last.year, span.last.month)
+    if span.precision is Precision.YEAR and (span.first.month, span.last.month) == SEASONS["winter hiver"]:
+        return month_of(span.last.year, 12)
     if span.precision is Precision.YEAR and span.text and (span.first.month, span.last.month) != (1, 12):
         return month_of(span.last.year, span.last.month)
     return span
