@@ -137,6 +137,17 @@ def test_what_cells_show_besides(desk: Desk, workbook: openpyxl.Workbook) -> Non
         "to look at: text is struck through in 1 row, line 3, which is taken like all others: if its animal has left, "
         "write an exit",
     )
+    for at in range(4, 30):
+        for column, text in enumerate((f"X{at}", "f", "2010-01-01", "B1", ""), 1):
+            sheet.cell(at, column, text).font = openpyxl.styles.Font(strike=at % 2 or at > 18)
+    save(desk, workbook)
+    lines = ", ".join(map(str, [*range(3, 19, 2), *range(19, 30)]))
+    told = f"to look at: text is struck through in 19 rows, in the lines {lines}, which are taken like all others: "
+    desk.good("import", "sheet.xlsx").tells(f"{told}if their animals have left, write exits")
+    sheet["A4"].font = sheet["A6"].font = openpyxl.styles.Font(strike=True)
+    save(desk, workbook)
+    assert "in 21 rows, in the lines 3, 4, 5, 6, 7, 9," in (last := desk.good("import", "sheet.xlsx").told)
+    assert ", 27, 28 and 1 more, which are taken like all others" in last
 
 
 GREYS = (

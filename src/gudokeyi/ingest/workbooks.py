@@ -154,6 +154,8 @@ def cells_of(ref: str) -> int | None:
 
 # a number with more digits than a spreadsheet keeps
 TOO_LONG = 10**15
+# so many lines of rows with text that is struck through are told
+MOST_STRUCK = 20
 # what stands between quotation marks, brackets or behind a backslash in a format isn't part of a date
 QUOTED = re.compile(r'"[^"]*"|\[[^\]]*\]|\\.')
 Score = Callable[[list[str]], int]
@@ -362,7 +364,7 @@ def unread(sheet: Any, struck: Mapping[Place, StruckText]) -> list[SheetFinding]
     lines = {row for (row, _), text in struck.items() if not text.kept.strip()}
     if any(font.strike for font in sheet.parent._fonts):
         lines |= {cell.row for cell in cells if cell.value is not None and cell.font.strike}
-    found += [StruckThrough(len(lines), min(lines))] if lines else []
+    found += [StruckThrough(len(lines), min(lines), tuple(sorted(lines)[:MOST_STRUCK]))] if lines else []
     parts = [(place, text) for place, text in struck.items() if text.kept.strip()]
     for place, text in parts[:1]:
         cell = sheet._cells[place].coordinate
