@@ -12,7 +12,7 @@ from collections.abc import Callable, Mapping
 from dataclasses import dataclass, field
 from typing import NamedTuple
 
-from gudokeyi.domain.cells import from_spreadsheets, may_have_texts
+from gudokeyi.domain.cells import TEXT, from_spreadsheets, may_have_texts
 from gudokeyi.domain.collections import made
 from gudokeyi.domain.messages import Mistake
 from gudokeyi.domain.requests import seen_of
@@ -20,6 +20,7 @@ from gudokeyi.ingest.encodings import decoding
 from gudokeyi.ingest.files import MOST_LETTERS, GivenFile, check_bounds
 from gudokeyi.ingest.findings.columns import SheetFinding
 from gudokeyi.ingest.findings.exits import Remark
+from gudokeyi.ingest.findings.files import Apostrophes
 from gudokeyi.ingest.messages import SheetFault
 from gudokeyi.ingest.shown_cells import Shown
 from gudokeyi.ingest.texts import clean
@@ -30,6 +31,9 @@ SEPARATORS = ";\t,"
 BLANKS = ("  ", " \n", "\n ", " \r", "\r ")
 # the titles stand in one of so many rows
 BEGINNING = 5
+# an apostrophe by which a spreadsheet knows a text; names such as `'t Hof`, quoted ones, and years such as `'19` have
+# one of their own
+APOSTROPHE = re.compile(rf"{TEXT}(?=\w)(?!(?i:[stnk])[ -])(?!\d\d$)(?!.*{TEXT}$)")
 # so great a part of the rows at most is marked by grey
 MOST_GREY = 0.4
 Score = Callable[[list[str]], int]
@@ -167,6 +171,7 @@ def read_sheet(file: GivenFile, score: Score, worksheet: str = "", before: Named
         how = f"{encoding}, cells separated by " + {";": "semicolons", "\t": "tabs", ",": "commas"}[taken]
         faults = [fault] if fault else []
     rows, unseen = without_unseen(rows)
+    rows, apostrophes = without_apostrophes(rows)
     if not rows:
         raise Mistake(SheetFault.EMPTY.said(path=path))
     first = [row.cells for row in rows[:BEGINNING]]
@@ -175,6 +180,8 @@ def read_sheet(file: GivenFile, score: Score, worksheet: str = "", before: Named
     check_bounds(path, rows, at + 1)
     below, above = rows[at + 1 :], rows[at - 1].cells if at else []
     grey = marked_by_grey(grey, line, len(below))
+    texts = [one for one in apostrophes if one > line]
+    unread += [Apostrophes(len(texts), texts[0])] if texts else []
     decision = Decision(tops, best, taken, first, at)
     return Sheet(
         line, titles, below, how, faults, {}, unseen, formulas, unread, above, decision=decision, worksheets=worksheets,
@@ -200,6 +207,20 @@ def without_unseen(rows: list[SheetRow]) -> tuple[list[SheetRow], Unseen]:
         seen[at] = SheetRow(line, [*map(seen_of, cells)])
         unseen |= {(line, place): cell for place, cell in enumerate(cells) if cell != seen[at].cells[place]}
     return seen, unseen
+
+
+def without_apostrophes(rows: list[SheetRow]) -> tuple[list[SheetRow], list[int]]:
+    """The rows without the apostrophes by which a spreadsheet knows texts, and the line of each cell that had one. Few
+    sheets have any."""
+    if f"\t{TEXT}" not in "\t".join(itertools.chain([""], *map(operator.itemgetter(1), rows))):
+        return rows, []
+    read = [SheetRow(line, [*map(without_apostrophe, cells)]) for line, cells in rows]
+    both = zip(rows, read)
+    return read, [row.line for row, other in both for cell, text in zip(row.cells, other.cells) if cell != text]
+
+
+def without_apostrophe(cell: str) -> str:
+    return cell[1:] if APOSTROPHE.match(cell) else cell
 
 
 def title_row(rows: list[list[str]], score: Score) -> int:

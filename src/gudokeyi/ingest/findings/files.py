@@ -133,6 +133,23 @@ class DigitsLost(SheetFinding):
 
 
 @dataclass(frozen=True, slots=True)
+class Apostrophes(SheetFinding):
+    """Cells with an apostrophe before their text: how many, and the line of the first."""
+
+    count: int
+    line: int
+
+    code = "apostrophes"
+    message = Counted(
+        "{count} cell begins with an apostrophe, by which a spreadsheet knows a text, in line {line}: it is read "
+        "without it",
+        "{count} cells begin with an apostrophe, by which a spreadsheet knows a text, the first in line {line}: they "
+        "are read without it",
+        "count",
+    )
+
+
+@dataclass(frozen=True, slots=True)
 class NotesAtCells(SheetFinding):
     """Cells of a worksheet that have a note of their own: how many, and the first of them with its text."""
 
