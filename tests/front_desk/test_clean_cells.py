@@ -53,6 +53,26 @@ def test_words_by_hand_are_cleaned(desk: Desk) -> None:
     assert [row["id"] for row in desk.listed("list", "--owner", "ka\u0308the")] == ["ö1", "ö2"]
 
 
+def test_apostrophes_before_texts(desk: Desk) -> None:
+    """A spreadsheet knows a text by one: it is no part of an id, of a name or of a day, and that is told once. Names
+    and quotes that have one of their own keep it."""
+    titles = "Ohrmarke;Name;Geschl.;Geb.;Vater;Mutter;Besitzer;Abgang\n"
+    rows = (
+        "'120145010082;'Max;'m;'01.03.2017;;;'Imhof Peter;\n"
+        "120145010104;'Alma';w;02.03.2018;120145010082;;Imhof Peter;\n"
+        "'120145010115;'t Hof;w;'03.03.2020;'120145010082;'120145010104;Imhof Peter;'3.3.2024\n"
+    )
+    done = desk.take(titles + rows)
+    done.tells(
+        "to look at: 10 cells begin with an apostrophe, by which a spreadsheet knows a text, the first in line 2: they "
+        "are read without it"
+    )
+    assert done.out.count("to look at") == 1 and [owner for _, owner in desk.owners()] == ["Imhof Peter"]
+    assert desk.parents()["120145010115"] == ("120145010082", "120145010104") and len(desk.parents()) == 3
+    assert [one["name"] for one in desk.table("book/ids.csv")] == ["Max", "'Alma'", "'t Hof"]
+    assert " 0 changed" in desk.take(titles + rows).last
+
+
 def test_options_are_cleaned(desk: Desk) -> None:
     """Their titles and words are those of the sheet, whose cells are; also a letter in parts with a sign between."""
     assert clean("o\u00ad\u0308") == clean(clean("o\u00ad\u0308")) == "ö"

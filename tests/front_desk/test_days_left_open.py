@@ -46,9 +46,18 @@ ONE_OF = {
     "vor 31.05./01.06.2019": (None, None),
     "31.04./01.05.2019": (None, None),
     "31.05./01.06.2019, nicht 2020": (None, None),
+    # words for or that are shortened, and two digits of the year
+    "3.4.2020 od. 5.4.2020": ("2020-04-03", "2020-04-05"),
+    "3.4.20 od. 5.4.20": ("2020-04-03", "2020-04-05"),
+    "12.3.20 - 15.3.20": ("2020-03-12", "2020-03-15"),
+    "zw. 3.4. und 5.4.20": ("2020-04-03", "2020-04-05"),
 }
 # both are days, and one isn't beside the other
 FAR = ("31.05./09.06.2019", "1.4.2018/13.4.2018", "12./20.4.2018", "1 May or 9 May 2019")
+# of two months or years with two digits none is a sure day
+NO_SURE_DAY = ("Dez. 19/Jan. 20", "März 20 / April 20", "3.4.20 oder 21", "3.4.20/21", "zw. 3.4. und 25.5.20")
+# a number beside a day may be another one than that of a day
+BESIDE = ("3.4.20 (4.2 kg)", "3.4.20, 12 Uhr", "3.4.20 14.30 Uhr", "3.4.20 (Mai)", "3.4.20 und 2 Brüder")
 UNSURE = (
     "1/4/2019 (est.)", "ca. 1.4.2019", "1.4.2019?", "~ 1 April 2019", "1.4.19 (geschätzt)", "vers le 1er avril 2019",
 )  # fmt: skip
@@ -64,10 +73,16 @@ def test_one_of_several(text: str) -> None:
     assert days == ONE_OF[text] and (reading is not DayReading.ONE_OF or span and not span.is_day)
 
 
-@pytest.mark.parametrize("text", FAR)
+@pytest.mark.parametrize("text", [*FAR, *NO_SURE_DAY])
 def test_days_far_apart(text: str) -> None:
     with pytest.raises(Unreadable):
         FORMS.read(text)
+
+
+@pytest.mark.parametrize("text", BESIDE)
+def test_numbers_beside_a_day(text: str) -> None:
+    found = FORMS.read(text)
+    assert found and str(found[0].first) == "2020-04-03" and found[0].is_day
 
 
 @pytest.mark.parametrize("text", [*UNSURE, *SURE])
@@ -132,12 +147,79 @@ def test_night_between_two_days(desk: Desk) -> None:
     assert "  born          2019-06-01 (inferred, from the month 2019-06)" in desk.good("show", "A1").out
 
 
+def test_two_days_with_two_digits_of_the_year(desk: Desk) -> None:
+    """None of them is taken as a sure day: it is one of several, or told as unread; an exit's cell leaves it open. A
+    day with two digits beside words that tell of no exit is told as one with four is."""
+    cells = {
+        "12.03.17": "", "Dez. 19/Jan. 20": "", "3.4.20 od. 5.4.20": "", "3.3.18": "Dez. 24/Jan. 25",
+        "4.3.18": "verk. 3.3.24 oder 5.3.24", "5.3.18": "† 3.4.24", "6.3.18": "Tierarzt 4.5.25",
+        "7.3.18": "Ausstellung 3.5.2024",
+    }  # fmt: skip
+    rows = (f"A{at};Foo{at};f;{birth};;;X;{exit}\n" for at, (birth, exit) in enumerate(cells.items(), 1))
+    done = desk.take(TITLES.replace("\n", ";Died\n") + "".join(rows), *OPTIONS)
+    left = [line.split(",")[2] for line in desk.commands() if line.startswith("exit")]
+    assert desk.born()["A3"] == "2020-04-03" and sorted(left) == ["2024-04-03", "2024-05-03", "2025-05-04"]
+    assert "can't be read, the first in line 3: 'Dez. 19/Jan. 20'" in done.out
+    assert "'12.03.17' in line 2 is read as 2017-03-12" in done.out
+    assert "the first in line 6: 'verk. 3.3.24 oder 5.3.24': such an animal counts as gone" in done.out
+    assert "words that tell of no exit stands in 2 of 5 cells that tell of an exit in the column 'Died'" in done.out
+    assert "the first in line 8: 'Tierarzt 4.5.25', 'Ausstellung 3.5.2024'" in done.out
+
+
 def test_between_parents_and_offspring(desk: Desk) -> None:
     """Of the days that are open one is taken on which the dam lives and the young isn't born yet."""
     titles = TITLES.replace("\n", ";Died\n")
     rows = "A0;Dam;f;2015-01-01;;;X;2019-06-12\nA1;Foo;f;12/13.06.2019;;A0;X;\nA2;Bar;f;1.7.2020;;A1;X;\n"
     desk.take(titles + rows, *OPTIONS)
     assert desk.born()["A1"] == "2019-06-12" and desk.parents()["A1"] == ("", "A0")
+
+
+def test_month_of_an_exit_with_two_digits_of_the_year(desk: Desk) -> None:
+    """It is read as one with four is, also of a sale to another owner; a number that may be another one isn't."""
+    exits = (
+        "verk. 3/24", "geschl. 11.24", "geschl. 11.2024", "verk. März 24", "verk. an Hill 4/24", "verk. Nr. 3/24",
+        "verk. 13/24", "sold 11.50", "verk. vor 3/24",
+    )  # fmt: skip
+    rows = "A0;Foo;f;2015-01-01;;;Hill;\n"
+    rows += "".join(f"A{at};Foo{at};f;2015-01-01;;;X;{exit}\n" for at, exit in enumerate(exits, 1))
+    done = desk.take(TITLES.replace("\n", ";Exit\n") + rows, *OPTIONS)
+    left = [line.split(",")[2] for line in desk.commands() if line.startswith("exit")]
+    assert left == ["2024-03-31", "2024-11-30", "2024-11-30", "2024-03-31"] and desk.transfer_days() == ["2024-04-30"]
+    done.tells(
+        "line 3: A1: inferred: exit on 2024-03-31, the last day of the month 2024-03, from 'verk. 3/24'",
+        "line 4: A2: inferred: exit on 2024-11-30, the last day of the month 2024-11, from 'geschl. 11.24'",
+        "line 7: A5: inferred: owner since 2024-04-30, from the month 2024-04",
+    )
+    assert "in 3 cells of the column 'Exit': 'verk. 3/24' in line 3 is read as 2024-03, and the others" in done.out
+    assert "'verk. Nr. 3/24', 'verk. 13/24', 'sold 11.50'" in done.out
+
+
+def test_winters_and_mistyped_days(desk: Desk) -> None:
+    """A winter is read as other seasons are, and a season or a month may have two digits of the year; of a mistyped day
+    the year alone is read, and that is told."""
+    texts = (
+        "Winter 2019", "Winter 2018/19", "Herbst 18", "Frühjahr 20", "Anf. Mai 26", "Mitte März 20", "Ende April 19",
+        "12..3.2020", "l2.3.2021", "ca. 2015",
+    )  # fmt: skip
+    rows = "".join(f"A{at};Foo{at};f;{text};;;X;\n" for at, text in enumerate(texts, 1))
+    rows += "B1;Bar;f;2015-01-01;;;X;verk. Herbst 18\nB2;Bar;f;2015-01-01;;;X;verk. Winter 2019\n"
+    done = desk.take(TITLES.replace("\n", ";Exit\n") + rows, *OPTIONS)
+    born = [desk.born()[f"A{at}"] for at in range(1, 10)]
+    assert [day[:4] for day in born] == ["2019", "2018", "2018", "2020", "2026", "2020", "2019", "2020", "2021"]
+    assert [int(day[5:7]) for day in born[:7]] == [1, 12, 10, 4, 5, 3, 4]
+    left = [line.split(",")[2] for line in desk.commands() if line.startswith("exit")]
+    assert left == ["2018-11-30", "2019-12-31"]
+    in_column = "of the column 'Whelped':"
+    done.tells(
+        f"to look at: a text with a month, a week or a season in 1 cell {in_column} 'Winter 2019' in line 2 is read as "
+        "2019",
+        f"to look at: one of several days in 1 cell {in_column} 'Winter 2018/19' in line 3 is read as 2018-12-01 to "
+        "2019-02-28",
+        f"to look at: a text of which the year alone can be read in 2 cells {in_column} '12..3.2020' in line 9 is read "
+        "as 2020, and the others alike",
+    )
+    for begin in (f"3 cells {in_column} 'Anf. Mai 26' in line 6", f"2 cells {in_column} 'Herbst 18' in line 4"):
+        assert f"two digits of the year in {begin}" in done.out
 
 
 def test_exits_stay_as_they_were(desk: Desk) -> None:

@@ -283,7 +283,7 @@ def test_word_beside_a_day_and_a_status(desk: Desk) -> None:
      ("verkauft vor 2020", "verkauft vor 2020"), ("vor dem 1.5.2020", ""), ("Herbst 2021", ""), ("courant 2020", ""),
      ("Wolf, Herbst 2021", "Wolf, Herbst 2021"), ("2024-05-31 (inferred)", ""), ("2021-02-03 10:00", ""),
      ("sold 3.4.2020 or 5.6.2021", "sold 3.4.2020 or 5.6.2021"), ("ja, 1.5.2024", ""), ("31.02.2020 verkauft", "verkauft"),
-     ("sept.-21", ""), ("44317", "")],
+     ("sept.-21", ""), ("44317", ""), ("verk. an Meier 3/24", "verk. an Meier"), ("geschl. März 24", "geschl.")],
 )  # fmt: skip
 def test_words_beside_a_day(text: str, words: str) -> None:
     assert words_beside(text) == words

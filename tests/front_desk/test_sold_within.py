@@ -61,6 +61,7 @@ def test_taker_who_may_be_two(desk: Desk) -> None:
         ("verkauft an Meier Ida", ""), ("sold to Ida Meier", ""), ("jetzt Meier", ""), ("vendue à Meier Ida", ""),
         ("Huber, verk. an Meier, 3.4.21", "2021-04-03"), ("Verkauf an Meier Ida 3.4.2021", "2021-04-03"),
         ("ging an Ida Meier", ""), ("new owner: Ida Meier", ""), ("vente à Meier", ""),
+        ("Huber, verk. an Meier 3/24", "2024-03-31"),
     ],
 )  # fmt: skip
 def test_sale_in_place_of_owner(desk: Desk, cell: str, day: str) -> None:

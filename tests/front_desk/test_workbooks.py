@@ -137,6 +137,17 @@ def test_what_cells_show_besides(desk: Desk, workbook: openpyxl.Workbook) -> Non
         "to look at: text is struck through in 1 row, line 3, which is taken like all others: if its animal has left, "
         "write an exit",
     )
+    for at in range(4, 30):
+        for column, text in enumerate((f"X{at}", "f", "2010-01-01", "B1", ""), 1):
+            sheet.cell(at, column, text).font = openpyxl.styles.Font(strike=at % 2 or at > 18)
+    save(desk, workbook)
+    lines = ", ".join(map(str, [*range(3, 19, 2), *range(19, 30)]))
+    told = f"to look at: text is struck through in 19 rows, in the lines {lines}, which are taken like all others: "
+    desk.good("import", "sheet.xlsx").tells(f"{told}if their animals have left, write exits")
+    sheet["A4"].font = sheet["A6"].font = openpyxl.styles.Font(strike=True)
+    save(desk, workbook)
+    assert "in 21 rows, in the lines 3, 4, 5, 6, 7, 9," in (last := desk.good("import", "sheet.xlsx").told)
+    assert ", 27, 28 and 1 more, which are taken like all others" in last
 
 
 GREYS = (
@@ -170,6 +181,23 @@ def test_grey_rows(desk: Desk, workbook: openpyxl.Workbook, grey: openpyxl.style
         cell.fill = fill
     save(desk, workbook)
     assert "grey fill" not in desk.good("import", "sheet.xlsx", "--book", "striped").out
+
+
+def test_hidden_rows(desk: Desk, workbook: openpyxl.Workbook) -> None:
+    """Animals' rows that are hidden are told once, however they are, and taken; empty rows are none."""
+    sheet = workbook["Tiere"]
+    for at in range(4, 12):
+        for column, text in enumerate((f"X{at}", "f", "2010-01-01", "B1", ""), 1):
+            sheet.cell(at, column, text)
+    sheet.row_dimensions[7].hidden = sheet.row_dimensions[20].hidden = True
+    sheet.row_dimensions.group(9, 10, hidden=True)
+    save(desk, workbook)
+    said = (
+        "to look at: 3 rows are hidden, the first is line 7: they are taken like all others; if their animals have "
+        "left, write exits"
+    )
+    done = desk.good("import", "sheet.xlsx")
+    assert done.out.count("hidden") == 1 and said in done.out and {"X7", "X9", "X10"} <= desk.born().keys()
 
 
 def test_names_like_truth_values(desk: Desk, workbook: openpyxl.Workbook) -> None:

@@ -183,11 +183,14 @@ def test_new_tags_of_a_family(empty_site: Site, language: str) -> None:
         ("en", "2 rows have a grey fill, the first is line 4: nothing is read from it"),
         ("de", "2 Zeilen, zuerst 4, sind grau hinterlegt: daraus wird nichts gelesen"),
         ("fr", "2 lignes, d'abord la 4, ont un fond gris : rien n'en est lu"),
+        ("en", "2 rows are hidden, the first is line 5: they are taken like all others"),
+        ("de", "2 Zeilen, zuerst 5, sind ausgeblendet: sie werden wie alle übernommen"),
+        ("fr", "2 lignes, d'abord la 5, sont masquées : elles sont prises comme toutes"),
     ],
 )
 def test_grey_rows(empty_site: Site, language: str, told: str) -> None:
-    """That some rows are filled grey is told, with the first of them. Nobody knows what it means, so there is no button
-    for it, and their animals are taken as living ones."""
+    """That some rows are filled grey is told, with the first of them, and that some are hidden. Nobody knows what it
+    means, so there is no button for it, and their animals are taken as living ones."""
     site = empty_site
     site.get(f"/language/{language}")
     workbook, file = openpyxl.Workbook(), io.BytesIO()
@@ -197,6 +200,7 @@ def test_grey_rows(empty_site: Site, language: str, told: str) -> None:
         sheet.append([f"{at:03}", "w", f"1.2.{2010 + at}", "", ""])
     for cell in [*sheet[4], *sheet[6]]:
         cell.fill = PatternFill("solid", fgColor="FFBFBFBF")
+    sheet.row_dimensions.group(5, 6, hidden=True)
     workbook.save(file)
     address = site.drop("liste.xlsx", file.getvalue())
     page = site.page(address)

@@ -148,8 +148,8 @@ class DayCells:
         if self.of_states and text not in self.unknown and is_other_state(text):
             return NO_EXIT
         day = self.day(Field.EXIT, text)
-        is_no_more = is_day or is_span(text) or (day.reading is not None and not exit_word(text))
         reason = words_beside(text) if day.span and not is_day else ""
+        is_no_more = is_day or is_span(text) or (day.reading is not None and not (exit_word(text) or reason))
         is_reason = reason not in self.unknown or DEAD.search(reason)
         is_later = day.fault is not None and self.is_later(text)
         return ExitCell(day, is_no_more, is_later, reason=reason if is_reason else "")
@@ -164,7 +164,8 @@ class DayCells:
         if field is Field.BIRTH and tells_other_event(text):
             return DayCell(fault=DayLeftOut(field, DayFault.OTHER_EVENT, text), is_unread=True)
         try:
-            form = self.forms.read(said, is_exit)
+            month = self.forms.month_of_exit(text) if has_left else None
+            form = (month, DayReading.TWO_DIGITS) if month else self.forms.read(said, is_exit)
             if form and (not is_exit or form[1] is not DayReading.WITHIN or form[0].text):
                 span, reading = form
                 read = self.possible(field, text, last_month(span) if is_exit else span)
@@ -180,7 +181,8 @@ class DayCells:
             # a year that a book can't have is read, and told by itself
             is_unread = error.fault is not DayFault.YEAR
             return DayCell(fault=DayLeftOut(field, *told, is_exit), is_unread=is_unread)
-        return self.possible(field, text, span)
+        is_mistyped = not is_exit and len(re.findall(r"\d", span.text)) > 4
+        return self.possible(field, text, span)._replace(reading=DayReading.YEAR_ALONE if is_mistyped else None)
 
     def possible(self, field: Field, text: str, span: Span) -> DayCell:
         """A text with these days, which aren't taken where they are after today."""

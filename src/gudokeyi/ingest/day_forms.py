@@ -31,13 +31,25 @@ TWO = re.compile(
 )
 # a month with such a year, as spreadsheets show a day by it: `avr.-07` and `Apr 07`
 MONTH = re.compile(rf"(?P<name>{NAME})[ ./-]+'?(?P<year>\d{{2}})", re.IGNORECASE)
+# the same within a text; and a number of a month before it in an exit's cell, as `verk. 3/24`, which nothing follows
+# but where the animal went, or why
+BEHIND_MONTH = r"(?=\W*$|\s*[(,;]|\s+(?:an|nach|zu|bei|wegen|durch|to|due|by|à|au|chez|pour)\b)"
+MONTH_WITHIN = re.compile(
+    rf"(?<![\w./-])(?P<name>{NAME})[ ./-]*'?(?P<year>\d{{2}})(?![\w?*#~]|[./-]\d)", re.IGNORECASE
+)
+MONTH_OF_EXIT = re.compile(rf"(?<= )(?P<month>0?[1-9]|1[0-2])[./](?P<year>\d{{2}}){BEHIND_MONTH}", re.IGNORECASE)
+# what stands before a number that is none of a month
+COUNTED = re.compile(r"\b(?:Nr|No|Los|lot|num\w*|tag|id)\.? $|[#°] ?$", re.IGNORECASE)
+# such a number of an earlier year is rather a price
+LONG_AGO = 40
 # a list marks days that were inferred for the book
 MARKED = re.compile(r".*\((?:inferred|invented)\)")
-# the first and the last month of a season; a winter has months of two years
+# the first and the last month of a season; a winter has these of its year, where it is named by one alone
 SEASONS = {
     "frühjahr frühj frühling spring printemps": (3, 5),
     "sommer summer été ete": (6, 8),
     "herbst autumn fall automne": (9, 11),
+    "winter hiver": (1, 2),
     "anfang anf beginning early début debut": (1, 4),
     "mitte middle mid mi": (5, 8),
     "ende end late fin": (9, 12),
@@ -45,6 +57,17 @@ SEASONS = {
 SEASON_WORDS = {word: months for words, months in SEASONS.items() for word in words.split()}
 SEASON = re.compile(
     rf"\b({'|'.join(SEASON_WORDS)})\b[ .-]*(?:of |de |d'|du )?((?:19|20|21)\d{{2}})(?!\d)", re.IGNORECASE
+)
+# the same with two digits of the year
+SHORT_SEASON = re.compile(
+    rf"\b(?P<season>{'|'.join(SEASON_WORDS)})\b[ .-]*(?:of |de |d'|du )?'?(?P<year>\d{{2}})(?![\w?*#~]|[./,-]\d)",
+    re.IGNORECASE,
+)
+# a winter that has both of its years, as `Winter 2019/20`
+WINTER = re.compile(
+    r"\b(?:winter|hiver)\b[ .-]*(?:of |de |d'|du )?(?P<first>(?:19|20|21)?\d{2}) ?[/–-] ?(?P<last>(?:19|20|21)?\d{2})"
+    r"(?!\d)",
+    re.IGNORECASE,
 )
 # a week of a year, as `KW 12/2010` and `12. Woche 2010`
 WEEK = re.compile(
@@ -56,7 +79,7 @@ WEEK = re.compile(
 # one of some days that follow one another, as `12/13.06.2019` and `12 or 13 June 2019`
 ONE_OF = re.compile(
     r"(?<![\w./-])(?P<from>\d{1,2})(?:\.|er|st|nd|rd|th)?"
-    r"(?: ?[/–—&+-] ?| (?:or|and|to|oder|und|bis|auf|ou|et|au|à) )"
+    r"(?: ?[/–—&+-] ?| (?:or|and|to|oder|od\.?|und|bis|auf|ou|et|au|à) )"
     r"(?:(?P<until>\d{1,2})\. ?(?P<point>\d{1,2})\. ?|(?P<day>\d{1,2})(?P<sign>[/-])(?P<month>\d{1,2})(?P=sign)|"
     rf"(?P<last>\d{{1,2}})(?:\.|er|st|nd|rd|th)?[ ./-]*(?:of |de |d')?(?P<name>{NAME})[ ./,-]*)"
     r"'?(?P<year>\d{4}|\d{2})(?![\w/-]|\.\d)",
@@ -65,8 +88,19 @@ ONE_OF = re.compile(
 # the same of days that have their months, as `31.05./01.06.2019`: what has both, and what stands between them
 FROM_DIGIT_TO_DIGIT = re.compile(r"\d.*\d", re.DOTALL)
 BETWEEN_DAYS = re.compile(
-    r"\s*[/–—&+-]\s*|\s(?:or|and|to|oder|und|bis|auf|ou|et|au|à)\s(?:(?:den|dem|the|le)\s)?", re.IGNORECASE
+    r"\s*[/–—&+-]\s*|\s(?:or|and|to|oder|od\.?|und|bis|auf|ou|et|au|à)\s(?:(?:den|dem|the|le)\s)?", re.IGNORECASE
 )
+# what tells beside a day of another one: a day without its year, a day or a year with the name of its month
+ANOTHER_DAY = re.compile(
+    r"(?<![\w.,/-])(?:0?[1-9]|[12]\d|3[01])\. ?(?:0?[1-9]|1[0-2])\.(?!\d{3})|"
+    r"(?<![\w.,/-])\d{1,2}(?P<slash>[/-])\d{1,2}(?P=slash)\d{2}(?!\w)|"
+    rf"(?<!\w)\d{{1,2}}[ .]*{NAME}(?!\w)|(?<!\w){NAME}[ ./-]*'?\d{{2}}(?!\w)",
+    re.IGNORECASE,
+)
+# a month before what seems a day, and is the year of that month, as in `Dez. 19/Jan. 20`
+MONTH_BEFORE = re.compile(rf"(?<!\w){NAME}[ ./'-]*$", re.IGNORECASE)
+# a number behind a day that stands for another day, month or year, as in `3.4.20 oder 21`
+NUMBER_BEHIND = re.compile(rf"(?:{BETWEEN_DAYS.pattern})'?\d{{1,2}}\W*$", re.IGNORECASE)
 # a longer text has more than these
 MOST_LETTERS = 60
 # a day without its month
@@ -106,6 +140,8 @@ class DayForms:
         sure is that of no exit: the word for that tells it."""
         if is_span(text) or MARKED.match(text):
             return None
+        if winter := self.winter(text):
+            return winter, DayReading.ONE_OF
         if not is_exit and (two_days := self.two_days(text)):
             return two_days, DayReading.ONE_OF
         if not is_exit and (days := ONE_OF.search(text)):
@@ -209,18 +245,58 @@ class DayForms:
         """The only day, week, month or season within a text; none where the text says that it isn't that one."""
         if season := week_of(text) or season_of(text):
             return season, DayReading.WITHIN
+        if short_season := self.short_season(text):
+            return short_season, DayReading.TWO_DIGITS
         if NOT_THAT_YEAR.search(text):
             return None
         two = TWO.search(text)
         if two and not YEAR.search(text) and not re.search(r"[\w.,/-]", text[max(two.start() - 1, 0) : two.start()]):
+            if tells_another_day(two):
+                raise Unreadable(DayFault.NO_DAY, text)
             day = self.two_digits(two)
             return (day, DayReading.TWO_DIGITS) if day else None
+        if month := self.month_within(text):
+            return month._replace(text=text), DayReading.TWO_DIGITS
         span = span_within(text, self.month_first)
         if span is None or span.precision is Precision.YEAR:
             return None
         if span.is_day and BETWEEN.search(text):
             span = month_of(span.first.year, span.first.month)
         return (span if span.is_day else span._replace(text=text)), DayReading.WITHIN
+
+    def winter(self, text: str) -> Span | None:
+        """The days of a winter that is named by both of its years, which follow one another."""
+        found = WINTER.search(text)
+        if found is None or not is_only_number(found) or NOT_THAT_YEAR.search(text[: found.start()]):
+            return None
+        first = int(found["first"]) if len(found["first"]) == 4 else self.year_near(found["first"])
+        if not f"{first + 1}".endswith(found["last"]):
+            raise Unreadable(DayFault.NO_DAY, text)
+        return days_of(month_of(first, 12).first, month_of(first + 1, 2).last, text)
+
+    def short_season(self, text: str) -> Span | None:
+        """The days of a season whose year has two digits, which are the only number of the text."""
+        found = SHORT_SEASON.search(text)
+        if found is None or not is_only_number(found) or not_that(text[: found.start()]):
+            return None
+        season = season_of(f"{found['season']} {self.year_near(found['year'])}")
+        return season._replace(text=text) if season else None
+
+    def month_within(self, text: str) -> Span | None:
+        """The month of a text whose only number has two digits of the year, as of `Mitte März 20`."""
+        found = MONTH_WITHIN.search(text)
+        if found is None or not is_only_number(found):
+            return None
+        return month_of(self.year_near(found["year"]), MONTHS[compared(found["name"])])
+
+    def month_of_exit(self, text: str) -> Span | None:
+        """The same where the month is a number behind a word for an exit, as in `verk. 3/24`."""
+        found = MONTH_OF_EXIT.search(text)
+        before = text[: found.start()] if found else ""
+        if found is None or not is_only_number(found) or COUNTED.search(before) or not_that(before):
+            return None
+        year = self.year_near(found["year"])
+        return month_of(year, int(found["month"]))._replace(text=text) if self.today.year - year <= LONG_AGO else None
 
     def can_read(self, text: str) -> bool:
         """Is it such a day?"""
@@ -233,6 +309,19 @@ class DayForms:
 def days_of(first: datetime.date, last: datetime.date, text: str = "") -> Span:
     """A few days, of which it is one."""
     return Span(first, last, "", text, Precision.DAYS)
+
+
+def tells_another_day(found: re.Match[str]) -> bool:
+    """Does a text have another day beside one with two digits of the year, as `3.3.24 oder 5.3.24`?"""
+    before, behind = found.string[: found.start()], found.string[found.end() :]
+    if found["name"] and MONTH_BEFORE.search(before) or NUMBER_BEHIND.match(behind):
+        return True
+    return ANOTHER_DAY.search(before) is not None or ANOTHER_DAY.search(behind) is not None
+
+
+def is_only_number(found: re.Match[str]) -> bool:
+    """Has a text no digits besides?"""
+    return not re.search(r"\d", found.string[: found.start()] + found.string[found.end() :])
 
 
 def not_that(before: str) -> bool:
@@ -266,7 +355,11 @@ def week_of(text: str) -> Span | None:
 
 
 def last_month(span: Span) -> Span:
-    """That of a season, on whose last day an exit is."""
+    """That of a season, on whose last day an exit is; of a winter with one year it is December."""
+    if span.precision is Precision.DAYS:
+        return month_of(span.last.year, span.last.month)
+    if span.precision is Precision.YEAR and (span.first.month, span.last.month) == SEASONS["winter hiver"]:
+        return month_of(span.last.year, 12)
     if span.precision is Precision.YEAR and span.text and (span.first.month, span.last.month) != (1, 12):
         return month_of(span.last.year, span.last.month)
     return span

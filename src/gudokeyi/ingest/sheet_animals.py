@@ -27,7 +27,7 @@ from gudokeyi.ingest.findings.cells import (
 )  # fmt: skip
 from gudokeyi.ingest.findings.columns import SheetFinding
 from gudokeyi.ingest.findings.exits import Remark
-from gudokeyi.ingest.findings.files import GreyRows
+from gudokeyi.ingest.findings.files import GreyRows, HiddenRows
 from gudokeyi.ingest.findings.sheets import CutNumber, FormulaCell, Place
 from gudokeyi.ingest.odd_ids import Oddity, odd_ids
 from gudokeyi.ingest.odd_texts import first_days, tell_exits_in_names, tell_several_ids
@@ -377,7 +377,7 @@ class Rows:
         order = Order(self.slashed_days())
         fault, note = order.fault(self.month_first), order.note(self.month_first)
         self.faults += [*([fault] if fault else []), *self.cut_numbers(), *self.unread.mostly(), *self.errors.mostly()]
-        self.notes += [*self.sheet.unread, *self.grey_rows(animals), *self.cells.letters.told(), *self.errors.told()]
+        self.notes += [*self.sheet.unread, *self.marked_rows(animals), *self.cells.letters.told(), *self.errors.told()]
         self.notes += [note] if note else []
         self.notes += [*self.cells.readings.told(), *self.unread.found(), *self.sexes.told()]
         if Field.SEX in self.columns:
@@ -405,11 +405,13 @@ class Rows:
         told |= self.same_ids.born.keys()
         tell_odd_ids(animals, told | tell_several_ids(animals, told, self.report), self.report)
 
-    def grey_rows(self, animals: dict[str, SheetAnimal]) -> list[SheetFinding]:
-        """The animals' rows that are filled grey."""
-        lines = {*self.sheet.grey} and {*map(LINE_OF, animals.values())}
-        grey = [line for line in self.sheet.grey if line in lines]
-        return [GreyRows(len(grey), grey[0])] if grey else []
+    def marked_rows(self, animals: dict[str, SheetAnimal]) -> Iterator[SheetFinding]:
+        """The animals' rows that are filled grey, and those that are hidden."""
+        marked = {GreyRows: self.sheet.grey, HiddenRows: self.sheet.hidden}
+        lines = {*map(LINE_OF, animals.values())} if any(marked.values()) else set[int]()
+        for kind, marks in marked.items():
+            if of_animals := [line for line in marks if line in lines]:
+                yield kind(len(of_animals), of_animals[0])
 
     def slashed_days(self) -> Iterator[Place]:
         """The cells of days that may show their order, each with its place."""

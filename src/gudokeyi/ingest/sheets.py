@@ -12,7 +12,7 @@ from collections.abc import Callable, Mapping
 from dataclasses import dataclass, field
 from typing import NamedTuple
 
-from gudokeyi.domain.cells import from_spreadsheets, may_have_texts
+from gudokeyi.domain.cells import TEXT, from_spreadsheets, may_have_texts
 from gudokeyi.domain.collections import made
 from gudokeyi.domain.messages import Mistake
 from gudokeyi.domain.requests import seen_of
@@ -20,7 +20,7 @@ from gudokeyi.ingest.encodings import decoding
 from gudokeyi.ingest.files import MOST_LETTERS, GivenFile, check_bounds
 from gudokeyi.ingest.findings.columns import SheetFinding
 from gudokeyi.ingest.findings.exits import Remark
-from gudokeyi.ingest.findings.files import MarksAlone
+from gudokeyi.ingest.findings.files import Apostrophes, MarksAlone
 from gudokeyi.ingest.messages import SheetFault
 from gudokeyi.ingest.shown_cells import Shown
 from gudokeyi.ingest.stray_quotes import with_marks_doubled
@@ -32,6 +32,9 @@ SEPARATORS = ";\t,"
 BLANKS = ("  ", " \n", "\n ", " \r", "\r ")
 # the titles stand in one of so many rows
 BEGINNING = 5
+# an apostrophe by which a spreadsheet knows a text; names such as `'t Hof`, quoted ones, and years such as `'19` have
+# one of their own
+APOSTROPHE = re.compile(rf"{TEXT}(?=\w)(?!(?i:[stnk])[ -])(?!\d\d$)(?!.*{TEXT}$)")
 # so great a part of the rows at most is marked by grey
 MOST_GREY = 0.4
 Score = Callable[[list[str]], int]
@@ -102,6 +105,8 @@ class Sheet:
     as_before: str = ""
     # the lines of rows that are filled grey
     grey: list[int] = field(default_factory=list)
+    # and of those that a workbook hides
+    hidden: list[int] = field(default_factory=list)
     # the cells of a workbook of which it shows another text, by their lines and places
     shown: Shown = field(default_factory=dict)
     # the lines of cells of a workbook that are days, by the places of their columns
@@ -145,7 +150,7 @@ def read_sheet(file: GivenFile, score: Score, worksheet: str = "", before: Named
     path, data = file.path, file.data
     faults: list[SheetFinding]
     formulas: Formulas | None = None
-    unread, grey, shown = list[SheetFinding](), list[int](), Shown()
+    unread, grey, hidden, shown = list[SheetFinding](), list[int](), list[int](), Shown()
     days: Mapping[int, list[int]] = {}
     worksheets, as_before = tuple[str, ...](), ""
     if file.is_zipped() and not file.is_workbook():
@@ -154,7 +159,8 @@ def read_sheet(file: GivenFile, score: Score, worksheet: str = "", before: Named
         found = read_workbook(path, data, score, BEGINNING, worksheet, before)
         worksheets, as_before = found.titles, found.title * found.as_before
         rows, how, faults = [SheetRow(*one) for one in found.rows], found.how, found.faults
-        formulas, unread, grey, shown, days = found.formulas, found.unread, found.grey, found.shown, found.days
+        formulas, unread, grey, hidden = found.formulas, found.unread, found.grey, found.hidden
+        shown, days = found.shown, found.days
         tops, best, taken = found.tops, best_worksheet, found.title
     else:
         if worksheet:
@@ -166,6 +172,7 @@ def read_sheet(file: GivenFile, score: Score, worksheet: str = "", before: Named
         how = f"{encoding}, cells separated by " + {";": "semicolons", "\t": "tabs", ",": "commas"}[taken]
         faults = [fault] if fault else []
     rows, unseen = without_unseen(rows)
+    rows, apostrophes = without_apostrophes(rows)
     if not rows:
         raise Mistake(SheetFault.EMPTY.said(path=path))
     first = [row.cells for row in rows[:BEGINNING]]
@@ -174,10 +181,12 @@ def read_sheet(file: GivenFile, score: Score, worksheet: str = "", before: Named
     check_bounds(path, rows, at + 1)
     below, above = rows[at + 1 :], rows[at - 1].cells if at else []
     grey = marked_by_grey(grey, line, len(below))
+    texts = [one for one in apostrophes if one > line]
+    unread += [Apostrophes(len(texts), texts[0])] if texts else []
     decision = Decision(tops, best, taken, first, at)
     return Sheet(
         line, titles, below, how, faults, {}, unseen, formulas, unread, above, decision=decision, worksheets=worksheets,
-        as_before=as_before, grey=grey, shown=shown, days=days,
+        as_before=as_before, grey=grey, hidden=hidden, shown=shown, days=days,
     )  # fmt: skip
 
 
@@ -199,6 +208,20 @@ def without_unseen(rows: list[SheetRow]) -> tuple[list[SheetRow], Unseen]:
         seen[at] = SheetRow(line, [*map(seen_of, cells)])
         unseen |= {(line, place): cell for place, cell in enumerate(cells) if cell != seen[at].cells[place]}
     return seen, unseen
+
+
+def without_apostrophes(rows: list[SheetRow]) -> tuple[list[SheetRow], list[int]]:
+    """The rows without the apostrophes by which a spreadsheet knows texts, and the line of each cell that had one. Few
+    sheets have any."""
+    if f"\t{TEXT}" not in "\t".join(itertools.chain([""], *map(operator.itemgetter(1), rows))):
+        return rows, []
+    read = [SheetRow(line, [*map(without_apostrophe, cells)]) for line, cells in rows]
+    both = zip(rows, read)
+    return read, [row.line for row, other in both for cell, text in zip(row.cells, other.cells) if cell != text]
+
+
+def without_apostrophe(cell: str) -> str:
+    return cell[1:] if APOSTROPHE.match(cell) else cell
 
 
 def title_row(rows: list[list[str]], score: Score) -> int:

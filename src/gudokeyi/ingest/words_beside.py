@@ -4,7 +4,9 @@ from __future__ import annotations
 import functools
 import re
 
-from gudokeyi.ingest.day_forms import MARKED, MONTH, SEASON, TWO, UNSURE, WEEK, not_that
+from gudokeyi.ingest.day_forms import (
+    MARKED, MONTH, MONTH_OF_EXIT, MONTH_WITHIN, SEASON, SHORT_SEASON, TWO, UNSURE, WEEK, WINTER, not_that,
+)  # fmt: skip
 from gudokeyi.ingest.days import is_span, places_within
 from gudokeyi.ingest.words import DEAD, KNOWN_YES, LETTER
 
@@ -21,7 +23,7 @@ def words_beside(text: str) -> str:
     2020`; and nothing where it says no more than the time, or marks it as inferred."""
     if is_span(text) or MARKED.match(text) or MONTH.fullmatch(text):
         return ""
-    season = SEASON.search(text) or WEEK.search(text)
+    season = next(filter(None, (form.search(text) for form in (WINTER, SEASON, WEEK, SHORT_SEASON))), None)
     place = season or place_of_day(text)
     if place is None:
         return text if says_why(text) else ""
@@ -35,7 +37,8 @@ def words_beside(text: str) -> str:
 
 def place_of_day(text: str) -> re.Match[str] | None:
     """Where its only day, month or year stands."""
-    places = places_within(text) or [*TWO.finditer(text)]
+    two_digits = (TWO, MONTH_WITHIN, MONTH_OF_EXIT)
+    places = places_within(text) or next(filter(None, ([*form.finditer(text)] for form in two_digits)), [])
     return places[0] if len(places) == 1 else None
 
 

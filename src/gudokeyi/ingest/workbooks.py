@@ -154,6 +154,8 @@ def cells_of(ref: str) -> int | None:
 
 # a number with more digits than a spreadsheet keeps
 TOO_LONG = 10**15
+# so many lines of rows with text that is struck through are told
+MOST_STRUCK = 20
 # what stands between quotation marks, brackets or behind a backslash in a format isn't part of a date
 QUOTED = re.compile(r'"[^"]*"|\[[^\]]*\]|\\.')
 Score = Callable[[list[str]], int]
@@ -184,6 +186,8 @@ class Worksheet(NamedTuple):
     unread: list[SheetFinding]
     # the numbers of rows that are filled grey
     grey: list[int]
+    # and of those that it hides
+    hidden: list[int]
     # the cells of which it shows another text than is read
     shown: Shown
     # the rows of cells with days, by the places of their columns, from 0 on
@@ -221,7 +225,7 @@ def read_workbook(
     others = [f"'{title}'" for title in titles if title != titles[at]]
     how = f"the worksheet '{titles[at]}' of an .xlsx file" + (f"; not read: {', '.join(others)}" if others else "")
     how = how if others else "an .xlsx file"
-    found = faults(texts), formulas(values, texts), unread(values, struck), grey_lines(values)
+    found = faults(texts), formulas(values, texts), unread(values, struck), grey_lines(values), hidden_lines(values)
     besides = shown_cells(values), days_of(values)
     return Worksheet(rows, how, *found, *besides, titles[at], tops, tuple(titles), as_before)
 
@@ -360,12 +364,17 @@ def unread(sheet: Any, struck: Mapping[Place, StruckText]) -> list[SheetFinding]
     lines = {row for (row, _), text in struck.items() if not text.kept.strip()}
     if any(font.strike for font in sheet.parent._fonts):
         lines |= {cell.row for cell in cells if cell.value is not None and cell.font.strike}
-    found += [StruckThrough(len(lines), min(lines))] if lines else []
+    found += [StruckThrough(len(lines), min(lines), tuple(sorted(lines)[:MOST_STRUCK]))] if lines else []
     parts = [(place, text) for place, text in struck.items() if text.kept.strip()]
     for place, text in parts[:1]:
         cell = sheet._cells[place].coordinate
         found.append(StruckWithin(len(parts), cell, clean(text.whole), clean(text.kept)))
     return found
+
+
+def hidden_lines(sheet: Any) -> list[int]:
+    """The numbers of the rows that aren't shown, by hand, by a filter or by an outline."""
+    return sorted(row for row, shown in sheet.row_dimensions.items() if shown.hidden or shown.height == 0)
 
 
 def cell_text(cell: Any) -> str:

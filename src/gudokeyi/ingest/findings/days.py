@@ -19,6 +19,8 @@ class DayReading(Worded):
     ONE_OF = "one of"
     UNSURE = "unsure"
     PERIOD_WITHIN = "period within"
+    # a day that may be mistyped, as `12..3.2020`
+    YEAR_ALONE = "year alone"
 
     def words(self) -> str:
         return READINGS[self]
@@ -31,6 +33,7 @@ READINGS = {
     DayReading.ONE_OF: "one of several days",
     DayReading.UNSURE: "a day that isn't sure",
     DayReading.PERIOD_WITHIN: "a text with a month, a week or a season",
+    DayReading.YEAR_ALONE: "a text of which the year alone can be read",
 }
 
 

@@ -8,9 +8,14 @@ from gudokeyi.domain.changes import Option
 from gudokeyi.domain.findings import Obstacle, Severity, Suggestion
 from gudokeyi.domain.kinds import Field
 from gudokeyi.domain.messages import Some
-from gudokeyi.domain.wording import Counted, OptionalPart, Quoted, Text, Told
+from gudokeyi.domain.wording import Counted, Joined, OptionalPart, Quoted, Text, Told
 from gudokeyi.ingest.findings.columns import SheetFinding
 from gudokeyi.ingest.findings.sheets import MOST_SHOWN
+
+
+def lines_told(lines: tuple[int, ...], count: int) -> Mapping[str, object]:
+    """The first lines of so many rows, and how many more there are."""
+    return {"lines": Joined(tuple(map(str, lines))), "more": count - len(lines) or None}
 
 
 @dataclass(frozen=True, slots=True)
@@ -146,6 +151,23 @@ class DigitsLost(SheetFinding):
 
 
 @dataclass(frozen=True, slots=True)
+class Apostrophes(SheetFinding):
+    """Cells with an apostrophe before their text: how many, and the line of the first."""
+
+    count: int
+    line: int
+
+    code = "apostrophes"
+    message = Counted(
+        "{count} cell begins with an apostrophe, by which a spreadsheet knows a text, in line {line}: it is read "
+        "without it",
+        "{count} cells begin with an apostrophe, by which a spreadsheet knows a text, the first in line {line}: they "
+        "are read without it",
+        "count",
+    )
+
+
+@dataclass(frozen=True, slots=True)
 class NotesAtCells(SheetFinding):
     """Cells of a worksheet that have a note of their own: how many, and the first of them with its text."""
 
@@ -164,20 +186,26 @@ class NotesAtCells(SheetFinding):
 
 @dataclass(frozen=True, slots=True)
 class StruckThrough(SheetFinding):
-    """Rows of a worksheet with text that is struck through: how many, and the first of them."""
+    """Rows of a worksheet with text that is struck through: how many, and the first of them; an earlier version stored
+    no more than the very first."""
 
     count: int
     line: int
+    lines: tuple[int, ...] = ()
 
     severity = Severity.ANIMALS
     code = "struck through"
     message = Counted(
         "text is struck through in {count} row, line {line}, which is taken like all others: if its animal has left, "
         "write an exit",
-        "text is struck through in {count} rows, the first is line {line}, which are taken like all others: if their "
-        "animals have left, write an exit",
+        "text is struck through in {count} rows, in the lines {lines}{maybe_more}, which are taken like all others: if "
+        "their animals have left, write exits",
         "count",
     )
+    parts = {"maybe_more": OptionalPart(" and {more} more")}
+
+    def values(self) -> Mapping[str, object]:
+        return lines_told(self.lines or (self.line,), self.count)
 
 
 @dataclass(frozen=True, slots=True)
@@ -214,6 +242,23 @@ class GreyRows(SheetFinding):
         "write an exit",
         "{count} rows have a grey fill, the first is line {line}: nothing is read from it; if that marks animals that "
         "have left, write exits",
+        "count",
+    )
+
+
+@dataclass(frozen=True, slots=True)
+class HiddenRows(SheetFinding):
+    """Rows that a worksheet hides: how many, and the first of them."""
+
+    count: int
+    line: int
+
+    severity = Severity.FACTS
+    code = "hidden rows"
+    message = Counted(
+        "{count} row is hidden, line {line}: it is taken like all others; if its animal has left, write an exit",
+        "{count} rows are hidden, the first is line {line}: they are taken like all others; if their animals have "
+        "left, write exits",
         "count",
     )
 

@@ -6,17 +6,13 @@ from collections.abc import Mapping
 from dataclasses import dataclass
 
 from gudokeyi.domain.findings import PlausibilityWarning, Severity
-from gudokeyi.domain.wording import AllOf, Counted, Joined, OptionalPart, Text
+from gudokeyi.domain.wording import AllOf, Counted, OptionalPart, Text
 from gudokeyi.ingest.findings.cells import OddId
 from gudokeyi.ingest.findings.columns import SheetFinding
+from gudokeyi.ingest.findings.files import lines_told
 
 # so many lines of rows are told
 MOST_LINES = 9
-
-
-def lines_told(lines: tuple[int, ...], count: int) -> Mapping[str, object]:
-    """The first lines of so many rows, and how many more there are."""
-    return {"lines": Joined(tuple(map(str, lines))), "more": count - len(lines) or None}
 
 
 @dataclass(frozen=True, slots=True)
