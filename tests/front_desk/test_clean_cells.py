@@ -8,7 +8,7 @@ import random
 import pytest
 
 from front_desk.desk import Desk
-from gudokeyi.ingest.sheets import cleaned_records, is_clean, read_records
+from gudokeyi.ingest.sheets import cleaned_records, is_clean, read_records, without_apostrophe
 from gudokeyi.ingest.texts import as_known, clean
 
 PIECES = ("a", "7", "Ö", "ō", "-", ".", "\t", ",", ";", "\n", "\r\n", "\r")
@@ -51,6 +51,11 @@ def test_words_by_hand_are_cleaned(desk: Desk) -> None:
     desk.good("import", "--pedigree", lines, "--keep", desk.write("keep", "o\u03082\n"), "--anyway")
     assert desk.parents() == {"ö1": ("R1", ""), "C1": ("", "ö1"), "ö2": ("R1", "ö1"), "R1": ("", "")}
     assert [row["id"] for row in desk.listed("list", "--owner", "ka\u0308the")] == ["ö1", "ö2"]
+
+
+def test_apostrophe_of_a_spreadsheet() -> None:
+    texts = ("'001", "'12", "'Max", "'CH 120.1", "'S 12", "'t Hof", "'s-Graven", "'Alma'", "O'Neil", "'", "''")
+    assert [*map(without_apostrophe, texts)] == [*(one[1:] for one in texts[:5]), *texts[5:]]
 
 
 def test_apostrophes_before_texts(desk: Desk) -> None:

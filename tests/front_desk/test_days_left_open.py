@@ -79,6 +79,12 @@ def test_days_far_apart(text: str) -> None:
         FORMS.read(text)
 
 
+@pytest.mark.parametrize("text", ["3/4/20-5/4/20", "31.12.19/1.1.20", "12.3.20 - 15.3.20", "zw. 3.4. und 5.4.20"])
+def test_two_days_in_the_cell_of_an_exit(text: str) -> None:
+    with pytest.raises(Unreadable):
+        FORMS.read(text, True)
+
+
 @pytest.mark.parametrize("text", BESIDE)
 def test_numbers_beside_a_day(text: str) -> None:
     found = FORMS.read(text)

@@ -316,7 +316,7 @@ def tells_another_day(found: re.Match[str]) -> bool:
     before, behind = found.string[: found.start()], found.string[found.end() :]
     if found["name"] and MONTH_BEFORE.search(before) or NUMBER_BEHIND.match(behind):
         return True
-    return ANOTHER_DAY.search(before) is not None or ANOTHER_DAY.search(behind) is not None
+    return any(ANOTHER_DAY.search(beside) for beside in (before, behind.lstrip("/–—-")))
 
 
 def is_only_number(found: re.Match[str]) -> bool:

@@ -32,9 +32,8 @@ SEPARATORS = ";\t,"
 BLANKS = ("  ", " \n", "\n ", " \r", "\r ")
 # the titles stand in one of so many rows
 BEGINNING = 5
-# an apostrophe by which a spreadsheet knows a text; names such as `'t Hof`, quoted ones, and years such as `'19` have
-# one of their own
-APOSTROPHE = re.compile(rf"{TEXT}(?=\w)(?!(?i:[stnk])[ -])(?!\d\d$)(?!.*{TEXT}$)")
+# an apostrophe by which a spreadsheet knows a text; names such as `'t Hof`, and quoted ones, have one of their own
+APOSTROPHE = re.compile(rf"{TEXT}(?=\w)(?!(?i:[stnk])[ -][^\W\d])(?!.*{TEXT}$)")
 # so great a part of the rows at most is marked by grey
 MOST_GREY = 0.4
 Score = Callable[[list[str]], int]
