@@ -12,7 +12,7 @@ from building.telling import Stop
 # Where rt keeps the library that a crate is proved as.
 RLIB = pathlib.Path("out", "rlib")
 # Each crate takes by itself, to read libraries, what so many bytes of sources take.
-BYTES_OF_CRATE = 12_000
+BYTES_OF_CRATE = 40_000
 TOP = pathlib.Path(__file__).resolve().parent.parent
 
 
