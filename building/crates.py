@@ -5,14 +5,17 @@ import functools
 import graphlib
 import os
 import pathlib
+import re
 import shutil
 
 from building.telling import Stop
 
 # Where rt keeps the library that a crate is proved as.
 RLIB = pathlib.Path("out", "rlib")
-# Each crate takes by itself, to read libraries, what so many bytes of sources take.
-BYTES_OF_CRATE = 40_000
+# Each crate takes by itself, to read libraries, what so many bytes of sources take, and each of its functions that may
+# wait for a lock or a thread takes what so many more take.
+BYTES_OF_CRATE, BYTES_OF_WAIT = 40_000, 2_000
+MAY_WAIT = re.compile(r"\bmay_wait=(\d+)")
 TOP = pathlib.Path(__file__).resolve().parent.parent
 
 
@@ -42,12 +45,17 @@ class Crates:
 
     @functools.cached_property
     def chains(self) -> dict[str, int]:
-        """The longest chain of each and of others that wait for it, by their number and the bytes of their sources."""
+        """The longest chain of each and of others that wait for it, by their lengths."""
         chains: dict[str, int] = {}
         for name in reversed(self.upwards):
-            length = BYTES_OF_CRATE + sum(it.stat().st_size for it in sources(folder(name)) if it.suffix == ".rt")
-            chains[name] = length + max((chains[it] for it in chains if name in self.below[it]), default=0)
+            chains[name] = self.length(name) + max((chains[it] for it in chains if name in self.below[it]), default=0)
         return chains
+
+    def length(self, name: str) -> int:
+        """How long a crate is, in bytes of sources."""
+        waits = MAY_WAIT.search(self.lines[name])
+        length = BYTES_OF_CRATE + (BYTES_OF_WAIT * int(waits[1]) if waits else 0)
+        return length + sum(it.stat().st_size for it in sources(folder(name)) if it.suffix == ".rt")
 
     def copy_to(self, room: pathlib.Path, name: str) -> None:
         """Makes a repository of a crate and those below it alone, with what is kept of their proofs."""

@@ -1,4 +1,3 @@
-pub mod Checks
 pub mod Clerks
 pub mod Ending
 pub mod FaultText
@@ -6,3 +5,4 @@ pub mod Pedigrees
 pub mod Program
 pub mod Serving
 pub mod Sessions
+pub mod Telling

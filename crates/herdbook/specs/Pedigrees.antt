@@ -1,7 +1,7 @@
--- How an order of a pedigree may end the program.
-use Rattle.std.specs.Prelude.{◌≡◌}
+-- The end of a program that an order of a pedigree ends early.
 use Rattle.herd_pedigree_report.specs.declared.pedigree_report_fault.PedigreeReportFault.{PedigreeReportFault}
-use Rattle.herd_pedigree_report.specs.declared.pedigree_report_fault.PedigreeReportFault.TheVariants.{Record, NotRegistered, NoThread, Memory, Write}
+use Rattle.herd_pedigree_report.specs.declared.pedigree_report_fault.PedigreeReportFault.TheVariants.{Record, NotRegistered}
+use Rattle.herd_pedigree_report.specs.declared.pedigree_report_fault.PedigreeReportFault.TheVariants.{NoThread, Memory, Write}
 use Rattle.herd_orders.specs.declared.run_fault.RunFault.TheVariants as run
 use Rattle.herdbook.specs.declared.request_fault.RequestFault.{RequestFault}
 use Rattle.herdbook.specs.declared.request_fault.RequestFault.TheVariants.{Run, Pedigree}
@@ -13,9 +13,3 @@ fault_of_pedigree NotRegistered = Run run.NotRegistered
 fault_of_pedigree NoThread = Run run.NoThread
 fault_of_pedigree Memory = Run run.Memory
 fault_of_pedigree Write = Run run.Write
-
--- it is the fault of a request for one of which something holds
-pub record TellsOf (Holds : PedigreeReportFault → Type 0) (told : RequestFault) : Type 0 where
-  pub fault : PedigreeReportFault
-  pub is : told ≡ fault_of_pedigree fault
-  pub holds : Holds fault

@@ -1,6 +1,7 @@
 -- How a request is served with the bytes of a command file, of a pedigree file, or of requests, and how it may end.
 use Rattle.std.specs.Prelude.{◌≡◌, ℕ, true, false, List, Option, Some}
 use Rattle.herd_command_file.specs.CommandFile.{commands}
+use Rattle.herd_orders.specs.RunFault.{run_fault_of}
 use Rattle.herd_orders.specs.Run.{CanEndBy, CanEndReplying, EndsBy, EndsReplying, IsAnswered, IsReplied}
 use Rattle.herd_pedigree_report.specs.PedigreeReport.{CanEndBy as CanEndPedigreeBy, EndsBy as EndsPedigreeBy, IsAnswered as IsPedigreeAnswered}
 use Rattle.herd_session.specs.Closing.{EndsBy as EndsSessionBy, IsClosedSession}
@@ -9,10 +10,10 @@ use Rattle.herd_seal.specs.Answer.{EndsTelling, IsTold}
 use Rattle.herd_clerks.specs.Clerks.{EndsClerks, IsFiledBy}
 use Rattle.herd_command_line.specs.declared.arguments.Request.{Request}
 use Rattle.herd_command_line.specs.declared.arguments.Request.TheVariants as request
-use Rattle.herdbook.specs.Checks.{TellsOfReport}
-use Rattle.herdbook.specs.Clerks.{CanEndClerks, TellsOfClerks}
-use Rattle.herdbook.specs.Pedigrees.{TellsOf}
-use Rattle.herdbook.specs.Sessions.{CanEndSession, TellsOfSession}
+use Rattle.herdbook.specs.Clerks.{fault_of_clerks}
+use Rattle.herdbook.specs.Pedigrees.{fault_of_pedigree}
+use Rattle.herdbook.specs.Sessions.{fault_of_session}
+use Rattle.herdbook.specs.Telling.{CanEndOffice, Tells}
 use Rattle.herdbook.specs.declared.ending.Ending.{Ending}
 use Rattle.herdbook.specs.declared.ending.Ending.TheVariants.{Done, Refused, Early}
 use Rattle.herdbook.specs.declared.request_fault.RequestFault.{RequestFault}
@@ -49,13 +50,14 @@ EndsServing (request.Report book order) bytes old new (Run fault) =
     EndsBy book.limits order (commands bytes book.limits.steps) old new fault
 EndsServing (request.Report book order) bytes old new (Pedigree fault) = ⊥
 EndsServing (request.Report book order) bytes old new NoPlace = ⊥
-EndsServing (request.Check plan) bytes old new fault = TellsOfReport (EndsTelling plan.seal bytes old new) fault
+EndsServing (request.Check plan) bytes old new fault =
+    Tells (λ cause. Run (run_fault_of cause)) (EndsTelling plan.seal bytes old new) fault
 EndsServing (request.Pedigree plan order) bytes old new fault =
-    TellsOf (EndsPedigreeBy plan.animals order bytes old new) fault
+    Tells fault_of_pedigree (EndsPedigreeBy plan.animals order bytes old new) fault
 EndsServing (request.Clerks book plan) bytes old new fault =
-    TellsOfClerks (EndsClerks book.limits plan.desks plan.base (commands bytes book.limits.steps) old new) fault
+    Tells fault_of_clerks (EndsClerks book.limits plan.desks plan.base (commands bytes book.limits.steps) old new) fault
 EndsServing (request.Session plan) bytes old new fault =
-    TellsOfSession (λ cause. ∥ EndsSessionBy plan.limits (records_in (Some bytes)) old new cause ∥₁) fault
+    Tells fault_of_session (λ cause. ∥ EndsSessionBy plan.limits (records_in (Some bytes)) old new cause ∥₁) fault
 
 -- the faults that it can end by, whatever is read
 abbrev pub CanEndServing : Request → RequestFault → Type 0
@@ -65,10 +67,10 @@ CanEndServing (request.File book) NoPlace = ⊥
 CanEndServing (request.Report book order) (Run fault) = CanEndBy order fault
 CanEndServing (request.Report book order) (Pedigree fault) = ⊥
 CanEndServing (request.Report book order) NoPlace = ⊥
-CanEndServing (request.Check plan) fault = TellsOfReport (λ _. Unit {0}) fault
-CanEndServing (request.Pedigree plan order) fault = TellsOf (CanEndPedigreeBy order) fault
-CanEndServing (request.Clerks book plan) fault = CanEndClerks fault
-CanEndServing (request.Session plan) fault = CanEndSession fault
+CanEndServing (request.Check plan) fault = Tells (λ cause. Run (run_fault_of cause)) (λ _. Unit {0}) fault
+CanEndServing (request.Pedigree plan order) fault = Tells fault_of_pedigree (CanEndPedigreeBy order) fault
+CanEndServing (request.Clerks book plan) fault = CanEndOffice fault
+CanEndServing (request.Session plan) fault = CanEndOffice fault
 
 -- what a request asks for was done with these bytes, or it was refused, or ended early
 abbrev pub EndsRequest : Request → List ℕ → Option (List ℕ) → Option (List ℕ) → Ending → Type 0

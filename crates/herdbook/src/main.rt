@@ -12,10 +12,10 @@
 //! | what the program does for its words | `Program` | `program` | `ProgramFacts` |
 //! | what it does for a request of the words | `Serving` | `serving` | |
 //! | how it ends, what is told on standard error | `Ending`, `FaultText` | `ending`, `request_fault`, `fault_text` | |
-//! | how reports of a pedigree end it | `Pedigrees` | `ending`, `request_fault` | |
-//! | how a check of a certificate ends it | `Checks` | `ending` | |
-//! | how clerks end it | `Clerks` | `ending`, `request_fault` | |
-//! | how a session ends it | `Sessions` | `ending`, `request_fault` | |
+//! | the faults that may end it, by what they come of | `Telling` | | |
+//! | those of reports of a pedigree | `Pedigrees` | `ending`, `request_fault` | |
+//! | those of clerks | `Clerks` | `ending`, `request_fault` | |
+//! | those of a session | `Sessions` | `ending`, `request_fault` | |
 #![tactic(auto)]
 
 mod ending;
