@@ -42,8 +42,12 @@ class Fit(NamedTuple):
 class Ids:
     """The cells of a column, among which others are sought as ids are compared."""
 
-    def __init__(self, cells: list[str]) -> None:
-        self.cells = {cell for cell in cells if cell}
+    def __init__(self, texts: list[str]) -> None:
+        self.texts = texts
+
+    @functools.cached_property
+    def cells(self) -> set[str]:
+        return {*self.texts} - {""}
 
     @functools.cached_property
     def near(self) -> set[str]:
@@ -69,13 +73,17 @@ class IdColumn:
         at = self.columns.found.get(Field.ID)
         if at is None and self.ids:
             at = self.of_book()
-        fit = self.fit(at, 0) if at is not None else self.best()
-        if fit is None:
+        if at is not None:
+            self.take(at, self.parents(at))
+        elif fit := self.best():
+            self.take(fit.at, fit.parents)
+        else:
             for name in self.wanted:
                 self.columns.found |= {name: at for at in self.columns.titled(KNOWN_TITLES[name])[:1]}
-            return
-        self.columns.found[Field.ID] = fit.at
-        self.columns.found |= fit.parents
+
+    def take(self, at: int, parents: dict[str, int]) -> None:
+        self.columns.found[Field.ID] = at
+        self.columns.found |= parents
 
     # -- the ids of the book
 
@@ -130,17 +138,19 @@ class IdColumn:
         return best
 
     def fit(self, at: int, likely: int) -> Fit:
+        ids, parents = Ids(self.columns.cells(at)), self.parents(at)
+        named = [self.columns.found.get(name) for name in (Field.SIRE, Field.DAM) if name not in self.wanted]
+        places = [*parents.values(), *(one for one in named if one is not None)]
+        return Fit(sum(self.count(one, ids) for one in places), not self.are_row_numbers(at), likely, at, parents)
+
+    def parents(self, at: int) -> dict[str, int]:
+        """Beside a column of ids the one of each parent that is wanted: of several the one with the most of these."""
         ids = Ids(self.columns.cells(at))
-        parents, found = {}, 0
-        for name in self.wanted:
-            counts = {one: self.count(one, ids) for one in self.titled[name] if one != at}
-            if counts:
-                parents[str(name)] = max(counts, key=lambda one: counts[one])
-                found += counts[parents[name]]
-        for name in (Field.SIRE, Field.DAM):
-            if name not in self.wanted and name in self.columns.found:
-                found += self.count(self.columns.found[name], ids)
-        return Fit(found, not self.are_row_numbers(at), likely, at, parents)
+        likely = {str(name): [one for one in self.titled[name] if one != at] for name in self.wanted}
+        return {
+            name: max(places, key=lambda one: self.count(one, ids)) if len(places) > 1 else places[0]
+            for name, places in likely.items() if places
+        }  # fmt: skip
 
     def count(self, at: int, ids: Ids) -> int:
         """How many parents' cells of a column are ids."""

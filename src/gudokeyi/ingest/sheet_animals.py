@@ -122,7 +122,9 @@ def tell_ids_to_come(animals: dict[str, SheetAnimal], report: Report) -> set[str
 
 def tell_dittos(animals: dict[str, SheetAnimal], field: Field, texts: Iterable[str], report: Report) -> set[str]:
     """Ids or names that are marks for the cell above, among these texts. Answers the ids of those that are told."""
-    marks = {text for text in texts if text.casefold() in DITTO}
+    # few sheets have any
+    is_any = not DITTO.isdisjoint(map(str.casefold, texts))
+    marks = {text for text in texts if text.casefold() in DITTO} if is_any else set[str]()
     of = ID_OF if field is Field.ID else NAME_OF
     found = [animal for animal in animals.values() if of(animal) in marks] if marks else []
     for animal in found:

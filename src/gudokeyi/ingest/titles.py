@@ -137,10 +137,12 @@ KNOWN_STATES = {*OF_LIVING} | {
 }  # fmt: skip
 
 
+ALL_KNOWN_TITLES = {title for usual in KNOWN_TITLES.values() for title in usual}
+
+
 def known_titles(titles: list[str]) -> int:
     """How many titles are known."""
-    known = {one for usual in KNOWN_TITLES.values() for one in usual}
-    return sum(plain(title) in known for title in titles)
+    return sum(plain(title) in ALL_KNOWN_TITLES for title in titles)
 
 
 # so many titles are told of a sheet

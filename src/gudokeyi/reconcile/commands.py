@@ -2,7 +2,6 @@
 from __future__ import annotations
 
 import datetime
-import functools
 import itertools
 from collections.abc import Collection
 
@@ -189,14 +188,9 @@ class Filing:
         rows_of_book = self.next_book.rows_of_book
         return {*rows_of_book.others(self.next_book.animals), *self.next_book.renumbered} if rows_of_book else None
 
-    @functools.cached_property
-    def ids(self) -> dict[str, str]:
-        """The ids of the book's animals by their numbers, and that of an unknown one."""
-        return {"": "", **{number: one.id for number, one in self.next_book.names.items()}}
-
     def is_same(self, animal: SheetAnimal, record: RegisterRecord, in_book: SocietyRecord, owner: str) -> bool:
         """Is it as the book has it, which has this owner? Most are, and are told by nothing."""
-        ids = self.ids
+        ids = self.next_book.in_book.ids
         return (
             animal.name == in_book.name and animal.born == record.born and animal.left == record.left
             and animal.registration_number == record.registration_number

@@ -59,12 +59,12 @@ def given_day(basis: ExitBasis) -> datetime.date | None:
 
 
 def leave_out_early_exits(next_book: NextBook) -> None:
-    known, records = next_book.book.society_records, next_book.book.records
-    # where the book has the same one all offspring was born before
+    known, records, some = next_book.book.society_records, next_book.book.records, next_book.otherwise
+    # where the book has the same one all offspring was born before, as of rows that say what it has
+    likely = [one for id, one in next_book.animals.items() if one.left and (id in some or not one.line)]
     new = {
-        id: animal for id, animal in next_book.animals.items() if animal.left is not None and not (
-            (in_book := known.get(id)) and records[in_book.registration_number].left == animal.left
-        )
+        one.id: one for one in likely
+        if not (in_book := known.get(one.id)) or records[in_book.registration_number].left != one.left
     }  # fmt: skip
     progeny = collections.defaultdict[str, list[SheetAnimal]](list)
     for animal in next_book.animals.values() if new else ():

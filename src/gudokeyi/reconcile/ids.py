@@ -115,7 +115,7 @@ def leave_out_used_tags(
     found = set()
     both = with_other_days(animals if some is None else some, book)
     apart = [(animal, in_book) for animal, in_book in both if are_years_apart(animal, in_book, book)]
-    progeny = earliest_offspring(book) if apart else {}
+    progeny = earliest_offspring(book, {in_book.registration_number for _, in_book in apart}) if apart else {}
     for animal, in_book in apart:
         id, number = animal.id, in_book.registration_number
         born, offspring = book.records[number].born, progeny.get(number)
@@ -141,13 +141,13 @@ def with_other_days(animals: Mapping[str, SheetAnimal], book: Book) -> list[tupl
     ] if known else []  # fmt: skip
 
 
-def earliest_offspring(book: Book) -> dict[str, RegisterRecord]:
-    """The first offspring of each parent."""
+def earliest_offspring(book: Book, parents: Set[str]) -> dict[str, RegisterRecord]:
+    """The first offspring of each of these parents, by their numbers."""
     found: dict[str, RegisterRecord] = {}
-    for record in book.records.values():
-        for parent in (record.sire, record.dam):
-            if parent and (parent not in found or record.born < found[parent].born):
-                found[parent] = record
+    progeny = [record for record in book.records.values() if record.sire in parents or record.dam in parents]
+    for parent, record in ((parent, one) for one in progeny for parent in (one.sire, one.dam) if parent in parents):
+        if parent not in found or record.born < found[parent].born:
+            found[parent] = record
     return found
 
 

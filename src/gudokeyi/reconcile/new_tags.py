@@ -72,7 +72,8 @@ def tell_new_tags(next_book: NextBook, gone: Mapping[str, SheetAnimal], columns:
     parents they are by either tag."""
     records = next_book.book.society_records
     lost = {id: animal for id, animal in gone.items() if records[id].standing.had_row()}
-    new = [animal for id, animal in next_book.animals.items() if animal.line and id not in records] if lost else []
+    rows = next_book.rows_otherwise() if lost else []
+    new = [animal for animal in rows if animal.line and animal.id not in records]
     by_values: dict[object, list[str]] = {}
     for id, animal in lost.items():
         if animal.name and animal.has_day():

@@ -203,7 +203,8 @@ class Book:
     @functools.cached_property
     def dropped(self) -> dict[str, SocietyRecord]:
         """The animals that aren't in the book any more, by their ids."""
-        return {row.id: society_record_of(row) for row in self.every_row if row.standing == Standing.DROPPED.value}
+        standing = Standing.DROPPED.value
+        return {row.id: society_record_of(row) for row in self.every_row if row.standing == standing}
 
     def former_numbers(self) -> dict[str, str]:
         """The last number of each animal that was in the book once, as before an undo, and isn't named there now."""

@@ -16,7 +16,7 @@ WITH_NOW = f"""
 def ids_now(book: Book) -> dict[str, str]:
     """By each id that an animal had and that none has now the one that it has; none where several had it."""
     found: dict[str, set[str]] = {}
-    for former, now in book.connection.execute(WITH_NOW):
+    for former, now in book.connection.execute(WITH_NOW) if has_former_ids(book) else ():
         found.setdefault(former, set()).add(now)
     return {former: ids.pop() for former, ids in found.items() if len(ids) == 1 and former not in book.society_records}
 
