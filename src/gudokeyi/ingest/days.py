@@ -185,6 +185,10 @@ class Span(NamedTuple):
     def has(self, day: datetime.date) -> bool:
         return self.first <= day <= self.last
 
+    def meets(self, other: Span) -> bool:
+        """Is any day in both?"""
+        return self.first <= other.last and other.first <= self.last
+
     @property
     def is_of_years(self) -> bool:
         """Does it leave open the year, as `3.4.2020 oder 2021`?"""

@@ -22,12 +22,13 @@ from gudokeyi.ingest.days import NAME, Span, Unreadable, read_span
 from gudokeyi.ingest.days_for_ids import days_among
 from gudokeyi.ingest.exchanged_days import exchanged
 from gudokeyi.ingest.findings.cells import (
-    BETWEEN_CELLS, DAYS, DayForText, DittoForText, IdAgain, IdAlone, IdOfOtherAlphabet, IdToCome, IdTooLong,
-    IdUnlikeOthers, IdWithFewerDigits, LikeASum, NoAnimal, NoId, TitlesAgain, TooManyCells, TruthValue,
+    BETWEEN_CELLS, DAYS, DayForText, DittoForText, IdAlone, IdOfOtherAlphabet, IdToCome, IdTooLong, IdUnlikeOthers,
+    IdWithFewerDigits, LikeASum, NoAnimal, NoId, TitlesAgain, TooManyCells, TruthValue,
 )  # fmt: skip
 from gudokeyi.ingest.findings.columns import SheetFinding
 from gudokeyi.ingest.findings.exits import Remark
 from gudokeyi.ingest.findings.files import GreyRows, HiddenRows
+from gudokeyi.ingest.findings.same_ids import IdAgain
 from gudokeyi.ingest.findings.sheets import CutNumber, FormulaCell, Place
 from gudokeyi.ingest.odd_ids import Oddity, odd_ids
 from gudokeyi.ingest.odd_texts import first_days, tell_exits_in_names, tell_several_ids
@@ -185,7 +186,9 @@ class SameIds:
         fields = [name for name in cells if name not in ROLES]
         differing = tuple((name, cells[name], first[name]) for name in fields if cells[name] != first[name])
         here = self.parent(cells, Role.SIRE), self.parent(cells, Role.DAM)
-        return IdAgain(animal.line, (animal.sire, animal.dam), here, differing)
+        births = [span for span in (self.birth(first), self.birth(cells)) if span]
+        is_born_otherwise = len(births) == 2 and not births[0].meets(births[1])
+        return IdAgain(animal.line, (animal.sire, animal.dam), here, differing, is_born_otherwise or None)
 
     def parent(self, cells: dict[str, str], role: Role) -> str:
         text = cells.get(role, "")
@@ -330,7 +333,7 @@ class Rows:
                 others.append(self.of_two(found, self.cells.animal(line, id, said)))
             else:
                 self.take_one(found, line, id, said)
-        tell_used_again(found, others, self.report)
+        tell_used_again(found, others, self.report, self.same_ids.born)
         self.look_at_all(found)
         return found
 
