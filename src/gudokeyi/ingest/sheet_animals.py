@@ -299,8 +299,10 @@ class Rows:
         """The rows that are read together."""
         words = self.no_animals.words
         again = self.before.again(self.sheet, self.cells, words) if self.before else None
-        lines = {line for line, *_ in self.errors.found}
-        return again or PlainRows(self.sheet, self.columns, self.cells, words, lines)
+        lines = {line for line, *_ in self.errors.found} | self.cells.lines_of_sales()
+        found = again or PlainRows(self.sheet, self.columns, self.cells, words)
+        found.leave_lines(lines)
+        return found
 
     def animals(self) -> dict[str, SheetAnimal]:
         """The animals by id, in the order of the rows."""
