@@ -76,6 +76,31 @@ def test_what_is_no_exit(desk: Desk, title: str) -> None:
     assert " 0 changed" in desk.take(text).last
 
 
+# a word for a living animal and what else is said, and such words that say no more than that
+LIVES_AND_MORE = ("lebt, hat gut gelammt", "aktiv - Zuchtpreis 2021", "lebt, geht an Meier", "vivante (boite)", "alive; lame")
+LIVES_ALONE = (
+    "lebt", "lebt noch", "lebt (Stand Mai 24)", "im Bestand seit 1.2.2019", "aktiv, im Herdbuch", "alive as of 2024",
+    "toujours en vie", "nein", "-",
+)  # fmt: skip
+
+
+@pytest.mark.parametrize("title", ["Abgang", "Status", "Abgang am;Status"])
+def test_what_is_said_of_a_living_animal(desk: Desk, title: str) -> None:
+    """The text behind a word for a living animal is kept, and told once; the word alone is no note."""
+    beside = ";" * title.count(";")
+    cells = [*LIVES_AND_MORE, *LIVES_ALONE, "verkauft"]
+    rows = "".join(f"{at:03};;w;2.2.2009;;;Huber;{beside}{cell}\n" for at, cell in enumerate(cells, 1))
+    text = TITLES.replace("Abgang", title) + rows.replace("; lame", ", lame")
+    done, name = desk.take(text), title.rpartition(";")[2]
+    kept = [cell.replace(";", ",") for cell in LIVES_AND_MORE]
+    assert f"{len(kept)} cells of the column '{name}' tell of something else than exits, the first in line 2: " in done.out
+    assert {id: those for id, those in notes(desk).items() if those} == {
+        f"{at:03}": {f"{name}: {cell}"} for at, cell in enumerate(kept, 1)
+    }
+    assert [one["id"] for one in desk.table("book/ids.csv") if one["exit"]] == [f"{len(cells):03}"]
+    assert " 0 changed" in desk.take(text).last
+
+
 def test_exit_that_was_none(desk: Desk) -> None:
     """One that a book has is taken back where the next sheet says something else."""
     row = "001;Max;m;1.2.2010;;;Huber;"

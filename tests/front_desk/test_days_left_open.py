@@ -51,11 +51,20 @@ ONE_OF = {
     "3.4.20 od. 5.4.20": ("2020-04-03", "2020-04-05"),
     "12.3.20 - 15.3.20": ("2020-03-12", "2020-03-15"),
     "zw. 3.4. und 5.4.20": ("2020-04-03", "2020-04-05"),
+    # another year
+    "3.4.2020 oder 2021": ("2020-04-03", "2021-04-03"),
+    "3.4.2020 (oder erst 2021)": ("2020-04-03", "2021-04-03"),
+    "3.4.2020/2021": ("2020-04-03", "2021-04-03"),
+    "3.4.20 oder 2021": ("2020-04-03", "2021-04-03"),
+    "geb. 2020 oder 3.4.2021": ("2020-04-03", "2021-04-03"),
+    "29.2.2020 ou 2021?": ("2020-02-29", "2021-02-28"),
+    "April 2020 or 2021": ("2020-04-01", "2021-04-30"),
+    "nach 3.4.2020 oder 2021": (None, None),
 }
 # both are days, and one isn't beside the other
-FAR = ("31.05./09.06.2019", "1.4.2018/13.4.2018", "12./20.4.2018", "1 May or 9 May 2019")
+FAR = ("31.05./09.06.2019", "1.4.2018/13.4.2018", "12./20.4.2018", "1 May or 9 May 2019", "3.4.2010 oder 2021")
 # of two months or years with two digits none is a sure day
-NO_SURE_DAY = ("Dez. 19/Jan. 20", "März 20 / April 20", "3.4.20 oder 21", "3.4.20/21", "zw. 3.4. und 25.5.20")
+NO_SURE_DAY = ("Dez. 19/Jan. 20", "März 20 / April 20", "3.4.20 oder 21", "3.4.20/21", "zw. 3.4. und 25.5.20", "3.4.2019 oder 20")
 # a number beside a day may be another one than that of a day
 BESIDE = ("3.4.20 (4.2 kg)", "3.4.20, 12 Uhr", "3.4.20 14.30 Uhr", "3.4.20 (Mai)", "3.4.20 und 2 Brüder")
 UNSURE = (
@@ -170,6 +179,23 @@ def test_two_days_with_two_digits_of_the_year(desk: Desk) -> None:
     assert "the first in line 6: 'verk. 3.3.24 oder 5.3.24': such an animal counts as gone" in done.out
     assert "words that tell of no exit stands in 2 of 5 cells that tell of an exit in the column 'Died'" in done.out
     assert "the first in line 8: 'Tierarzt 4.5.25', 'Ausstellung 3.5.2024'" in done.out
+
+
+def test_day_of_one_or_another_year(desk: Desk) -> None:
+    """A birth day is taken of the first year, and marked with this year; an exit has no day, and counts as gone."""
+    rows = "A1;Foo;f;3.4.2020 oder 2021;;;X;\nA2;Bar;f;1.2.2018;;;X;3.4.2020 oder 2021\n"
+    rows += "A3;Baz;f;2.2.2018;;;X;verk. 3.4.2020 - 2021\nA4;Qux;f;3.2.2018;;;X;2018 - 3.4.2020\n"
+    done = desk.take(TITLES.replace("\n", ";Exit\n") + rows, *OPTIONS)
+    done.shows(
+        "to look at: one of several days in 1 cell of the column 'Whelped': '3.4.2020 oder 2021' in line 2 is read as "
+        "2020-04-03 to 2021-04-03",
+    )
+    done.tells("line 2: A1: inferred: birth day 2020-04-03, from the year 2020 of '3.4.2020 oder 2021'")
+    assert "  born          2020-04-03 (inferred, from the year 2020)" in desk.good("show", "A1").out
+    left = [line.split(",")[2] for line in desk.commands() if line.startswith("exit")]
+    assert left == ["2020-04-03"] and "the first in line 4: 'verk. 3.4.2020 - 2021': such an animal counts" in done.out
+    assert "can't be read, the first in line 3: '3.4.2020 oder 2021': such an animal counts as gone" in done.out
+    assert " 0 changed" in desk.take(TITLES.replace("\n", ";Exit\n") + rows, *OPTIONS).last
 
 
 def test_between_parents_and_offspring(desk: Desk) -> None:

@@ -65,7 +65,8 @@ def test_goats(desk: Desk) -> None:
         "line 10: CH 120.1160.5: the row is left out: its sex can't be read, and no animal has it as a parent",
         (
             "line 11: CH 120.1160.4: the row is left out: line 9 has this id too (name 'Mira', there 'Mia'; birth "
-            "'10.05.2021', there '09.05.2021')"
+            "'10.05.2021', there '09.05.2021'); line 9 is taken: if this is another animal, give it an id of its own, "
+            "also where its offspring name it"
         ),
     )
     assert "book: 10 animals, 8 new, " in done.last

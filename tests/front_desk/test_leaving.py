@@ -84,7 +84,8 @@ def test_faulty_rows(desk: Desk) -> None:
     done.tells(
         (
             "line 3: a: the row is left out: line 2 has this id too (name 'Berta', there 'Anna'; birth "
-            "'2002-01-01', there '2001-01-01')"
+            "'2002-01-01', there '2001-01-01'); line 2 is taken: if this is another animal, give it an id of its own, "
+            "also where its offspring name it"
         ),
         "line 4: the row is left out: it has no id; it says 'Clara | F | 2002-01-01'",
         "line 5: unknown: the row is left out: 'unknown' is a word for an unknown animal: give it another id",

@@ -140,3 +140,33 @@ def test_name_that_one_offspring_cannot_have(desk: Desk) -> None:
         assert "unknown parent" not in done.told and "Max" not in desk.numbers()
         assert [desk.parents()[f"L{at}"][0] for at in range(4)] == ["", "R1", "R1", "R1"]
     assert desk.parents()["L9"] == ("R1", "")
+
+
+def test_name_of_a_male_and_of_a_female(desk: Desk) -> None:
+    """A name is that of the one male as a sire and of the one female as a dam, where all sexes are known; a founder
+    that stood for it is no parent any more."""
+    young = "L1,,F,2004-01-01,Toni,\nL2,,F,2004-02-01,,toni\nL3,,F,2004-03-01,Toni,Toni\n"
+    desk.take("id,name,sex,born,sire,dam\nT1,Toni,M,2001-01-01,,\nT2,Toni,,2001-02-01,,\n" + young)
+    assert desk.parents()["L1"] == ("Toni", "") and "T1" in desk.numbers()
+    sheet = "id,name,sex,born,sire,dam\nT1,Toni,M,2001-01-01,,\nT2,Toni,F,2001-02-01,,\n" + young
+    for more in "", "T3,Toni,F,2009-01-01,,\n":
+        done = desk.take(sheet + more, "--drop-gone")
+        assert [desk.parents()[id] for id in ("L1", "L2", "L3")] == [("T1", ""), ("", "T2"), ("T1", "T2")]
+        assert "Toni" not in desk.numbers() and " 0 added" in done.last
+    done = desk.take(sheet, "--book", "new")
+    done.tells(
+        f"line 4: L1: inferred: its sire 'Toni' is T1 by its name: {MEANT}",
+        f"line 5: L2: inferred: its dam 'toni' is T2 by its name: {MEANT}",
+        f"line 6: L3: inferred: its sire 'Toni' is T1 by its name: {MEANT}",
+        f"line 6: L3: inferred: its dam 'Toni' is T2 by its name: {MEANT}",
+    )
+    assert " 0 changed" in desk.take(sheet, "--book", "new").last
+    # of two males and a female two may be the sire, and the male that is too young stays told as one who may be meant
+    done = desk.take(sheet + "T3,Toni,M,2001-03-01,,\n", "--book", "three")
+    done.tells(
+        "line 4: Toni: added: the sire of L1 and of 1 more has no row: added without parents (2 animals have this name, "
+        "T1, T3: write the id of the one that is meant)",
+        f"line 5: L2: inferred: its dam 'toni' is T2 by its name: {MEANT}",
+    )
+    done = desk.take(sheet.replace("T1,Toni,M,2001", "T1,Toni,M,2014"), "--book", "four")
+    done.tells("line 4: Toni: added: the sire of L1 and of 1 more has no row: added without parents (is T1 meant?)")

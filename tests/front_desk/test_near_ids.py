@@ -156,18 +156,19 @@ def test_birth_after_offspring(desk: Desk) -> None:
 
 @pytest.mark.parametrize("is_first", [True, False])
 def test_tag_twice_in_a_sheet(desk: Desk, is_first: bool) -> None:
-    """The animal that was born first is taken, in whatever order the rows are; the other is told, with the lines that
-    name it, and is taken with an id of its own."""
+    """The animal that was born first is taken, in whatever order the rows are; the other is told, with why, and the
+    lines that name it, and is taken with an id of its own."""
     eva, ida = FLOCK.splitlines()[1], "DE 8;Ida;F;2012-03-02;;"
     rows = [FLOCK.splitlines()[0], *((eva, ida) if is_first else (ida, eva)), "c1;;F;2004-01-01;DE 007;DE 8"]
     sheet = TITLES + "\n".join([*rows, "c2;;F;2015-01-01;;DE 8"]) + "\n"
     here, there = (4, 3) if is_first else (3, 4)
-    for _ in range(2):
+    for why in "it was born first", "the book has it":
         done = desk.take(sheet)
         done.shows(
             f"line {here}: DE 8: the row is left out: line {there} has this id for another animal ('Eva', born "
-            "2001-03-02; here 'Ida', born 2012-03-02); as a parent in line 6 it means the first: if the tag was used "
-            "again, give this one an id of its own, also where its offspring name it"
+            f"2001-03-02; here 'Ida', born 2012-03-02), which is taken since {why}; as a parent in line 6 it means "
+            "the first: if the tag was used again, give this one an id of its own, also where its offspring "
+            "name it"
         )
         assert not done.commands()
         assert desk.born()["DE 8"] == "2001-03-02"
@@ -179,10 +180,29 @@ def test_tag_of_the_book_twice_in_a_sheet(desk: Desk) -> None:
     """The animal of the book stays, though it was born after the other."""
     desk.take(TITLES + FLOCK)
     done = desk.take(TITLES + "DE 8;Uta;F;1981-03-02;;\n" + FLOCK)
-    assert (
-        "line 2: DE 8: the row is left out: line 4 has this id for another animal ('Eva', born 2001-03-02" in done.out
+    done.shows(
+        "line 2: DE 8: the row is left out: line 4 has this id for another animal ('Eva', born 2001-03-02; here 'Uta', "
+        "born 1981-03-02), which is taken since the book has it: if the tag was used again, give this one an id of its "
+        "own, also where its offspring name it"
     )
     assert desk.born()["DE 8"] == "2001-03-02"
+
+
+def test_rows_of_one_tag_with_another_birth(desk: Desk) -> None:
+    """The first row is taken where the years are near, or not both days are known; it is told that the other may be
+    another animal, and what to do then. Of one day that is written in two ways it isn't."""
+    rows = "E1;Eva;F;2018-03-02;;\nE1;Ida;F;2019-03-02;;\nE2;Uta;F;2019;;\nE2;Pia;F;2012;;\n"
+    done = desk.take(TITLES + rows + "E3;Rosa;F;2018-03-02;;\nE3;Rosi;F;2.3.2018;;\n")
+    own = "if this is another animal, give it an id of its own, also where its offspring name it"
+    done.shows(
+        "line 3: E1: the row is left out: line 2 has this id too (name 'Ida', there 'Eva'; birth '2019-03-02', there "
+        f"'2018-03-02'); line 2 is taken: {own}",
+        "line 5: E2: the row is left out: line 4 has this id too (name 'Pia', there 'Uta'; birth '2012', there '2019'); "
+        f"line 4 is taken: {own}",
+        "line 7: E3: the row is left out: line 6 has this id too (name 'Rosi', there 'Rosa'; birth '2.3.2018', there "
+        "'2018-03-02')",
+    )
+    assert desk.born() == {"E1": "2018-03-02", "E2": "2019-07-02", "E3": "2018-03-02"}
 
 
 def test_birth_that_moved_by_years(desk: Desk) -> None:

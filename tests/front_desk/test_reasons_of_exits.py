@@ -257,12 +257,46 @@ def test_word_in_the_cell_of_a_day(desk: Desk) -> None:
 
 
 def test_word_beside_a_day_by_hand(desk: Desk) -> None:
-    """The word of a cell whose day was corrected is that of the other day; another word is kept."""
+    """The word of a cell whose day was corrected stays with it, and is another one where the cell has that."""
     desk.take(CELLS + WITH_WORDS)
     desk.good("correct", "c", "--exit", "2024-05-02")
-    assert " 0 changed" in desk.take(CELLS + WITH_WORDS).last and reason(desk, "c") == ("2024-05-02", "")
+    assert reason(desk, "c") == ("2024-05-02", "Wolf")
+    assert " 0 changed" in desk.take(CELLS + WITH_WORDS).last and reason(desk, "c") == ("2024-05-02", "Wolf")
     desk.take(CELLS + WITH_WORDS.replace("Wolf", "Luchs"))
     assert reason(desk, "c") == ("2024-05-02", "Luchs")
+
+
+@pytest.mark.parametrize(
+    "cell, day, kept",
+    [
+        ("3.4.2020 verkauft", "2020-04-05", "verkauft"), ("gestorben 3.4.2020", "2020-05-03", "gestorben"),
+        ("gestorben 3.4.2020", "2021-04-03", "gestorben"), ("gestorben 4/2020", "2020-04-02", "gestorben"),
+        ("gestorben", "2020-04-03", "gestorben"), ("verk. Kunz 2020", "2020-01-20", "verk. Kunz"),
+        ("3.4.2020 verkauft", "unknown", "verkauft"),
+        # another exit, and none
+        ("3.4.2020 verkauft", "2022-07-01", ""), ("3.4.2020 verkauft", "none", ""), ("3.4.2020/2021", "2020-04-03", ""),
+    ],
+)  # fmt: skip
+@pytest.mark.parametrize("is_born_by_hand", [False, True])
+def test_word_of_an_exit_that_was_corrected(desk: Desk, cell: str, day: str, kept: str, is_born_by_hand: bool) -> None:
+    """It stays where the day by hand is that of the same exit, with the correction and with the same sheet."""
+    desk.take(f"{CELLS}a;F;2001-01-01;;;{cell}\n")
+    if is_born_by_hand:
+        desk.good("correct", "a", "--born", "2001-02-01")
+    desk.good("correct", "a", "--exit", day)
+    after = (day if day[0].isdigit() else "", kept)
+    assert reason(desk, "a") == after
+    assert " 0 changed" in desk.take(f"{CELLS}a;F;2001-01-01;;;{cell}\n").last and reason(desk, "a") == after
+    assert desk.born()["a"] == ("2001-02-01" if is_born_by_hand else "2001-01-01")
+
+
+def test_exit_filed_beside_a_word(desk: Desk) -> None:
+    """The word of a cell without a day stays with the day that is filed."""
+    desk.take(f"{CELLS}a;F;2001-01-01;;;gestorben\n")
+    desk.good("exit", "a", "--day", "2020-04-03")
+    assert reason(desk, "a") == ("2020-04-03", "gestorben")
+    assert " 0 changed" in desk.take(f"{CELLS}a;F;2001-01-01;;;gestorben\n").last
+    assert reason(desk, "a") == ("2020-04-03", "gestorben")
 
 
 def test_word_beside_a_day_and_a_status(desk: Desk) -> None:

@@ -72,7 +72,55 @@ def test_sale_in_place_of_owner(desk: Desk, cell: str, day: str) -> None:
     assert " 0 changed" in desk.take(TITLES + ROWS.replace("001;002;Huber;\n", f'001;002;"{cell}";\n')).last
 
 
-@pytest.mark.parametrize("cell", ["verkauft Meier Ida", "13.1.2021 Meier Ida", "verk. 2021 (Ida Meier)", "Meier Ida"])
+@pytest.mark.parametrize(
+    "cell, day",
+    [
+        ("verk. Meier Ida", ""), ("verkauft Ida Meier 3.4.2021", "2021-04-03"), ("3.4.2021 verk. Meier Ida", "2021-04-03"),
+        ("sold: Ida Meier, 4/2021", "2021-04-30"), ("verk. Meier Ida im Mai 2021", "2021-05-31"), ("vendue Meier Ida", ""),
+    ],
+)  # fmt: skip
+@pytest.mark.parametrize("title", ["Abgang", "Status", "Abgang;Status"])
+def test_name_behind_a_sale(desk: Desk, cell: str, day: str, title: str) -> None:
+    """It is read as with a word for to whom; another name, or one that isn't known so, is none of a taker."""
+    beside = ";" * title.count(";")
+    rows = "".join(f"{row}{beside}\n" for row in ROWS.splitlines()[:2]) + f"003;A;w;3.2.2013;001;002;Huber;{beside}{cell}\n"
+    rows += f"004;B;w;3.2.2014;001;002;Huber;{beside}verk. Kunz 3.4.2021\n"
+    sheet = TITLES.replace("Abgang", title) + rows
+    done = desk.take(sheet)
+    assert owner_of(desk, "003") == "Meier Ida" and desk.transfer_days()[: bool(day)] == [day][: bool(day)]
+    done.tells(f"line 4: 003: inferred: owner Meier Ida, before Huber: '{cell}' names an owner of the society, so it "
+               "hasn't left")  # fmt: skip
+    assert [line.split(",")[2] for line in desk.commands() if line.startswith("exit")] == ["2021-04-03"]
+    assert [one["id"] for one in desk.table("book/ids.csv") if one["exit"]] == ["004"] and "Kunz' " not in done.out
+    assert " 0 new, 0 changed" in desk.take(sheet).last
+
+
+@pytest.mark.parametrize("is_of_day", [False, True])
+def test_part_of_a_name_behind_a_sale(desk: Desk, is_of_day: bool) -> None:
+    """That and a sale in doubt are told, with who may be the taker, also where the day stands in another column."""
+    rows = ROWS + "004;B;w;3.2.2014;001;002;Huber;{}\n005;C;w;3.2.2015;001;002;Huber;{}\n"
+    cells = [f"1.5.2020;{cell}" if is_of_day else cell for cell in ("verk. Meier", "verk. Meier Ida?")]
+    titles = TITLES.replace("Abgang", "Abgang;Status") if is_of_day else TITLES
+    done = desk.take(titles + rows.format(*cells))
+    done.shows(
+        "line 5: 004: to look at: 'verk. Meier' may mean Meier Ida: the animal counts as gone; if it is with this owner, "
+        "write that name in full",
+        "line 6: 005: to look at: 'verk. Meier Ida?' has the name of an owner in it, Meier Ida: the animal counts as gone; "
+        "if it is with that owner, write sold to, verkauft an or vendu à before the name",
+    )
+    assert [one["id"] for one in desk.table("book/ids.csv") if one["exit"]] == ["004", "005"]
+
+
+def test_day_of_a_death_beside_a_sale(desk: Desk) -> None:
+    """A column of deaths has no day of a sale."""
+    rows = ROWS.replace(";\n", ";;\n").replace("001;002;Huber;;\n", "001;002;Huber;12.5.2023;verk. Meier Ida\n")
+    desk.take(TITLES.replace("Abgang", "gestorben am;Status") + rows)
+    assert [line.split(",")[2] for line in desk.commands() if line.startswith("exit")] == ["2023-05-12"]
+    desk.take(TITLES.replace("Abgang", "Abgang am;Status") + rows, "--book", "two")
+    assert "exit," not in desk.text("two/commands.csv") and ",2023-05-12," in desk.text("two/commands.csv")
+
+
+@pytest.mark.parametrize("cell", ["verk. von Meier Ida", "13.1.2021 Meier Ida", "verk. 2021 (Ida Meier)", "Meier Ida"])
 def test_owner_in_an_exit(desk: Desk, cell: str) -> None:
     """The name of another owner in an exit is told; the animal's own is none to whom it was sold."""
     is_within = "(" not in cell
@@ -94,6 +142,8 @@ BESIDE = TITLES.replace(";Abgang", "")
         ("Besitzer;verkauft am", "verkauft an Meier Ida;12.05.2023"),
         ("Besitzer;Abgang;seit", "verkauft an Meier;verk. 12.5.2023;"),
         ("Besitzer;Abgang;verkauft am", "Huber;verkauft an Meier;12.05.2023"),
+        ("Besitzer;Abgang;verkauft am", "Huber;verk. Meier Ida;12.05.2023"),
+        ("Besitzer;Abgang;Status", "Huber;12.05.2023;verk. Meier Ida"),
         ("Besitzer;Abgang;verkauft am", "jetzt bei Meier;;12.05.2023"),
         ("Besitzer;Status;verkauft am", "Huber;verkauft an Meier;12.05.2023"),
         ("Besitzer;Status;verkauft am", "verkauft an Meier;lebt;12.05.2023"),

@@ -12,7 +12,8 @@ import pytest
 
 from gudokeyi.domain.changes import StoredFinding
 from gudokeyi.domain.findings import KINDS, Entry, Finding
-from gudokeyi.ingest.findings.cells import IdUsedAgain, LikeASum
+from gudokeyi.ingest.findings.cells import LikeASum
+from gudokeyi.ingest.findings.same_ids import IdUsedAgain
 from gudokeyi.reconcile.stored_findings import entry_of, modules_of_findings, told_of
 
 for module in modules_of_findings():

@@ -12,8 +12,8 @@ from gudokeyi.domain.kinds import Field, Role
 from gudokeyi.domain.provenance import BirthBasis, BirthSource, ExitBasis, ExitSource, Period, SexSource
 from gudokeyi.domain.refusals import Refusal
 from gudokeyi.domain.settings import LANGUAGES
-from gudokeyi.ingest.findings.cells import IdAgain
 from gudokeyi.ingest.findings.exits import ExitInferred
+from gudokeyi.ingest.findings.same_ids import IdAgain
 from gudokeyi.reconcile.findings.animals import BirthDayInferred, KeptByHand, KeptFromBook, RowIsGone
 from gudokeyi.reconcile.findings.by_hand import ValueChanged
 from gudokeyi.reconcile.findings.parents import DayFact, ParentRefused
@@ -73,6 +73,12 @@ def test_words_of_book(finding: Any) -> None:
          "die Zeile ist weggelassen: Zeile 3 hat diese Ohrmarke auch; Geburtstag: „03.02.2001“, dort „ca. 2001“",
          "la ligne est omise\u00a0: la ligne 3 a aussi cette boucle\u00a0; Date de naissance\u00a0: "
          "«\u00a003/02/2001\u00a0», là «\u00a0ca. 2001\u00a0»"),
+        (IdAgain(3, ("A", "B"), ("A", "B"), (("birth", "2012", "2019"),), True),
+         "die Zeile ist weggelassen: Zeile 3 hat diese Ohrmarke auch; Geburtstag: „2012“, dort „2019“. Zeile 3 gilt: ist "
+         "dies ein anderes Tier, geben Sie ihm eine eigene Ohrmarke, auch bei seinen Nachkommen",
+         "la ligne est omise\u00a0: la ligne 3 a aussi cette boucle\u00a0; Date de naissance\u00a0: «\u00a02012\u00a0», là "
+         "«\u00a02019\u00a0». La ligne 3 vaut\u00a0: si celui-ci est un autre animal, donnez-lui une boucle à lui, aussi "
+         "chez ses descendants"),
         (RowIsGone(False, True), "kein Tier hat es mehr als Elterntier: es wird aus dem Herdbuch gestrichen",
          "aucun animal ne l'a plus pour parent\u00a0: il est retiré du livre"),
         (RowIsGone(True, False), "es hat keine Zeile mehr, und es bleibt im Herdbuch",

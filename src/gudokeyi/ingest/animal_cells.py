@@ -14,7 +14,7 @@ from gudokeyi.domain.requests import MOST_IN_NAME, MOST_IN_OWNER
 from gudokeyi.ingest.animals import SheetAnimal
 from gudokeyi.ingest.day_cells import DayCell, DayCells, ExitCell, usual_cell
 from gudokeyi.ingest.day_forms import DayForms, Readings
-from gudokeyi.ingest.days import ANY_DAY, DayFault, Span
+from gudokeyi.ingest.days import ANY_DAY, DayFault, Span, is_span
 from gudokeyi.ingest.encodings import Letters
 from gudokeyi.ingest.findings.cells import (
     DAYS, DayLeftOut, EmbryoUnread, ErrorValue, NarrowValue, SexUnread, TextTooLong,
@@ -230,6 +230,8 @@ class AnimalCells:
             self.read_exit(animal, exit)
         if (reason := self.reasons.get(line)) and (animal.left or animal.exit_basis.day_is_unknown):
             animal.exit_basis = animal.exit_basis.with_reason(reason)
+            if is_span(exit):
+                self.tell_taker(animal, reason)
         if embryo:
             animal.embryo = self.is_embryo(animal, embryo)
         return animal
@@ -277,7 +279,7 @@ class AnimalCells:
 
     def read_exit(self, animal: SheetAnimal, text: str) -> None:
         exit = self.days.exit(text)
-        if exit is None or (not exit.is_span and self.is_sold_within(animal, text, exit)):
+        if exit is None or self.is_sold_within(animal, text if not exit.is_span else self.sale_beside(animal), exit):
             return
         if exit.is_none:
             self.unread.read[Field.EXIT] += 1
@@ -310,12 +312,32 @@ class AnimalCells:
         if is_in_doubt(text):
             self.report.add(animal.line, animal.id, ExitInDoubt(text))
         owners = tuple(one for one in self.takers.within(text) if one != animal.owner)
-        if owners and not self.takers.named(text):
+        if not self.takers.named(text) and not self.tell_taker(animal, text) and owners:
             self.report.add(animal.line, animal.id, OwnerInExit(text, owners[:MOST_NAMED]))
+
+    def tell_taker(self, animal: SheetAnimal, text: str) -> bool:
+        """Owners who may be meant behind a word for a sale, as in `verk. Meier`, and of whom none is taken for it;
+        answers whether there are any."""
+        takers = self.takers.behind_sale(text)
+        if takers:
+            kind = TakerUnclear if {*takers} - {*self.takers.within(text)} else OwnerInExit
+            self.report.add(animal.line, animal.id, kind(text, takers[:MOST_NAMED]))
+        return bool(takers)
+
+    def sale_beside(self, animal: SheetAnimal) -> str:
+        """What another column says of the sale to an owner, beside a day in that of exits, as `verk. Meier`."""
+        reason = self.reasons.get(animal.line, "")
+        is_sale = self.takers.sold_to(reason) and not names_other_exits(self.unread.titles[Field.EXIT])
+        return f"{reason} {animal.cells[Field.EXIT]}" if is_sale else ""
+
+    def lines_of_sales(self) -> set[int]:
+        """Those of rows of which another column may tell so to whom the animal was sold."""
+        sales = {reason for reason in {*self.reasons.values()} if self.takers.behind_sale(reason)}
+        return {line for line, reason in self.reasons.items() if reason in sales} if sales else set()
 
     def is_sold_within(self, animal: SheetAnimal, text: str, exit: ExitCell) -> bool:
         """Was it sold to an owner of the society? Then it has him, since the day that the text has."""
-        named = self.takers.named(text)
+        named = self.takers.named(text) or self.takers.sold_to(text)
         if len(named) != 1:
             if named:
                 self.report.add(animal.line, animal.id, TakerUnclear(text, named[:MOST_NAMED]))

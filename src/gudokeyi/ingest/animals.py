@@ -153,13 +153,16 @@ def lines_that_name(animals: dict[str, SheetAnimal], another: SheetAnimal) -> tu
     return tuple(one.line for one in progeny if one.birth.last > another.birth.first)
 
 
-def tell_used_again(animals: dict[str, SheetAnimal], others: list[SheetAnimal], report: Report) -> None:
-    """The animals of a sheet, and those that have the id of another one there."""
+def tell_used_again(
+    animals: dict[str, SheetAnimal], others: list[SheetAnimal], report: Report, born: Mapping[str, datetime.date]
+) -> None:
+    """The animals of a sheet, and those that have the id of another one there; `born` are the birth days of the
+    book."""
     # what is filed by hand asks for no sheet's findings
-    from gudokeyi.ingest.findings.cells import IdUsedAgain
+    from gudokeyi.ingest.findings.same_ids import IdUsedAgain
 
     for other in others:
         first = animals[other.id]
-        lines = lines_that_name(animals, other)
-        found = IdUsedAgain(first.birth.first, first.name, other.birth.first, other.name, lines, first.line)
-        report.add(other.line, other.id, found)
+        values = first.birth.first, first.name, other.birth.first, other.name, lines_that_name(animals, other)
+        is_first_born = born.get(other.id) != first.birth.first
+        report.add(other.line, other.id, IdUsedAgain(*values, first.line, is_first_born))

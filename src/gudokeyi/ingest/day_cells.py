@@ -141,10 +141,10 @@ class DayCells:
 
     def read_exit(self, text: str) -> ExitCell | None:
         is_day = usual_day(text) is not None
-        if not is_day and lives(text):
-            return None
         if not is_day and is_still_there(text):
             return NO_EXIT
+        if not is_day and lives(text):
+            return None
         if self.of_states and text not in self.unknown and is_other_state(text):
             return NO_EXIT
         day = self.day(Field.EXIT, text)

@@ -12,7 +12,7 @@ from collections.abc import Iterable
 from gudokeyi.domain.kinds import Field
 from gudokeyi.ingest.days import (
     FIRST_DAY, FIRST_YEAR, LAST_YEAR, MONTHS, NAME, NOT_THAT_YEAR, DayFault, Precision, Span, Unreadable, compared,
-    is_span, month_of, read_span, span_within, year_of,
+    is_span, month_of, places_within, read_span, span_said, span_within, year_of,
 )  # fmt: skip
 from gudokeyi.ingest.findings.columns import SheetFinding
 from gudokeyi.ingest.findings.days import DayReading, DaysReadSo
@@ -101,6 +101,14 @@ ANOTHER_DAY = re.compile(
 MONTH_BEFORE = re.compile(rf"(?<!\w){NAME}[ ./'-]*$", re.IGNORECASE)
 # a number behind a day that stands for another day, month or year, as in `3.4.20 oder 21`
 NUMBER_BEHIND = re.compile(rf"(?:{BETWEEN_DAYS.pattern})'?\d{{1,2}}\W*$", re.IGNORECASE)
+# another year of four digits beside a day or a month, as in `3.4.2020 oder 2021`; and a number that may be one
+OR = r"\b(?:or|oder|od\.?|ou)\s+(?:[^\W\d]+\.?\s+)?"
+OTHER_YEAR = r"(?P<year>(?:19|20|21)\d\d)"
+YEAR_BEHIND = re.compile(rf"(?:(?:{BETWEEN_DAYS.pattern})|{OR}){OTHER_YEAR}\W*$", re.IGNORECASE)
+OR_NUMBER = re.compile(rf"{OR}'?\d{{1,2}}\W*$", re.IGNORECASE)
+YEAR_BEFORE = re.compile(rf"\D*(?<![\w./-]){OTHER_YEAR}(?:\s*/\s*|\s{OR})", re.IGNORECASE)
+# so many years it may be before or behind that of the day
+YEARS_BESIDE = 3
 # a longer text has more than these
 MOST_LETTERS = 60
 # a day without its month
@@ -142,6 +150,10 @@ class DayForms:
             return None
         if winter := self.winter(text):
             return winter, DayReading.ONE_OF
+        if either := self.of_either_year(text):
+            if is_exit:
+                raise Unreadable(DayFault.NO_DAY, text)
+            return either, DayReading.ONE_OF
         if not is_exit and (two_days := self.two_days(text)):
             return two_days, DayReading.ONE_OF
         if not is_exit and (days := ONE_OF.search(text)):
@@ -203,6 +215,33 @@ class DayForms:
             raise Unreadable(DayFault.NO_DAY, text)
         return days_of(first, last, text) if first < last <= first + DAYS_BEFORE[-1] else None
 
+    def of_either_year(self, text: str) -> Span | None:
+        """The days of a day or a month of which a text leaves open in which of two years it is, as `3.4.2020 oder
+        2021`."""
+        behind = YEAR_BEHIND.search(text)
+        found = behind or YEAR_BEFORE.match(text)
+        one = self.span_beside(text, found, found is behind) if found else None
+        if found is None or one is None or NOT_THAT_YEAR.search(text):
+            return None
+        year = int(found["year"])
+        if abs(one.first.year - year) > YEARS_BESIDE:
+            raise Unreadable(DayFault.NO_DAY, text)
+        other = in_year(one, year)
+        return days_of(min(one.first, other.first), max(one.last, other.last), text)
+
+    def span_beside(self, text: str, year: re.Match[str], is_before: bool) -> Span | None:
+        """The day or the month that stands beside such a year, before it or behind it; none where the year is its
+        own."""
+        said = text[: year.start()] if is_before else text[year.end() :]
+        places = places_within(said) or [*TWO.finditer(said if " " in year[0] else "")]
+        if len(places) != 1:
+            return None
+        [place] = places
+        two = TWO.fullmatch(place[0])
+        span = self.two_digits(two) if two else span_said(place, self.month_first)
+        is_other = re.search(r"\d", said[place.end() :] if is_before else said[: place.start()]) is not None
+        return None if span is None or is_other or span.precision is Precision.YEAR else span
+
     def whole_day(self, text: str) -> datetime.date | None:
         """The day of a text that is nothing but one."""
         try:
@@ -260,6 +299,8 @@ class DayForms:
         span = span_within(text, self.month_first)
         if span is None or span.precision is Precision.YEAR:
             return None
+        if OR_NUMBER.search(text):
+            raise Unreadable(DayFault.NO_DAY, text)
         if span.is_day and BETWEEN.search(text):
             span = month_of(span.first.year, span.first.month)
         return (span if span.is_day else span._replace(text=text)), DayReading.WITHIN
@@ -309,6 +350,13 @@ class DayForms:
 def days_of(first: datetime.date, last: datetime.date, text: str = "") -> Span:
     """A few days, of which it is one."""
     return Span(first, last, "", text, Precision.DAYS)
+
+
+def in_year(span: Span, year: int) -> Span:
+    """The same day or month of another year; the last of February where there isn't that day."""
+    month = month_of(year, span.first.month)
+    day = month.first.replace(day=min(span.first.day, month.last.day))
+    return Span(day, day) if span.is_day else month
 
 
 def tells_another_day(found: re.Match[str]) -> bool:

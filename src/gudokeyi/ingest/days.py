@@ -48,6 +48,8 @@ NAME = r"(?:{})\.?".format(
 
 FIRST_YEAR, LAST_YEAR = 1900, 2199
 FIRST_DAY, LAST_DAY = datetime.date(FIRST_YEAR, 1, 1), datetime.date(LAST_YEAR, 12, 31)
+# the days of a season, of which a winter is in two years
+LONGEST_SEASON = datetime.timedelta(100)
 
 # a time of day behind a day is read and dropped
 TIME = r"(?:(?: +|T)\d{1,2}:\d{2}(?::\d{2}(?:[.,]\d+)?)?(?: ?[AaPp][Mm])?(?: ?(?:Z|UTC|[+-]\d{2}:?\d{2}))?)?"
@@ -183,9 +185,18 @@ class Span(NamedTuple):
     def has(self, day: datetime.date) -> bool:
         return self.first <= day <= self.last
 
+    def meets(self, other: Span) -> bool:
+        """Is any day in both?"""
+        return self.first <= other.last and other.first <= self.last
+
+    @property
+    def is_of_years(self) -> bool:
+        """Does it leave open the year, as `3.4.2020 oder 2021`?"""
+        return self.last - self.first > LONGEST_SEASON
+
     def period(self) -> Period:
         """The month or the year; of a few days that of the first."""
-        is_month = self.precision in (Precision.DAYS, Precision.MONTH)
+        is_month = self.precision is Precision.MONTH or self.precision is Precision.DAYS and not self.is_of_years
         return Period(f"{self.first:%Y-%m}" if is_month else str(self.first.year), self.wrong)
 
     def before(self) -> Span:

@@ -15,8 +15,9 @@ from gudokeyi.domain.requests import MOST_IN_ID
 from gudokeyi.ingest.animals import SheetAnimal
 from gudokeyi.ingest.days import ANY_DAY, Unreadable, read_span
 from gudokeyi.ingest.files import GivenFile, check_bounds
-from gudokeyi.ingest.findings.cells import DayLeftOut, LineAgain, SexUnread
+from gudokeyi.ingest.findings.cells import DayLeftOut, SexUnread
 from gudokeyi.ingest.findings.files import ParentsInColumn
+from gudokeyi.ingest.findings.same_ids import LineAgain
 from gudokeyi.ingest.pedigree_files import (
     STANDARD_INPUT, WITHOUT_TITLES, Columns, Line, are_titles, check_cells, columns_read, family_column,
     find_pedigree_columns, read_lines,

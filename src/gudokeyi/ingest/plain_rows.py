@@ -84,17 +84,16 @@ def is_doubtful(text: str) -> bool:
 
 class PlainRows:
     """The plain rows of a sheet, whose columns have these places; `cells` read what the others say, and count what is
-    read of both. Rows with one of some words are odd, and so are those of some lines."""
+    read of both. Rows with one of some words are odd."""
 
     def __init__(
-        self, sheet: Sheet, columns: Mapping[str, int], cells: AnimalCells, words: Collection[str],
-        lines: Collection[int],
-    ) -> None:  # fmt: skip
+        self, sheet: Sheet, columns: Mapping[str, int], cells: AnimalCells, words: Collection[str]
+    ) -> None:
         self.sheet, self.columns, self.cells, self.words, self.rows = sheet, columns, cells, {*words}, sheet.rows
         self.texts = {name: sheet.column(at) for name, at in columns.items()}
         self.different = {name: different_of(texts) for name, texts in self.texts.items()}
         # the places of the odd rows
-        self.odd = {at for at, row in enumerate(self.rows) if row.line in lines} if lines else set[int]()
+        self.odd = set[int]()
         # of the columns of which it is counted, the texts that say something
         self.saying: dict[Field, set[str]] = {}
         # the texts of sexes that are taken for another word, which is that
@@ -169,6 +168,10 @@ class PlainRows:
         return {self.texts[Field.ID][at] for at in self.odd}
 
     # -- odd rows
+
+    def leave_lines(self, lines: Collection[int]) -> None:
+        """The rows of some lines are odd."""
+        self.odd |= {at for at, row in enumerate(self.rows) if row.line in lines} if lines else set()
 
     def leave(self, field: Field, odd: Collection[str]) -> None:
         """Rows that have one of some texts in a column are odd."""

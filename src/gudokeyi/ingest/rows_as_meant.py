@@ -12,14 +12,15 @@ from typing import Container, NamedTuple
 
 from gudokeyi.domain.findings import Report
 from gudokeyi.domain.kinds import Field
+from gudokeyi.ingest.days import places_within
 from gudokeyi.ingest.findings.cells import UnseenInId
 from gudokeyi.ingest.findings.rows import CellsRepeated, MarksAreNames, NoteRow, NothingRepeated
 from gudokeyi.ingest.findings.sheets import UnseenDropped
 from gudokeyi.ingest.sheets import Sheet, SheetRow, cell_of
-from gudokeyi.ingest.statuses import TAKER, Exits, exits_said, taker_of_owner
+from gudokeyi.ingest.statuses import SOLD, TAKER, Exits, exits_said, taker_of_owner
 from gudokeyi.ingest.texts import nearly, plain
-from gudokeyi.ingest.unknown_parents import UnknownParents
-from gudokeyi.ingest.words import KNOWN_EXITS, KNOWN_SEXES, KNOWN_SUMS, lives_besides, sex_word
+from gudokeyi.ingest.unknown_parents import UnknownParents, names_no_owner
+from gudokeyi.ingest.words import KNOWN_EXITS, KNOWN_SEXES, KNOWN_SUMS, is_in_doubt, lives_besides, sex_word
 
 # Cells with signs that no one sees: they are read without, but an id, which others write otherwise than it is seen.
 
@@ -279,13 +280,27 @@ class Takers:
     names and the numbers of members that a text may have."""
 
     def __init__(self, owners: Mapping[str, str]) -> None:
-        names = ((name, owner) for name, owner in owners.items() if owner and not taker_of_owner(name))
-        self.by_words = [(words, owner) for name, owner in names if (words := words_of(name))]
+        names = [name for name, owner in owners.items() if owner and not (taker_of_owner(name) or names_no_owner(name))]
+        self.by_words = [(words, owners[name]) for name in names if (words := words_of(name))]
 
     def named(self, text: str) -> tuple[str, ...]:
         """The owners who are named behind `verkauft an`, or in a text that begins with whom."""
         found = TAKER.search(text) or TO_WHOM.match(text)
         return self.called(found["taker"]) if found and not lives_besides(text) else ()
+
+    def behind_sale(self, text: str) -> tuple[str, ...]:
+        """The owners whom a text may mean that has nothing but a name and a day beside a word for a sale, as
+        `verk. Meier`."""
+        name = name_behind_sale(text)
+        return self.called(name) if len(plain(name)) >= SHORTEST and not words_of(name) <= KNOWN_EXITS else ()
+
+    def sold_to(self, text: str) -> tuple[str, ...]:
+        """The only one of these whose whole name it is, unless the sale is in doubt."""
+        owners = self.behind_sale(text)
+        if len(owners) != 1 or is_in_doubt(text):
+            return ()
+        words = words_of_taker(name_behind_sale(text))
+        return owners if any(its == words for its, _ in self.having[min(words)]) else ()
 
     def within(self, text: str) -> tuple[str, ...]:
         """The owners whose names stand whole in a text without saying that they took the animal."""
@@ -304,13 +319,34 @@ class Takers:
 
     def called(self, name: str) -> tuple[str, ...]:
         """The owners whose names have all words of a name, or whose name those are."""
-        words = words_of(name)
-        if not words:
-            return ()
-        if words & MEMBER:
-            words = words - NUMBER - MEMBER | {plain(MEMBER_NAME)}
-        whole = {owner for its, owner in self.by_words if its == words}
-        return tuple(sorted(whole or {owner for its, owner in self.by_words if words <= its}))
+        words = words_of_taker(name)
+        likely = self.having.get(min(words), []) if words else []
+        whole = {owner for its, owner in likely if its == words}
+        return tuple(sorted(whole or {owner for its, owner in likely if words <= its}))
+
+    @functools.cached_property
+    def having(self) -> dict[str, list[tuple[frozenset[str], str]]]:
+        """All names, by each of their words."""
+        found = collections.defaultdict[str, list[tuple[frozenset[str], str]]](list)
+        for words, owner in self.by_words:
+            for word in words:
+                found[word].append((words, owner))
+        return found
+
+
+def name_behind_sale(text: str) -> str:
+    """What stands behind a word for a sale that begins a text, without days; empty where it has a word for to whom."""
+    found = SOLD.match(text) if TAKER.search(text) is None else None
+    name = found["taker"] if found else ""
+    for day in places_within(name):
+        name = name.replace(day[0], " ")
+    return name
+
+
+def words_of_taker(name: str) -> frozenset[str]:
+    """The words of a name, of a member by the number those with which such a one is named."""
+    words = words_of(name)
+    return words - NUMBER - MEMBER | {plain(MEMBER_NAME)} if words & MEMBER else words
 
 
 def member_numbered(number: str) -> str:

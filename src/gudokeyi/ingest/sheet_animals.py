@@ -22,12 +22,13 @@ from gudokeyi.ingest.days import NAME, Span, Unreadable, read_span
 from gudokeyi.ingest.days_for_ids import days_among
 from gudokeyi.ingest.exchanged_days import exchanged
 from gudokeyi.ingest.findings.cells import (
-    BETWEEN_CELLS, DAYS, DayForText, DittoForText, IdAgain, IdAlone, IdOfOtherAlphabet, IdToCome, IdTooLong,
-    IdUnlikeOthers, IdWithFewerDigits, LikeASum, NoAnimal, NoId, TitlesAgain, TooManyCells, TruthValue,
+    BETWEEN_CELLS, DAYS, DayForText, DittoForText, IdAlone, IdOfOtherAlphabet, IdToCome, IdTooLong, IdUnlikeOthers,
+    IdWithFewerDigits, LikeASum, NoAnimal, NoId, TitlesAgain, TooManyCells, TruthValue,
 )  # fmt: skip
 from gudokeyi.ingest.findings.columns import SheetFinding
 from gudokeyi.ingest.findings.exits import Remark
 from gudokeyi.ingest.findings.files import GreyRows, HiddenRows
+from gudokeyi.ingest.findings.same_ids import IdAgain
 from gudokeyi.ingest.findings.sheets import CutNumber, FormulaCell, Place
 from gudokeyi.ingest.odd_ids import Oddity, odd_ids
 from gudokeyi.ingest.odd_texts import first_days, tell_exits_in_names, tell_several_ids
@@ -187,7 +188,9 @@ class SameIds:
         fields = [name for name in cells if name not in ROLES]
         differing = tuple((name, cells[name], first[name]) for name in fields if cells[name] != first[name])
         here = self.parent(cells, Role.SIRE), self.parent(cells, Role.DAM)
-        return IdAgain(animal.line, (animal.sire, animal.dam), here, differing)
+        births = [span for span in (self.birth(first), self.birth(cells)) if span]
+        is_born_otherwise = len(births) == 2 and not births[0].meets(births[1])
+        return IdAgain(animal.line, (animal.sire, animal.dam), here, differing, is_born_otherwise or None)
 
     def parent(self, cells: dict[str, str], role: Role) -> str:
         text = cells.get(role, "")
@@ -298,8 +301,10 @@ class Rows:
         """The rows that are read together."""
         words = self.no_animals.words
         again = self.before.again(self.sheet, self.cells, words) if self.before else None
-        lines = {line for line, *_ in self.errors.found}
-        return again or PlainRows(self.sheet, self.columns, self.cells, words, lines)
+        lines = {line for line, *_ in self.errors.found} | self.cells.lines_of_sales()
+        found = again or PlainRows(self.sheet, self.columns, self.cells, words)
+        found.leave_lines(lines)
+        return found
 
     def animals(self) -> dict[str, SheetAnimal]:
         """The animals by id, in the order of the rows."""
@@ -332,7 +337,7 @@ class Rows:
                 others.append(self.of_two(found, self.cells.animal(line, id, said)))
             else:
                 self.take_one(found, line, id, said)
-        tell_used_again(found, others, self.report)
+        tell_used_again(found, others, self.report, self.same_ids.born)
         self.look_at_all(found)
         return found
 

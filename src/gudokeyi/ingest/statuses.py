@@ -29,6 +29,12 @@ TAKER = re.compile(
     r".*?\b(?:an|zu|to|à|a|au|aux)\s+(?P<taker>\S.*)",
     re.IGNORECASE,
 )
+# the same without a word for to whom, as `verk. Meier`: before it nothing stands but a day
+SOLD = re.compile(
+    r"[\W\d]*\b(?:verkauft|verkauf|verk|abgegeben|abgeg|weggegeben|verschenkt|umgestellt|sold|sale|vendue?|vente|cédée?|"
+    r"donnée?)\b[.:]?\s*(?P<taker>\S.*)",
+    re.IGNORECASE,
+)
 # the same of a text that stands for an owner
 WITH_NOW = re.compile(
     r"(?:jetzt|nun|now|maintenant|désormais|neuer (?:besitzer|halter)|new owner|nouveau propriétaire)\b[: ]*"
@@ -205,7 +211,7 @@ def add_days_of_sales(exits: Exits, rows: list[SheetRow], titles: Sequence[str],
     for place, row in enumerate(rows):
         exit, day = exits.texts.get(place) or cell_of(row, exit_at), cell_of(row, of_days[0])
         said = exit or (cell_of(row, owner_at) if owner_at is not None else "")
-        has_taker = TAKER.search(said) if exit else taker_of_owner(said)
+        has_taker = TAKER.search(said) or SOLD.match(said) if exit else taker_of_owner(said)
         if is_span(day) and has_taker and not places_within(said):
             exits.texts[place] = f"{exit} {day}".strip()
 

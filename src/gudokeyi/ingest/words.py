@@ -5,7 +5,7 @@ import itertools
 import re
 from collections.abc import Iterator
 
-from gudokeyi.ingest.days import DayFault, places_within
+from gudokeyi.ingest.days import MONTHS, DayFault, compared, places_within
 from gudokeyi.ingest.texts import listed, plain
 
 # The words that cells of sheets have, in English, German and French.
@@ -62,6 +62,12 @@ STAYS = (
     "lebt, lebend, lebendig, vorhanden, im Bestand, in Bestand, Bestand, aktiv, Zuchttier, in Zucht, alive, living, "
     "lives, active, present, in herd, in flock, current, breeding, vivant, vivante, en vie, actif, active, présent, "
     "présente, am Leben, vorh, im Herdbuch, im Zuchtbuch, in herd book, in the herd book, au livre, au troupeau"
+)
+# what may stand beside such a word, and says no more than that
+AROUND_STAYS = (
+    "Stand, per, seit, ab, am, im, in, den, dem, der, noch, immer, bei, uns, hier, da, heute, aktuell, derzeit, zurzeit, "
+    "und, ja, of, as, on, since, at, to, the, here, today, still, now, currently, date, and, is, yes, depuis, le, en, "
+    "au, à, ce, jour, encore, toujours, ici, actuellement, chez, nous, et, est, oui, ist, z, Zt, aktive, aktiver, aktives"
 )
 EXITS = (
     "ja, yes, oui, x, verkauft, verk, Verkauf, geschlachtet, Schlachtung, geschl, schl, gestorben, gest, verstorben, "
@@ -178,6 +184,7 @@ KNOWN_NEUTERED = {plain(word) for word in listed(NEUTERED)}
 KNOWN_YES = {word.casefold() for word in listed(YES)}
 KNOWN_NO = {word.casefold() for word in listed(NO)}
 KNOWN_STAYS = {plain(word) for word in listed(STAYS)}
+KNOWN_AROUND_STAYS = {plain(word) for word in [*listed(AROUND_STAYS), *re.split(r"\W+", STAYS)]}
 KNOWN_EXITS = {plain(word) for word in listed(EXITS)}
 KNOWN_SALES = {plain(word) for word in listed(SALES)}
 KNOWN_AROUND_EXITS = KNOWN_EXITS | {plain(word) for word in listed(AROUND_EXITS)}
@@ -264,12 +271,22 @@ def says_lives(text: str) -> bool:
     return is_word and (lives(text) or lives_besides(text))
 
 
+def lives_and_more(text: str) -> bool:
+    """Does it say that the animal lives, and something else that isn't since when, as `lebt, hat gut gelammt`?"""
+    if not lives(text) or not has_word(text, KNOWN_STAYS) or DEAD.search(text):
+        return False
+    for day in places_within(text):
+        text = text.replace(day[0], " ")
+    words = [word for word in re.split(r"\W+", text) if LETTER.search(word)]
+    return any(plain(word) not in KNOWN_AROUND_STAYS and compared(word) not in MONTHS for word in words)
+
+
 def is_still_there(text: str) -> bool:
-    """Does it tell of something else than an exit, as `retired 2019` or `on loan`, or that there was none, as
-    `nicht verkauft`?"""
+    """Does it tell of something else than an exit, as `retired 2019`, `on loan` or `lebt, hat gut gelammt`, or that
+    there was none, as `nicht verkauft`?"""
     if not LETTER.search(text) or DEAD.search(text):
         return False
-    if lives_besides(text):
+    if lives_besides(text) or lives_and_more(text):
         return True
     sold = SALE_NOT_MADE.sub(" ", text)
     rest = sold

@@ -158,10 +158,10 @@ def offspring_of(animals: dict[str, SheetAnimal], some: list[str]) -> dict[str, 
 
 
 def of_month(basis: BirthBasis, day: datetime.date, span: Span) -> BirthBasis:
-    """Of a few days of two months the month is that of the day which is taken."""
+    """Of a few days of two months the month is that of the day which is taken; of two years its year."""
     if span.precision is not Precision.DAYS or basis.period is None:
         return basis
-    return BirthBasis(basis.source, Period(f"{day:%Y-%m}"))
+    return BirthBasis(basis.source, Period(str(day.year) if span.is_of_years else f"{day:%Y-%m}"))
 
 
 def likeliest(span: Span) -> int:

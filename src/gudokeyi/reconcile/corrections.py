@@ -16,6 +16,7 @@ from gudokeyi.ingest.animals import SheetAnimal
 from gudokeyi.ingest.days import Span
 from gudokeyi.reconcile.birth_days import Days
 from gudokeyi.reconcile.commands import YES, exit_words
+from gudokeyi.reconcile.exits import exit_in_book
 from gudokeyi.reconcile.findings.animals import OwnersCorrected, OwnerSince
 from gudokeyi.reconcile.findings.by_hand import ValueChanged
 from gudokeyi.reconcile.rewriting import Life, life_of
@@ -30,6 +31,17 @@ class Exit:
 
     has_left: bool
     on: Span | None = None
+
+
+def day_said(said: Exit) -> tuple[datetime.date | None, ExitBasis]:
+    """The day that somebody says of an exit, and what it comes from."""
+    if not said.has_left:
+        return None, GIVEN_EXIT
+    if said.on is None:
+        return None, ExitBasis(ExitSource.UNKNOWN_DAY)
+    if said.on.is_day:
+        return said.on.first, GIVEN_EXIT
+    return min(said.on.last, datetime.date.today()), ExitBasis(ExitSource.PERIOD, said.on.period())
 
 
 @dataclass(frozen=True, slots=True)
@@ -131,17 +143,14 @@ class Correcting:
     # -- days
 
     def exit(self) -> tuple[datetime.date | None, ExitBasis]:
-        """The day of the exit, none where it hasn't left or that isn't known, and what it comes from."""
-        said = self.said.exit
-        if said is None:
+        """The day of the exit, none where it hasn't left or that isn't known, and what it comes from. What a sheet says
+        of why the animal left stays with another day of that exit."""
+        if self.said.exit is None:
             return self.record.left, self.known.exit
-        if not said.has_left:
-            return None, GIVEN_EXIT
-        if said.on is None:
-            return None, ExitBasis(ExitSource.UNKNOWN_DAY)
-        if said.on.is_day:
-            return said.on.first, GIVEN_EXIT
-        return min(said.on.last, datetime.date.today()), ExitBasis(ExitSource.PERIOD, said.on.period())
+        day, basis = day_said(self.said.exit)
+        before = exit_in_book(self.known, self.record, self.record.born)
+        is_kept = self.said.exit.has_left and before.is_on(day)
+        return day, basis.with_reason(before.reason) if is_kept else basis
 
     def birth(
         self, sire: str, dam: str, left: datetime.date | None, is_embryo: bool

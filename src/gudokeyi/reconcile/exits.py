@@ -13,7 +13,7 @@ from gudokeyi.domain.kinds import CommandKind, Field
 from gudokeyi.domain.provenance import GIVEN_EXIT, ExitBasis, ExitSource
 from gudokeyi.domain.refusals import Refusal
 from gudokeyi.ingest.animals import LINE_OF, SheetAnimal
-from gudokeyi.ingest.words import lives, says_lives
+from gudokeyi.ingest.words import exit_word, lives, says_lives
 from gudokeyi.ingest.words_beside import words_beside
 from gudokeyi.reconcile.findings.animals import KeptByHand, KeptFromBook
 from gudokeyi.reconcile.findings.by_hand import ValueChanged
@@ -31,9 +31,26 @@ DAY_LETTERS = 10
 SEVERAL_OFFSPRING = 2
 
 
+# a day by hand that is so near that of a sheet is that of the same exit
+NEAR = datetime.timedelta(31)
+
+
 class Exit(NamedTuple):
     day: datetime.date | None
     basis: ExitBasis
+
+    @property
+    def reason(self) -> str:
+        """What is said of why the animal left."""
+        return self.basis.text if self.day or exit_word(self.basis.text) else ""
+
+    def is_on(self, day: datetime.date | None) -> bool:
+        """Is a day by hand that of this exit, whose own day isn't known or may be mistyped: in its month or year, near
+        it, or the same of another year? One that isn't known is that of any."""
+        if self.day is None or day is None:
+            return bool(self.day) or self.basis.day_is_unknown
+        is_within = self.basis.period is not None and str(day).startswith(self.basis.period.text)
+        return is_within or abs(self.day - day) <= NEAR or f"{self.day:%m-%d}" == f"{day:%m-%d}"
 
 
 def exit_in_book(in_book: SocietyRecord, record: RegisterRecord, born: datetime.date) -> Exit:

@@ -12,7 +12,7 @@ from gudokeyi.domain.findings import Report
 from gudokeyi.domain.kinds import CELL_FIELDS, Field
 from gudokeyi.domain.settings import Setting
 from gudokeyi.ingest.animals import ID_OF, YEARS_LATER, SheetAnimal, by_age, lines_that_name, links_outside
-from gudokeyi.ingest.findings.cells import IdUsedAgain
+from gudokeyi.ingest.findings.same_ids import IdUsedAgain
 from gudokeyi.ingest.texts import nearly, nearly_all
 from gudokeyi.reconcile.findings.animals import FormerId
 from gudokeyi.reconcile.findings.obstacles import LettersUnsaid

@@ -80,8 +80,8 @@ class Names:
         return (self.before or self).by_name.same(name)
 
     def find_parents(self, lacking: dict[str, SheetAnimal], next_book: NextBook, with_id: Collection[str]) -> None:
-        """A parent that is none of the ids that were given, but the name of one animal alone, is taken for that one
-        where it can be it. What is the parent in the book stays it, whatever other animals have its name. `lacking` are
+        """A parent that is none of the ids that were given, but the name of one animal alone, or of one with its sex, is
+        taken for that one where it can be it. What is the parent in the book stays it, whatever other animals have its name. `lacking` are
         the rows that name a parent without one."""
         book, ids = next_book.book, next_book.in_book.ids
         links = links_outside(lacking.values(), with_id)
@@ -91,9 +91,10 @@ class Names:
             in_book = book.society_records.get(offspring.id)
             former = ids.get(book.records[in_book.registration_number].parent(role)) if in_book else None
             meant = [one for one in self.possible(offspring, role, text) if one.id == former]
-            if not meant and (role, text.casefold()) not in others and len(self.others(offspring, text)) == 1:
+            those = [] if meant or (role, text.casefold()) in others else self.others(offspring, role, text)
+            if len(those) == 1:
                 # where it can't be the parent the program refuses it, and that is told
-                meant = self.others(offspring, text)
+                meant = those
             if meant:
                 offspring.set_parent(role, meant[0].id)
                 self.report.add(offspring.line, offspring.id, FoundByName(role, text, meant[0].id))
@@ -105,7 +106,7 @@ class Names:
         can, cannot = collections.Counter[tuple[Role, str]](), collections.Counter[tuple[Role, str]]()
         own = set[tuple[Role, str]]()
         for offspring, role, text in links:
-            if not self.others(offspring, text):
+            if not self.others(offspring, role, text):
                 own.add((role, text.casefold()))
             (can if self.possible(offspring, role, text) else cannot)[role, text.casefold()] += 1
         # those whose parent is known from the book
@@ -117,12 +118,12 @@ class Names:
         return own | {name for name, count in cannot.items() if FEW_OF_NAME * count > can[name]}
 
     def possible(self, offspring: SheetAnimal, role: Role, name: str) -> list[SheetAnimal]:
-        return [one for one in self.others(offspring, name) if can_be(one, role, offspring)]
+        return [one for one in self.others(offspring, role, name) if can_be(one, role, offspring)]
 
-    def others(self, offspring: SheetAnimal, name: str) -> list[SheetAnimal]:
-        """The animals of a name, but for the offspring itself."""
+    def others(self, offspring: SheetAnimal, role: Role, name: str) -> list[SheetAnimal]:
+        """The animals of a name that such a parent may be, but for the offspring itself."""
         named = map(self.animals.get, self.same(name))
-        return [one for one in named if one is not None and one is not offspring]
+        return of_sex([one for one in named if one is not None and one is not offspring], role)
 
     def add_parents(self) -> None:
         """A founder for each parent without a row."""
@@ -170,7 +171,8 @@ class Names:
             if (may_be or is_odd) and "," not in parent:
                 told.append((-sum(counts.values()), parent, counts, MayBeUnknown if may_be else LikeNoId))
         for _, parent, counts, kind in sorted(told, key=lambda one: one[:2])[:MOST_WORDS]:
-            named = [] if is_pedigree else self.named(parent) or self.likely(parent)
+            roles = [role for role in Role if counts[role]]
+            named = [] if is_pedigree else self.named(parent, roles) or self.likely(parent)
             values = parent, counts[Role.SIRE], counts[Role.DAM]
             self.report.add(0, "", NameOfAnimals(*values, tuple(named)) if named else kind(*values))
         if len(told) > MOST_WORDS:
@@ -187,9 +189,11 @@ class Names:
             return False
         return not any(next(self.meant(one, role, parent) for one, role, text in self.without_row if text == parent))
 
-    def named(self, parent: str) -> list[str]:
-        """The animals that have the text of a parent without a row as their name."""
-        return [id for id in self.same(parent) if id in self.animals and id != parent]
+    def named(self, parent: str, roles: Sequence[Role]) -> list[str]:
+        """The animals that have the text of a parent without a row as their name, and may be a parent of these roles."""
+        those = [self.animals[id] for id in self.same(parent) if id in self.animals and id != parent]
+        likely = {one.id for role in roles for one in of_sex(those, role)}
+        return [one.id for one in those if one.id in likely]
 
     def likely(self, parent: str) -> list[str]:
         """The only animal that the text of a parent without a row may mean, unless words say that it means none."""
@@ -219,7 +223,7 @@ class Names:
         """Which id may be meant by a text that is none, or several that have it as their name. Where few parents lack a
         row, a short text may also be one that can be the parent, two of whose letters are swapped, or the only one
         whose name is near it."""
-        ids = [one.id for one in self.others(offspring, text)]
+        ids = [one.id for one in self.others(offspring, role, text)]
         if len(ids) > 1:
             return "", tuple(ids)
         by_name = self.of_given
@@ -249,6 +253,14 @@ def may_be_unknown(report: Report) -> list[Finding]:
     """What was told of words that may mean an unknown parent: these may be why a file can't be taken."""
     findings = [entry.finding for entry in report.entries]
     return [one for one in findings if isinstance(one, (MayBeUnknown, MoreMayBeUnknown))]
+
+
+def of_sex(animals: list[SheetAnimal], role: Role) -> list[SheetAnimal]:
+    """Of several animals of a name those of the sex of a parent, where all their sexes are known; all where none has
+    it."""
+    if len(animals) < 2 or not all(one.sex for one in animals):
+        return animals
+    return [one for one in animals if one.sex == role.sex] or animals
 
 
 def can_be(parent: SheetAnimal, role: Role, offspring: SheetAnimal) -> bool:

@@ -10,7 +10,7 @@ from gudokeyi.domain.kinds import Role
 from gudokeyi.domain.messages import MOST_NAMED, Mistake, some_of
 from gudokeyi.domain.pedigree_order import ancestors
 from gudokeyi.ingest.animals import SheetAnimal, links_outside
-from gudokeyi.ingest.findings.cells import IdAgain
+from gudokeyi.ingest.findings.same_ids import IdAgain
 from gudokeyi.ingest.pedigree_files import read_ids
 from gudokeyi.ingest.spellings import CUT, Spellings, is_as_number, number_of
 from gudokeyi.reconcile.findings.obstacles import (

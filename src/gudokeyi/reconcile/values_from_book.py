@@ -77,9 +77,9 @@ class Keeping:
     def keep(self, animal: SheetAnimal, in_book: SocietyRecord, record: RegisterRecord) -> None:
         reason = reason_of(animal.left, animal.exit_basis)
         if in_book.by_hand:
+            said = Exit(animal.left, animal.exit_basis)
             self.keep_by_hand(animal, in_book, record)
-            if not self.has_other_reason(animal):
-                reason = reason_of(animal.left, animal.exit_basis)
+            reason = self.reason_by_hand(animal, said)
         unread = animal.unread
         if not self.has_names or Field.NAME in unread:
             animal.name = in_book.name
@@ -132,6 +132,13 @@ class Keeping:
             text = "" if is_dropped else in_book.text
         if text != animal.exit_basis.text:
             animal.exit_basis = replace(animal.exit_basis, text=text)
+
+    def reason_by_hand(self, animal: SheetAnimal, said: Exit) -> str:
+        """What a sheet says of why an animal left whose exit may be by hand, where that is the exit of the sheet, or it
+        says that anew."""
+        if animal.left and said.is_on(animal.left):
+            return said.reason
+        return reason_of(*said) if self.has_other_reason(animal) else reason_of(animal.left, animal.exit_basis)
 
     def has_other_reason(self, animal: SheetAnimal) -> bool:
         """Does a sheet say anew why an animal left, whose exit may be by hand?"""

@@ -18,6 +18,7 @@ from gudokeyi.ingest.days import FIRST_DAY
 from gudokeyi.ingest.unknown_parents import names_no_owner
 from gudokeyi.ingest.texts import clean as clean
 from gudokeyi.reconcile.by_hand import id_alike, new_owner, young_parents
+from gudokeyi.reconcile.exits import exit_in_book
 from gudokeyi.reconcile.findings.by_hand import CommandRefused, IdsAlike, NewAnimal, ValueChanged
 from gudokeyi.reconcile.stored_findings import told_of
 from gudokeyi.reconcile.unknown_parents import unknown_parents
@@ -196,10 +197,12 @@ def transferred(
 
 
 def departed(book: Book, animal: SocietyRecord, day: datetime.date, reason: str = "") -> FiledCommand:
-    """An exit, with one of the reasons where it is known."""
+    """An exit, with one of the reasons where it is known, and what a sheet says of one whose day wasn't known."""
     refuse_day(day)
     record = book.records[animal.registration_number]
-    after = animal._replace(exit=GIVEN_EXIT, by_hand=animal.by_hand | {Field.EXIT}, exit_reason=reason)
+    before = exit_in_book(animal, record, record.born)
+    exit = GIVEN_EXIT.with_reason(before.reason) if before.is_on(day) else GIVEN_EXIT
+    after = animal._replace(exit=exit, by_hand=animal.by_hand | {Field.EXIT}, exit_reason=reason)
     found = ValueChanged("exit", day.isoformat(), str(record.left or ""))
     since = inferred_since(animal, record, day)
     return FiledCommand(ChangeKind.EXIT, leave(animal.registration_number, day), after, (found,), owner_since=since)

@@ -8,9 +8,9 @@ from gudokeyi.domain.findings import Call
 from gudokeyi.ingest.files import (
     MOST_BACKUP_BYTES as MOST_BACKUP_BYTES, MOST_BYTES as MOST_BYTES, GivenFile, read_file as read_file,
 )  # fmt: skip
+from gudokeyi.ingest.findings.same_ids import IdUsedAgain as IdUsedAgain
 from gudokeyi.ingest.pedigree_files import given_file
 from gudokeyi.ingest.titles import parts_of as parts_of, read_given as read_given, read_sexes as read_sexes
-from gudokeyi.ingest.findings.cells import IdUsedAgain as IdUsedAgain
 from gudokeyi.ingest.unknown_parents import unknown_words
 from gudokeyi.ingest.words import CASTRATED_MALE as CASTRATED_MALE
 from gudokeyi.reconcile.findings.obstacles import LettersUnsaid as LettersUnsaid

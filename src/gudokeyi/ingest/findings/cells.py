@@ -1,13 +1,12 @@
 """What is found of a sheet's rows and cells: each kind as data, and in words."""
 from __future__ import annotations
 
-import datetime
 from collections.abc import Hashable, Mapping
 from dataclasses import dataclass
 
-from gudokeyi.domain.findings import ANYWAY, Finding, LeftOut, Part, Severity, Suggestion, What, is_animal, is_no_animal
+from gudokeyi.domain.findings import Finding, LeftOut, Part, Severity, Suggestion, What, is_animal, is_no_animal
 from gudokeyi.domain.kinds import Field
-from gudokeyi.domain.wording import AllOf, Joined, OptionalPart, Text, Told, WithText, Word
+from gudokeyi.domain.wording import OptionalPart, Text, WithText
 from gudokeyi.ingest.days import DayFault
 
 # What is found of a sheet's rows and cells: each kind as data, and in words.
@@ -82,72 +81,6 @@ class TitlesAgain(RowLeftOut):
 
     code = "titles again"
     message = Text("the row is left out: it repeats the titles")
-
-
-@dataclass(frozen=True, slots=True)
-class CellDiffers(Told):
-    """A cell of a row, and that of another row with the same id; empty for none."""
-
-    field: str
-    here: str
-    there: str
-
-    message = Text("{field} '{here}', there '{there}'")
-    parts = {
-        "maybe_here": OptionalPart("'{here}'"),
-        "maybe_none_here": OptionalPart("–", when="none_here"),
-        "maybe_there": OptionalPart("'{there}'"),
-        "maybe_none_there": OptionalPart("–", when="none_there"),
-    }
-
-    def values(self) -> Mapping[str, object]:
-        return {"none_here": not self.here, "none_there": not self.there}
-
-
-@dataclass(frozen=True, slots=True)
-class IdAgain(RowLeftOut):
-    """An earlier row has the id: its line, the parents there and here, and what else differs: the field, the cell here
-    and the one there."""
-
-    line: int
-    parents_there: tuple[str, str]
-    parents_here: tuple[str, str]
-    differing: tuple[tuple[str, str, str], ...]
-
-    code = "id again"
-    message = Text("the row is left out: line {line} has this id too{maybe_parents_there}{maybe_differing}")
-    parts = {
-        "maybe_parents_there": OptionalPart(
-            ", with other parents, which are taken ({parents_there}; here they are {parents_here})",
-        ),
-        "maybe_differing": OptionalPart(" ({differing})"),
-    }
-
-    def values(self) -> Mapping[str, object]:
-        both = (self.parents_there, self.parents_here)
-        there, here = (AllOf(tuple(parent or Word.UNKNOWN for parent in pair)) for pair in both)
-        are_others = self.parents_there != self.parents_here
-        cells = tuple(CellDiffers(*one) for one in self.differing)
-        return {
-            "parents_there": there if are_others else None,
-            "parents_here": here if are_others else None,
-            "differing": Joined(cells, "; "),
-        }
-
-
-@dataclass(frozen=True, slots=True)
-class LineAgain(IdAgain):
-    """An earlier line of a pedigree has the id."""
-
-    part = Part.LINE
-    code = "line again"
-    message = Text("the line is left out: line {line} has this id too{maybe_parents_there}{maybe_differing}")
-    parts = {
-        "maybe_parents_there": OptionalPart(
-            ", with other parents, which are taken ({parents_there}; here they are {parents_here})",
-        ),
-        "maybe_differing": OptionalPart(" ({differing})"),
-    }
 
 
 @dataclass(frozen=True, slots=True)
@@ -405,41 +338,3 @@ class NarrowValue(ErrorValue):
 
     code = "narrow value"
     message = Text("its cell '{title}' is left out: '{text}' stands for a value for which the column was too narrow")
-
-
-@dataclass(frozen=True, slots=True)
-class IdUsedAgain(LeftOut):
-    """The id is that of another animal, of the book or of another line of the sheet, that was born years before.
-    `named_in` are the lines of animals that are born later, and have this id as a parent: they are taken for offspring
-    of the first."""
-
-    born_there: datetime.date
-    name_there: str
-    born_here: datetime.date
-    name_here: str
-    named_in: tuple[int, ...]
-    # the line of the other one, 0 where the book has it
-    line: int = 0
-
-    part = Part.ROW
-    severity = Severity.ANIMALS
-
-    code = "id used again"
-    message = Text(
-        "the row is left out: {maybe_line}{maybe_of_book} has this id for another animal ({maybe_name_there}born "
-        "{born_there}; here {maybe_name_here}born {born_here}){maybe_named_in}: if the tag was used again, give this "
-        "one an id of its own, also where its offspring name it"
-    )
-    parts = {
-        "maybe_line": OptionalPart("line {line}"),
-        "maybe_of_book": OptionalPart("the book", when="is_of_book"),
-        "maybe_name_there": OptionalPart("'{name_there}', "),
-        "maybe_name_here": OptionalPart("'{name_here}', "),
-        "maybe_named_in": OptionalPart("; as a parent in line {named_in} it means the first"),
-    }
-
-    def values(self) -> Mapping[str, object]:
-        return {"is_of_book": not self.line, "named_in": Joined(tuple(map(str, self.named_in)))}
-
-    def suggestions(self) -> tuple[Suggestion, ...]:
-        return () if self.line else (Suggestion("if it is the same animal", (ANYWAY,)),)

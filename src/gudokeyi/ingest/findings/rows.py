@@ -229,7 +229,7 @@ class ExitsInRemarks(SheetFinding):
 
 @dataclass(frozen=True, slots=True)
 class TakerUnclear(Finding):
-    """An animal was sold to somebody who may be one or another owner."""
+    """An animal was sold to somebody who may be an owner, or one or another."""
 
     text: str
     owners: tuple[str, ...]
@@ -238,11 +238,17 @@ class TakerUnclear(Finding):
     severity = Severity.FACTS
     code = "taker unclear"
     message = Text(
-        "'{text}' may mean {which}: the animal counts as gone; if it is with one of them, write that name in full"
+        "'{text}' may mean {which}: the animal counts as gone; if it is with {maybe_one}{maybe_several}, write that "
+        "name in full"
     )
+    parts = {
+        "maybe_one": OptionalPart("this owner", when="is_one"),
+        "maybe_several": OptionalPart("one of them", when="are_several"),
+    }
 
     def values(self) -> Mapping[str, object]:
-        return {"which": AnyOf(self.owners)}
+        is_one = len(self.owners) == 1
+        return {"which": AnyOf(self.owners), "is_one": is_one, "are_several": not is_one}
 
 
 @dataclass(frozen=True, slots=True)

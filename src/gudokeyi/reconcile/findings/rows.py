@@ -10,7 +10,7 @@ from gudokeyi.domain.kinds import CommandKind
 from gudokeyi.domain.provenance import Period
 from gudokeyi.domain.refusals import Refusal
 from gudokeyi.domain.wording import OptionalPart, Text
-from gudokeyi.ingest.findings.cells import IdUsedAgain
+from gudokeyi.ingest.findings.same_ids import IdUsedAgain
 
 
 @dataclass(frozen=True, slots=True)
