@@ -139,7 +139,7 @@ def tell_plausibility(next_book: NextBook, limits: Limits) -> None:
     """What may be wrong of animals that are taken as they stand."""
     checks = PlausibilityChecks(next_book.animals, limits, next_book.report, last=next_book.last_found)
     checks.tell_births(next_book.book, next_book.rows_otherwise())
-    checks.tell("exit" in next_book.given)
+    checks.tell(next_book.book, "exit" in next_book.given)
 
 
 def tell_owners(next_book: NextBook, owners_before: set[str]) -> None:
