@@ -21,7 +21,8 @@ BETWEEN = re.compile(
     r"(?:(?:zum|den|dem|the|le)\s+)?",
     re.IGNORECASE,
 )
-AFTER = re.compile(rf"(?:\b(?:after|nach|après)\b(?: the| dem| le)?|>)\s*(?=\d|{NAME}(?!\w))", re.IGNORECASE)
+SHORT_BEFORE = re.compile(rf"avt?\b\.?\s*(?=\d|{NAME}(?!\w))", re.IGNORECASE)
+AFTER = re.compile(rf"(?:(?:after|nach|après|ap)\b\.?(?: the| dem| le)?|>)\s*(?=\d|{NAME}(?!\w))", re.IGNORECASE)
 DAY = datetime.timedelta(1)
 
 
@@ -39,7 +40,7 @@ def open_days(text: str, reader: Reader) -> Span | None:
     """The days that such a text leaves open."""
     found = CORE.fullmatch(text)
     core = found["core"] if found else text
-    if before := BEFORE.match(core):
+    if before := BEFORE.match(core) or SHORT_BEFORE.match(core):
         last = reader.whole_span(core[before.end() :])
         return span(FIRST_DAY, last.first - DAY, text) if last else None
     if after := AFTER.match(core):
