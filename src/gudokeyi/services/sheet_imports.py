@@ -215,10 +215,12 @@ def import_sheet_into(
     import_options = with_settings(book, import_options)
     words = remember(book, import_options)
     rename_owners(book, import_options)
-    call_anew(book, import_options.new_tags)
+    renamed = call_anew(book, import_options.new_tags)
     with bounds():
         read = read_animals(file, import_options, book, words, last)
     keep(book, read)
+    for found in renamed:
+        read.report.add(0, "", found)
     are_renamed = call_as_now(read.animals, book, read.report)
     next_book = NextBook(
         book, read.animals, set(read.columns.found), read.report, read.rows.cells.days, in_book=read.in_book,
