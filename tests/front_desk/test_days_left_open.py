@@ -59,13 +59,17 @@ NO_SURE_DAY = ("Dez. 19/Jan. 20", "März 20 / April 20", "3.4.20 oder 21", "3.4.
 # days, months and years that are far from one another, and the first day that each leaves open
 OPEN = {
     "zwischen 1995 und 2020": "1995-01-01", "1995-2020": "1995-01-01", "(2018/2019)": "2018-01-01",
-    "2018 oder 2019 ?": "2018-01-01", "entre 1995 et 2020": "1995-01-01", "between March 2018 and May 2019": "2018-03-01",
+    "2018 oder 2019 ?": "2018-01-01", "entre 1995 et 2020": "1995-01-01",
+    "between March 2018 and May 2019": "2018-03-01",
     "3.4.2018 oder 3.4.2019": "2018-04-03", "31.05./09.06.2019": "2019-05-31", "12./20.4.2018": "2018-04-12",
     "Frühjahr 2018 bis Herbst 2019": "2018-03-01", "Dez. 19/Jan. 20": "2019-12-01", "2020 oder 2017": "2017-01-01",
     "nach 2014": "2015-01-01", "vor 2018": "1900-01-01",
 }  # fmt: skip
 # of these nobody knows which are meant
-NOT_OPEN = ("gekauft 1995/1996", "Nr. 1995/2020", "nach 2014 oder 2015", "3.4.20 oder 21", "1995, 2020")
+NOT_OPEN = (
+    "gekauft 1995/1996", "zwischen 2130 und 2140", "nach 2130", "Nr. 1995/2020", "nach 2014 oder 2015",
+    "3.4.20 oder 21", "1995, 2020",
+)  # fmt: skip
 # a number beside a day may be another one than that of a day
 BESIDE = ("3.4.20 (4.2 kg)", "3.4.20, 12 Uhr", "3.4.20 14.30 Uhr", "3.4.20 (Mai)", "3.4.20 und 2 Brüder")
 UNSURE = (
@@ -271,7 +275,8 @@ def test_days_between_others(desk: Desk) -> None:
         day = OPEN.get(text, "1900-01-01")
         assert desk.born()[f"A{at}"] == day
         done.tells(f"line {42 + at}: A{at}: inferred: birth day {day}, {earliest}{cell}")
-    assert f"{len(texts)} of {40 + len(texts)} cells that say something in the column 'Whelped' can't be read" in done.out
+    unread = f"{len(texts)} of {40 + len(texts)} cells that say something in the column 'Whelped' can't be read"
+    assert unread in done.out
     assert " 0 changed" in desk.take(TITLES + rows, *OPTIONS).last
 
 
@@ -283,7 +288,8 @@ def test_days_between_others_and_relatives(desk: Desk) -> None:
     )
     before = rows.replace("Ida;f;1995-2020", "Ida;f;2012-05-06").replace("Lea;f;1995-2020", "Lea;f;1994-05-06")
     desk.take(TITLES + WITH_DAYS + before, *OPTIONS).tells(
-        "line 43: A1: inferred: birth day 2012-01-01, from its parents, as its cell leaves open: 'zwischen 1995 und 2020'",
+        "line 43: A1: inferred: birth day 2012-01-01, from its parents, as its cell leaves open: 'zwischen 1995 und "
+        "2020'",
         "line 44: A2: inferred: birth day 2011-03-02, from its offspring, as its cell leaves open: '1995-2020'",
     )
     done = desk.take(TITLES + WITH_DAYS + rows, *OPTIONS)

@@ -214,8 +214,9 @@ class DayForms:
         return span.first if span and span.is_day else None
 
     def open_days(self, text: str) -> Span | None:
-        """The days that a text leaves open which tells between which a birth was."""
-        return open_days(text, self) if len(text) <= MOST_LETTERS else None
+        """The days up to today that a text leaves open which tells between which a birth was."""
+        found = open_days(text, self) if len(text) <= MOST_LETTERS else None
+        return found.until(self.today) if found and found.first <= self.today else None
 
     def whole_span(self, text: str) -> Span | None:
         """What a text says that is nothing but a day, a month, a season or a year."""
