@@ -271,7 +271,7 @@ def test_days_between_others(desk: Desk) -> None:
     done = desk.take(TITLES + rows, *OPTIONS)
     earliest = "the earliest that a book can have or its cell leaves open, since no parent and no offspring has one"
     for at, text in enumerate(texts):
-        cell = f", as its cell leaves open: '{text}'" if text in OPEN else f", and not what its cell has: '{text}'"
+        cell = f", within what its cell says: '{text}'" if text in OPEN else f", and not what its cell has: '{text}'"
         day = OPEN.get(text, "1900-01-01")
         assert desk.born()[f"A{at}"] == day
         done.tells(f"line {42 + at}: A{at}: inferred: birth day {day}, {earliest}{cell}")
@@ -288,9 +288,9 @@ def test_days_between_others_and_relatives(desk: Desk) -> None:
     )
     before = rows.replace("Ida;f;1995-2020", "Ida;f;2012-05-06").replace("Lea;f;1995-2020", "Lea;f;1994-05-06")
     desk.take(TITLES + WITH_DAYS + before, *OPTIONS).tells(
-        "line 43: A1: inferred: birth day 2012-01-01, from its parents, as its cell leaves open: 'zwischen 1995 und "
+        "line 43: A1: inferred: birth day 2012-01-01, from its parents, within what its cell says: 'zwischen 1995 und "
         "2020'",
-        "line 44: A2: inferred: birth day 2011-03-02, from its offspring, as its cell leaves open: '1995-2020'",
+        "line 44: A2: inferred: birth day 2011-03-02, from its offspring, within what its cell says: '1995-2020'",
     )
     done = desk.take(TITLES + WITH_DAYS + rows, *OPTIONS)
     assert " 0 changed" in done.last and desk.parents()["B"] == ("", "A2")

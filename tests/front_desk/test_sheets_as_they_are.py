@@ -40,7 +40,7 @@ def test_day_in_the_cell(desk: Desk, cell: str, born: str, told: str) -> None:
     assert told in done.out.partition("rows below the titles")[0]
 
 
-NOT_TAKEN, LEFT_OPEN = "and not what its cell has", "as its cell leaves open"
+NOT_TAKEN, LEFT_OPEN = "and not what its cell has", "within what its cell says"
 
 
 @pytest.mark.parametrize(

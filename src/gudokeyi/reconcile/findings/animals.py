@@ -135,7 +135,7 @@ class BirthDayInferred(Finding):
         "maybe_was_inferred": OptionalPart("inferred: ", when="was_inferred"),
         "maybe_text": OptionalPart(" of '{text}'"),
         "maybe_unread": OptionalPart(", and not what its cell has: '{unread}'"),
-        "maybe_within": OptionalPart(", as its cell leaves open: '{within}'"),
+        "maybe_within": OptionalPart(", within what its cell says: '{within}'"),
         "maybe_named_in": OptionalPart(" (line {named_in} names it)"),
         "maybe_basis_period": OptionalPart(": {basis_period}"),
     }
