@@ -64,7 +64,9 @@ ONE_OF = {
 # both are days, and one isn't beside the other
 FAR = ("31.05./09.06.2019", "1.4.2018/13.4.2018", "12./20.4.2018", "1 May or 9 May 2019", "3.4.2010 oder 2021")
 # of two months or years with two digits none is a sure day
-NO_SURE_DAY = ("Dez. 19/Jan. 20", "März 20 / April 20", "3.4.20 oder 21", "3.4.20/21", "zw. 3.4. und 25.5.20", "3.4.2019 oder 20")
+NO_SURE_DAY = (
+    "Dez. 19/Jan. 20", "März 20 / April 20", "3.4.20 oder 21", "3.4.20/21", "zw. 3.4. und 25.5.20", "3.4.2019 oder 20",
+)  # fmt: skip
 # days, months and years that are far from one another, and the first day that each leaves open
 OPEN = {
     "zwischen 1995 und 2020": "1995-01-01", "1995-2020": "1995-01-01", "(2018/2019)": "2018-01-01",
