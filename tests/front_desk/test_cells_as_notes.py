@@ -77,7 +77,7 @@ def test_what_is_no_exit(desk: Desk, title: str) -> None:
 
 
 # a word for a living animal and what else is said, and such words that say no more than that
-LIVES_AND_MORE = ("lebt, hat gut gelammt", "aktiv - Zuchtpreis 2021", "lebt, geht an Meier", "vivante (boite)", "alive; lame")
+LIVES_AND_MORE = ("lebt, hat gut gelammt", "aktiv - Zuchtpreis 2021", "lebt, geht an Meier", "aktiv (A)", "alive; lame")
 LIVES_ALONE = (
     "lebt", "lebt noch", "lebt (Stand Mai 24)", "im Bestand seit 1.2.2019", "aktiv, im Herdbuch", "alive as of 2024",
     "toujours en vie", "nein", "-",

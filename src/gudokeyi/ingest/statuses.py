@@ -31,8 +31,8 @@ TAKER = re.compile(
 )
 # the same without a word for to whom, as `verk. Meier`: before it nothing stands but a day
 SOLD = re.compile(
-    r"[\W\d]*\b(?:verkauft|verkauf|verk|abgegeben|abgeg|weggegeben|verschenkt|umgestellt|sold|sale|vendue?|vente|cédée?|"
-    r"donnée?)\b[.:]?\s*(?P<taker>\S.*)",
+    r"[\W\d]*\b(?:verkauft|verkauf|verk|abgegeben|abgeg|weggegeben|verschenkt|umgestellt|sold|sale|vendue?|vente|"
+    r"cédée?|donnée?)\b[.:]?\s*(?P<taker>\S.*)",
     re.IGNORECASE,
 )
 # the same of a text that stands for an owner
