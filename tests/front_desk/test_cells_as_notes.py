@@ -101,6 +101,19 @@ def test_what_is_said_of_a_living_animal(desk: Desk, title: str) -> None:
     assert " 0 changed" in desk.take(text).last
 
 
+@pytest.mark.parametrize("title", ["lebt", "Abgang;lebt"])
+def test_more_behind_a_yes_or_a_no(desk: Desk, title: str) -> None:
+    """In a column of living animals what stands behind a yes is kept too, and a no tells of an exit."""
+    beside = ";" * title.count(";")
+    cells = ("ja", "ja, hat gut gelammt", "nein", "nein, Wolf", "ja (Stand 2024)", "nein (3.4.2020)")
+    rows = "".join(f"{at};;w;2.2.2009;;;Huber;{beside}{cell}\n" for at, cell in enumerate(cells, 1))
+    desk.take(TITLES.replace("Abgang", title) + rows)
+    assert {id: those for id, those in notes(desk).items() if those} == {"2": {"lebt: lebt, hat gut gelammt"}}
+    assert {one["id"]: one["exit"] for one in desk.table("book/ids.csv") if one["exit"]} == {
+        "3": "day unknown: 'nicht lebt'", "4": "day unknown: 'nicht lebt, Wolf'", "6": "'nicht lebt'",
+    }  # fmt: skip
+
+
 def test_exit_that_was_none(desk: Desk) -> None:
     """One that a book has is taken back where the next sheet says something else."""
     row = "001;Max;m;1.2.2010;;;Huber;"
