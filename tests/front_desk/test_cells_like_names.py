@@ -152,11 +152,12 @@ def test_castrated_males_said(desk: Desk, castrated: str) -> None:
     [
         (("Entier", "H", "J"), "MCF"), (("Poulain", "H", "J"), "MCF"), (("Wallach", "H", "S"), "CMF"),
         (("mare", "G", "S"), "FCM"), (("Pouliche", "H", "J"), "F  "), (("Entier", "H", "J", "X"), "M   "),
-        (("Stute", "H", "W"), "F F"),
+        (("Stute", "H", "W"), "F C"),
     ],
 )  # fmt: skip
 def test_two_letters_of_three(texts: tuple[str, ...], wanted: str) -> None:
-    """A word of the column stands for the third; where one is a sex by itself, or there are others, they aren't."""
+    """A word of the column stands for the third; where there are others, they aren't. `W` is none for a female beside
+    one."""
     sexes = Sexes([*texts], {})
     found = [sexes.meaning(text) for text in texts]
     assert "".join("C" if one.is_castrated else one.sex or " " for one in found) == wanted

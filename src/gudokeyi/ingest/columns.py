@@ -18,8 +18,9 @@ from gudokeyi.ingest.findings.columns import (
     ColumnLost, ColumnsLack, ColumnUntitled, LikelierColumn, NamedColumnLacks, ParentsBeside, SheetFinding,
     TellsNoExits, TitleTwice,
 )  # fmt: skip
-from gudokeyi.ingest.findings.rows import ExitsInRemarks, FieldUnread, StatusUnread
+from gudokeyi.ingest.findings.rows import CastratedInRemarks, ExitsInRemarks, FieldUnread, StatusUnread
 from gudokeyi.ingest.findings.sheets import MOST_SHOWN
+from gudokeyi.ingest.remarks import telling_castrations, telling_exits
 from gudokeyi.ingest.sheets import Sheet
 from gudokeyi.ingest.statuses import said_of
 from gudokeyi.ingest.titles import (
@@ -28,11 +29,12 @@ from gudokeyi.ingest.titles import (
 )  # fmt: skip
 from gudokeyi.ingest.texts import plain
 from gudokeyi.ingest.words import (
-    DEAD, KNOWN_EXITS, KNOWN_NOTHING, KNOWN_SEXES, KNOWN_STAYS, KNOWN_STILL_THERE, LETTER, PLAIN_EXITS, TELLING_EXITS,
-    has_word, lives, sex_word,
+    DEAD, KNOWN_CASTRATED, KNOWN_EXITS, KNOWN_NEUTERED, KNOWN_NOTHING, KNOWN_SEXES, KNOWN_STAYS, KNOWN_STILL_THERE,
+    LETTER, TELLING_EXITS, has_word, lives, sex_word,
 )  # fmt: skip
 
 PARENTS = Field.SIRE, Field.DAM
+KNOWN_SAID_CASTRATED = KNOWN_CASTRATED | KNOWN_NEUTERED
 # so many columns of one title are looked at
 MOST_ALIKE = 20
 
@@ -202,29 +204,44 @@ SOME, MOST_DIFFERENT = 3, 2000
 
 
 def tell_unread_statuses(columns: Columns, named: Mapping[str, str]) -> None:
-    """A column that isn't read, and whose cells mostly tell that animals live or left."""
+    """Columns that aren't read, and whose cells tell that animals live or left, or are castrated."""
     of = Field.EXIT if Field.EXIT not in columns.found else Field.STATUS
-    if of in columns.found:
-        tell_other_statuses(columns)
-    if of in columns.found or named.get(of) == "":
-        return
-    for at in [at for at, title in enumerate(columns.sheet.titles) if title and columns.is_free(at)][:MOST_COMPARED]:
+    usual = columns.titled(KNOWN_TITLES[Field.STATUS]) if of in columns.found else []
+    tell_other_statuses(columns, usual)
+    free = [at for at, title in enumerate(columns.sheet.titles) if title and columns.is_free(at) and at not in usual]
+    may_be_read = of not in columns.found and named.get(of) != ""
+    for at in free[:MOST_COMPARED]:
         cells = collections.Counter(cell for cell in columns.cells(at) if cell)
         if len(cells) > MOST_DIFFERENT:
             continue
+        tell_castrated(columns, at, telling_castrations(cells))
         # a plus alone may be the result of a test
         crosses = {cell for cell in cells if is_cross(cell) and "+" not in (cell, cell.strip("()"))}
         telling = [cell for cell in cells if has_word(cell, TELLING_EXITS | KNOWN_STAYS) or cell in crosses]
         count = sum(cells[cell] for cell in telling)
-        if 2 * count > cells.total() and cells.total() >= SOME:
+        if may_be_read and 2 * count > cells.total() and cells.total() >= SOME:
             columns.notes.append(StatusUnread(columns.title(at), count, tuple(telling[:MOST_SHOWN]), of))
-        elif some := {cell for cell in telling if has_word(cell, PLAIN_EXITS)}:
-            tell_remarks(columns, at, some)
+        elif named.get(Field.EXIT) != "":
+            tell_remarks(columns, at, telling_exits(cells))
 
 
-def tell_other_statuses(columns: Columns) -> None:
+def tell_castrated(columns: Columns, at: int, texts: set[str]) -> None:
+    """Some cells of a column that isn't read tell that an animal is castrated; it isn't told of females, nor of those
+    whose sex says so too."""
+    cells = columns.cells(at)
+    telling = [place for place, cell in enumerate(cells) if cell in texts] if texts else []
+    if Field.SEX in columns.found:
+        sexes = columns.cells(columns.found[Field.SEX])
+        others = {sex for sex in {*sexes} if KNOWN_SEXES.get(sex_word(sex)) == "F" or has_word(sex, KNOWN_SAID_CASTRATED)}
+        telling = [place for place in telling if sexes[place] not in others]
+    if telling:
+        line, text = columns.sheet.rows[telling[0]].line, cells[telling[0]]
+        columns.notes.append(CastratedInRemarks(columns.title(at), len(telling), line, text))
+
+
+def tell_other_statuses(columns: Columns, usual: list[int]) -> None:
     """Columns with a usual title for a status, where another one is read as that."""
-    for at in columns.titled(KNOWN_TITLES[Field.STATUS]):
+    for at in usual:
         title, texts = columns.title(at), {*columns.cells(at)}
         said = {text: said_of(text, title) for text in texts} if len(texts) <= MOST_DIFFERENT else {}
         telling = {text for text, meant in said.items() if has_word(meant, TELLING_EXITS) or DEAD.search(meant)}

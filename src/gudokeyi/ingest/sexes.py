@@ -4,15 +4,18 @@ from __future__ import annotations
 import collections
 import functools
 import re
-from collections.abc import Collection, Mapping, Sequence
+from collections.abc import Callable, Collection, Iterable, Mapping, Sequence
 from typing import NamedTuple
 
 from gudokeyi.ingest.animals import DAM_OF, SIRE_OF, SheetAnimal
 from gudokeyi.ingest.findings.columns import SheetFinding
-from gudokeyi.ingest.findings.sheets import OneSexAlone, SexCount, SexWord, SexWordsShort, TextCount
+from gudokeyi.ingest.findings.sheets import (
+    CastratedLetter, FemaleLetter, OneSexAlone, SexCount, SexWord, SexWordsShort, TextCount,
+)  # fmt: skip
 from gudokeyi.ingest.texts import plain
 from gudokeyi.ingest.words import (
-    CASTRATED_MALE, COUNTED_SEXES, KNOWN_CASTRATED, KNOWN_NEGATIONS, KNOWN_NEUTERED, KNOWN_SEXES, has_word, sex_word,
+    BESIDE_WETHERS, CASTRATED_MALE, COUNTED_SEXES, KNOWN_CASTRATED, KNOWN_GELDED, KNOWN_NEGATIONS, KNOWN_NEUTERED,
+    KNOWN_SEXES, has_word, sex_word,
 )  # fmt: skip
 
 
@@ -29,13 +32,32 @@ NUMBER = re.compile(r"\d+[.,]\d+")
 # words of which columns have the first letters, some of which stand for another sex elsewhere
 THREE_LETTERS = (
     ("Hengst", "Stute", "Wallach"), ("stallion", "mare", "gelding"), ("étalon", "jument", "hongre"),
+    ("ram", "ewe", "wether"), ("buck", "doe", "wether"),
 )  # fmt: skip
+# the letter of weiblich, which is that of Widder and wether too, and what it stands for where it is no female
+LETTER, WETHER = "w", "wether"
+# the letter of a female beside which it isn't one
+OF_AUE = "a"
+# so many animals may be named as dams by mistake
+FEW_MISTAKEN = 2
+
+
+class LetterRead(NamedTuple):
+    """How the letter is read that stands beside other words for females, and these: each with the cells that have
+    it."""
+
+    letter: SexCount
+    females: tuple[SexCount, ...]
+    is_castrated: bool
 
 
 class Sexes:
     """The words of a column, and those that are named by `--sexes`."""
 
-    def __init__(self, texts: list[str], given: dict[str, str]) -> None:
+    def __init__(
+        self, texts: list[str], given: dict[str, str], of_dams: Callable[[], Iterable[str]] = tuple
+    ) -> None:
+        """`of_dams` are those of its cells whose animals are dams."""
         self.known = KNOWN_SEXES | {word: "M" if sex == CASTRATED_MALE else sex for word, sex in given.items()}
         self.given = given
         self.given_castrated = {word for word, sex in given.items() if sex == CASTRATED_MALE}
@@ -46,6 +68,10 @@ class Sexes:
         self.short = self.short_words(texts)
         # what single letters mean in this column, whatever they mean in others
         self.letters = self.letters_of_three({sex_word(text) for text in {*texts}}, given)
+        self.letter: LetterRead | None = None
+        if LETTER not in {*given, *self.letters}:
+            self.letter = self.letter_beside_females(texts, of_dams)
+            self.leave_open(texts)
         # the same words stand in many cells
         self.meaning = functools.cache(self.find)
         # how often a text is taken for a known word
@@ -73,6 +99,41 @@ class Sexes:
                 return {letter: longer[letter][0][0] if letter in alone else by_letter[letter] for letter in by_letter}
         return {}
 
+    def letter_beside_females(self, texts: list[str], of_dams: Callable[[], Iterable[str]]) -> LetterRead | None:
+        """What `W` is where the column has other words for females too: the word that begins with it, a castrated male
+        beside such as `F` and `ewe`, unless it is the letter of dams, or else a female, as it is beside `M` alone."""
+        written = {sex_word(text): text for text in reversed([*dict.fromkeys(texts)])}
+        sexes = {word: self.known.get(word, "") for word in written if word != LETTER}
+        females = {word for word, sex in sexes.items() if sex == "F"}
+        longer = self.short.get(LETTER, [])
+        are_english = not females.isdisjoint(BESIDE_WETHERS)
+        is_of_pair = "m" in sexes and not are_english or "M" not in sexes.values() and not are_english
+        if LETTER not in written or not females or is_of_pair or "F" in {sex for _, sex in longer}:
+            return None
+        if longer:
+            self.letters = {LETTER: longer[0][0]}
+            return None
+        counts, dams = (collections.Counter(map(sex_word, cells)) for cells in (texts, of_dams()))
+        if dams[LETTER] > FEW_MISTAKEN:
+            return None
+        has_dams, some = any(dams[word] for word in females), sum(counts[word] for word in females)
+        is_castrated = are_english and not dams[LETTER] and (has_dams or counts[LETTER] <= some)
+        if is_castrated:
+            self.letters = {LETTER: WETHER}
+        letter, *others = (SexCount(written[word], counts[word]) for word in (LETTER, *sorted(females)))
+        return LetterRead(letter, tuple(others), is_castrated)
+
+    def leave_open(self, texts: list[str]) -> None:
+        """Beside letters that aren't known, as `A` for Aue, `W` isn't either where no word of the column is: all are
+        asked at once. It is one for females where it is the more frequent."""
+        words = {*map(sex_word, {*texts})}
+        others = {word for word in words - {LETTER} if len(word) == 1 and word.isalpha()}
+        if LETTER not in words or not others or words & self.known.keys() != {LETTER}:
+            return
+        counts = collections.Counter(map(sex_word, texts))
+        if OF_AUE in others or counts[LETTER] <= sum(counts[word] for word in others):
+            self.known.pop(LETTER)
+
     def read(self, text: str) -> tuple[str, bool]:
         """The sex, or nothing where it isn't known, and whether the animal is castrated."""
         found = self.meaning(text)
@@ -95,6 +156,7 @@ class Sexes:
             (taken_for, sex), meant = longer[0], [whole for whole, _ in longer]
         elif not sex:
             taken_for, sex = self.among_words(text)
+            meant = [f"{text} {self.letters.get(plain(taken_for), '')}"]
         return Meaning(sex, sex == "M" and all(map(is_castrated, meant)), taken_for)
 
     def among_words(self, text: str) -> tuple[str, str]:
@@ -102,7 +164,7 @@ class Sexes:
         was castrated since, as in `H (ex étalon)`, with what it was."""
         parts = [word for word in re.split(r"[\s,;/()]+", text) if any(map(str.isalpha, word))]
         words = [word for word in parts if len(plain(word)) > 1 or word in "mwfMWF"]
-        found = {word: self.known[plain(word)] for word in words if plain(word) in self.known}
+        found = {word: self.sex_within(word, words) for word in words if plain(word) in self.known}
         # `F (kastr.)` isn't of two sexes
         found = {word: sex for word, sex in found.items() if plain(word) not in KNOWN_NEUTERED} or found
         is_letter = len(words) == 1 and len(plain(words[0])) == 1
@@ -112,15 +174,32 @@ class Sexes:
         first, sex = next(iter(found.items()))
         return next(former, first), sex
 
-    def told(self) -> list[SheetFinding]:
-        """Which words are taken for others."""
-        counts = sorted(self.taken_for.items())
-        taken = tuple(SexWord(TextCount(text, count), whole) for (text, whole), count in counts)
-        return [SexWordsShort(taken)] if taken else []
+    def sex_within(self, word: str, words: list[str]) -> str:
+        """That of a word of a text: of a letter the one of the column, or of a word for which it stands there, as in
+        `W (wether)`; what is gelded isn't female."""
+        letter, others = plain(word), [plain(other) for other in words if other != word]
+        if letter == LETTER:
+            longer = {self.known[other] for other in others if other[:1] == letter and other in self.known}
+            longer |= {"M"} if not KNOWN_GELDED.isdisjoint(others) and KNOWN_NEGATIONS.isdisjoint(others) else set()
+            if len(longer) == 1:
+                return longer.pop()
+        return self.known[plain(self.letters.get(letter, "")) or letter]
 
+    def said_as(self, text: str, word: str) -> str:
+        """The word for which a text is taken, or nothing where it says by itself that the male is castrated."""
+        return word if is_castrated(word) or not self.meaning(text).is_castrated else ""
 
-# the letter of weiblich, which is that of Widder and wether too
-LIKELY_MALE = "w"
+    def told(self, title: str) -> list[SheetFinding]:
+        """Which words are taken for others, and how a letter is read, in a column with this title."""
+        counts = [(*taken, count) for taken, count in sorted(self.taken_for.items())]
+        # of that letter it is told apart
+        apart = WETHER if self.letter else ""
+        taken = tuple(SexWord(TextCount(one, n), self.said_as(one, word)) for one, word, n in counts if word != apart)
+        told: list[SheetFinding] = [SexWordsShort(taken)] if taken else []
+        if self.letter:
+            kind = CastratedLetter if self.letter.is_castrated else FemaleLetter
+            told.append(kind(title, self.letter.letter, self.letter.females))
+        return told
 
 
 def one_sex_alone(
@@ -143,13 +222,13 @@ def one_sex_alone(
     # how a word is written first
     written = {sex_word(text): text for text in reversed(read)}
     told = tuple(SexCount(written[word], count) for word, count in words.most_common())
-    return [OneSexAlone(title, sex, told, written[LIKELY_MALE] if is_likely else "")]
+    return [OneSexAlone(title, sex, told, written[LETTER] if is_likely else "")]
 
 
 def may_be_male(words: Collection[str], given: Mapping[str, str]) -> bool:
     """Is a letter for females named that is none elsewhere, and stands another one for these too?"""
     letters = [word for word, sex in given.items() if sex == "F" and len(word) == 1 and KNOWN_SEXES.get(word) != sex]
-    return LIKELY_MALE in words and LIKELY_MALE not in given and not {*letters}.isdisjoint(words)
+    return LETTER in words and LETTER not in given and not {*letters}.isdisjoint(words)
 
 
 def are_both_parents(sex: str, animals: Collection[SheetAnimal]) -> bool:

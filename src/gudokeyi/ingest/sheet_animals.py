@@ -260,7 +260,7 @@ class Rows:
         self.errors = ErrorValues(sheet, columns)
         # of words of a title such as `Dog/Bitch` cells have the first letters
         named = words_of_sexes(sheet.titles[columns[Field.SEX]]) if Field.SEX in columns else []
-        self.sexes = Sexes([*self.texts(Field.SEX), *named], sexes)
+        self.sexes = Sexes([*self.texts(Field.SEX), *named], sexes, self.sexes_of_dams)
         self.unread = Unread({name: sheet.titles[at] for name, at in columns.items()})
         self.unread.of_status = sheet.of_status
         self.forms = DayForms(self.texts(Field.BIRTH), (born or {}).values(), month_first)
@@ -285,6 +285,12 @@ class Rows:
             return [""] * len(self.sheet.rows)
         texts = self.sheet.column(at)
         return [self.value(text) for text in texts] if self.errors.found else texts
+
+    def sexes_of_dams(self) -> list[str]:
+        """The cells for the sexes of rows whose ids or names are dams."""
+        dams = {*map(str.casefold, {*self.texts(Field.DAM)})} - {""}
+        rows = zip(*map(self.texts, (Field.ID, Field.NAME, Field.SEX)))
+        return [sex for id, name, sex in rows if id.casefold() in dams or name.casefold() in dams]
 
     def value(self, text: str) -> str:
         return "" if is_error_value(text) else text
@@ -386,9 +392,10 @@ class Rows:
         self.faults += [*([fault] if fault else []), *self.cut_numbers(), *self.unread.mostly(), *self.errors.mostly()]
         self.notes += [*self.sheet.unread, *self.marked_rows(animals), *self.cells.letters.told(), *self.errors.told()]
         self.notes += [note] if note else []
-        self.notes += [*self.cells.readings.told(), *self.unread.found(), *self.sexes.told()]
+        self.notes += [*self.cells.readings.told(), *self.unread.found()]
         if Field.SEX in self.columns:
             title = self.sheet.titles[self.columns[Field.SEX]]
+            self.notes += self.sexes.told(title)
             self.notes += one_sex_alone(title, self.texts(Field.SEX), self.sexes, animals.values())
         self.notes += first_days(animals, self.plain.different.get(Field.BIRTH, ()))
         self.notes += [] if self.month_first else self.exchanged_days()

@@ -50,6 +50,14 @@ NEUTERED = (
     "neut, neutered, cast, castr, castrated, kast, kastr, kastriert, gelded, gelegt, sterilisiert, castré, castrée, "
     "châtré, stérilisé, stérilisée"
 )
+# those of them that are said of males alone
+GELDED = "gelded, gelegt, castré, châtré"
+# words for females of lists in which W isn't weiblich: where it would be, `f` and `female` aren't, and W is Wallach
+# beside mares
+BESIDE_FEMALES = (
+    "f, female, fem, cow, heifer, ewe, gimmer, doe, nanny, mare, filly, sow, gilt, bitch, brood bitch, queen, jenny, "
+    "jennet, Stute, Jungstute, Zuchtstute, Stutfohlen"
+)
 # how breeders of small animals count males and females
 COUNTED_SEXES = {"1,0": "M", "0,1": "F", "1.0": "M", "0.1": "F"}
 # a word for a grown male that isn't castrated tells behind one of these that it was castrated since
@@ -182,6 +190,8 @@ KNOWN_CASTRATED = {plain(word) for word in listed(CASTRATED)}
 KNOWN_CASTRATED |= {plain(former + word) for former in listed(FORMER) for word in listed(GROWN_MALES)}
 KNOWN_SEXES |= {word: "M" for word in KNOWN_CASTRATED}
 KNOWN_NEUTERED = {plain(word) for word in listed(NEUTERED)}
+KNOWN_GELDED = {plain(word) for word in listed(GELDED)}
+BESIDE_WETHERS = {plain(word) for word in listed(BESIDE_FEMALES)}
 KNOWN_YES = {word.casefold() for word in listed(YES)}
 KNOWN_NO = {word.casefold() for word in listed(NO)}
 KNOWN_STAYS = {plain(word) for word in listed(STAYS)}

@@ -228,6 +228,28 @@ class ExitsInRemarks(SheetFinding):
 
 
 @dataclass(frozen=True, slots=True)
+class CastratedInRemarks(SheetFinding):
+    """Some cells of a column that isn't read tell that males are castrated, whose sexes don't say so."""
+
+    title: str
+    count: int
+    line: int
+    text: str
+
+    severity = Severity.FACTS
+    code = "castrated in remarks"
+    message = Counted(
+        "the column '{title}' isn't read for sexes, and {count} cell of it tells that an animal is castrated whose sex "
+        "doesn't: '{text}' in line {line}; it counts as not castrated: if it is, write that into the column for sexes, as "
+        "male castrated",
+        "the column '{title}' isn't read for sexes, and {count} cells of it tell that animals are castrated whose sexes "
+        "don't, the first is '{text}' in line {line}; they count as not castrated: if one is, write that into the column "
+        "for sexes, as male castrated",
+        "count",
+    )
+
+
+@dataclass(frozen=True, slots=True)
 class TakerUnclear(Finding):
     """An animal was sold to somebody who may be an owner, or one or another."""
 

@@ -158,10 +158,30 @@ ADVICE = {
 }
 # of the columns whose cells can't be read
 OF_FIELDS = {Field(advice.value): advice for advice in Advice}
-# letters that may stand for a castrated male, as for a gelding or a hongre
-OF_CASTRATED = ("g", "h")
+# letters that may stand for a castrated male, as for a gelding, a hongre, a Kastrat or a wether
+OF_CASTRATED = ("g", "h", "k", "c", "w")
 # columns that a sheet may lack
 OPTIONAL = (Field.EXIT, Field.SINCE, Field.EMBRYO)
+
+
+# what stands for a sex in `--sexes`, in words
+SAID_SEXES = {"m": "male", "f": "female", "mc": "a castrated male"}
+
+
+def sexes_of(word: str, *sexes: str) -> tuple[Suggestion, ...]:
+    """One says that a word is of a sex, for each of some that it may be; none where a word has signs of the option."""
+    if {",", "="} & {*word}:
+        return ()
+    return tuple(Suggestion(f"if '{word}' is {SAID_SEXES[sex]}", (Option("--sexes", f"{word}={sex}"),)) for sex in sexes)
+
+
+def sexes_of_two(words: tuple[str, str], sexes: tuple[str, str]) -> tuple[Suggestion, ...]:
+    """One says that two words are of two sexes."""
+    if any({",", "="} & {*word} for word in words):
+        return ()
+    case = " and ".join(f"'{word}' is {SAID_SEXES[sex]}" for word, sex in zip(words, sexes))
+    option = Option("--sexes", ",".join(f"{word}={sex}" for word, sex in zip(words, sexes)))
+    return (Suggestion(f"if {case}", (option,)),)
 
 
 @dataclass(frozen=True, slots=True)
@@ -187,11 +207,12 @@ class CellsUnread(SheetFinding):
 
     def suggestions(self) -> tuple[Suggestion, ...]:
         field, word = self.cells.field, self.cells.texts[0].text
-        is_word = not {",", "="} & {*word} and not any(map(str.isdigit, word))
-        if field is Field.SEX and is_word:
-            sexes = [("m", "male"), ("f", "female")]
-            sexes += [("mc", "a castrated male")] if word.casefold() in OF_CASTRATED else []
-            return tuple(Suggestion(f"if '{word}' is {sex}", (Option("--sexes", f"{word}={m}"),)) for m, sex in sexes)
+        are_two = len(self.cells.texts) == 2 and not self.cells.more
+        if field is Field.SEX and are_two and self.cells.count == self.cells.said:
+            words = word, self.cells.texts[1].text
+            return sexes_of_two(words, ("m", "f")) + sexes_of_two(words, ("f", "m"))
+        if field is Field.SEX and not any(map(str.isdigit, word)):
+            return sexes_of(word, "m", "f", *(["mc"] if word.casefold() in OF_CASTRATED else []))
         found = (tells_of_no_exit(word),) if field is Field.EXIT else ()
         # where most is read the column is the right one
         if field in OPTIONAL and 2 * self.cells.count >= self.cells.said:
@@ -328,12 +349,20 @@ class FormulaCell(SheetFinding):
 
 @dataclass(frozen=True, slots=True)
 class SexWord(Told):
-    """A word for a sex that is taken for a longer one of the same column, and how often."""
+    """A word for a sex that is taken for a longer one of the same column, and how often; nothing as the longer one of a
+    text that says by itself that the male is castrated."""
 
     word: TextCount
     whole: str
 
-    message = Text("{word} as '{whole}'")
+    message = Text("{word} as {maybe_whole}{maybe_castrated}")
+    parts = {
+        "maybe_whole": OptionalPart("'{whole}'"),
+        "maybe_castrated": OptionalPart("a castrated male", when="is_castrated"),
+    }
+
+    def values(self) -> Mapping[str, object]:
+        return {"is_castrated": not self.whole}
 
 
 @dataclass(frozen=True, slots=True)
@@ -383,3 +412,40 @@ class OneSexAlone(SheetFinding):
         sex = self.other().lower()
         said = [(word, Option("--sexes", f"{word}={sex}")) for word in words if not {",", "="} & {*word}]
         return tuple(Suggestion(f"if '{word}' is {SEXES[self.other()].value}", (option,)) for word, option in said)
+
+
+@dataclass(frozen=True, slots=True)
+class CastratedLetter(SheetFinding):
+    """A letter that stands for females elsewhere, as `W`, is read as a castrated male, since the column has other words
+    for females."""
+
+    title: str
+    letter: SexCount
+    females: tuple[SexCount, ...]
+
+    code = "castrated letter"
+    message = Text(
+        "{letter} of the column '{title}' is read as a castrated male, as for wether or Wallach, since females are written otherwise "
+        "there: {females}"
+    )
+
+    def suggestions(self) -> tuple[Suggestion, ...]:
+        return sexes_of(self.letter.text, "f", "m")
+
+
+@dataclass(frozen=True, slots=True)
+class FemaleLetter(SheetFinding):
+    """The same of a letter that is read as a female."""
+
+    title: str
+    letter: SexCount
+    females: tuple[SexCount, ...]
+
+    code = "female letter"
+    message = Text(
+        "{letter} of the column '{title}' is read as female, as for weiblich, though females are written otherwise there "
+        "too: {females}"
+    )
+
+    def suggestions(self) -> tuple[Suggestion, ...]:
+        return sexes_of(self.letter.text, "mc", "m")

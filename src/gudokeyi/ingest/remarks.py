@@ -1,0 +1,83 @@
+"""What cells of columns that nobody reads, as those of remarks, tell of animals: that they left, or are castrated."""
+from __future__ import annotations
+
+import re
+from collections.abc import Collection, Iterable, Iterator
+
+from gudokeyi.ingest.days import MONTHS, compared, places_within
+from gudokeyi.ingest.texts import listed, plain
+from gudokeyi.ingest.words import (
+    AROUND_EXITS, DEAD, KNOWN_BORN_DEAD, KNOWN_CASTRATED, KNOWN_NEGATIONS, LETTER, PLAIN_EXITS, TELLING_EXITS, has_word,
+    is_still_there,
+)  # fmt: skip
+
+# besides those that tell of an exit wherever they stand in a remark
+KNOWN_PLAIN = PLAIN_EXITS | {
+    plain(word) for word in listed(
+        "eingeschl, euth, verend, notgetötet, notgeschlachtet, gekeult, Schlachtung, put to sleep, put down, abattage, "
+        "réformé, réformée, décès, dcd, totgeboren, stillborn, still born, mort-né, mort-née, mortné, mortinato"
+    )
+}  # fmt: skip
+# where animals are slaughtered: these tell of it alone, or with a day
+SLAUGHTERERS = (
+    "Schlachter, Schlachterei, Schlachthof, Metzger, Metzgerei, Fleischer, Abdecker, butcher, abattoir, knacker, knackers, "
+    "boucher, boucherie, équarrisseur, équarrissage"
+)
+KNOWN_ALONE = TELLING_EXITS | KNOWN_BORN_DEAD | {plain(word) for word in listed(SLAUGHTERERS)}
+# of these without a day one is a side, and the other may be an ear tag
+WITH_DAY = {plain(word) for word in listed("left, lost")}
+AROUND = {plain(word) for word in [*listed(AROUND_EXITS), *listed("zum, zur, vom, beim, la, l, les, the, Wolf, Fuchs")]}
+# a day or a month whose year has two digits
+SHORT_DAY = re.compile(r"\d[./-]\d{2}")
+# that of somebody's death is one that comes before a day
+CROSS_OF_DAY = re.compile(r"\+\s*(?:\d{1,2}[./-]){0,2}(?:19|20)\d\d\b|\+\s*\d{1,2}([./-])\d{1,2}\1\d\d\b")
+# what tells of castrations wherever it stands, but for what is to come
+KNOWN_CASTRATIONS = {
+    plain(word) for word in listed(
+        "kastriert, kastr, Kastration, castrated, castration, gelded, neutered, castré, châtré"
+    )
+}  # fmt: skip
+TO_COME = {plain(word) for word in listed("soll, sollte, muss, werden, wird, should, must, be, avant, vor, before")}
+
+
+def those_with(known: Collection[str], texts: Iterable[str]) -> Iterator[str]:
+    """Those of many texts in which a word may stand: few have one, and they alone are looked at closer."""
+    folded = {text: plain(text) for text in texts}
+    together = "\n".join(folded.values())
+    words = [word for word in known if word in together]
+    return (text for text, within in folded.items() if any(word in within for word in words))
+
+
+def telling_exits(texts: Collection[str]) -> set[str]:
+    likely = {*those_with(KNOWN_PLAIN | KNOWN_ALONE, texts), *filter(is_death, texts)}
+    return {text for text in likely if tells_exit(text)}
+
+
+def telling_castrations(texts: Collection[str]) -> set[str]:
+    return {text for text in those_with(KNOWN_CASTRATIONS | KNOWN_CASTRATED, texts) if tells_castration(text)}
+
+
+def is_death(text: str) -> bool:
+    """Has it a sign of one? A plus alone counts points."""
+    return "+" not in text and DEAD.search(text) is not None or CROSS_OF_DAY.match(text) is not None
+
+
+def tells_exit(text: str) -> bool:
+    """Does it tell that the animal left? A word that may stand for another thing has to be alone, or with a day."""
+    tells = is_death(text) or has_word(text, KNOWN_PLAIN) or is_alone(text, KNOWN_ALONE)
+    return tells and not is_still_there(text)
+
+
+def tells_castration(text: str) -> bool:
+    """Does it tell that the animal is castrated, and not that it isn't, or will be?"""
+    tells = has_word(text, KNOWN_CASTRATIONS) or is_alone(text, KNOWN_CASTRATED)
+    return tells and not has_word(text, KNOWN_NEGATIONS | TO_COME)
+
+
+def is_alone(text: str, known: set[str]) -> bool:
+    """Does it have one of the words, and nothing else but a day?"""
+    words = [word for word in re.split(r"\W+|\d+", text) if word and LETTER.search(word) and compared(word) not in MONTHS]
+    word = "".join(plain(word) for word in words if plain(word) not in AROUND) or "".join(map(plain, words))
+    if word not in known or word not in WITH_DAY:
+        return word in known
+    return SHORT_DAY.search(text) is not None or bool(places_within(text))

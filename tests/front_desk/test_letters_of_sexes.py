@@ -1,0 +1,108 @@
+"""Letters for sexes that stand for one in some lists, and for another one elsewhere, as `W`; and males that are
+castrated."""
+from __future__ import annotations
+
+import pytest
+
+from gudokeyi.ingest.sexes import Sexes
+from front_desk.desk import Desk
+
+TITLES = "Tag,Name,Sex,DOB,Sire,Dam\n"
+# a ewe, a ram, and two offspring of theirs
+FLOCK = "UK001,Ann,{f},2015-03-01,,\nUK002,Ben,{m},2015-03-02,,\nUK003,Cal,{w},2018-03-13,UK002,UK001\n"
+MORE = "UK004,Dan,{w},2019-03-14,UK002,UK001\nUK005,Eva,{f},2020-03-15,UK002,UK001\n"
+OF_WEIBLICH = "read as female, as for weiblich"
+
+
+def sexes_of(desk: Desk, *ids: str) -> list[str]:
+    return [desk.good("show", id).out.splitlines()[2].split(maxsplit=1)[1] for id in ids]
+
+
+@pytest.mark.parametrize(
+    "male, female, letter",
+    [("M", "F", "W"), ("m", "f", "w"), ("Male", "Female", "W"), ("Ram", "Ewe", "W"), ("Hengst", "Stute", "W")],
+)
+def test_wethers(desk: Desk, male: str, female: str, letter: str) -> None:
+    """`W` beside another word for females is a castrated male, which is told, and may be said otherwise."""
+    sheet = TITLES + (FLOCK + MORE).format(m=male, f=female, w=letter)
+    done = desk.take(sheet)
+    told = (
+        f"to look at: '{letter}' (2 animals) of the column 'Sex' is read as a castrated male, as for wether or Wallach, since "
+        f"females are written otherwise there: '{female}' (2 animals)"
+    )
+    assert told in done.out and "words for sexes" not in done.told
+    assert sexes_of(desk, "UK002", "UK003", "UK004", "UK005") == ["male", *["male, castrated"] * 2, "female"]
+    assert " 0 changed" in desk.take(sheet).last
+    [command] = [one for one in done.commands() if one.endswith(f"--sexes {letter}=f")]
+    desk.typed(command)
+    assert sexes_of(desk, "UK003") == ["female"] and "wether" not in desk.take(sheet).told
+
+
+@pytest.mark.parametrize("text", ["W (gelded)", "W (wether)", "wether", "W - pet"])
+def test_wethers_in_words(desk: Desk, text: str) -> None:
+    """Also beside what else the cell says; what it is taken for is told as that."""
+    done = desk.take(TITLES + FLOCK.format(m="M", f="F", w="W") + MORE.format(f="F", w=text))
+    is_taken = f"words for sexes are read as others of the column: '{text}' as a castrated male" in done.out
+    assert is_taken == (text != "wether")
+    assert sexes_of(desk, "UK001", "UK002", "UK003", "UK004") == ["female", "male", *["male, castrated"] * 2]
+
+
+@pytest.mark.parametrize(
+    "texts, wanted",
+    [
+        # beside M alone it is weiblich, also where a word of German lists stands besides
+        (("M", "W"), "MF"), (("m", "w", "weiblich", "F"), "MFFF"), (("Bock", "Ziege", "m", "w"), "MFMF"),
+        (("Bock", "Aue", "W"), "MFF"),
+        (("M", "F", "W"), "MFC"), (("Ram", "Ewe", "wether", "W"), "MFCC"), (("Widder", "Aue", "W"), "MFM"),
+        (("M", "F", "W", "W"), "MFFF"), (("R", "E", "W"), "MFC"), (("B", "D", "W"), "MFC"),
+        (("m", "w", "w (gelded)", "w (kastriert)"), "MFCF"), (("m", "w", "w (not gelded)"), "MFF"),
+        # beside letters that aren't known none is asked alone
+        (("A", "W"), "  "), (("B", "W"), "  "), (("B", "W", "W"), " FF"), (("A", "W", "W"), "   "),
+        (("A", "W", "M"), " FM"), (("A", "W", "unbekannt", "-"), "    "), (("W", "-", "?", "1"), "F   "),
+    ],
+)  # fmt: skip
+def test_letter(texts: tuple[str, ...], wanted: str) -> None:
+    found = [*map(Sexes([*texts], {}).meaning, texts)]
+    assert "".join("C" if one.is_castrated else one.sex or " " for one in found) == wanted
+
+
+@pytest.mark.parametrize(
+    "dams, is_told", [((), True), (("1",), True), (("1", "Anna"), True), (("1", "Anna", "3"), False)]
+)
+def test_letter_of_dams(desk: Desk, dams: tuple[str, ...], is_told: bool) -> None:
+    """As the letter of dams it is a female; it is told where few are, and it may be a mistake."""
+    rows = "".join(f"{id},{name},w,2010-01-01,,\n" for id, name in enumerate(("Ada", "Anna", "Asta", "Alma"), 1))
+    rows += "7,Bert,m,2010-01-01,,\n8,Bea,f,2010-01-01,,\n"
+    progeny = "".join(f"c{at},C,m,2015-01-01,7,{dam}\n" for at, dam in enumerate(dams))
+    done = desk.take(TITLES + rows + progeny)
+    assert (OF_WEIBLICH in done.out) == is_told and "castrated male, as for" not in done.told
+    assert sexes_of(desk, "1", "2", "4") == ["female"] * 3
+    assert any(one.endswith("--sexes w=mc") for one in done.commands()) == is_told
+
+
+def test_letter_of_few(desk: Desk) -> None:
+    """Where `F` is the letter of dams, wethers may be more than these."""
+    rows = "".join(f"{id},,W,2012-01-01,2,1\n" for id in range(3, 9))
+    done = desk.take(TITLES + "1,,F,2010-01-01,,\n2,,M,2010-01-01,,\n" + rows)
+    assert "'W' (6 animals) of the column 'Sex' is read as a castrated male" in done.out
+    assert sexes_of(desk, "3", "8") == ["male, castrated"] * 2
+
+
+def test_two_letters_asked_at_once(desk: Desk) -> None:
+    """`W` and `A` are asked together, and nothing is taken before."""
+    sheet = TITLES + "1,,A,2015-03-01,,\n2,,W,2015-03-02,,\n3,,A,2017-03-02,,\n4,,W,2018-03-02,,\n"
+    done = desk.run("import", desk.write("sheet.csv", sheet))
+    assert done.status == 1 and "can't be read, the first in line 2: 'A' (2 times), 'W' (2 times)" in done.err
+    assert [one.rsplit(" ", 1)[1] for one in done.commands()] == ["A=m,W=f", "A=f,W=m"]
+    desk.typed(done.commands()[1])
+    assert sexes_of(desk, "1", "2") == ["female", "male"]
+
+
+@pytest.mark.parametrize("letter", ["k", "C", "G"])
+def test_castrated_asked(desk: Desk, letter: str) -> None:
+    """A letter that may be that of a castrated male is asked so; a text that says it is told as one."""
+    done = desk.take(TITLES + FLOCK.format(m="m", f="f", w="m (kastriert)") + f"UK009,Ida,{letter},2019-03-14,,\n")
+    assert "words for sexes are read as others of the column: 'm (kastriert)' as a castrated male" in done.out
+    [command] = [one for one in done.commands() if one.endswith(f"--sexes {letter}=mc")]
+    desk.typed(command)
+    assert sexes_of(desk, "UK003", "UK009") == ["male, castrated"] * 2

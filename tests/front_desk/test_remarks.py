@@ -1,0 +1,72 @@
+"""Cells of columns that nobody reads, as those of remarks: they tell of animals that left, or are castrated."""
+from __future__ import annotations
+
+import pytest
+
+from gudokeyi.ingest.remarks import tells_castration, tells_exit
+from front_desk.desk import Desk
+
+TITLES = "Tag,Name,Sex,DOB,Sire,Dam,Exit,Bemerkung\n"
+PAIR = "a1,Ann,f,2015-03-01,,,,braun\na2,Ben,m,2015-03-02,,,,left ear\n"
+OTHERS = "b1,Ida,f,2015-03-01,,,,lahm\nb2,Ole,m,2015-03-02,,,,gute Wolle\nb3,Pia,f,2015-03-02,,,,scheu\n"
+OF_EXITS = "the column 'Bemerkung' isn't read for exits, and "
+OF_SEXES = "the column 'Bemerkung' isn't read for sexes, and "
+
+
+@pytest.mark.parametrize(
+    "text",
+    [
+        "† 3/2020", "eingeschl. 3/2020", "totgeboren", "stillborn", "PTS Jan 2022", "put to sleep", "Schlachter 3/20",
+        "zum Metzger 3.4.20", "boucherie 2020", "réformée 2020", "vom Wolf gerissen", "gerissen", "R.I.P.", "+ 12.3.20",
+        "+ 3/2020", "left 2020", "geschl. 3/20", "mort-né",
+    ],
+)  # fmt: skip
+def test_exits(desk: Desk, text: str) -> None:
+    """They are told with the first, but not of an animal whose exit another column has."""
+    rows = f"a3,Cal,m,2018-03-13,a2,a1,,{text}\na4,Dan,m,2018-03-13,a2,a1,2020-01-01,{text}\n"
+    done = desk.take(TITLES + PAIR + rows + OTHERS)
+    done.tells(
+        f"to look at: {OF_EXITS}1 cell of it tells that an animal left which has no exit: '{text}' in line 4; the animal "
+        "counts as living: if it left, write that into the column for exits"
+    )
+    assert OF_SEXES not in done.told
+
+
+@pytest.mark.parametrize(
+    "text",
+    [
+        "left", "left 12", "lost tag", "Schlachter Müller", "Ohr gerissen", "nicht verkauft", "for sale", "+++", "+4.5",
+        "+ 2 kg", "x", "lebt", "retired 2020", "Herkunft: boucherie Martin",
+    ],
+)  # fmt: skip
+def test_no_exits(text: str) -> None:
+    assert not tells_exit(text)
+
+
+def test_exits_beside_a_status(desk: Desk) -> None:
+    """Where a column of words is read beside that of the exits remarks are told too."""
+    titles = TITLES.replace("Bemerkung", "Status,Bemerkung")
+    done = desk.take(titles + "a1,Ann,f,2015-03-01,,,,alive,† 3/2020\na2,Ben,m,2015-03-02,,,,sold 2020-03-04,† 3/2020\n")
+    assert "status from 'Status'" in done.out and OF_EXITS + "1 cell of it tells" in done.told
+
+
+@pytest.mark.parametrize("text", ["kastriert 5/2019", "castrated", "castré le 3/9/19", "gelded", "Wallach seit 2019", "wether"])
+def test_castrated(desk: Desk, text: str) -> None:
+    """Told of males whose sexes don't say it, with the first."""
+    rows = f"a3,Cal,m,2018-03-13,a2,a1,,{text}\na4,Dan,m,2018-03-13,a2,a1,,{text}\na5,Eva,f,2018-03-13,a2,a1,,{text}\n"
+    said = f"a6,Fox,m (kastriert),2018-03-13,a2,a1,,{text}\na7,Gus,wether,2018-03-13,a2,a1,,{text}\n"
+    done = desk.take(TITLES + PAIR + rows + said)
+    done.tells(
+        f"to look at: {OF_SEXES}2 cells of it tell that animals are castrated whose sexes don't, the first is '{text}' in "
+        "line 4; they count as not castrated: if one is, write that into the column for sexes, as male castrated"
+    )
+    assert OF_EXITS not in done.told
+    mended = desk.take(TITLES + PAIR + rows.replace(",m,", ",male castrated,"))
+    assert OF_SEXES not in mended.told and "male, castrated" in desk.good("show", "a3").out
+
+
+@pytest.mark.parametrize(
+    "text", ["nicht kastriert", "unkastriert", "to be castrated", "soll kastriert werden", "Eier gelegt", "pas castré"]
+)
+def test_not_castrated(text: str) -> None:
+    assert not tells_castration(text)
