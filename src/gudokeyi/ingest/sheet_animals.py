@@ -278,7 +278,7 @@ class Rows:
             elif self.unknown.is_one(id):
                 self.report.add(line, id, NoId(id, "" if id else text_of(cells)))
             elif id == id_title and are_titles(cells, self.sheet.titles):
-                self.report.add(line, "", TitlesAgain())
+                self.report.add(line, "", TitlesAgain(line in self.sheet.other_orders or None))
             elif may_be_none and (word := self.no_animal(id, cells, said)):
                 self.report.add(line, id, NoAnimal(word))
             elif id not in found:
