@@ -4,6 +4,7 @@ from __future__ import annotations
 
 import collections
 import functools
+import itertools
 import operator
 import re
 from collections.abc import Callable, Collection, Iterable, Mapping, Sequence
@@ -123,9 +124,17 @@ def reads_so(text: str, shapes: Mapping[str, int]) -> bool:
 
 # Marks that stand for the cell above.
 
-DITTO = {
-    '"', "''", "”", "“", "„", "〃", "″", '-"-', '- " -', "-''-", "dito", "dto", "dto.", "ditto", "do.", "idem", "id.",
-    "s.o.", "s. o.", "siehe oben", "wie oben", "as above", "same as above", "same", "ci-dessus", "voir ci-dessus",
+# such marks of signs alone, and the dashes between which they stand too
+QUOTES = ('"', "''", "”", "“", "„", "〃", "″", ",,", "‚‚", "’’", "‘‘", "´´", "``", '""', "””", "„“", "„”", "““")
+DASHES = ("-", "–", "—", "−")
+BETWEEN_DASHES = {
+    one + blank + mark + blank + other
+    for one, other in itertools.product(DASHES, DASHES) for blank in ("", " ") for mark in QUOTES
+}  # fmt: skip
+DITTO = {*QUOTES} | BETWEEN_DASHES | {
+    "dito", "dito.", "dto", "dto.", "dtto", "dtto.", "ditto", "do.", "idem", "id.", "s.o.", "s. o.", "s. oben",
+    "siehe oben", "w.o.", "w. o.", "w.o", "wie oben", "wie vor", "wie zuvor", "wie vorher", "ebenso", "ebenfalls", "ebd.",
+    "as above", "same as above", "same", "ci-dessus", "voir ci-dessus",
     "comme ci-dessus", "le même", "la même", "the same", "derselbe", "dieselbe", "der gleiche", "die gleiche",
     "»", "«", "« »", "«»", "»»", "» »", "d°", "d °", "dº", "même", "desgl.",
 }  # fmt: skip
