@@ -28,7 +28,7 @@ from gudokeyi.ingest.findings.exits import Remark
 from gudokeyi.ingest.findings.files import GreyRows, HiddenRows
 from gudokeyi.ingest.findings.sheets import CutNumber, FormulaCell, Place
 from gudokeyi.ingest.odd_ids import Oddity, odd_ids
-from gudokeyi.ingest.odd_texts import first_days, tell_exits_in_names, tell_several_ids
+from gudokeyi.ingest.odd_texts import first_days, tell_exits_in_ids, tell_exits_in_names, tell_several_ids
 from gudokeyi.ingest.plain_rows import CELLS_OF, SIGNS, PlainRows, chooser, first_sum
 from gudokeyi.ingest.rows_as_meant import DITTO, Takers
 from gudokeyi.ingest.same_ids import SameIds, tell_used_again
@@ -328,6 +328,7 @@ class Rows:
         self.cells.take_back()
         self.look_at_ids(animals)
         tell_exits_in_names(animals, self.plain.different.get(Field.NAME, ()), self.report)
+        tell_exits_in_ids(animals, self.sheet.marked, self.report)
         for field in (Field.NAME, Field.OWNER):
             if not TRUTHS.isdisjoint(self.plain.different.get(field, ())):
                 tell_truths(animals, field, self.report)

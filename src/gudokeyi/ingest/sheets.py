@@ -73,6 +73,12 @@ def cell_of(row: SheetRow, at: int) -> str:
     return row.cells[at] if at < len(row.cells) else ""
 
 
+def with_cell(row: SheetRow, at: int, text: str) -> SheetRow:
+    """The row with another text at a place."""
+    cells = row.cells + [""] * (at + 1 - len(row.cells))
+    return SheetRow(row.line, [*cells[:at], text, *cells[at + 1 :]])
+
+
 @dataclass(frozen=True)
 class Sheet:
     """The row of titles with its line, the rows below it, how the file was read, in words, and what keeps it from
@@ -113,11 +119,13 @@ class Sheet:
     days: Mapping[int, list[int]] = field(default_factory=dict)
     # the lines of rows with the titles in another order, in which the cells of those below stood
     other_orders: frozenset[int] = frozenset()
+    # the ids that are read without a sign by which animals leave, as they are written, by their lines
+    marked: Mapping[int, str] = field(default_factory=dict)
 
     def is_same(self, meant: Sheet) -> bool:
         """Has another sheet that was made of the same one the same rows?"""
-        return (meant.rows, meant.unseen, meant.remarks, meant.of_status, meant.reasons) == (
-            self.rows, self.unseen, self.remarks, self.of_status, self.reasons
+        return (meant.rows, meant.unseen, meant.remarks, meant.of_status, meant.reasons, meant.marked) == (
+            self.rows, self.unseen, self.remarks, self.of_status, self.reasons, self.marked
         )  # fmt: skip
 
     def column(self, at: int) -> list[str]:
