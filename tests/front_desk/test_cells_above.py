@@ -10,7 +10,11 @@ TITLES = "N° SIRE;Nom;Sexe;Né(e) le;Père;Mère;Propriétaire\n"
 PAIR = "101;Amiral;M;21/02/2010;;;GAEC des Bruyères\n102;Églantine;F;05/06/2011;;;Moreau frères\n"
 FOAL = "103;Jockey;M;27/06/2019;101;102;Moreau frères\n"
 # as French hands and others write them
-MARKS = ("»", "« »", "d°", "//", "↓", "même", "|", "Idem", "\u00ab\u00a0\u00bb")
+MARKS = (
+    "»", "« »", "d°", "//", "↓", "même", "|", "Idem", "\u00ab\u00a0\u00bb",
+    # as word processors write them, and with two signs
+    '–"–', '— " —', '-"-', "– ” –", '-"–', "w.o.", "W. o.", ",,", "-,,-", "''", "´´", "ebenso",
+)  # fmt: skip
 
 
 def owners(desk: Desk, *words: str) -> list[str]:

@@ -83,9 +83,9 @@ def test_faulty_rows(desk: Desk) -> None:
     )
     done.tells(
         (
-            "line 3: a: the row is left out: line 2 has this id too (name 'Berta', there 'Anna'; birth "
-            "'2002-01-01', there '2001-01-01'); line 2 is taken: if this is another animal, give it an id of its own, "
-            "also where its offspring name it"
+            "line 3: a: the row is left out: line 2 has this id for another animal ('Anna', born 2001-01-01; here "
+            "'Berta', born 2002-01-01), which is taken since it was born first: if the tag was used again, give this "
+            "one an id of its own, also where its offspring name it"
         ),
         "line 4: the row is left out: it has no id; it says 'Clara | F | 2002-01-01'",
         "line 5: unknown: the row is left out: 'unknown' is a word for an unknown animal: give it another id",
@@ -98,7 +98,7 @@ def test_faulty_rows(desk: Desk) -> None:
         "line 8: g: its exit is left out: 'sold' has no day; the animal counts as gone",
         "line 8: g: the row is left out: its sex can't be read, and no animal has it as a parent",
         (
-            "to look at: 1 of 10 cells that say something in the column 'sex' can't be read, the first in line 8: "
+            "to look at: 1 of 11 cells that say something in the column 'sex' can't be read, the first in line 8: "
             "'cat': write M or F, or say which sex each word is by --sexes; if 'cat' is male, say --sexes cat=m; if "
             "'cat' is female, say --sexes cat=f"
         ),

@@ -1,6 +1,8 @@
 """Parents that are written by their names."""
 from __future__ import annotations
 
+import pytest
+
 from front_desk.desk import CALLED, Desk
 
 MEANT = "if another is meant, write the id of that one"
@@ -118,8 +120,8 @@ def test_named_without_accents(desk: Desk) -> None:
     # two that differ in accents alone are told where neither is written so
     done = desk.take(sheet + "E5;Etoilé;F;2001-01-01;;\nL5;;F;2004-01-01;;Etoile\n", "--book", "other")
     done.tells(
-        "line 11: Etoile: added: the dam of L5 has no row: added without parents (2 animals have this name, E1, E5: write "
-        "the id of the one that is meant)"
+        "line 6: ETOILE: added: the dam of L1 and of 1 more has no row: added without parents (2 animals have this name, "
+        "E1, E5: write the id of the one that is meant)"
     )
 
 
@@ -176,3 +178,36 @@ def test_name_of_a_male_and_of_a_female(desk: Desk) -> None:
     )
     done = desk.take(sheet.replace("T1,Toni,M,2001", "T1,Toni,M,2014"), "--book", "four")
     done.tells("line 4: Toni: added: the sire of L1 and of 1 more has no row: added without parents (is T1 meant?)")
+
+
+CAPITALS = (
+    "id;name;sex;birth;sire;dam\nDE100;Anna;f;1.3.2015;;\nDE101;Bert;m;2.3.2015;;\nDE109;Bert;m;2.3.2016;DE101;DE100\n"
+    "DE102;Cora;f;2.3.2019;{};DE100\nDE105;Fips;m;4.3.2020;{};{}\n"
+)
+
+
+@pytest.mark.parametrize("name, other", [("Bert", "bert"), ("BERT", "Bert"), ("Zar", "zar"), ("Bert (alt)", "BERT (alt)")])
+def test_parent_without_a_row_in_capitals(desk: Desk, name: str, other: str) -> None:
+    """Texts that differ in capitals alone are one animal, which is told, also beside one that the book has."""
+    for _ in range(2):
+        done = desk.take(CAPITALS.format(name, other, "DE100"))
+        done.tells(
+            f"line 6: DE105: inferred: its sire '{other}' is {name}, whose id differs in case, blanks or zeros alone: if "
+            "another is meant, give that one a row"
+        )
+        assert desk.parents()["DE102"][0] == desk.parents()["DE105"][0] == name
+    assert " 0 new, 0 changed" in done.last and " 0 added" in done.last and other not in desk.numbers()
+    desk.take("id;name;sex;birth;sire;dam\nDE106;Gina;f;5.3.2021;" + other + ";DE100\n", "--append")
+    assert desk.parents()["DE106"] == (name, "DE100")
+
+
+def test_parents_in_capitals_of_other_roles(desk: Desk) -> None:
+    """A sire and a dam are two."""
+    desk.take(CAPITALS.format("Uli", "DE101", "uli"))
+    assert {"Uli", "uli"} <= desk.numbers().keys()
+
+
+def test_parents_in_capitals_that_the_book_has(desk: Desk) -> None:
+    """Two that the book has stay two."""
+    desk.take(CAPITALS.format("Uli", "DE101", "uli"))
+    assert " 0 new, 0 changed" in desk.take(CAPITALS.format("Uli", "DE101", "uli")).last

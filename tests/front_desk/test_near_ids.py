@@ -189,13 +189,13 @@ def test_tag_of_the_book_twice_in_a_sheet(desk: Desk) -> None:
 
 
 def test_rows_of_one_tag_with_another_birth(desk: Desk) -> None:
-    """The first row is taken where the years are near, or not both days are known; it is told that the other may be
+    """The first row is taken where the days are near, or not both are known; it is told that the other may be
     another animal, and what to do then. Of one day that is written in two ways it isn't."""
-    rows = "E1;Eva;F;2018-03-02;;\nE1;Ida;F;2019-03-02;;\nE2;Uta;F;2019;;\nE2;Pia;F;2012;;\n"
+    rows = "E1;Eva;F;2018-03-02;;\nE1;Ida;F;2018-03-20;;\nE2;Uta;F;2019;;\nE2;Pia;F;2012;;\n"
     done = desk.take(TITLES + rows + "E3;Rosa;F;2018-03-02;;\nE3;Rosi;F;2.3.2018;;\n")
     own = "if this is another animal, give it an id of its own, also where its offspring name it"
     done.shows(
-        "line 3: E1: the row is left out: line 2 has this id too (name 'Ida', there 'Eva'; birth '2019-03-02', there "
+        "line 3: E1: the row is left out: line 2 has this id too (name 'Ida', there 'Eva'; birth '2018-03-20', there "
         f"'2018-03-02'); line 2 is taken: {own}",
         "line 5: E2: the row is left out: line 4 has this id too (name 'Pia', there 'Uta'; birth '2012', there '2019'); "
         f"line 4 is taken: {own}",

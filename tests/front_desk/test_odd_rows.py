@@ -1,6 +1,8 @@
 """Rows that aren't animals: sums, and titles that are repeated."""
 from __future__ import annotations
 
+import pytest
+
 from front_desk.desk import Desk
 
 LOOK = "to look at: is this row an animal? It "
@@ -59,3 +61,41 @@ def test_titles_again(desk: Desk) -> None:
     # one of which a cell is written otherwise
     done = desk.take(f"{titles};Abgang;am\na;2001;;;;\n{titles};Exit;am\nb;2003;a;;;\n", "--book", "other")
     done.shows("line 3: the row is left out: it repeats the titles")
+
+
+FIRST_TITLES = "Ohrmarke;Name;Geschlecht;Geburt;Vater;Mutter;Besitzer;Bemerkung\n"
+IN_OTHER_ORDER = "the row is left out: it repeats the titles in another order, by which the rows below it are read"
+
+
+@pytest.mark.parametrize(
+    "titles, row",
+    [
+        ("Ohrmarke;Besitzer;Geschlecht;Geburt;Vater;Mutter;Name;Bemerkung", "c;Huber;w;3.3.2019;b;a;Cora;"),
+        ("Ohrmarke;Name;Geschlecht;Geburt;Mutter;Vater;Besitzer;Bemerkung", "c;Cora;w;3.3.2019;a;b;Huber;"),
+        # the ids elsewhere, written otherwise, and one title less
+        ("NAME;Ohrmarke;Geschlecht;Geburt;Mutter;Vater;Besitzer", "Cora;c;w;3.3.2019;a;b;Huber"),
+        ("Besitzer;Ohrmarke;Name;Geschlecht;Geburt;Vater;Mutter", "Huber;c;Cora;w;3.3.2019;b;a"),
+    ],
+)  # fmt: skip
+def test_titles_in_another_order(desk: Desk, titles: str, row: str) -> None:
+    """The rows below them are read by them, until the first ones stand there again."""
+    rows = "a;Anna;w;1.3.2015;;;Meier;\nb;Bert;m;2.3.2015;;;Meier;\n"
+    done = desk.take(f"{FIRST_TITLES}{rows}{titles}\n{row}\n{FIRST_TITLES}d;Dora;w;4.3.2019;b;a;Huber;\n")
+    assert [line for line in done.out.splitlines() if "repeats" in line] == [
+        f"line 4: {IN_OTHER_ORDER}", "line 6: the row is left out: it repeats the titles"
+    ]  # fmt: skip
+    assert ", 2 left out (2 rows), 0 added" in done.last
+    kept = [line.split(",")[:7] for line in desk.good("export").out.splitlines()[3:]]
+    assert kept == [
+        ["c", "Cora", "F", "2019-03-03", "b", "a", "Huber"], ["d", "Dora", "F", "2019-03-04", "b", "a", "Huber"]
+    ]  # fmt: skip
+
+
+def test_rows_like_titles(desk: Desk) -> None:
+    """Some titles in a row, or one that none has, are no other order; a cell for which there is no title isn't lost."""
+    rows = "a;Anna;w;1.3.2015;;;Meier;\nb;Bert;m;2.3.2015;;;Meier;\n"
+    for row in "Ohrmarke;Besitzer;w;3.3.2019;b;a;Name;", "Ohrmarke;Halter;Geschlecht;Geburt;Mutter;Vater;Name;Bemerkung":
+        assert IN_OTHER_ORDER not in desk.take(f"{FIRST_TITLES}{rows}{row}\n", "--preview").out
+    titles = "Ohrmarke;Besitzer;Geschlecht;Geburt;Vater;Mutter;Name"
+    done = desk.take(f"{FIRST_TITLES}{rows}{titles}\nc;Huber;w;3.3.2019;b;a;Cora;tot\n")
+    done.shows("line 5: c: the row is left out: it has 9 cells, and there are 8 titles: is there a separator too many?")

@@ -35,6 +35,55 @@ def test_name_alone(desk: Desk, name: str) -> None:
     assert "its name" not in desk.take(f"{TITLES}a1;{name};f;2019-03-24;;;X;\na2;Eva;f;2019-03-02;;;X;\n").told
 
 
+FOUR = "DE101;Anna;f;2015-03-01;;;X;\nDE102;Bert;m;2015-03-02;;;X;\n{};Cora;f;2019-03-03;DE102;DE101;X;{}\n"
+
+
+@pytest.mark.parametrize(
+    "id",
+    ["†DE103", "DE103 †", "DE103†", "DE103 (tot)", "DE103 (verk. 2022)", "DE103 tot", "† DE103", "DE103 † 3.4.2022",
+     "DE103 +", "DE103 (+)", "DE103 geschl.", "DE103 (eingeschläfert)"],
+)  # fmt: skip
+def test_exit_in_an_id(desk: Desk, id: str) -> None:
+    """It is read without, also as a parent, and told; so it is the animal that the book has."""
+    desk.take(TITLES + FOUR.format("DE103", "") + "DE104;Dora;f;2022-03-03;DE102;DE103;X;\n")
+    rows = FOUR.format(id, "{}") + f"DE104;Dora;f;2022-03-03;DE102;{id};X;\n"
+    told = f"line 4: DE103: to look at: its id '{id}' seems to tell of an exit, and is taken as DE103"
+    for options in ("--preview",), ():
+        done = desk.take(TITLES + rows.format(""), *options)
+        done.shows(
+            f"{told}, which counts as living: if it has left, write that into the column for exits, and here the id alone"
+        )
+        assert " 0 new, 0 changed, 0 inferred, 0 left out, 0 added, 0 gone" in done.last
+    desk.take(TITLES + rows.format("2022-04-03")).tells(told)
+    assert desk.parents()["DE104"] == ("DE102", "DE103")
+
+
+@pytest.mark.parametrize("id", ["Rex tot", "DE103 (rot)", "DE-103+1", "DE103 gold", "3 Mort 4"])
+def test_id_without_an_exit(desk: Desk, id: str) -> None:
+    assert "seems to tell" not in desk.take(TITLES + FOUR.format(id, "")).told
+    assert id in desk.numbers()
+
+
+def test_marked_id_of_the_book(desk: Desk) -> None:
+    """An animal whose id is said to have the sign keeps it."""
+    done = desk.take(TITLES + FOUR.format("†DE103", ""), "--animal", "†DE103")
+    assert "†DE103" in desk.numbers() and "seems to tell" not in done.told
+
+
+@pytest.mark.parametrize("id", ["DE103+104", "DE103 + 4", "DE103 u. 104", "DE103 und 104", "DE103, 04", "DE103&104"])
+def test_two_animals_in_a_row(desk: Desk, id: str) -> None:
+    """Also where the second id has its last digits alone, in a short list."""
+    desk.take(TITLES + FOUR.format(f'"{id}"', "")).shows(
+        f"line 4: {id}: to look at: is this row one animal? Its id has DE103 and DE104 in it. It is taken as one: give "
+        "each animal a row of its own, and write one id into its cell"
+    )
+
+
+def test_one_animal_in_a_row(desk: Desk) -> None:
+    rows = "1+2;A;f;2015-03-02;;;X;\nCH 1,5;B;f;2015-03-02;;;X;\nDE103/104;C;f;2015-03-02;;;X;\n"
+    assert "is this row one animal" not in desk.take(TITLES + FOUR.format("DE103+1045", "") + rows).told
+
+
 @pytest.mark.parametrize(
     "id, parts",
     [

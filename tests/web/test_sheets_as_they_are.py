@@ -111,11 +111,11 @@ SAID_OF_TAG = {
 @pytest.mark.parametrize("language", LANGUAGES)
 def test_tag_of_another(empty_site: Site, language: str) -> None:
     """It is asked among what may be wrong, before what it changes."""
-    site, row = empty_site, "041;{};w;1.2.{};001;{};Huber Hans;;lebt\n"
-    address, _ = look_at(site, LIST + row.format("E", 2012, "002"))
+    site, row = empty_site, "041;{};w;1.{}.2012;001;{};Huber Hans;;lebt\n"
+    address, _ = look_at(site, LIST + row.format("E", 2, "002"))
     site.take(address)
     site.get(f"/language/{language}")
-    _, page = look_at(site, LIST + row.format("F", 2013, "005"))
+    _, page = look_at(site, LIST + row.format("F", 3, "005"))
     said = shown(part(page, "May be wrong", language)).replace("\u00a0", " ").replace("\u202f", " ")
     assert said.count(SAID_OF_TAG[language]) == 1, said
 

@@ -8,6 +8,7 @@ from collections.abc import Sequence
 MOST_COMPARED = 20_000
 # letters that are written for digits
 DIGITS = str.maketrans("oil", "011")
+DIGITS_WITHIN = re.compile(r"\d+")
 
 
 # the sign that is written for the letter between the names of two parents
@@ -35,6 +36,24 @@ def closest(text: str, names: Sequence[str], most: int = 3, least: float = 0.75)
     import difflib
 
     return difflib.get_close_matches(text, names[:MOST_COMPARED], most, least)
+
+
+# how alike two names are of which one may be mistyped: with one first letter, and with two; a part has so many letters
+ALIKE, ALIKE_BEHIND, LEAST_PART = 0.66, 0.85, 3
+
+
+def are_other_names(one: str, other: str) -> bool:
+    """Are two names so unlike that neither is mistyped, or a part of the other? Numbers in them are compared whole."""
+    words, others = [*map(folded, one.split())], [*map(folded, other.split())]
+    here, there = ("".join(word for word in its if word not in those) for its, those in ((words, others), (others, words)))
+    shorter, longer = sorted((here, there), key=len)
+    if not shorter or len(shorter) >= LEAST_PART and shorter in longer:
+        return False
+    if DIGITS_WITHIN.findall(here) != DIGITS_WITHIN.findall(there):
+        return True
+    import difflib
+
+    return difflib.SequenceMatcher(None, here, there).ratio() < (ALIKE if here[0] == there[0] else ALIKE_BEHIND)
 
 
 # stands in no name that is compared

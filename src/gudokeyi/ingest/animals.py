@@ -9,7 +9,6 @@ from dataclasses import dataclass, field
 
 from gudokeyi.domain.animals import SocietyRecord
 from gudokeyi.domain.commands import RegisterRecord
-from gudokeyi.domain.findings import Report
 from gudokeyi.domain.kinds import Role
 from gudokeyi.domain.messages import MessageText
 from gudokeyi.domain.provenance import GIVEN_BIRTH, GIVEN_EXIT, BirthBasis, ExitBasis, OwnerDay, SexSource
@@ -143,26 +142,11 @@ def birth_in_book(known: SocietyRecord, record: RegisterRecord) -> Span:
     return ANY_DAY if known.birth.is_inferred else Span(record.born, record.born)
 
 
-# an animal that is born so many days later may be another one
-YEARS_LATER = 700
+# an animal that is born so many days later may be another one; with another name it may already be one weeks later
+YEARS_LATER, WEEKS_LATER = 700, 42
 
 
 def lines_that_name(animals: dict[str, SheetAnimal], another: SheetAnimal) -> tuple[int, ...]:
     """The lines of animals that have an id as a parent, and are born after the other animal that has it."""
     progeny = [one for one in animals.values() if another.id in (one.sire, one.dam)]
     return tuple(one.line for one in progeny if one.birth.last > another.birth.first)
-
-
-def tell_used_again(
-    animals: dict[str, SheetAnimal], others: list[SheetAnimal], report: Report, born: Mapping[str, datetime.date]
-) -> None:
-    """The animals of a sheet, and those that have the id of another one there; `born` are the birth days of the
-    book."""
-    # what is filed by hand asks for no sheet's findings
-    from gudokeyi.ingest.findings.same_ids import IdUsedAgain
-
-    for other in others:
-        first = animals[other.id]
-        values = first.birth.first, first.name, other.birth.first, other.name, lines_that_name(animals, other)
-        is_first_born = born.get(other.id) != first.birth.first
-        report.add(other.line, other.id, IdUsedAgain(*values, first.line, is_first_born))

@@ -9,9 +9,8 @@ from collections.abc import Collection, Iterable, Iterator, Mapping
 from gudokeyi.domain.findings import Report
 from gudokeyi.ingest.animals import SheetAnimal
 from gudokeyi.ingest.findings.columns import SheetFinding
-from gudokeyi.ingest.findings.odd_texts import MOST_LINES, FirstDays, NameTellsOfExit, TwoIds
-from gudokeyi.ingest.rows_as_meant import shape
-from gudokeyi.ingest.texts import listed
+from gudokeyi.ingest.findings.odd_texts import MOST_LINES, FirstDays, IdTellsOfExit, NameTellsOfExit, TwoIds
+from gudokeyi.ingest.texts import listed, shape
 
 # Names that tell of an exit.
 
@@ -59,6 +58,13 @@ def tell_exits_in_names(animals: Mapping[str, SheetAnimal], names: Iterable[str]
     for animal in animals.values() if telling else ():
         if animal.name in telling and counts_as_living(animal):
             report.add(animal.line, animal.id, NameTellsOfExit(animal.name))
+
+
+def tell_exits_in_ids(animals: Mapping[str, SheetAnimal], marked: Mapping[int, str], report: Report) -> None:
+    """Of ids that are read without a sign; `marked` has them as they are written, by their lines."""
+    for animal in animals.values() if marked else ():
+        if written := marked.get(animal.line):
+            report.add(animal.line, animal.id, IdTellsOfExit(written, animal.id, counts_as_living(animal)))
 
 
 def counts_as_living(animal: SheetAnimal) -> bool:
@@ -114,9 +120,28 @@ def parts_of(id: str, shapes: Collection[str]) -> Iterator[tuple[str, ...]]:
         yield tuple(dict.fromkeys(one for one in those if any(map(str.isdigit, one)) and shape(one) in shapes))
 
 
+# a second id of which the last digits alone stand behind the first, as `DE104+105`; and what all of these have
+WITH_ANOTHER = re.compile(
+    r"(?P<first>(?:.*[^\d\n])?(?P<number>\d+)) ?(?:[+&;,]| (?:und|u\.|and|et)(?= )) ?(?P<other>\d+)", re.IGNORECASE
+)
+ANOTHER = ("+", "&", ";", ",", " u", " U", " a", " A", " e", " E")
+
+
+def ids_with_another(ids: Collection[str]) -> dict[str, tuple[str, ...]]:
+    """The ids that have the end of another one behind them, and are written as others are without it."""
+    together = "\n".join(ids)
+    signs = [sign for sign in ANOTHER if sign in together]
+    likely = [id for id in ids if any(sign in id for sign in signs)] if signs else []
+    found = {id: one for id in likely if (one := WITH_ANOTHER.fullmatch(id)) and len(one["other"]) <= len(one["number"])}
+    shapes = {shape(id) for id, _ in zip((id for id in ids if id not in found), range(SOME))} if found else set()
+    both = {id: (one["first"], one["first"][: -len(one["other"])] + one["other"]) for id, one in found.items()}
+    return {id: its for id, its in both.items() if shape(its[0]) in shapes}
+
+
 def tell_several_ids(animals: Mapping[str, SheetAnimal], known: Collection[str], report: Report) -> set[str]:
     """Answers the ids of those that are told; the book hasn't these."""
-    found = {id: its for id, its in several_ids(animals.keys()).items() if id not in known}
+    several = ids_with_another(animals.keys()) | several_ids(animals.keys())
+    found = {id: its for id, its in several.items() if id not in known}
     for id, its in found.items():
         report.add(animals[id].line, id, TwoIds(its))
     return {*found}

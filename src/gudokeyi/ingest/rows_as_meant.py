@@ -4,6 +4,7 @@ from __future__ import annotations
 
 import collections
 import functools
+import itertools
 import operator
 import re
 from collections.abc import Callable, Collection, Iterable, Mapping, Sequence
@@ -16,9 +17,10 @@ from gudokeyi.ingest.days import places_within
 from gudokeyi.ingest.findings.cells import UnseenInId
 from gudokeyi.ingest.findings.rows import CellsRepeated, MarksAreNames, NoteRow, NothingRepeated
 from gudokeyi.ingest.findings.sheets import UnseenDropped
-from gudokeyi.ingest.sheets import Sheet, SheetRow, cell_of
+from gudokeyi.ingest.marked_ids import without_signs_of_exits
+from gudokeyi.ingest.sheets import Sheet, SheetRow, cell_of, with_cell
 from gudokeyi.ingest.statuses import SOLD, TAKER, Exits, exits_said, taker_of_owner
-from gudokeyi.ingest.texts import nearly, plain
+from gudokeyi.ingest.texts import nearly, plain, shape, shapes_of
 from gudokeyi.ingest.unknown_parents import UnknownParents, names_no_owner
 from gudokeyi.ingest.words import KNOWN_EXITS, KNOWN_SEXES, KNOWN_SUMS, is_in_doubt, lives_besides, sex_word
 
@@ -56,22 +58,6 @@ SIGNS = ":;.,=–-"
 # what headings begin or end with
 MARKED = re.compile(r"[-=*_~#–—>.]{2,}.*|.*[-=*_~–—]{2,}|.*:", re.DOTALL)
 WORD = re.compile(r"[^\W\d_]{4,}")
-LETTERS, NUMBERS = re.compile(r"[^\W\d_]+"), re.compile(r"\d+")
-# stands in no id
-BETWEEN = "\0"
-# so few other rows of a shape may be headings too
-FEW = 5
-
-
-def shape(id: str) -> str:
-    """What ids that are written alike have in common: `CH 120.1` is `A 9.9`."""
-    return NUMBERS.sub("9", LETTERS.sub("A", id))
-
-
-def shapes_of(ids: Sequence[str]) -> collections.Counter[str]:
-    """How many ids have each shape; all are looked at as one text."""
-    shapes = shape(BETWEEN.join(ids)).split(BETWEEN)
-    return collections.Counter(shapes if len(shapes) == len(ids) else map(shape, ids))
 
 
 class Notes:
@@ -123,9 +109,17 @@ def reads_so(text: str, shapes: Mapping[str, int]) -> bool:
 
 # Marks that stand for the cell above.
 
-DITTO = {
-    '"', "''", "”", "“", "„", "〃", "″", '-"-', '- " -', "-''-", "dito", "dto", "dto.", "ditto", "do.", "idem", "id.",
-    "s.o.", "s. o.", "siehe oben", "wie oben", "as above", "same as above", "same", "ci-dessus", "voir ci-dessus",
+# such marks of signs alone, and the dashes between which they stand too
+QUOTES = ('"', "''", "”", "“", "„", "〃", "″", ",,", "‚‚", "’’", "‘‘", "´´", "``", '""', "””", "„“", "„”", "““")
+DASHES = ("-", "–", "—", "−")
+BETWEEN_DASHES = {
+    one + blank + mark + blank + other
+    for one, other in itertools.product(DASHES, DASHES) for blank in ("", " ") for mark in QUOTES
+}  # fmt: skip
+DITTO = {*QUOTES} | BETWEEN_DASHES | {
+    "dito", "dito.", "dto", "dto.", "dtto", "dtto.", "ditto", "do.", "idem", "id.", "s.o.", "s. o.", "s. oben",
+    "siehe oben", "w.o.", "w. o.", "w.o", "wie oben", "wie vor", "wie zuvor", "wie vorher", "ebenso", "ebenfalls", "ebd.",
+    "as above", "same as above", "same", "ci-dessus", "voir ci-dessus",
     "comme ci-dessus", "le même", "la même", "the same", "derselbe", "dieselbe", "der gleiche", "die gleiche",
     "»", "«", "« »", "«»", "»»", "» »", "d°", "d °", "dº", "même", "desgl.",
 }  # fmt: skip
@@ -232,11 +226,6 @@ def repeated(rows: list[SheetRow], at: int, marks: set[str]) -> Repeated:
     return found
 
 
-def with_cell(row: SheetRow, at: int, text: str) -> SheetRow:
-    cells = row.cells + [""] * (at + 1 - len(row.cells))
-    return SheetRow(row.line, [*cells[:at], text, *cells[at + 1 :]])
-
-
 # All of these.
 
 
@@ -246,7 +235,7 @@ def as_meant(
 ) -> Sheet:  # fmt: skip
     """The sheet with its rows as they are meant; what is read so is told. `animals` are the ids of animals for sure,
     `called` the marks that are names of the book, as `Marks` has them, and `notes_of` has the notes of a sheet."""
-    sheet = as_seen(sheet, columns, animals, report)
+    sheet = without_signs_of_exits(as_seen(sheet, columns, animals, report), columns, animals)
     notes = notes_of(sheet, columns).found(animals)
     for line, text in notes.items():
         report.add(line, "", NoteRow(text))

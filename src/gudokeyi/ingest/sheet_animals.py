@@ -10,15 +10,13 @@ from collections.abc import Callable, Collection, Iterable, Iterator, Mapping, S
 from typing import Container
 
 from gudokeyi.domain.findings import Report
-from gudokeyi.domain.kinds import Field, Role
+from gudokeyi.domain.kinds import Field
 from gudokeyi.domain.requests import MOST_IN_ID
 from gudokeyi.ingest.animal_cells import AnimalCells, ErrorValues, Unread
-from gudokeyi.ingest.animals import (
-    DAM_OF, ID_OF, LINE_OF, NAME_OF, ROLES, SIRE_OF, YEARS_LATER, SheetAnimal, tell_used_again,
-)  # fmt: skip
+from gudokeyi.ingest.animals import DAM_OF, ID_OF, LINE_OF, NAME_OF, ROLES, SIRE_OF, SheetAnimal
 from gudokeyi.ingest.day_cells import Order
 from gudokeyi.ingest.day_forms import DayForms
-from gudokeyi.ingest.days import NAME, Span, Unreadable, read_span
+from gudokeyi.ingest.days import NAME
 from gudokeyi.ingest.days_for_ids import days_among
 from gudokeyi.ingest.exchanged_days import exchanged
 from gudokeyi.ingest.findings.cells import (
@@ -28,12 +26,12 @@ from gudokeyi.ingest.findings.cells import (
 from gudokeyi.ingest.findings.columns import SheetFinding
 from gudokeyi.ingest.findings.exits import Remark
 from gudokeyi.ingest.findings.files import GreyRows, HiddenRows
-from gudokeyi.ingest.findings.same_ids import IdAgain
 from gudokeyi.ingest.findings.sheets import CutNumber, FormulaCell, Place
 from gudokeyi.ingest.odd_ids import Oddity, odd_ids
-from gudokeyi.ingest.odd_texts import first_days, tell_exits_in_names, tell_several_ids
+from gudokeyi.ingest.odd_texts import first_days, tell_exits_in_ids, tell_exits_in_names, tell_several_ids
 from gudokeyi.ingest.plain_rows import CELLS_OF, SIGNS, PlainRows, chooser, first_sum
 from gudokeyi.ingest.rows_as_meant import DITTO, Takers
+from gudokeyi.ingest.same_ids import SameIds, tell_used_again
 from gudokeyi.ingest.sexes import Sexes, one_sex_alone
 from gudokeyi.ingest.sheets import Sheet, SheetRow
 from gudokeyi.ingest.spellings import CUT
@@ -163,52 +161,6 @@ def sum_of(animal: SheetAnimal, cells: list[str]) -> str:
     return first_sum(animal.id) or next((cell.strip(SIGNS) for cell in cells if plain(cell) in KNOWN_SUMS), "")
 
 
-# Rows that have one id: which of them is taken, and what the others say otherwise.
-
-
-class SameIds:
-    """Compares rows of one id. `born` are the birth days that animals of the book have by their ids."""
-
-    def __init__(self, unknown: Container[str], month_first: bool, born: Mapping[str, datetime.date]) -> None:
-        self.unknown, self.month_first, self.born = unknown, month_first, born
-
-    def is_of_book(self, id: str, cells: dict[str, str]) -> bool:
-        """Has the row the birth day that the book has of this id?"""
-        span = self.birth(cells)
-        return span is not None and span.is_day and self.born.get(id) == span.first
-
-    def birth(self, cells: dict[str, str]) -> Span | None:
-        try:
-            return read_span(cells.get(Field.BIRTH, ""), self.month_first)
-        except Unreadable:
-            return None
-
-    def again(self, animal: SheetAnimal, first: dict[str, str], cells: dict[str, str]) -> IdAgain:
-        """What a second row of an id says otherwise than the first, which became an animal."""
-        fields = [name for name in cells if name not in ROLES]
-        differing = tuple((name, cells[name], first[name]) for name in fields if cells[name] != first[name])
-        here = self.parent(cells, Role.SIRE), self.parent(cells, Role.DAM)
-        births = [span for span in (self.birth(first), self.birth(cells)) if span]
-        is_born_otherwise = len(births) == 2 and not births[0].meets(births[1])
-        return IdAgain(animal.line, (animal.sire, animal.dam), here, differing, is_born_otherwise or None)
-
-    def parent(self, cells: dict[str, str], role: Role) -> str:
-        text = cells.get(role, "")
-        return "" if text in self.unknown else text
-
-    def are_years_apart(self, animal: SheetAnimal, cells: dict[str, str]) -> bool:
-        """Was the animal of a second row of an id born years before or after that of the first?"""
-        here = self.birth(cells)
-        is_known = here is not None and here.is_day and animal.has_day()
-        return here is not None and is_known and abs((here.first - animal.birth.first).days) >= YEARS_LATER
-
-    def is_preferred(self, first: SheetAnimal, second: SheetAnimal) -> bool:
-        """Of two animals with one id the one that the book has is taken, else the one that was born first: is it the
-        second?"""
-        born, days = self.born.get(second.id), [animal.birth.first for animal in (first, second)]
-        return born == days[1] or (born != days[0] and days[1] < days[0])
-
-
 # The animals of a sheet: which rows are taken, and what is seen of the sheet as a whole.
 
 # how a spreadsheet shows a formula in place of its value, and a sign that it has, as a number that is cut has one
@@ -316,7 +268,7 @@ class Rows:
         """The animals by id, in the order of the rows."""
         self.plain.count()
         found: dict[str, SheetAnimal] = {}
-        # animals of other years that have the id of another one
+        # animals that have the id of another one
         others: list[SheetAnimal] = []
         titles, usual = len(self.sheet.titles), self.usual_length()
         plain, odd, may_be_none = self.plain.animals, self.plain.odd, bool(self.no_animals)
@@ -334,12 +286,12 @@ class Rows:
             elif self.unknown.is_one(id):
                 self.report.add(line, id, NoId(id, "" if id else text_of(cells)))
             elif id == id_title and are_titles(cells, self.sheet.titles):
-                self.report.add(line, "", TitlesAgain())
+                self.report.add(line, "", TitlesAgain(line in self.sheet.other_orders or None))
             elif may_be_none and (word := self.no_animal(id, cells, said)):
                 self.report.add(line, id, NoAnimal(word))
             elif id not in found:
                 found[id] = self.cells.animal(line, id, said)
-            elif self.same_ids.are_years_apart(found[id], said):
+            elif self.same_ids.are_two(found[id], said):
                 others.append(self.of_two(found, self.cells.animal(line, id, said)))
             else:
                 self.take_one(found, line, id, said)
@@ -384,6 +336,7 @@ class Rows:
         self.cells.take_back()
         self.look_at_ids(animals)
         tell_exits_in_names(animals, self.plain.different.get(Field.NAME, ()), self.report)
+        tell_exits_in_ids(animals, self.sheet.marked, self.report)
         for field in (Field.NAME, Field.OWNER):
             if not TRUTHS.isdisjoint(self.plain.different.get(field, ())):
                 tell_truths(animals, field, self.report)

@@ -25,6 +25,7 @@ from gudokeyi.ingest.messages import SheetFault
 from gudokeyi.ingest.shown_cells import Shown
 from gudokeyi.ingest.stray_quotes import with_marks_doubled
 from gudokeyi.ingest.texts import clean
+from gudokeyi.ingest.titles_within import in_order
 from gudokeyi.ingest.workbooks import Formulas, NamedBefore, best_of, read_workbook
 
 SEPARATORS = ";\t,"
@@ -72,6 +73,12 @@ def cell_of(row: SheetRow, at: int) -> str:
     return row.cells[at] if at < len(row.cells) else ""
 
 
+def with_cell(row: SheetRow, at: int, text: str) -> SheetRow:
+    """The row with another text at a place."""
+    cells = row.cells + [""] * (at + 1 - len(row.cells))
+    return SheetRow(row.line, [*cells[:at], text, *cells[at + 1 :]])
+
+
 @dataclass(frozen=True)
 class Sheet:
     """The row of titles with its line, the rows below it, how the file was read, in words, and what keeps it from
@@ -110,11 +117,15 @@ class Sheet:
     shown: Shown = field(default_factory=dict)
     # the lines of cells of a workbook that are days, by the places of their columns
     days: Mapping[int, list[int]] = field(default_factory=dict)
+    # the lines of rows with the titles in another order, in which the cells of those below stood
+    other_orders: frozenset[int] = frozenset()
+    # the ids that are read without a sign by which animals leave, as they are written, by their lines
+    marked: Mapping[int, str] = field(default_factory=dict)
 
     def is_same(self, meant: Sheet) -> bool:
         """Has another sheet that was made of the same one the same rows?"""
-        return (meant.rows, meant.unseen, meant.remarks, meant.of_status, meant.reasons) == (
-            self.rows, self.unseen, self.remarks, self.of_status, self.reasons
+        return (meant.rows, meant.unseen, meant.remarks, meant.of_status, meant.reasons, meant.marked) == (
+            self.rows, self.unseen, self.remarks, self.of_status, self.reasons, self.marked
         )  # fmt: skip
 
     def column(self, at: int) -> list[str]:
@@ -171,7 +182,8 @@ def read_sheet(file: GivenFile, score: Score, worksheet: str = "", before: Named
         how = f"{encoding}, cells separated by " + {";": "semicolons", "\t": "tabs", ",": "commas"}[taken]
         faults = [fault] if fault else []
     rows, unseen = without_unseen(rows)
-    rows, apostrophes = without_apostrophes(rows)
+    together = "\t".join(itertools.chain([""], *map(operator.itemgetter(1), rows), [""]))
+    rows, apostrophes = without_apostrophes(rows, together)
     if not rows:
         raise Mistake(SheetFault.EMPTY.said(path=path))
     first = [row.cells for row in rows[:BEGINNING]]
@@ -179,13 +191,17 @@ def read_sheet(file: GivenFile, score: Score, worksheet: str = "", before: Named
     line, titles = rows[at]
     check_bounds(path, rows, at + 1)
     below, above = rows[at + 1 :], rows[at - 1].cells if at else []
+    ordered = in_order(below, titles, together)
+    if ordered.orders:
+        below = [row._replace(cells=ordered.cells(*row, titles)) if row.line in ordered.orders else row for row in below]
     grey = marked_by_grey(grey, line, len(below))
     texts = [one for one in apostrophes if one > line]
     unread += [Apostrophes(len(texts), texts[0])] if texts else []
     decision = Decision(tops, best, taken, first, at)
     return Sheet(
-        line, titles, below, how, faults, {}, unseen, formulas, unread, above, decision=decision, worksheets=worksheets,
-        as_before=as_before, grey=grey, hidden=hidden, shown=shown, days=days,
+        line, titles, below, how, faults, {}, ordered.places(unseen), formulas, unread, above, decision=decision,
+        worksheets=worksheets, as_before=as_before, grey=grey, hidden=hidden, shown=ordered.places(shown),
+        days=ordered.columns(days), other_orders=ordered.titles,
     )  # fmt: skip
 
 
@@ -209,10 +225,10 @@ def without_unseen(rows: list[SheetRow]) -> tuple[list[SheetRow], Unseen]:
     return seen, unseen
 
 
-def without_apostrophes(rows: list[SheetRow]) -> tuple[list[SheetRow], list[int]]:
+def without_apostrophes(rows: list[SheetRow], together: str) -> tuple[list[SheetRow], list[int]]:
     """The rows without the apostrophes by which a spreadsheet knows texts, and the line of each cell that had one. Few
-    sheets have any."""
-    if f"\t{TEXT}" not in "\t".join(itertools.chain([""], *map(operator.itemgetter(1), rows))):
+    sheets have any: `together` are all cells."""
+    if f"\t{TEXT}" not in together:
         return rows, []
     read = [SheetRow(line, [*map(without_apostrophe, cells)]) for line, cells in rows]
     both = zip(rows, read)

@@ -1,6 +1,7 @@
 """How texts and ids are compared that are written otherwise, and how a text is kept."""
 from __future__ import annotations
 
+import collections
 import functools
 import re
 import unicodedata
@@ -62,6 +63,20 @@ def nearly(id: str) -> str:
     """An id in small letters, without blanks and without zeros before a number: two that differ in these alone are
     meant alike."""
     return ZEROS.sub("", "".join(id.casefold().split()))
+
+
+LETTERS, NUMBERS = re.compile(r"[^\W\d_]+"), re.compile(r"\d+")
+
+
+def shape(id: str) -> str:
+    """What ids that are written alike have in common: `CH 120.1` is `A 9.9`."""
+    return NUMBERS.sub("9", LETTERS.sub("A", id))
+
+
+def shapes_of(ids: Sequence[str]) -> collections.Counter[str]:
+    """How many ids have each shape; all are looked at as one text."""
+    shapes = shape(BETWEEN.join(ids)).split(BETWEEN)
+    return collections.Counter(shapes if len(shapes) == len(ids) else map(shape, ids))
 
 
 def nearly_all(ids: Sequence[str]) -> list[str]:

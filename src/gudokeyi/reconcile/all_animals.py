@@ -20,7 +20,7 @@ from gudokeyi.reconcile.import_options import ImportOptions
 from gudokeyi.reconcile.messages import ImportFault
 from gudokeyi.reconcile.new_tags import tell_new_tags
 from gudokeyi.reconcile.next_book import NextBook
-from gudokeyi.reconcile.parents import Names, keep_parents_named, try_parents_again
+from gudokeyi.reconcile.parents import Names, join_spellings, keep_parents_named, try_parents_again
 from gudokeyi.reconcile.parents_in_texts import ParentsInTexts
 from gudokeyi.reconcile.sections import tell_births, tell_sections
 from gudokeyi.reconcile.sexes import find_sexes, leave_out_unread_sexes, mend_sexes
@@ -112,6 +112,8 @@ def add_others(next_book: NextBook, drop_gone: bool, columns: Columns | None = N
     else:
         add_gone(animals, gone, book, drop_gone, report)
     leave_out_unread_sexes(next_book, are_all_there=have_rows and not has_gone)
+    if not have_rows and not next_book.is_pedigree:
+        join_spellings(lacking, next_book, with_id)
     if has_gone or not have_rows:
         add_founders(next_book, Names(animals, report, next_book.last_found, with_id, before), columns)
     if len(animals) > MOST_ANIMALS:

@@ -11,7 +11,10 @@ from gudokeyi.domain.commands import RegisterRecord
 from gudokeyi.domain.findings import Report
 from gudokeyi.domain.kinds import CELL_FIELDS, Field
 from gudokeyi.domain.settings import Setting
-from gudokeyi.ingest.animals import ID_OF, YEARS_LATER, SheetAnimal, by_age, lines_that_name, links_outside
+from gudokeyi.domain.spelling import are_other_names
+from gudokeyi.ingest.animals import (
+    ID_OF, WEEKS_LATER, YEARS_LATER, SheetAnimal, by_age, lines_that_name, links_outside,
+)  # fmt: skip
 from gudokeyi.ingest.findings.same_ids import IdUsedAgain
 from gudokeyi.ingest.texts import nearly, nearly_all
 from gudokeyi.reconcile.findings.animals import FormerId
@@ -108,7 +111,8 @@ def call_as_now(animals: dict[str, SheetAnimal], book: Book, report: Report) -> 
     return bool(now or book.new_tags)
 
 
-# Ids that are used again for other animals, born years apart: the row is left out, and the animal of the book stays.
+# Ids that are used again for other animals, born years apart, or weeks apart with another name: the row is left out,
+# and the animal of the book stays.
 
 
 def leave_out_used_tags(
@@ -120,7 +124,10 @@ def leave_out_used_tags(
     else than the book, where others are known not to."""
     found = set()
     both = with_other_days(animals if some is None else some, book)
-    apart = [(animal, in_book) for animal, in_book in both if are_years_apart(animal, in_book, book)]
+    apart = [
+        (animal, in_book) for animal, in_book in both
+        if are_years_apart(animal, in_book, book) or is_of_another_name(animal, in_book, book)
+    ]  # fmt: skip
     progeny = earliest_offspring(book, {in_book.registration_number for _, in_book in apart}) if apart else {}
     for animal, in_book in apart:
         id, number = animal.id, in_book.registration_number
@@ -162,14 +169,25 @@ def are_years_apart(animal: SheetAnimal, in_book: SocietyRecord, book: Book) -> 
     years = abs((animal.birth.first - book.records[in_book.registration_number].born).days) >= YEARS_LATER
     if not years or not animal.has_day() or in_book.birth.is_inferred:
         return False
-    return not has_corrected_birth(animal, in_book, book)
+    return not is_corrected(animal, in_book, book, Field.BIRTH)
 
 
-def has_corrected_birth(animal: SheetAnimal, in_book: SocietyRecord, book: Book) -> bool:
-    """Was its birth day corrected by hand, and says the cell what it said before?"""
+def is_of_another_name(animal: SheetAnimal, in_book: SocietyRecord, book: Book) -> bool:
+    """Has it another name than the animal of the book, and another birth day, weeks before or after? Nobody corrects
+    both at once as often as a tag is used again."""
+    days = abs((animal.birth.first - book.records[in_book.registration_number].born).days)
+    if days < WEEKS_LATER or not animal.has_day() or in_book.birth.is_inferred or in_book.birth.period:
+        return False
+    if not (animal.name and in_book.name and are_other_names(animal.name, in_book.name)):
+        return False
+    return not any(is_corrected(animal, in_book, book, field) for field in (Field.NAME, Field.BIRTH))
+
+
+def is_corrected(animal: SheetAnimal, in_book: SocietyRecord, book: Book, field: Field) -> bool:
+    """Was it corrected by hand, and says the cell what it said before?"""
     cells = book.cells.get((animal.id,))
-    before = cells[1 + CELL_FIELDS.index(Field.BIRTH)] if cells else None
-    return Field.BIRTH in in_book.by_hand and before is not None and before == animal.cells.get(Field.BIRTH)
+    before = cells[1 + CELL_FIELDS.index(field)] if cells else None
+    return field in in_book.by_hand and before is not None and before == animal.cells.get(field)
 
 
 def is_another(animal: SheetAnimal, in_book: SocietyRecord) -> bool:

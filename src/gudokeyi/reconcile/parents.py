@@ -251,6 +251,21 @@ class Names:
         return possible[0] if len(possible) == 1 else ""
 
 
+def join_spellings(lacking: Mapping[str, SheetAnimal], next_book: NextBook, with_id: Set[str]) -> None:
+    """Texts of parents without a row that differ in capitals alone mean one animal, as the first is written, or one
+    that the book has. `lacking` are the rows that name a parent without one, and `with_id` the ids that were given."""
+    animals, first = next_book.animals, dict[tuple[Role, str], str]()
+    added = {id.casefold(): id for id in animals.keys() - with_id}
+    for offspring, role, text in links_outside(lacking.values(), with_id):
+        of_book = added.get(text.casefold(), "")
+        if of_book and (text in animals or not can_be(animals[of_book], role, offspring)):
+            continue
+        one = first.setdefault((role, text.casefold()), of_book or text)
+        if one != text:
+            offspring.set_parent(role, one)
+            next_book.report.add(offspring.line, offspring.id, FoundByNearId(role, text, one))
+
+
 def may_be_unknown(report: Report) -> list[Finding]:
     """What was told of words that may mean an unknown parent: these may be why a file can't be taken."""
     findings = [entry.finding for entry in report.entries]

@@ -77,10 +77,18 @@ class UnseenInId(RowLeftOut):
 
 @dataclass(frozen=True, slots=True)
 class TitlesAgain(RowLeftOut):
-    """The row has the titles, as a page's first one."""
+    """The row has the titles, as a page's first one; where they stand in another order, the rows below are read by
+    it."""
+
+    is_in_other_order: bool | None = None
 
     code = "titles again"
-    message = Text("the row is left out: it repeats the titles")
+    message = Text("the row is left out: it repeats the titles{maybe_in_other_order}")
+    parts = {
+        "maybe_in_other_order": OptionalPart(
+            " in another order, by which the rows below it are read", when="is_in_other_order"
+        ),
+    }
 
 
 @dataclass(frozen=True, slots=True)

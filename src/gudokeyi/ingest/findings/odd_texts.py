@@ -29,6 +29,24 @@ class NameTellsOfExit(PlausibilityWarning):
 
 
 @dataclass(frozen=True, slots=True)
+class IdTellsOfExit(PlausibilityWarning):
+    """The same of an id, which is read without that sign or word."""
+
+    written: str
+    id: str
+    is_living: bool
+
+    code = "id tells of exit"
+    message = Text("its id '{written}' seems to tell of an exit, and is taken as {id}{maybe_living}")
+    parts = {
+        "maybe_living": OptionalPart(
+            ", which counts as living: if it has left, write that into the column for exits, and here the id alone",
+            when="is_living",
+        ),
+    }
+
+
+@dataclass(frozen=True, slots=True)
 class TwoIds(OddId):
     """An id that has several within which are written as other ids of the sheet."""
 
