@@ -78,6 +78,34 @@ def test_apostrophes_before_texts(desk: Desk) -> None:
     assert " 0 changed" in desk.take(titles + rows).last
 
 
+def test_ids_that_the_book_has_with_apostrophes(desk: Desk) -> None:
+    """They were taken so once: they are the same animals without them, with all that the book has of them, also where
+    no name tells it, and that is told once; other apostrophes stay, and so does an id where both are animals."""
+    titles = "Ohrmarke;Name;Geschl.;Geb.;Vater;Mutter;Besitzer\n"
+    rows = (
+        "''0012;Alma;w;2015-03-01;;;Imhof\n''0013;;m;2015-03-01;;;Imhof\n''0014;;w;2018-03-01;''0013;''0012;Imhof\n"
+        "''0015;Ida;w;2018-03-01;''0013;''0012;Imhof\n0015;Ute;w;2019-03-01;''0013;'t Hof;Imhof\n"
+    )
+    desk.take(titles + rows)
+    for id in "0012", "0013", "0014", "0015":
+        desk.good("correct", f"''{id}", "--id", f"'{id}")
+    numbers = desk.numbers()
+    later = rows.replace("''", "'").replace("'0015;Ida;w;2018-03-01;'0013;'0012;Imhof\n", "")
+    told = (
+        "to look at: 3 ids of the book have an apostrophe, by which a spreadsheet knows a text, before them: they are "
+        "without it from now on, as '0012 is 0012"
+    )
+    said = desk.take(titles + later, "--new-tag", "'0012=777", "--preview").told
+    assert "to look at: 2 ids of the book have" in said and "as '0013 is 0013" in said
+    done = desk.take(titles + later)
+    done.tells(told)
+    assert " 0 new, 0 changed, 1 inferred, 0 left out, 0 added, 1 gone" in done.last
+    without = {f"'{id}": id for id in ("0012", "0013", "0014")}
+    assert desk.numbers() == {without.get(id, id): number for id, number in numbers.items()}
+    assert desk.parents()["0014"] == ("0013", "0012") and desk.parents()["0015"] == ("0013", "'t Hof")
+    assert "ids of the book" not in desk.take(titles + later).told
+
+
 def test_options_are_cleaned(desk: Desk) -> None:
     """Their titles and words are those of the sheet, whose cells are; also a letter in parts with a sign between."""
     assert clean("o\u00ad\u0308") == clean(clean("o\u00ad\u0308")) == "ö"

@@ -65,6 +65,20 @@ ONE_OF = {
 FAR = ("31.05./09.06.2019", "1.4.2018/13.4.2018", "12./20.4.2018", "1 May or 9 May 2019", "3.4.2010 oder 2021")
 # of two months or years with two digits none is a sure day
 NO_SURE_DAY = ("Dez. 19/Jan. 20", "März 20 / April 20", "3.4.20 oder 21", "3.4.20/21", "zw. 3.4. und 25.5.20", "3.4.2019 oder 20")
+# days, months and years that are far from one another, and the first day that each leaves open
+OPEN = {
+    "zwischen 1995 und 2020": "1995-01-01", "1995-2020": "1995-01-01", "(2018/2019)": "2018-01-01",
+    "2018 oder 2019 ?": "2018-01-01", "entre 1995 et 2020": "1995-01-01",
+    "between March 2018 and May 2019": "2018-03-01",
+    "3.4.2018 oder 3.4.2019": "2018-04-03", "31.05./09.06.2019": "2019-05-31", "12./20.4.2018": "2018-04-12",
+    "Frühjahr 2018 bis Herbst 2019": "2018-03-01", "Dez. 19/Jan. 20": "2019-12-01", "2020 oder 2017": "2017-01-01",
+    "nach 2014": "2015-01-01", "vor 2018": "1900-01-01",
+}  # fmt: skip
+# of these nobody knows which are meant
+NOT_OPEN = (
+    "gekauft 1995/1996", "zwischen 2130 und 2140", "nach 2130", "Nr. 1995/2020", "nach 2014 oder 2015",
+    "3.4.20 oder 21", "1995, 2020",
+)  # fmt: skip
 # a number beside a day may be another one than that of a day
 BESIDE = ("3.4.20 (4.2 kg)", "3.4.20, 12 Uhr", "3.4.20 14.30 Uhr", "3.4.20 (Mai)", "3.4.20 und 2 Brüder")
 UNSURE = (
@@ -271,3 +285,39 @@ def test_owner_since(desk: Desk) -> None:
     assert desk.transfer_days() == ["2019-06-13"]
     done.tells("line 2: A1: inferred: owner since 2019-06-13, from the month 2019-06")
     assert datetime.date.fromisoformat(desk.transfer_days()[0]) <= datetime.date.today()
+
+
+WITH_DAYS = "".join(f"S{at};Foo;f;2015-01-01;;;X;\n" for at in range(40))
+
+
+def test_days_between_others(desk: Desk) -> None:
+    """None is read as the day; what is inferred is one that the cell leaves open, and is told beside it."""
+    texts = [*OPEN, *NOT_OPEN]
+    rows = WITH_DAYS + "".join(f"A{at};Foo{at};f;{text};;;X;\n" for at, text in enumerate(texts))
+    done = desk.take(TITLES + rows, *OPTIONS)
+    earliest = "the earliest that a book can have or its cell leaves open, since no parent and no offspring has one"
+    for at, text in enumerate(texts):
+        cell = f", within what its cell says: '{text}'" if text in OPEN else f", and not what its cell has: '{text}'"
+        day = OPEN.get(text, "1900-01-01")
+        assert desk.born()[f"A{at}"] == day
+        done.tells(f"line {42 + at}: A{at}: inferred: birth day {day}, {earliest}{cell}")
+    unread = f"{len(texts)} of {40 + len(texts)} cells that say something in the column 'Whelped' can't be read"
+    assert unread in done.out
+    assert " 0 changed" in desk.take(TITLES + rows, *OPTIONS).last
+
+
+def test_days_between_others_and_relatives(desk: Desk) -> None:
+    """Parents and offspring say which of them is likely, and a day that the book has stays."""
+    rows = (
+        "D;Dam;f;2010-01-01;;;X;\nA1;Ann;f;zwischen 1995 und 2020;;D;X;\nA2;Eva;f;1995-2020;;;X;\n"
+        "B;Bea;f;2013-03-01;;A2;X;\nC;Ida;f;1995-2020;;;X;\nE;Lea;f;1995-2020;;;X;\n"
+    )
+    before = rows.replace("Ida;f;1995-2020", "Ida;f;2012-05-06").replace("Lea;f;1995-2020", "Lea;f;1994-05-06")
+    desk.take(TITLES + WITH_DAYS + before, *OPTIONS).tells(
+        "line 43: A1: inferred: birth day 2012-01-01, from its parents, within what its cell says: 'zwischen 1995 und "
+        "2020'",
+        "line 44: A2: inferred: birth day 2011-03-02, from its offspring, within what its cell says: '1995-2020'",
+    )
+    done = desk.take(TITLES + WITH_DAYS + rows, *OPTIONS)
+    assert " 0 changed" in done.last and desk.parents()["B"] == ("", "A2")
+    assert [desk.born()[id] for id in ("A1", "A2", "C", "E")] == ["2012-01-01", "2011-03-02", "2012-05-06", "1994-05-06"]

@@ -95,7 +95,8 @@ def test_files(society_desk: Desk) -> None:
     ):  # fmt: skip
         option = words[words.rindex("--"):].partition(" ")[0]
         society_desk.wrong(f"--json writes no table: leave out {option}", *words.split(), "--json", "--out", "a.json")
-    society_desk.wrong("no page: leave out --title", "certificate", "GK-17/472c", "--title", "A", "--json")
+    for option, word in (("--title", "A"), ("--day", "2014-01-01")):
+        society_desk.wrong(f"no page: leave out {option}", "certificate", "GK-17/472c", option, word, "--json")
     society_desk.wrong("in English: leave out --language", "trend", "--language", "de", "--json")
     society_desk.wrong("--json has 3 generations", "certificate", "GK-17/472c", "--generations", "5", "--json")
 

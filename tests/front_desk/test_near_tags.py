@@ -16,13 +16,43 @@ ADDED = "has no row: added without parents"
 
 @pytest.mark.parametrize(
     "dam",
-    ["276 01 07 00400093", "2760107 00400093", "00093", "0093", "DE 01 07 400093", "01 07 00400093", "010700400093"],
+    ["276 01 07 00400093", "2760107 00400093", "00093", "0093", "DE 01 07 400093"],
 )
 def test_tag_in_another_form(desk: Desk, dam: str) -> None:
-    """With the number of the country, without it, without zeros, or by the last digits."""
+    """With the number of the country, without zeros, or by the last digits."""
     desk.take(f"{TITLES}{FLOCK}DE 01 07 00400096;Kitz;f;2022-03-24;DE 01 07 00400094;{dam}\n").shows(
         f"line 5: {dam}: added: the dam of DE 01 07 00400096 {ADDED} (is DE 01 07 00400093 meant?)"
     )
+
+
+@pytest.mark.parametrize(
+    "id, dam",
+    [("DE 01 07 00400195", dam) for dam in ("01 07 00400195", "010700400195", "DE 01.07.0040.0195", "de-010700400195")]
+    + [("120145010082", dam) for dam in ("CH 120.1450.1008.2", "120.1450.1008.2", "CH120145010082", "120-1450/1008.2")],
+)
+def test_tag_with_the_same_digits(desk: Desk, id: str, dam: str) -> None:
+    """Without its country or with it, or with other signs, it is the only animal that has all digits; so it is in the
+    next sheet, also where a book had it as an animal of its own."""
+    flock = f"{TITLES}{FLOCK}120145010082;Alma;f;2019-03-02;;\n"
+    rows = f"DE 01 07 00400096;Kitz;f;2022-03-24;DE 01 07 00400094;{dam}\n"
+    told = f"line 6: DE 01 07 00400096: inferred: its dam '{dam}' is {id}, the only id with all of these digits: if "
+    for at in range(2):
+        done = desk.take(flock + rows)
+        done.tells(f"{told}another is meant, give that one a row")
+        assert " 0 added" in done.last and desk.parents()["DE 01 07 00400096"] == ("DE 01 07 00400094", id), at
+    assert " 0 changed" in done.last
+
+
+def test_digits_of_two_tags(desk: Desk) -> None:
+    """Of two animals with these digits none is taken, and so it is of one that can't be the dam, of few digits, and of
+    a number that may not be read so; all are asked about as before."""
+    rows = "120.1450.1008.2;Alma;f;2019-03-02;;\n1201.4501.0082;Bea;f;2019-03-02;;\n120.1450.1009.3;Max;m;2019-03-02;;\n"
+    rows += "12.012;Ida;f;2019-03-02;;\n120.1450.1010.4;Eva;f;2019-03-02;;\n"
+    dams = "CH 120145010082", "CH 120145010093", "1/2012", "CH 120145010104?", "12/012"
+    rows += "".join(f"B{at};;f;2022-03-02;;{dam}\n" for at, dam in enumerate(dams))
+    done = desk.take(TITLES + rows)
+    assert [desk.parents()[f"B{at}"][1] for at in range(len(dams))] == [*dams]
+    assert "only id" not in done.told and " 5 added" in done.last
 
 
 @pytest.mark.parametrize(

@@ -62,6 +62,30 @@ def test_one_id_in_a_cell(desk: Desk) -> None:
     assert "is this row one animal" not in desk.take(TITLES + rows).told
 
 
+FLOCK = "3;Ida;f;2010-03-01;;;X;\n12;Ute;f;2010-03-01;;;X;\n4;Rex;m;2010-03-01;;;X;\n"
+
+
+def test_number_and_year_before_a_name(desk: Desk) -> None:
+    """They are one id, also beside animals that are called 3 and 12, of a row and of a parent, which may lack a row."""
+    rows = "3/12/Cora;Cora;f;2012-03-01;;;X;\n4/12/Max;Max;m;2012-03-01;;;X;\n"
+    rows += "1/15/Bea;Bea;f;2015-03-01;4/12/Max;3/12/Cora;X;\n2/15/Mai;Mai;f;2015-03-02;4/12/Rex;3/12/Cora (X);X;\n"
+    done = desk.take(TITLES + FLOCK + rows)
+    assert desk.parents()["1/15/Bea"] == ("4/12/Max", "3/12/Cora") and "is this row one animal" not in done.told
+    assert desk.parents()["2/15/Mai"] == ("4/12/Rex", "3/12/Cora") and " 0 left out, 1 added" in done.last
+
+
+@pytest.mark.parametrize("dam", ["3/12/Cora", "3/12 Cora", "3/12 (Cora)", "Cora/3/12"])
+def test_name_beside_number_and_year(desk: Desk, dam: str) -> None:
+    """The id is the number with the year, and not one of both."""
+    rows = f"3/12;Cora;f;2012-03-01;;;X;\n1/15;Bea;f;2015-03-01;;{dam};X;\n2/15;Lea;f;2015-03-01;;12/4;X;\n"
+    done = desk.take(TITLES + FLOCK + rows)
+    done.tells(
+        f"line 6: 1/15: inferred: its dam '{dam}' is 3/12, whose id stands there: if another is meant, write that id "
+        "alone"
+    )
+    done.tells("line 7: 2/15: its dam '12/4' is left out: it may be one or the other, and counts as unknown")
+
+
 def test_first_day_of_a_spreadsheet(desk: Desk) -> None:
     """It is told of those that count as living."""
     rows = "a;A;f;1900-01-01;;;X;\nb;B;f;01.01.1900;;;X;\nc;C;f;1900-01-01;;;X;1911-01-01\nd;D;f;1900-01-02;;;X;\n"

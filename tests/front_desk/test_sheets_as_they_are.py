@@ -40,12 +40,17 @@ def test_day_in_the_cell(desk: Desk, cell: str, born: str, told: str) -> None:
     assert told in done.out.partition("rows below the titles")[0]
 
 
-@pytest.mark.parametrize("cell", ["14.05.1887", "12.04.2087", "vor 5.2014", "av. 2014"])
-def test_day_that_cannot_be(desk: Desk, cell: str) -> None:
+NOT_TAKEN, LEFT_OPEN = "and not what its cell has", "within what its cell says"
+
+
+@pytest.mark.parametrize(
+    "cell, said",
+    [("14.05.1887", NOT_TAKEN), ("12.04.2087", NOT_TAKEN), ("vor 5.2014", LEFT_OPEN), ("av. 2014", LEFT_OPEN)],
+)
+def test_day_that_cannot_be(desk: Desk, cell: str, said: str) -> None:
     """A day is inferred beside what the cell says, which is told by the animal's name among the first lines."""
     first = desk.take(TITLES + PAIR + f"003;A;w;{cell};001;002;Huber;\n").out.partition("rows below the titles")[0]
-    told = "line 4: 003: inferred: birth day 2012-02-03, from its parents, and not what its cell has: "
-    assert f"{told}'{cell}'" in first
+    assert f"line 4: 003: inferred: birth day 2012-02-03, from its parents, {said}: '{cell}'" in first
 
 
 def owner_of(desk: Desk, id: str) -> str:
@@ -250,20 +255,45 @@ def test_parents_without_a_row_any_more(desk: Desk) -> None:
     assert desk.parents() == before | {"007": ("001", "002")} and " 0 added, 2 gone" in done.last
 
 
-def test_one_animal_with_two_rows(desk: Desk) -> None:
-    """A retagged animal whose former row is there too is told with what to do, which makes it one."""
+SECOND_ROW = "777;D;w;1.2.2017;001;002;Huber;\n008;N;w;1.2.2020;001;006;Huber;\n"
+
+
+@pytest.mark.parametrize("is_first", [True, False])
+def test_one_animal_with_two_rows(desk: Desk, is_first: bool) -> None:
+    """A retagged animal whose former row is there too is told with the row that is to go, which makes it one."""
     desk.take(TITLES + NAMED)
-    later = NAMED + "777;D;w;1.2.2017;001;002;Huber;\n008;N;w;1.2.2020;001;006;Huber;\n"
+    later = SECOND_ROW + NAMED if is_first else NAMED + SECOND_ROW
+    line, former_line = (2, 10) if is_first else (9, 8)
     told = (
-        "line 9: 777: to look at: 006 (line 8) has its name and its birth day too: are they one animal? If so, take the "
-        "row with the former id out; if the book had that id before this sheet, undo and say --new-tag OLD=NEW, else "
-        "write the new one where offspring name it"
+        f"line {line}: 777: to look at: 006 (line {former_line}) has its name and its birth day too: did that one get "
+        f"777 as its new tag? If so, take line {former_line} with 006 out, and import the sheet again with --new-tag "
+        "006=777; if this one is taken, undo it first"
     )
+    desk.take(TITLES + later, "--preview").tells(told)
     desk.take(TITLES + later).tells(told)
     desk.good("undo")
     done = desk.take(TITLES + later.replace("006;D;w;1.2.2017;001;002;Huber;\n", ""), "--new-tag", "006=777")
     assert "777" in desk.numbers() and "006" not in desk.numbers() and desk.parents()["008"] == ("001", "777")
     assert " 0 added, 0 gone" in done.last
+
+
+def test_row_of_a_former_id(desk: Desk) -> None:
+    """Once the book has the new tag the row of the former id is the one that is to go, and none of two new rows is."""
+    both = "{} (line {}) has its name and its birth day too: are they one animal? If so, take out the row whose id it "
+    both += "hasn't any more, this one or line {} ({}), and write the other id where offspring name it"
+    done = desk.take(TITLES + NAMED + SECOND_ROW, "--book", "two")
+    done.tells(f"line 9: 777: to look at: {both.format('006', 8, 8, '006')}")
+    desk.take(TITLES + NAMED)
+    told = (
+        "line 9: 777: to look at: its former id 006 has a row too, line 8, with its name and its birth day: take line "
+        "8 out, else 006 is another animal"
+    )
+    # also if both are said at once, and if the row of before is the book's next one
+    desk.take(TITLES + NAMED + SECOND_ROW, "--new-tag", "006=777", "--preview").tells(told)
+    desk.take(TITLES + NAMED.replace("006;D", "777;D"), "--new-tag", "006=777")
+    desk.take(TITLES + NAMED + SECOND_ROW, "--preview").tells(told)
+    done = desk.take(TITLES + NAMED.replace("006;D;w;1.2.2017;001;002;Huber;\n", "") + SECOND_ROW)
+    assert "former id" not in done.told and "006" not in desk.numbers()
 
 
 def test_new_tag(desk: Desk) -> None:

@@ -19,7 +19,7 @@ if TYPE_CHECKING:
 # options that shape a table or a page alone
 SHAPING = {
     "columns": "table", "csv": "table", "matrix": "table", "semicolons": "table", "table": "table", "triples": "table",
-    "title": "page",
+    "day": "page", "title": "page",
 }  # fmt: skip
 # the language of pages where none is said
 ENGLISH = "en"

@@ -68,7 +68,7 @@ class Order:
 
 class DayCell(NamedTuple):
     """A text in a column of days: the days that it leaves open, where it says any; and why it isn't taken, either since
-    it can't be read or since the day can't be."""
+    it can't be read, though it may say between which days a birth was, or since the day can't be."""
 
     span: Span | None = None
     says_something: bool = True
@@ -180,7 +180,8 @@ class DayCells:
             told = (word_fault(text), text) if has_left else (error.fault, text if error.text == said else error.text)
             # a year that a book can't have is read, and told by itself
             is_unread = error.fault is not DayFault.YEAR
-            return DayCell(fault=DayLeftOut(field, *told, is_exit), is_unread=is_unread)
+            open_days = self.forms.open_days(said) if field is Field.BIRTH and is_unread else None
+            return DayCell(open_days, fault=DayLeftOut(field, *told, is_exit), is_unread=is_unread)
         is_mistyped = not is_exit and len(re.findall(r"\d", span.text)) > 4
         return self.possible(field, text, span)._replace(reading=DayReading.YEAR_ALONE if is_mistyped else None)
 

@@ -16,6 +16,7 @@ from gudokeyi.ingest.days import (
 )  # fmt: skip
 from gudokeyi.ingest.findings.columns import SheetFinding
 from gudokeyi.ingest.findings.days import DayReading, DaysReadSo
+from gudokeyi.ingest.open_births import open_days
 from gudokeyi.ingest.words import LETTER
 
 
@@ -250,6 +251,33 @@ class DayForms:
         except Unreadable:
             return None
         return span.first if span and span.is_day else None
+
+    def open_days(self, text: str) -> Span | None:
+        """The days up to today that a text leaves open which tells between which a birth was."""
+        found = open_days(text, self) if len(text) <= MOST_LETTERS else None
+        return found.until(self.today) if found and found.first <= self.today else None
+
+    def whole_span(self, text: str) -> Span | None:
+        """What a text says that is nothing but a day, a month, a season or a year."""
+        if day := self.whole_day(text):
+            return Span(day, day)
+        if month := MONTH.fullmatch(text):
+            return month_of(self.year_near(month["year"]), MONTHS[compared(month["name"])])
+        try:
+            period = read_span(text, self.month_first) if is_span(text) else None
+        except Unreadable:
+            return None
+        return season_of(text) if SEASON.fullmatch(text) else period
+
+    def from_to(self, first: str, last: str) -> tuple[datetime.date, datetime.date] | None:
+        """The first and the last day of two texts, of which the first may lack the year or the month of the last."""
+        one, other = self.whole_span(first), self.whole_span(last)
+        if one and other:
+            return min(one.first, other.first), max(one.last, other.last)
+        if other is None or not other.is_day:
+            return None
+        days = self.pair(first, last) or self.pair(f"{first.rstrip(' .')}.{other.first.month}.", last)
+        return days if days and days[1] == other.first else None
 
     def pair(self, before: str, behind: str) -> tuple[datetime.date, datetime.date] | None:
         """Both days in their order; that before may have the year of the other one, or be in the year before."""

@@ -182,6 +182,11 @@ class Span(NamedTuple):
     def is_day(self) -> bool:
         return self.precision is Precision.DAY
 
+    @property
+    def is_open(self) -> bool:
+        """Says nobody so much as the year?"""
+        return self.precision is Precision.NOTHING
+
     def has(self, day: datetime.date) -> bool:
         return self.first <= day <= self.last
 

@@ -89,6 +89,9 @@ BETWEEN = re.compile(
     re.IGNORECASE,
 )
 SLASH = re.compile(r"\s*/\s*")
+# a number of a year, as `3/12` for the third animal of 2012; and an id that has the animal's name behind it
+OF_YEAR = r"\d{1,4}/(?:\d\d|(?:19|20)\d\d)"
+YEAR_AND_NAME = re.compile(OF_YEAR + r"/[^\W\d_][^/\d]*")
 
 
 def several_ids(ids: Collection[str]) -> dict[str, tuple[str, ...]]:
@@ -97,7 +100,7 @@ def several_ids(ids: Collection[str]) -> dict[str, tuple[str, ...]]:
     usual = max(lengths, key=lambda length: lengths[length], default=0)
     if len(ids) < 2 or max(lengths) < LONGER * usual:
         return {}
-    long = [id for id in ids if len(id) >= LONGER * usual]
+    long = [id for id in ids if len(id) >= LONGER * usual and not YEAR_AND_NAME.fullmatch(id)]
     others = (id for id in ids if len(id) < LONGER * usual)
     shapes = {shape(id) for id, _ in zip(others, range(SOME))}
     found = {id: next((its for its in parts_of(id, shapes) if len(its) > 1), ()) for id in long}

@@ -11,7 +11,7 @@ from gudokeyi.domain.kinds import Field
 from gudokeyi.domain.pedigree_order import Waiting, offspring_by_parent
 from gudokeyi.domain.provenance import GIVEN_BIRTH, BirthBasis, BirthSource, Period
 from gudokeyi.ingest.animals import DAM_OF, SIRE_OF, SheetAnimal, parents_of_all
-from gudokeyi.ingest.days import ANY_DAY, FIRST_DAY, Precision, Span
+from gudokeyi.ingest.days import FIRST_DAY, Precision, Span
 from gudokeyi.reconcile.findings.animals import BirthDayInferred
 from gudokeyi.reconcile.impossible_parents import cut_cycles
 from gudokeyi.reconcile.next_book import NextBook
@@ -75,16 +75,17 @@ class Days:
             animal = self.animals[id]
             animal.born, animal.birth_basis = self.day_for(animal)
             is_kept = self.stays(animal, animal.born.toordinal())
-            text = "" if is_kept else animal.birth.text
-            unread = unread_cell(animal)
-            found = BirthDayInferred(animal.born, animal.birth_basis, is_kept, animal.named_in, text, unread)
+            within = animal.birth.text if animal.birth.is_open else ""
+            text = "" if is_kept or within else animal.birth.text
+            unread = "" if within else unread_cell(animal)
+            found = BirthDayInferred(animal.born, animal.birth_basis, is_kept, animal.named_in, text, unread, within)
             report.add(animal.line, id, found)
 
     def stays(self, animal: SheetAnimal, day: int) -> bool:
         """Is it the day that was inferred for the book, where no cell has a month or a year, or one has this day as a
         list marks it?"""
         kept, basis = self.kept.get(animal.id, (0, GIVEN_BIRTH))
-        if kept != day or not animal.line or animal.birth == ANY_DAY:
+        if kept != day or not animal.line or animal.birth.is_open:
             return kept == day
         return animal.birth.text == f"{datetime.date.fromordinal(day)}{basis.mark()}"
 
@@ -108,8 +109,8 @@ class Days:
         ]
         self.high[id] = min([last, self.today, *before])
         by_calves = [self.likely_day(offspring) - GENERATION for offspring in progeny if self.has_likely_day(offspring)]
-        dated = [parent for _, parent in animal.parents() if self.animals[parent].birth != ANY_DAY]
-        if animal.birth != ANY_DAY:
+        dated = [parent for _, parent in animal.parents() if not self.animals[parent].birth.is_open]
+        if not animal.birth.is_open:
             self.likely[id] = likeliest(animal.birth), BirthBasis(BirthSource.PERIOD, animal.birth.period())
         elif by_calves:
             self.likely[id] = min(by_calves), FROM_OFFSPRING

@@ -16,10 +16,11 @@ from gudokeyi.ingest.findings.same_ids import IdUsedAgain
 from gudokeyi.ingest.texts import nearly, nearly_all
 from gudokeyi.reconcile.findings.animals import FormerId
 from gudokeyi.reconcile.findings.obstacles import LettersUnsaid
-from gudokeyi.reconcile.findings.parents import FoundByNearId
+from gudokeyi.reconcile.findings.parents import FoundByDigits, FoundByNearId
 from gudokeyi.reconcile.findings.by_hand import IdsAlike
 from gudokeyi.reconcile.findings.rows import BornAfterOffspring
 from gudokeyi.reconcile.last_found import Kept, LastFound
+from gudokeyi.reconcile.near_tags import ids_by_digits
 from gudokeyi.reconcile.next_book import NextBook
 from gudokeyi.reconcile.parents import can_be
 from gudokeyi.store.book import Book
@@ -58,12 +59,17 @@ class NearIds:
         return near
 
     def find_parents(self, report: Report) -> None:
-        """A parent that is no id, but differs so from just one, is that animal where it can be it."""
-        for offspring, role, text in links_outside(self.lacking.values(), self.with_id):
+        """A parent that is no id, but differs so from just one, or has the digits of just one, is that animal where it
+        can be it."""
+        links = links_outside(self.lacking.values(), self.with_id)
+        by_digits = ids_by_digits({text for _, _, text in links if nearly(text) not in self.near}, self.ids)
+        for offspring, role, text in links:
             near = self.near.get(nearly(text), [])
-            if len(near) == 1 and near[0] != offspring.id and can_be(self.animals[near[0]], role, offspring):
-                offspring.set_parent(role, near[0])
-                report.add(offspring.line, offspring.id, FoundByNearId(role, text, near[0]))
+            id = by_digits.get(text, "") if not near else near[0] if len(near) == 1 else ""
+            if id and id != offspring.id and can_be(self.animals[id], role, offspring):
+                offspring.set_parent(role, id)
+                found = (FoundByNearId if near else FoundByDigits)(role, text, id)
+                report.add(offspring.line, offspring.id, found)
 
     def tell_alike(self, report: Report) -> None:
         """Rows whose ids differ only so. Most sheets have none."""

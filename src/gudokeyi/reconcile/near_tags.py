@@ -24,6 +24,9 @@ NO_BONES = re.compile(r"[^\w\0]+|_+")
 COUNTRY = re.compile(rf"(?<=\0)(?:[a-z]{{2}}(?=\d{{6}})|(?:{'|'.join(COUNTRIES)})(?=\d{{10,}}\0))")
 # so many digits of a number show which one it is, and so many at most stand for a whole one of so many at least
 LEAST, MOST, WHOLE = 4, 6, 8
+# a whole number in groups or without, behind the letters of a country or without them
+TAG = re.compile(rf"(?:[A-Za-z]{{2}}[\s.:/_-]*)?\d(?:[\s.:/_-]*\d){{{WHOLE - 1},}}", re.ASCII)
+NO_DIGITS = re.compile(r"[^\d\0]+")
 
 
 def compared(ids: Sequence[str]) -> list[tuple[str, str]]:
@@ -35,6 +38,27 @@ def compared(ids: Sequence[str]) -> list[tuple[str, str]]:
         return [one for id in ids for one in compared([id.replace(BETWEEN, " ")])]
     countries = (one.removesuffix(other) for one, other in zip(whole, rest))
     return [(COUNTRIES.get(country, country), other) for country, other in zip(countries, rest)]
+
+
+def ids_by_digits(texts: Iterable[str], ids: Sequence[str]) -> dict[str, str]:
+    """By each of some texts that is a whole tag the only id that has its digits, where it is one too, and of no other
+    country."""
+    tags = {text: NO_DIGITS.sub("", text) for text in texts if TAG.fullmatch(text)}
+    found: dict[str, list[str]] = {digits: [] for digits in tags.values()}
+    together = NO_DIGITS.sub("", BETWEEN.join(ids)).split(BETWEEN) if found else []
+    for id, digits in zip(ids, together if len(together) == len(ids) else ()):
+        if digits in found:
+            found[digits].append(id)
+    return {text: found[digits][0] for text, digits in tags.items() if are_one_tag(text, found[digits])}
+
+
+def are_one_tag(text: str, ids: Sequence[str]) -> bool:
+    """Is there one id alone, and is it that text but for signs, and for the letters of the country, which one may
+    lack?"""
+    if len(ids) != 1 or not TAG.fullmatch(ids[0]):
+        return False
+    (country, rest), (other, other_rest) = compared([text, *ids])
+    return rest == other_rest and (not country or not other or country == other)
 
 
 class NearTags:

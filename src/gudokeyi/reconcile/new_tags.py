@@ -1,21 +1,24 @@
 """Animals with a new tag: a row with another id, and with the name, the birth day and the parents of an animal of the
 book that has no row any more, or with its old id in a column that isn't read, is proposed as that animal; where
-somebody says so it is."""
+somebody says so it is, and where the book's id has an apostrophe which cells are read without."""
 from __future__ import annotations
 
 import re
 from collections.abc import Iterator, Mapping
 
+from gudokeyi.domain.cells import TEXT
 from gudokeyi.domain.messages import Mistake
 from gudokeyi.ingest.animals import FIRST_OF, SheetAnimal
 from gudokeyi.ingest.columns import Columns
+from gudokeyi.ingest.findings.columns import SheetFinding
+from gudokeyi.ingest.sheets import without_apostrophe
 from gudokeyi.ingest.texts import nearly
 from gudokeyi.ingest.titles import parts_of
-from gudokeyi.reconcile.findings.same_animals import NewTag, OldTag
+from gudokeyi.reconcile.findings.same_animals import IdsWithApostrophe, NewTag, OldTag
 from gudokeyi.reconcile.messages import ImportFault
 from gudokeyi.reconcile.next_book import NextBook
 from gudokeyi.store.book import Book
-from gudokeyi.store.former_ids import former_ids_of
+from gudokeyi.store.former_ids import former_ids_of, ids_that_begin
 
 
 def pairs_of(words: list[str]) -> dict[str, str]:
@@ -29,14 +32,17 @@ def pairs_of(words: list[str]) -> dict[str, str]:
     return found
 
 
-def call_anew(book: Book, words: list[str]) -> None:
-    """The animals have their new ids from now on, and are known by those of before. Some may have each other's."""
+def call_anew(book: Book, words: list[str]) -> list[SheetFinding]:
+    """The animals have their new ids from now on, and are known by those of before. Some may have each other's. Answers
+    what is told of those of which nobody said it."""
     for before, now in pairs_of(words).items():
         if is_called_so(book, before, now):
             continue
         if before not in book.society_records:
             raise Mistake(ImportFault.NEW_TAG_LACKS.said(word=f"{before}={now}", before=before))
         book.new_tags[before] = now
+    apart = without_apostrophes(book) if book.society_records else {}
+    book.new_tags |= apart
     refuse_twice(book)
     if book.new_tags:
         renamed = book.new_tags
@@ -50,6 +56,14 @@ def call_anew(book: Book, words: list[str]) -> None:
             (renamed.get(str(key[0]), key[0]),): (renamed.get(str(key[0]), key[0]), *row[1:])
             for key, row in book.cells.items()
         }
+    return [IdsWithApostrophe(len(apart), *pair) for pair in [*apart.items()][:1]]
+
+
+def without_apostrophes(book: Book) -> dict[str, str]:
+    """The ids of the book as cells are read that have them, by those that it took with an apostrophe before them."""
+    pairs = ((id, without_apostrophe(id)) for id in ids_that_begin(book, TEXT) if id not in book.new_tags)
+    taken = {*book.new_tags.values()}
+    return {id: now for id, now in pairs if now != id and now not in book.society_records and now not in taken}
 
 
 def is_called_so(book: Book, before: str, now: str) -> bool:

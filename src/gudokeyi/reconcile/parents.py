@@ -18,12 +18,14 @@ from gudokeyi.ingest.days_for_ids import DaysForIds, is_day
 from gudokeyi.ingest.findings.cells import TextTooLong
 from gudokeyi.ingest.texts import nearly, without_accents
 from gudokeyi.ingest.words import KNOWN_NO_PARENTS, has_word
-from gudokeyi.reconcile.findings.parents import AddedAsParent, FoundByName, FoundByNearId, FoundInBook, FoundWithin
+from gudokeyi.reconcile.findings.parents import (
+    AddedAsParent, FoundByDigits, FoundByName, FoundByNearId, FoundInBook, FoundWithin,
+)  # fmt: skip
 from gudokeyi.reconcile.findings.unknown_parents import LikeNoId, MayBeUnknown, MoreMayBeUnknown, NameOfAnimals
 from gudokeyi.reconcile.ids_by_name import IdsByName
 from gudokeyi.reconcile.last_found import Kept, LastFound
 from gudokeyi.reconcile.near_names import DAY, have_digits, is_like_word
-from gudokeyi.reconcile.near_tags import NearTags
+from gudokeyi.reconcile.near_tags import NearTags, ids_by_digits
 from gudokeyi.reconcile.next_book import NextBook
 from gudokeyi.store.book import Book
 
@@ -297,6 +299,8 @@ def found(parent: SheetAnimal, role: Role, text: str) -> Finding:
     """By what a text means the parent."""
     if nearly(parent.id) == nearly(text):
         return FoundByNearId(role, text, parent.id)
+    if ids_by_digits([text], [parent.id]):
+        return FoundByDigits(role, text, parent.id)
     if nearly(parent.id) in nearly(text):
         return FoundWithin(role, text, parent.id)
     is_name = without_accents(parent.name.casefold()) == without_accents(text.casefold())

@@ -11,6 +11,7 @@ from gudokeyi.domain.kinds import Role
 from gudokeyi.domain.messages import MOST_NAMED
 from gudokeyi.domain.spelling import TIMES
 from gudokeyi.ingest.animals import NAME_OF, SheetAnimal, links_outside
+from gudokeyi.ingest.odd_texts import OF_YEAR
 from gudokeyi.ingest.texts import nearly, nearly_all
 from gudokeyi.reconcile.findings.parents import FoundWithin
 from gudokeyi.reconcile.findings.parents_in_texts import (
@@ -62,6 +63,9 @@ FORMERLY = re.compile(
     r"^\W*(?:formerly|former|was|old|ex|früher|ehemals|ehem|vormals|vorher|alt|war|anciennement|anc|ancien)\b",
     re.IGNORECASE,
 )
+# the number of an animal in its year, and a name beside it; its slash stands between no two animals
+NUMBER_OF_YEAR = re.compile(rf"(?<![\w.-])(?<!\d/){OF_YEAR}(?![\w.-]|/\d)")
+BEGINS_WITH_NAME, ENDS_WITH_NAME, KEPT = re.compile(r"/[^\W\d_]"), re.compile(r"[^\W\d_]/$"), "\0"
 # what stands between two names; others are within one, as in `Salz und Pfeffer`
 OF_NAMES = re.compile(r"\s*/\s*")
 YEAR = re.compile(r"(?:19|20)\d\d")
@@ -169,7 +173,7 @@ class ParentsInTexts:
 
     def has_another_id(self, text: str, id: str) -> bool:
         """Does it have another text that is written as ids are, and isn't that of before of the same animal?"""
-        parts = [part for part in JOINED.split(text) if part]
+        parts = [part for part in self.split(JOINED, text) if part]
         if nearly(parts[0]) == nearly(id) and len(parts) > 1 and FORMERLY.match(text[len(parts[0]) :]):
             return False
         words = text.split()
@@ -212,6 +216,24 @@ class ParentsInTexts:
         words = text.split()[:MOST_WORDS]
         ends = [" ".join(part) for at in range(1, len(words)) for part in (words[:at], words[at:])]
         ends = [part for part in ends if any(letter.isdigit() for letter in part)]
-        for part in (*filter(None, BETWEEN.split(text)), *ends):
+        for part in (*filter(None, self.split(BETWEEN, text)), *ends):
             if id := self.ids.get(nearly(part)):
                 yield id
+
+    # -- numbers of years, as `3/12` and `3/12/Cora`
+
+    def split(self, between: re.Pattern[str], text: str) -> list[str]:
+        """The parts of a text, of which the number of an animal in its year is one."""
+        kept = NUMBER_OF_YEAR.sub(lambda one: one[0].replace("/", KEPT) if self.is_one(one) else one[0], text)
+        return [part.replace(KEPT, "/") for part in between.split(kept)]
+
+    def is_one(self, found: re.Match[str]) -> bool:
+        """Is such a number an id, or has it a name beside it, where ids of the sheet have a year?"""
+        if nearly(found[0]) in self.ids:
+            return True
+        before, behind = found.string[: found.start()], found.string[found.end() :]
+        return bool(BEGINS_WITH_NAME.match(behind) or ENDS_WITH_NAME.search(before)) and self.have_years
+
+    @functools.cached_property
+    def have_years(self) -> bool:
+        return any(map(NUMBER_OF_YEAR.match, self.with_id))

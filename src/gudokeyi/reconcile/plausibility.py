@@ -11,7 +11,7 @@ import operator
 from collections.abc import Callable, Collection, Iterable, Mapping, Sequence
 from typing import TYPE_CHECKING
 
-from gudokeyi.domain.findings import Entry, Report
+from gudokeyi.domain.findings import Entry, Finding, Report
 from gudokeyi.domain.kinds import Field, Role
 from gudokeyi.ingest.animals import (
     BORN_OF, CASTRATED_OF, DAM, DAM_OF, ID_OF, LEFT_OF, LINE_OF, NAME_OF, SIRE, SIRE_OF, YEARS_LATER, SheetAnimal,
@@ -19,12 +19,14 @@ from gudokeyi.ingest.animals import (
 from gudokeyi.ingest.days import Precision
 from gudokeyi.reconcile.findings.by_hand import YoungParent
 from gudokeyi.reconcile.findings.plausibility import (
-    BirthsNearerThanUsual, BirthsTooNear, CastratedSire, ColumnsSwapped, ManyOldAsLiving, NameAndDayTwice, OldAsLiving,
-    OldParent, SireLeftLongBefore,
+    BirthsNearerThanUsual, BirthsTooNear, CastratedSire, ColumnsSwapped, ManyOldAsLiving, NameAndDayTwice,
+    NewTagBesideRow, OldAsLiving, OldParent, RowOfFormerId, SireLeftLongBefore,
 )  # fmt: skip
+from gudokeyi.reconcile.findings.same_animals import NewTag
 from gudokeyi.reconcile.last_found import FoundBy, Kept, LastFound, NothingKept
 from gudokeyi.reconcile.limits import OLDEST, Limits
 from gudokeyi.store.book import Book
+from gudokeyi.store.former_ids import ids_now
 
 if TYPE_CHECKING:
     from gudokeyi.reconcile.next_book import NextBook
@@ -80,17 +82,17 @@ class PlausibilityChecks:
                 if abs((animal.born - before).days) >= YEARS_LATER:
                     self.report.add(animal.line, animal.id, BirthMovedByYears(before, animal.born))
 
-    def tell(self, exits_are_given: bool) -> None:
-        self.tell_families()
+    def tell(self, book: Book, exits_are_given: bool) -> None:
+        self.tell_families(book)
         if exits_are_given:
             self.look_at_living()
 
-    def tell_families(self) -> None:
+    def tell_families(self, book: Book) -> None:
         """What is told of parents, offspring, and animals that are there twice."""
         self.tell_found(Kept.YOUNG_PARENTS, self.values_of_young, self.look_at_young)
         self.tell_found(Kept.BIRTHS_OF_DAMS, self.values_of_dams, self.look_at_dams)
         self.look_at_castrated()
-        self.tell_found(Kept.TWICE, lambda: values_of(self.dated, NAME_OF), self.look_at_names)
+        self.tell_twice(book)
 
     def values_of_young(self) -> FoundBy:
         left = [*self.animals], [*map(LEFT_OF, self.animals.values())], [*map(LINE_OF, self.animals.values())]
@@ -206,18 +208,48 @@ class PlausibilityChecks:
             found = CastratedSire(animal.cells.get(Field.SEX, ""), len(its), its[0].id, its[0].line)
             self.report.add(animal.line, sire, found)
 
-    def look_at_names(self) -> None:
-        """Animals with one name and birth day. Many sheets have names that stand for none, as `Lamm`, at each."""
+    def tell_twice(self, book: Book) -> None:
+        """Animals with one name and birth day, which may be one, but for those of which that is told already."""
+        by = values_of(self.dated, NAME_OF) if self.last.keeps else ()
+        twice = self.last.of(Kept.TWICE, by, self.find_twice)
+        have_rows = [pair for pair in twice if self.animals[pair[0]].line]
+        told = self.new_tags_told() if len(have_rows) < len(twice) else set()
+        former = former_ids(book) if have_rows else {}
+        for pair in twice:
+            first, second = (self.animals[id] for id in pair)
+            if pair not in told:
+                self.tell_pair(first, second, former, book)
+
+    def new_tags_told(self) -> set[tuple[str, str]]:
+        """The ids of before and of now of which is told that an animal may have a new tag."""
+        findings = (entry.finding for entry in self.report.entries)
+        return {(one.before, one.now) for one in findings if isinstance(one, NewTag)}
+
+    def find_twice(self) -> list[tuple[str, str]]:
+        """The ids of two with one name and birth day, the new one last. Many sheets have names that stand for none, as
+        `Lamm`, at each."""
         alike = collections.defaultdict[tuple[str, datetime.date], list[SheetAnimal]](list)
         names = [*map(str.casefold, map(NAME_OF, self.dated))]
         counts = collections.Counter(names)
         for animal, name in zip(self.dated, names):
             if name and counts[name] > 1:
                 alike[name, animal.born].append(animal)
-        for pair in alike.values():
-            if len(pair) == 2 and any(map(self.is_new, pair)):
-                first, second = sorted(pair, key=self.is_new)
-                self.report.add(second.line, second.id, NameAndDayTwice(first.id, first.line))
+        pairs = (sorted(pair, key=self.is_new) for pair in alike.values() if len(pair) == 2)
+        return [(first.id, second.id) for first, second in pairs if self.is_new(second)]
+
+    def tell_pair(self, first: SheetAnimal, second: SheetAnimal, former: Mapping[str, str], book: Book) -> None:
+        """Where both have a row it is told which one is to go, if the book shows it; `former` are the ids of now by
+        those of before."""
+        known = book.society_records if first.line else {}
+        are_known = first.id in known, second.id in known
+        if former.get(second.id) == first.id or former.get(first.id) != second.id and are_known == (False, True):
+            first, second = second, first
+        found: Finding = NameAndDayTwice(first.id, first.line)
+        if former.get(first.id) == second.id:
+            found = RowOfFormerId(first.id, first.line)
+        elif first.id in known and second.id not in known:
+            found = NewTagBesideRow(first.id, first.line, second.id)
+        self.report.add(second.line, second.id, found)
 
     def look_at_living(self) -> None:
         # an import of a sheet without exits would wait for it
@@ -235,6 +267,11 @@ class PlausibilityChecks:
         for animal in old:
             found = OldAsLiving(animal.born, median - animal.born.year, median)
             self.report.add(animal.line, animal.id, found)
+
+
+def former_ids(book: Book) -> dict[str, str]:
+    """The ids of now by those that animals had before, also of the tags that are new with this sheet."""
+    return (ids_now(book) if book.society_records else {}) | book.new_tags
 
 
 def days_between(births: Iterable[int]) -> list[int]:

@@ -127,7 +127,7 @@ class Family:
         """What is told of them."""
         report = Report()
         checks = PlausibilityChecks(self.animals, limits_in(self.book), report, self.filed, usual=self.usual)
-        checks.tell_families()
+        checks.tell_families(self.book)
         return report.entries
 
     def usual(self, between: Collection[Sequence[int]]) -> int:

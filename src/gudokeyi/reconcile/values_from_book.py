@@ -11,7 +11,7 @@ from gudokeyi.domain.findings import Entry
 from gudokeyi.domain.kinds import CELL_FIELDS, Field, Role
 from gudokeyi.domain.provenance import GIVEN_EXIT, ExitBasis, Period, reason_of
 from gudokeyi.ingest.animals import SheetAnimal, birth_in_book
-from gudokeyi.ingest.days import ANY_DAY, DayFault, Span
+from gudokeyi.ingest.days import DayFault, Span
 from gudokeyi.ingest.findings.cells import DayLeftOut
 from gudokeyi.ingest.findings.exits import ExitInferred
 from gudokeyi.ingest.words_beside import words_beside
@@ -105,7 +105,7 @@ class Keeping:
             self.tell_kept(animal, Field.OWNER, owner)
         if animal.since is not None:
             self.days_of_others.leave_out(animal, record)
-        is_within = not animal.has_day() and animal.birth.first <= record.born <= animal.birth.last
+        is_within = not animal.has_day() and (Field.BIRTH in unread or animal.birth.has(record.born))
         if is_within and not in_book.birth.is_inferred:
             animal.birth = Span(record.born, record.born)
             self.tell_kept(animal, Field.BIRTH, str(record.born))
@@ -232,7 +232,7 @@ def has_day_within(period: Period, record: RegisterRecord, in_book: SocietyRecor
 
 def span_text(span: Span) -> str:
     """The day, month or year, empty for none."""
-    return "" if span == ANY_DAY else span.first.isoformat() if span.is_day else span.period().text
+    return "" if span.is_open else span.first.isoformat() if span.is_day else span.period().text
 
 
 def values_of(animal: SheetAnimal) -> dict[Field, str]:

@@ -139,7 +139,7 @@ def tell_plausibility(next_book: NextBook, limits: Limits) -> None:
     """What may be wrong of animals that are taken as they stand."""
     checks = PlausibilityChecks(next_book.animals, limits, next_book.report, last=next_book.last_found)
     checks.tell_births(next_book.book, next_book.rows_otherwise())
-    checks.tell("exit" in next_book.given)
+    checks.tell(next_book.book, "exit" in next_book.given)
 
 
 def tell_owners(next_book: NextBook, owners_before: set[str]) -> None:
@@ -215,10 +215,12 @@ def import_sheet_into(
     import_options = with_settings(book, import_options)
     words = remember(book, import_options)
     rename_owners(book, import_options)
-    call_anew(book, import_options.new_tags)
+    renamed = call_anew(book, import_options.new_tags)
     with bounds():
         read = read_animals(file, import_options, book, words, last)
     keep(book, read)
+    for found in renamed:
+        read.report.add(0, "", found)
     are_renamed = call_as_now(read.animals, book, read.report)
     next_book = NextBook(
         book, read.animals, set(read.columns.found), read.report, read.rows.cells.days, in_book=read.in_book,

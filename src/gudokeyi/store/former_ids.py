@@ -1,4 +1,5 @@
-"""The ids that animals had before theirs were corrected: each stands for its animal as long as no other has it."""
+"""The ids that animals had before theirs were corrected: each stands for its animal as long as no other has it; and
+ids that are to be corrected, which begin with a sign."""
 from __future__ import annotations
 
 import sqlite3
@@ -30,6 +31,12 @@ def former_ids_of(book: Book, digits: str) -> list[str]:
     """Those that an animal had, the first one first."""
     asked = f"SELECT id FROM former_id WHERE digits = ? AND {NOW} ORDER BY since"
     return [id for (id,) in book.connection.execute(asked, (digits,))]
+
+
+def ids_that_begin(book: Book, sign: str) -> list[str]:
+    """The ids of now that begin with a sign, in their order."""
+    asked = f"SELECT id FROM animal WHERE id >= ? AND id < ? AND {NOW} AND born IS NOT NULL ORDER BY id"
+    return [id for (id,) in book.connection.execute(asked, (sign, chr(ord(sign) + 1)))]
 
 
 def rows_of_renamed(connection: sqlite3.Connection, digits: str, before: str, after: str) -> Rows:

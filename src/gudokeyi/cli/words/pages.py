@@ -37,9 +37,7 @@ def add_words(words: CommandWords) -> None:
         "--among", type=pathlib.Path, metavar="FILE", help="those that a file names, one id a line"
     )
     add_choice(certificate)
-    certificate.add_argument(
-        "--day", type=day, default=datetime.date.today(), metavar="DAY", help="the day of issue [today]"
-    )
+    certificate.add_argument("--day", type=day, metavar="DAY", help="the day of issue [today]")
     certificate.add_argument(
         "--title", default="", help="what stands above the animal [Certificate of pedigree, in the language]"
     )
@@ -88,7 +86,8 @@ def do_certificate(asked: argparse.Namespace, book: Book, program: BookProgram) 
     certified = begin_certificates(book, program, numbers, asked.generations)
     refuse_to_certify(book, program, SeenBefore(book, program.path))
     society = Society.of(book, PrintedPicture.within(picture_of(book)))
-    issue = Issue(asked.title, society, asked.day, last_sealed(book), generations=asked.generations)
+    day_of_issue = asked.day or datetime.date.today()
+    issue = Issue(asked.title, society, day_of_issue, last_sealed(book), generations=asked.generations)
     page = certificates_page(book, animals, certified, Language(asked.language), issue)
     name = file_name("certificate", animals[0].id, ".html") if len(animals) == 1 else "certificates.html"
     give(asked, book, page, name, f", {counted(len(animals), 'page')}" * (len(animals) > 1))

@@ -120,19 +120,22 @@ class BirthDayInferred(Finding):
     is_kept: bool
     named_in: int
     text: str = ""
-    # what stands in its cell and isn't taken for a day
+    # what stands in its cell and isn't taken for a day, or leaves this one open among others
     unread: str = ""
+    within: str = ""
 
     what = What.INFERRED
     code = "birth day inferred"
     message = Text(
-        "birth day {day}, {maybe_kept}{maybe_was_inferred}{reason}{maybe_text}{maybe_unread}{maybe_named_in}"
+        "birth day {day}, {maybe_kept}{maybe_was_inferred}{reason}{maybe_text}{maybe_unread}{maybe_within}"
+        "{maybe_named_in}"
     )
     parts = {
         "maybe_kept": OptionalPart("as in the book, where it was ", when="is_kept"),
         "maybe_was_inferred": OptionalPart("inferred: ", when="was_inferred"),
         "maybe_text": OptionalPart(" of '{text}'"),
         "maybe_unread": OptionalPart(", and not what its cell has: '{unread}'"),
+        "maybe_within": OptionalPart(", within what its cell says: '{within}'"),
         "maybe_named_in": OptionalPart(" (line {named_in} names it)"),
         "maybe_basis_period": OptionalPart(": {basis_period}"),
     }
@@ -144,7 +147,7 @@ class BirthDayInferred(Finding):
     def does(self) -> Severity:
         """What a cell says isn't replaced unseen."""
         is_wrong = self.basis.period is not None and self.basis.period.no_such_day
-        return Severity.FACTS if self.unread or is_wrong else Severity.NONE
+        return Severity.FACTS if self.unread or self.within or is_wrong else Severity.NONE
 
 
 @dataclass(frozen=True, slots=True)

@@ -61,6 +61,22 @@ class FoundByNearId(Finding):
 
 
 @dataclass(frozen=True, slots=True)
+class FoundByDigits(Finding):
+    """A parent whose cell has the digits of just one id, with other signs between them, or with or without its
+    country."""
+
+    role: Role
+    written: str
+    id: str
+
+    what = What.INFERRED
+    code = "found by digits"
+    message = Text(
+        "its {role} '{written}' is {id}, the only id with all of these digits: if another is meant, give that one a row"
+    )
+
+
+@dataclass(frozen=True, slots=True)
 class FoundWithin(Finding):
     """A parent whose cell has its id beside its name, or beside something else."""
 

@@ -222,24 +222,54 @@ class NameAndDayTwice(PlausibilityWarning):
 
     severity = Severity.ANIMALS
     code = "name and day twice"
-    message = Text(
-        "{other}{maybe_line} has its name and its birth day too: are they one animal?{maybe_both}"
-    )
-    page_message = Text("{other}{maybe_line} has its name and its birth day too: are they one animal?{maybe_row}")
+    message = Text("{other}{maybe_line} has its name and its birth day too: are they one animal?{maybe_row}")
     parts = {
         "maybe_line": OptionalPart(" (line {line})"),
         "maybe_row": OptionalPart(
-            " If so, take the row with the former id out, and write the new one where offspring name it", when="has_row"
-        ),
-        "maybe_both": OptionalPart(
-            " If so, take the row with the former id out; if the book had that id before this sheet, undo and say "
-            "--new-tag OLD=NEW, else write the new one where offspring name it",
+            " If so, take out the row whose id it hasn't any more, this one or line {line} ({other}), and write the "
+            "other id where offspring name it",
             when="has_row",
         ),
     }
 
     def values(self) -> Mapping[str, object]:
         return {"has_row": bool(self.line)}
+
+
+@dataclass(frozen=True, slots=True)
+class NewTagBesideRow(PlausibilityWarning):
+    """A new row with the name and the birth day of an animal of the book, `former`, which has a row too."""
+
+    former: str
+    line: int
+    now: str
+
+    severity = Severity.ANIMALS
+    code = "new tag beside row"
+    message = Text(
+        "{former} (line {line}) has its name and its birth day too: did that one get {now} as its new tag? If so, take "
+        "line {line} with {former} out, and import the sheet again with --new-tag {former}={now}; if this one is taken, "
+        "undo it first"
+    )
+    page_message = Text(
+        "{former} (line {line}) has its name and its birth day too: did that one get {now} as its new tag? If so, take "
+        "line {line} with {former} out, and write {former}={now} as a new tag; if the sheet is taken, undo it first"
+    )
+
+
+@dataclass(frozen=True, slots=True)
+class RowOfFormerId(PlausibilityWarning):
+    """A row of an animal that has another one with the id which it had before it got its new tag."""
+
+    former: str
+    line: int
+
+    severity = Severity.ANIMALS
+    code = "row of former id"
+    message = Text(
+        "its former id {former} has a row too, line {line}, with its name and its birth day: take line {line} out, else "
+        "{former} is another animal"
+    )
 
 
 @dataclass(frozen=True, slots=True)

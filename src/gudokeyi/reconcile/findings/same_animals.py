@@ -11,6 +11,7 @@ from gudokeyi.domain.findings import Severity, Suggestion, quoted
 from gudokeyi.domain.kinds import Role
 from gudokeyi.domain.wording import SEXES, Counted, OptionalPart, Text
 from gudokeyi.domain.findings import PlausibilityWarning
+from gudokeyi.ingest.findings.columns import SheetFinding
 
 # the option by which an animal of the book has another id
 NEW_TAG = "--new-tag"
@@ -83,6 +84,25 @@ class NewTag(PlausibilityWarning):
     def suggestions(self) -> tuple[Suggestion, ...]:
         return (Suggestion("if it is that one with a new tag", (Option(NEW_TAG, quoted(f"{self.before}={self.now}")),),
                            undoes=True),)  # fmt: skip
+
+
+@dataclass(frozen=True, slots=True)
+class IdsWithApostrophe(SheetFinding):
+    """Ids that the book took from a sheet with an apostrophe before them: how many, the first, and what it is now."""
+
+    count: int
+    before: str
+    now: str
+
+    severity = Severity.ANIMALS
+    code = "ids with apostrophe"
+    message = Counted(
+        "{count} id of the book has an apostrophe, by which a spreadsheet knows a text, before it: {before} is {now} "
+        "from now on",
+        "{count} ids of the book have an apostrophe, by which a spreadsheet knows a text, before them: they are without "
+        "it from now on, as {before} is {now}",
+        "count",
+    )
 
 
 @dataclass(frozen=True, slots=True)
