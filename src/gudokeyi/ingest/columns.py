@@ -151,10 +151,10 @@ def usual_column(columns: Columns, name: str) -> None:
 
 
 def days_of_exits(columns: Columns) -> list[int]:
-    """The only column such as `verkauft am`, most of whose cells are days."""
+    """The columns such as `verkauft am`, most of whose cells are days."""
     titled = [at for at, title in enumerate(columns.sheet.titles) if columns.is_free(at) and names_exits_alone(title)]
-    cells = [*filter(None, columns.cells(titled[0]))] if len(titled) == 1 else []
-    return titled if 2 * sum(map(is_span, cells)) > len(cells) else []
+    said = {at: [*filter(None, columns.cells(at))] for at in titled[:MOST_ALIKE]}
+    return [at for at, cells in said.items() if 2 * sum(map(is_span, cells)) > len(cells)]
 
 
 def column_of_words(columns: Columns, name: Field, tells: Callable[[str], bool]) -> None:

@@ -125,6 +125,10 @@ UNSURE = re.compile(
 )
 # two days, or a week, of which the text has one
 BETWEEN = re.compile(r"\b(?:zw|zwischen|between|entre|nuit|night|Nacht|week|Woche|semaine|w/c)\b", re.IGNORECASE)
+# to whom an animal went is no end of a time
+GONE_TO = re.compile(
+    r"\b(?:sold|sale|transferred|given|went|gone|moved|rehomed|exported|passed)\b[^?]*?\bto(?= +[^\W\d])", re.IGNORECASE
+)
 # a year of four digits
 YEAR = re.compile(r"(?<!\d)(?:19|20)\d{2}(?!\d)")
 
@@ -314,7 +318,7 @@ class DayForms:
             return season, DayReading.WITHIN
         if short_season := self.short_season(text):
             return short_season, DayReading.TWO_DIGITS
-        if NOT_THAT_YEAR.search(text):
+        if NOT_THAT_YEAR.search(GONE_TO.sub(" ", text)):
             return None
         two = TWO.search(text)
         if two and not YEAR.search(text) and not re.search(r"[\w.,/-]", text[max(two.start() - 1, 0) : two.start()]):

@@ -12,12 +12,14 @@ from typing import Container, NamedTuple
 
 from gudokeyi.domain.findings import Report
 from gudokeyi.domain.kinds import Field
+from gudokeyi.ingest.day_forms import TWO
 from gudokeyi.ingest.days import places_within
+from gudokeyi.ingest.exits_beside import Exits
 from gudokeyi.ingest.findings.cells import UnseenInId
 from gudokeyi.ingest.findings.rows import CellsRepeated, MarksAreNames, NoteRow, NothingRepeated
 from gudokeyi.ingest.findings.sheets import UnseenDropped
 from gudokeyi.ingest.sheets import Sheet, SheetRow, cell_of
-from gudokeyi.ingest.statuses import SOLD, TAKER, Exits, exits_said, taker_of_owner
+from gudokeyi.ingest.statuses import SOLD, TAKER, exits_said, taker_of_owner
 from gudokeyi.ingest.texts import nearly, plain
 from gudokeyi.ingest.unknown_parents import UnknownParents, names_no_owner
 from gudokeyi.ingest.words import KNOWN_EXITS, KNOWN_SEXES, KNOWN_SUMS, is_in_doubt, lives_besides, sex_word
@@ -286,7 +288,7 @@ class Takers:
     def named(self, text: str) -> tuple[str, ...]:
         """The owners who are named behind `verkauft an`, or in a text that begins with whom."""
         found = TAKER.search(text) or TO_WHOM.match(text)
-        return self.called(found["taker"]) if found and not lives_besides(text) else ()
+        return self.called(without_days(found["taker"])) if found and not lives_besides(text) else ()
 
     def behind_sale(self, text: str) -> tuple[str, ...]:
         """The owners whom a text may mean that has nothing but a name and a day beside a word for a sale, as
@@ -337,8 +339,11 @@ class Takers:
 def name_behind_sale(text: str) -> str:
     """What stands behind a word for a sale that begins a text, without days; empty where it has a word for to whom."""
     found = SOLD.match(text) if TAKER.search(text) is None else None
-    name = found["taker"] if found else ""
-    for day in places_within(name):
+    return without_days(found["taker"]) if found else ""
+
+
+def without_days(name: str) -> str:
+    for day in [*places_within(name), *TWO.finditer(name)]:
         name = name.replace(day[0], " ")
     return name
 

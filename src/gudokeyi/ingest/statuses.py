@@ -4,13 +4,13 @@ from __future__ import annotations
 import functools
 import re
 from collections.abc import Mapping, Sequence
-from dataclasses import dataclass, field
 from typing import Container, NamedTuple
 
 from gudokeyi.domain.findings import Report
 from gudokeyi.domain.kinds import Field
 from gudokeyi.ingest.day_cells import is_other_state
 from gudokeyi.ingest.days import is_span, places_within
+from gudokeyi.ingest.exits_beside import Exits, add_buyers, add_exit_days
 from gudokeyi.ingest.findings.exits import NoExits, Remark
 from gudokeyi.ingest.findings.rows import StatusDisagrees, StatusRead
 from gudokeyi.ingest.sheets import Sheet, SheetRow, cell_of
@@ -85,18 +85,6 @@ class Said(NamedTuple):
     lives: bool
     is_reason: bool
     has_taker: bool
-
-
-@dataclass
-class Exits:
-    """What is found in a status beside the exits: the texts for exits, by the places of rows, and the lines of those
-    that are a word of the status alone; the reasons beside days of exits, by their lines; and what is to be kept as
-    notes."""
-
-    texts: dict[int, str] = field(default_factory=dict)
-    of_status: dict[int, str] = field(default_factory=dict)
-    reasons: dict[int, str] = field(default_factory=dict)
-    remarks: list[Remark] = field(default_factory=list)
 
 
 class Statuses:
@@ -198,6 +186,8 @@ def exits_said(
     else:
         exits = Exits(exits_of_living(rows, sheet.titles[at], at))
     add_days_of_sales(exits, rows, sheet.titles, columns)
+    add_exit_days(exits, rows, sheet, columns, unknown, report)
+    add_buyers(exits, rows, sheet, columns, unknown, report)
     return exits
 
 

@@ -210,13 +210,16 @@ def names_both_sexes(title: str) -> bool:
     return bool(words_of_sexes(title))
 
 
+# titles of one word that name a death or a sale, and a day
+DEATHS = {plain(title) for title in ("Todesdatum", "Todestag", "Sterbedatum", "Sterbetag", "Schlachtdatum")}
+SALE_DAYS = {plain(title) for title in ("Verkaufsdatum", "Verkaufstag", "Abgabedatum")}
+
+
 def names_exits_alone(title: str) -> bool:
+    if plain(title) in DEATHS | SALE_DAYS:
+        return True
     words = {plain(word) for word in BETWEEN_WORDS.split(title)} - BESIDE_EXITS - {""}
     return bool(words) and words <= KNOWN_EXITS
-
-
-# titles of one word that name a death and a day
-DEATHS = {plain(title) for title in ("Todesdatum", "Todestag", "Sterbedatum", "Sterbetag", "Schlachtdatum")}
 
 
 def names_other_exits(title: str) -> bool:

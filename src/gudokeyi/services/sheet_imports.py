@@ -12,6 +12,7 @@ from gudokeyi.domain.changes import Option, Source
 from gudokeyi.domain.findings import Call, Entry, ImportRefused, Report, StrictlyRefused, What
 from gudokeyi.domain.kinds import Field, Remembered
 from gudokeyi.ingest.animals import LINE_OF
+from gudokeyi.ingest.exits_beside import columns_beside
 from gudokeyi.ingest.files import GivenFile
 from gudokeyi.ingest.findings.columns import ColumnUntitled
 from gudokeyi.ingest.parents_beside import tell_parents_named_otherwise
@@ -252,6 +253,7 @@ def understood_of(
     sheet, columns = read.sheet, read.columns
     of_reasons = reasons_beside(sheet.titles, read.columns.found)
     kept = tuple(sheet.titles[at] for at in sorted({*own.places.values(), *of_reasons}))
+    beside = [sheet.titles[at] for at in columns_beside(sheet, columns.found)]
     titles = tuple(ColumnRead(Field(name), title) for name, title in columns.titles_found())
     return Understood(
         str(path),
@@ -259,7 +261,7 @@ def understood_of(
         sheet.line,
         sheet.how,
         titles,
-        tuple(title for title in columns.titles_not_read() if title not in kept),
+        tuple(title for title in columns.titles_not_read() if title not in {*kept, *beside}),
         tuple(remembered),
         dict(columns.titles_found()) == before,
         kept,
