@@ -11,6 +11,7 @@ from typing import Container
 
 from gudokeyi.domain.kinds import Field
 from gudokeyi.domain.spelling import closest
+from gudokeyi.ingest.births_beside import parts_of_births
 from gudokeyi.ingest.column_detection import MOST_COMPARED, IdColumn, LikelyColumns, are_row_numbers
 from gudokeyi.ingest.days import is_span
 from gudokeyi.ingest.encodings import Letters, decoded_twice
@@ -47,6 +48,8 @@ class Columns:
     # the title of the book's ids, where no column has these
     lacks_ids: str = ""
     notes: list[SheetFinding] = field(default_factory=list)
+    # the columns that have parts of days
+    parts: Collection[int] = ()
 
     def cells(self, at: int) -> list[str]:
         return self.sheet.column(at)
@@ -67,7 +70,7 @@ class Columns:
         return found
 
     def is_free(self, at: int) -> bool:
-        return at not in self.found.values()
+        return at not in self.found.values() and at not in self.parts
 
     def in_order(self) -> dict[str, int]:
         return {name: self.found[name] for name in TITLES if name in self.found}
@@ -107,8 +110,11 @@ def find_columns(
     for name in BELOW:
         if name not in named and name not in columns.found:
             column_below(columns, name)
+    find_births_in_parts(columns, given)
     parents = [name for name in PARENTS if name not in named and name not in columns.found]
     IdColumn(columns, parents, unknown, ids, before.get(Field.ID, "")).find()
+    # `Tag` is a word for ids too
+    find_births_in_parts(columns, given)
     if Field.STATUS in columns.found and Field.EXIT not in columns.found and named.get(Field.EXIT) != "":
         columns.found[Field.EXIT] = columns.found.pop(Field.STATUS)
     tell_parents_beside(columns, unknown)
@@ -120,6 +126,15 @@ def find_columns(
     tell_missing(columns, named, likely)
     tell_lost(columns, before, likely)
     return columns
+
+
+def find_births_in_parts(columns: Columns, given: Mapping[str, str]) -> None:
+    """The days of births stand in three columns, of which that of the years has the field; one that is named, or is
+    read beside these, has it else."""
+    parts = parts_of_births(columns.sheet, {*columns.found.values()} - {columns.found.get(Field.BIRTH, -1)})
+    at = columns.found.get(Field.BIRTH)
+    if parts and (at == parts.year or Field.BIRTH not in given and at in (None, *parts)):
+        columns.found[Field.BIRTH], columns.parts = parts.year, (parts.day, parts.month)
 
 
 def name_column(columns: Columns, name: str, named: Mapping[str, str]) -> None:

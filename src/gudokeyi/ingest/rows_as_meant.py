@@ -12,6 +12,7 @@ from typing import Container, NamedTuple
 
 from gudokeyi.domain.findings import Report
 from gudokeyi.domain.kinds import Field
+from gudokeyi.ingest.births_beside import births_said
 from gudokeyi.ingest.day_forms import TWO
 from gudokeyi.ingest.days import places_within
 from gudokeyi.ingest.exits_beside import Exits
@@ -254,6 +255,10 @@ def as_meant(
         report.add(line, "", NoteRow(text))
     rows = [row for row in sheet.rows if row.line not in notes] if notes else sheet.rows
     rows = Marks(sheet, columns, called, unknown.more).repeat(rows, report)
+    births = births_said(rows, sheet, columns, unknown, report)
+    if births:
+        birth = columns[Field.BIRTH]
+        rows = [with_cell(row, birth, births[at]) if at in births else row for at, row in enumerate(rows)]
     exits = exits_said(rows, sheet, columns, unknown, report) if Field.EXIT in columns else Exits()
     if exits.texts:
         exit, texts = columns[Field.EXIT], exits.texts

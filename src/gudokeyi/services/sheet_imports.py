@@ -12,6 +12,7 @@ from gudokeyi.domain.changes import Option, Source
 from gudokeyi.domain.findings import Call, Entry, ImportRefused, Report, StrictlyRefused, What
 from gudokeyi.domain.kinds import Field, Remembered
 from gudokeyi.ingest.animals import LINE_OF
+from gudokeyi.ingest.births_beside import year_column
 from gudokeyi.ingest.exits_beside import columns_beside
 from gudokeyi.ingest.files import GivenFile
 from gudokeyi.ingest.findings.columns import ColumnUntitled
@@ -253,7 +254,8 @@ def understood_of(
     sheet, columns = read.sheet, read.columns
     of_reasons = reasons_beside(sheet.titles, read.columns.found)
     kept = tuple(sheet.titles[at] for at in sorted({*own.places.values(), *of_reasons}))
-    beside = [sheet.titles[at] for at in columns_beside(sheet, columns.found)]
+    places_beside = [*columns_beside(sheet, columns.found), *year_column(sheet, columns.found)]
+    beside = [sheet.titles[at] for at in places_beside]
     titles = tuple(ColumnRead(Field(name), title) for name, title in columns.titles_found())
     return Understood(
         str(path),
