@@ -16,8 +16,8 @@ from gudokeyi.ingest.column_detection import MOST_COMPARED, IdColumn, LikelyColu
 from gudokeyi.ingest.days import is_span
 from gudokeyi.ingest.encodings import Letters, decoded_twice
 from gudokeyi.ingest.findings.columns import (
-    ColumnLost, ColumnsLack, ColumnUntitled, LikelierColumn, NamedColumnLacks, ParentsBeside, SheetFinding,
-    TellsNoExits, TitleTwice,
+    ColumnLost, ColumnsLack, ColumnUntitled, LikelierColumn, NamedColumnLacks, ParentsBeside, ParentsFromOther,
+    SheetFinding, TellsNoExits, TitleTwice,
 )  # fmt: skip
 from gudokeyi.ingest.findings.rows import ExitsInRemarks, FieldUnread, StatusUnread
 from gudokeyi.ingest.findings.sheets import MOST_SHOWN
@@ -113,6 +113,7 @@ def find_columns(
     find_births_in_parts(columns, given)
     parents = [name for name in PARENTS if name not in named and name not in columns.found]
     IdColumn(columns, parents, unknown, ids, before.get(Field.ID, "")).find()
+    tell_parents_from_others(columns, parents)
     # `Tag` is a word for ids too
     find_births_in_parts(columns, given)
     if Field.STATUS in columns.found and Field.EXIT not in columns.found and named.get(Field.EXIT) != "":
@@ -281,6 +282,14 @@ def tell_untitled(columns: Columns) -> None:
         exits = sum(cells[cell] for cell in some if has_word(cell, TELLING_EXITS) or is_cross(cell))
         line, text = next((line, texts[at]) for line, texts in columns.sheet.rows if at < len(texts) and texts[at])
         columns.notes.append(ColumnUntitled(letters_of(at), cells.total(), line, text, exits))
+
+
+def tell_parents_from_others(columns: Columns, parents: list[Field]) -> None:
+    """Parents whose ids stand in a column with another title than the usual ones."""
+    for name in (one for one in parents if one in columns.found):
+        title, usual = columns.title(columns.found[name]), columns.titled(KNOWN_TITLES[name])
+        if usual and plain(title) not in KNOWN_TITLES[name]:
+            columns.notes.append(ParentsFromOther(name, title, columns.title(usual[0])))
 
 
 def tell_parents_beside(columns: Columns, unknown: Container[str]) -> None:
