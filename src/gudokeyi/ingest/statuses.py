@@ -136,12 +136,22 @@ class Statuses:
             self.found.texts[place] = f"{said.text} {exit}"
         if says_exit and said.is_reason:
             self.found.reasons[row.line] = said.text
+        elif says_exit and said.is_still_there:
+            self.look_at_no_exit(place, row, exit, said.text)
         elif said.is_still_there or said.is_other_state:
             self.found.remarks.append(Remark(row.line, self.titles[1], said.text))
         elif not says_exit and not said.tells_none and (said.tells or not exit or self.is_unknown(exit)):
             self.take(place, row, exit, said.text)
         if says_exit and said.lives:
             self.tell(row, exit, True)
+
+    def look_at_no_exit(self, place: int, row: SheetRow, exit: str, said: str) -> None:
+        """A day of exits has a word beside it that tells of something else, as `ausgeliehen`: where that is why the
+        animal left it is none; a state may be that of the time before."""
+        if self.is_of_states or not is_span(exit):
+            self.tell(row, exit, True)
+        else:
+            self.found.texts[place] = f"{said} {exit}"
 
     def take(self, place: int, row: SheetRow, exit: str, said: str) -> None:
         """The word of the status stands for an exit of which its column says nothing, or that there is none."""
@@ -217,5 +227,8 @@ def add_reasons(exits: Exits, rows: list[SheetRow], of_reasons: int, at: int, un
     says = functools.cache(lambda text: not lives(text) and (text not in unknown or DEAD.search(text) is not None))
     for place, row in enumerate(rows):
         reason = cell_of(row, of_reasons)
-        if reason and says(reason) and says(exits.texts.get(place) or cell_of(row, at)):
+        exit = exits.texts.get(place) or cell_of(row, at)
+        if reason and says(reason) and says(exit) and is_still_there(reason) and is_span(exit):
+            exits.texts[place] = f"{reason} {exit}"
+        elif reason and says(reason) and says(exit):
             exits.reasons[row.line] = reason

@@ -21,6 +21,7 @@ class DayReading(Worded):
     PERIOD_WITHIN = "period within"
     # a day that may be mistyped, as `12..3.2020`
     YEAR_ALONE = "year alone"
+    OTHER_ORDER = "other order"
 
     def words(self) -> str:
         return READINGS[self]
@@ -34,6 +35,7 @@ READINGS = {
     DayReading.UNSURE: "a day that isn't sure",
     DayReading.PERIOD_WITHIN: "a text with a month, a week or a season",
     DayReading.YEAR_ALONE: "a text of which the year alone can be read",
+    DayReading.OTHER_ORDER: "day and month in the other order than elsewhere",
 }
 
 
