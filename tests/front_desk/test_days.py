@@ -186,6 +186,26 @@ def test_both_orders(desk: Desk) -> None:
     desk.wrong("others have the month first (line 2: a: birth day: '03/25/2001')", "import", sheet, "--month-first")
 
 
+def test_one_day_in_the_other_order(desk: Desk) -> None:
+    """Beside few days that line is named; beside many it is read by itself, as an inferred day, and told."""
+    sheet = TITLES + "a;F;13/03/2001;;;\nb;F;06/25/2004;;;\nc;F;14/03/2002;;;\n"
+    desk.wrong(
+        "line 3: b: birth day: '06/25/2004' has the month first, and 2 others have the day first, as line 2: a: birth day: "
+        "'13/03/2001': write this day as 2001-03-01 or 01.03.2001, or all days where the others are wrong",
+        "import", desk.write("sheet.csv", sheet),
+    )  # fmt: skip
+    more = "".join(f"d{day};F;{day}/03/2002;;;sold 02/{day}/2020\n" for day in range(15, 18))
+    desk.wrong("has the month first", "import", desk.write("sheet.csv", sheet + more))
+    done = desk.take(sheet + more.replace("sold 02/", "") .replace("/2020", "/02/2020"))
+    done.shows(
+        "to look at: day and month in the other order than elsewhere in 1 cell of the column 'birth': '06/25/2004' in line "
+        "3 is read as 2004-06-25"
+    )
+    assert desk.born()["b"] == "2004-06-25" and " 1 inferred" in done.last
+    months = "".join(f"m{day};F;03/{day}/2002;;;\n" for day in range(15, 18))
+    desk.wrong("(3 such days)", "import", desk.write("sheet.csv", sheet.replace("06/25", "25/06") + months), "--book", "two")
+
+
 def test_no_day_shows_the_order(desk: Desk) -> None:
     done = desk.take(TITLES + "a;F;03/04/2001;;;\nb;F;05/05/2004;;;\n")
     told = "1 day with / could have the month first, and no day of the sheet shows whether"

@@ -124,17 +124,24 @@ def asked(desk: Desk, answer: str, *words: str) -> str:
     return done.stdout
 
 
-@pytest.mark.parametrize("title", ["Breeder", "Züchter"])
+@pytest.mark.parametrize("title", ["Breeder", "Züchter", "Éleveur", "Name of breeder"])
 def test_column_of_breeders(desk: Desk, title: str) -> None:
     """Whom the society's own column names bred an animal; where it names nobody nobody is invented."""
     rows = f"id,name,sex,birth,sire,dam,owner,{title}\nD,Berta,f,2001-02-01,,,Huber,\n"
     rows += "X,Anna,f,2003-03-01,,D,Meier,Garside\nY,Eva,f,2004-03-01,,D,Meier,\n"
     (desk.room / "sheet.csv").write_text(rows, encoding="utf-8")
-    desk.good("import", "sheet.csv")
+    done = desk.good("import", "sheet.csv")
     assert "  breeder       Huber\n" in desk.good("show", "X").out
-    desk.good("import", "sheet.csv", "--own", f"{title}=text")
+    told = (
+        f"to look at: the column '{title}' isn't kept, with 'Garside' in line 3: as the breeder of an animal the owner of "
+        "its dam at its birth is printed"
+    )
+    done.shows(told, "  to have the breeders of the list:")
+    assert told not in desk.good("import", "sheet.csv", "--preview", "--own", f"{title}=none").out
+    [command] = [one for one in done.commands() if f"{title}=text" in one]
+    assert told not in desk.typed(command).out
     shown = [line.split() for line in desk.good("show", "X").out.splitlines()]
-    assert [title, "Garside"] in shown and all("Huber" not in line for line in shown if line[:1] == ["breeder"])
+    assert [*title.split(), "Garside"] in shown and all("Huber" not in line for line in shown if line[:1] == ["breeder"])
     said = {"Garside": "X", "not known": "Y"}
     for breeder, id in said.items():
         desk.good("certificate", id, "--out", f"{id}.html")

@@ -211,3 +211,24 @@ def test_parents_in_capitals_that_the_book_has(desk: Desk) -> None:
     """Two that the book has stay two."""
     desk.take(CAPITALS.format("Uli", "DE101", "uli"))
     assert " 0 new, 0 changed" in desk.take(CAPITALS.format("Uli", "DE101", "uli")).last
+
+
+@pytest.mark.parametrize(
+    "titles",
+    [
+        "Tag;Name;Sex;DOB;Sire Name;Sire IAR no.;Sire's sire;Dam Name;Dam IAR no.",
+        "IAR no.;Name;Sex;DOB;Sire;Sire UKBAS no.;Dam's sire;Dam;Dam UKBAS no.",
+        "N° de travail;Nom;Sexe;Né le;Père;N° de travail du père;Père de la mère;Mère;N° de travail de la mère",
+    ],
+)
+def test_ids_beside_names(desk: Desk, titles: str) -> None:
+    """The column that names a parent, and no other one, and has the ids, is the parent's; that is told."""
+    rows = "1;Ann;F;2005-03-01;;;;;\n2;Ben;M;2005-03-02;;;;;\n3;Ben;M;2008-03-13;Ben;2;;Ann;1\n4;Dan;F;2011-03-13;Ben;3;2;Ann;1\n"
+    done = desk.take(titles + "\n" + rows)
+    _, _, _, _, sire, of_sire, _, dam, of_dam = titles.split(";")
+    assert desk.parents()["4"] == ("3", "1") and " 0 added" in done.last
+    for role, of_ids, names in (("sire", of_sire, sire), ("dam", of_dam, dam)):
+        done.shows(f"to look at: {role} is read from '{of_ids}', which has more of the ids, and not from '{names}'")
+    assert " 0 new, 0 changed" in desk.take(titles + "\n" + rows).last
+    names = "1;Ann;F;2005-03-01;;;;;\n2;Ben;M;2005-03-02;;;;;\n3;Cal;M;2008-03-13;2;Ben;;1;Ann\n"
+    assert "which has more of the ids" not in desk.take(titles + "\n" + names, "--book", "two").told

@@ -108,6 +108,24 @@ def test_reasons_beside_a_status(desk: Desk) -> None:
     )
 
 
+@pytest.mark.parametrize("titles", ["Sorti le;Motif de sortie", "Sorti le;Motif de sortie;Statut"])
+def test_reason_that_is_no_exit(desk: Desk, titles: str) -> None:
+    """The day of a loan is none of an exit: the animal stays, and that is told. A state that isn't why an animal left is
+    told beside the exit."""
+    state = {"Statut": ";Sorti"}.get(titles.rpartition(";")[2], "")
+    rows = f"a;M;2001-01-01;;;2020-01-01;Mort{state}\nb;F;2001-01-01;;;2020-01-02;Prêtée{state}\n"
+    rows += f"d;F;2002-01-01;;;2020-01-03;Vendue{state}\ne;F;2003-01-01;;;2020-01-04;Abattage{state}\n"
+    done = desk.take(f"id;sex;birth;sire;dam;{titles}\n{rows}")
+    assert "'Prêtée 2020-01-02': the animal stays" in done.out
+    assert reason(desk, "b") == ("", "") and reason(desk, "a") == ("2020-01-01", "Mort")
+    assert notes(desk)["b"] == {"Sorti le: Prêtée 2020-01-02"}
+    rows = "a;M;2001-01-01;;;2020-01-01;Mort\nb;F;2001-01-01;;;2020-01-02;prêtée\nd;F;2001-01-01;;;;vendue\n"
+    done = desk.take(f"id;sex;birth;sire;dam;Sorti le;Statut\n{rows}", "--book", "two")
+    done.tells("line 3: b: to look at: 'Sorti le' says '2020-01-02', and 'Statut' says 'prêtée': the animal counts as gone, "
+               "on the day of the first")  # fmt: skip
+    assert "the animal stays" not in done.out
+
+
 def test_no_reason(desk: Desk) -> None:
     """A cell that says only that there was an exit is none, nor is one that says what the other says."""
     rows = "a;M;2001-01-01;;;{}\nb;M;2001-01-01;;;2020-01-01;oui\nc;M;2001-01-01;;;tot;tot\nd;M;2001-01-01;;;;tot\n"

@@ -95,6 +95,24 @@ def test_name_behind_a_sale(desk: Desk, cell: str, day: str, title: str) -> None
     assert " 0 new, 0 changed" in desk.take(sheet).last
 
 
+@pytest.mark.parametrize(
+    "cell, day",
+    [
+        ("Sold to {} 13/7/24", "2024-07-13"), ("sold to {} 3 May 24", "2024-05-03"), ("{} 3. Mai 2024", "2024-05-03"),
+        ("13.7.24 sold to {}", "2024-07-13"), ("rehomed to {}, May 24", "2024-05-31"),
+    ],
+)  # fmt: skip
+def test_day_behind_the_taker(desk: Desk, cell: str, day: str) -> None:
+    """With two digits of the year too it is the day, of a transfer as of the exit of an animal that left."""
+    cell = cell.replace("{} 3. Mai", "verkauft an {} 3. Mai")
+    rows = ROWS.replace("001;002;Huber;\n", "001;002;Huber;" + cell.format("Meier Ida") + "\n")
+    sheet = TITLES + rows + "004;B;w;3.2.2014;001;002;Huber;" + cell.format("Stranger") + "\n"
+    desk.take(sheet)
+    sold = [] if cell.startswith("rehomed") else [day]
+    assert desk.transfer_days() == sold and owner_of(desk, "004") == "Huber"
+    assert [line.split(",")[2] for line in desk.commands() if line.startswith("exit")] == [day] * (2 - len(sold))
+
+
 @pytest.mark.parametrize("is_of_day", [False, True])
 def test_part_of_a_name_behind_a_sale(desk: Desk, is_of_day: bool) -> None:
     """That and a sale in doubt are told, with who may be the taker, also where the day stands in another column."""

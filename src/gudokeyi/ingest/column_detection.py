@@ -10,7 +10,7 @@ from gudokeyi.domain.kinds import Field
 from gudokeyi.domain.spelling import closest
 from gudokeyi.ingest.days import DayFault, Unreadable, read_span
 from gudokeyi.ingest.findings.columns import IdsCountRows, IdsFromOther, IdsMoved, LikelyColumn
-from gudokeyi.ingest.titles import KNOWN_TITLES
+from gudokeyi.ingest.titles import KNOWN_TITLES, names_parent
 from gudokeyi.ingest.texts import nearly, plain
 from gudokeyi.ingest.words import KNOWN_EXITS, KNOWN_SEXES, KNOWN_STAYS, has_word, sex_word
 
@@ -67,7 +67,7 @@ class IdColumn:
         self.columns, self.wanted, self.unknown = columns, wanted, unknown
         self.ids, self.before = ids, before
         # a sheet may have very many columns
-        self.titled = {name: columns.titled(KNOWN_TITLES[name]) for name in wanted}
+        self.titled = {name: parent_columns(columns, name) for name in wanted}
 
     def find(self) -> None:
         at = self.columns.found.get(Field.ID)
@@ -169,6 +169,13 @@ class IdColumn:
 
     def are_row_numbers(self, at: int) -> bool:
         return are_row_numbers(self.columns.cells(at))
+
+
+def parent_columns(columns: Columns, parent: Field) -> list[int]:
+    """Those with a usual title, and beside them others that name the parent alone, as `Sire IAR no.`."""
+    usual = columns.titled(KNOWN_TITLES[parent])
+    titles = enumerate(columns.sheet.titles) if usual else ()
+    return usual + [at for at, title in titles if at not in usual and columns.is_free(at) and names_parent(title, parent)]
 
 
 def are_row_numbers(cells: list[str]) -> bool:

@@ -11,12 +11,13 @@ from typing import Container
 
 from gudokeyi.domain.kinds import Field
 from gudokeyi.domain.spelling import closest
+from gudokeyi.ingest.births_beside import parts_of_births
 from gudokeyi.ingest.column_detection import MOST_COMPARED, IdColumn, LikelyColumns, are_row_numbers
 from gudokeyi.ingest.days import is_span
 from gudokeyi.ingest.encodings import Letters, decoded_twice
 from gudokeyi.ingest.findings.columns import (
-    ColumnLost, ColumnsLack, ColumnUntitled, LikelierColumn, NamedColumnLacks, ParentsBeside, SheetFinding,
-    TellsNoExits, TitleTwice,
+    ColumnLost, ColumnsLack, ColumnUntitled, LikelierColumn, NamedColumnLacks, ParentsBeside, ParentsFromOther,
+    SheetFinding, TellsNoExits, TitleTwice,
 )  # fmt: skip
 from gudokeyi.ingest.findings.rows import CastratedInRemarks, ExitsInRemarks, FieldUnread, StatusUnread
 from gudokeyi.ingest.findings.sheets import MOST_SHOWN
@@ -49,6 +50,8 @@ class Columns:
     # the title of the book's ids, where no column has these
     lacks_ids: str = ""
     notes: list[SheetFinding] = field(default_factory=list)
+    # the columns that have parts of days
+    parts: Collection[int] = ()
 
     def cells(self, at: int) -> list[str]:
         return self.sheet.column(at)
@@ -69,7 +72,7 @@ class Columns:
         return found
 
     def is_free(self, at: int) -> bool:
-        return at not in self.found.values()
+        return at not in self.found.values() and at not in self.parts
 
     def in_order(self) -> dict[str, int]:
         return {name: self.found[name] for name in TITLES if name in self.found}
@@ -109,8 +112,12 @@ def find_columns(
     for name in BELOW:
         if name not in named and name not in columns.found:
             column_below(columns, name)
+    find_births_in_parts(columns, given)
     parents = [name for name in PARENTS if name not in named and name not in columns.found]
     IdColumn(columns, parents, unknown, ids, before.get(Field.ID, "")).find()
+    tell_parents_from_others(columns, parents)
+    # `Tag` is a word for ids too
+    find_births_in_parts(columns, given)
     if Field.STATUS in columns.found and Field.EXIT not in columns.found and named.get(Field.EXIT) != "":
         columns.found[Field.EXIT] = columns.found.pop(Field.STATUS)
     tell_parents_beside(columns, unknown)
@@ -122,6 +129,15 @@ def find_columns(
     tell_missing(columns, named, likely)
     tell_lost(columns, before, likely)
     return columns
+
+
+def find_births_in_parts(columns: Columns, given: Mapping[str, str]) -> None:
+    """The days of births stand in three columns, of which that of the years has the field; one that is named, or is
+    read beside these, has it else."""
+    parts = parts_of_births(columns.sheet, {*columns.found.values()} - {columns.found.get(Field.BIRTH, -1)})
+    at = columns.found.get(Field.BIRTH)
+    if parts and (at == parts.year or Field.BIRTH not in given and at in (None, *parts)):
+        columns.found[Field.BIRTH], columns.parts = parts.year, (parts.day, parts.month)
 
 
 def name_column(columns: Columns, name: str, named: Mapping[str, str]) -> None:
@@ -153,10 +169,10 @@ def usual_column(columns: Columns, name: str) -> None:
 
 
 def days_of_exits(columns: Columns) -> list[int]:
-    """The only column such as `verkauft am`, most of whose cells are days."""
+    """The columns such as `verkauft am`, most of whose cells are days."""
     titled = [at for at, title in enumerate(columns.sheet.titles) if columns.is_free(at) and names_exits_alone(title)]
-    cells = [*filter(None, columns.cells(titled[0]))] if len(titled) == 1 else []
-    return titled if 2 * sum(map(is_span, cells)) > len(cells) else []
+    said = {at: [*filter(None, columns.cells(at))] for at in titled[:MOST_ALIKE]}
+    return [at for at, cells in said.items() if 2 * sum(map(is_span, cells)) > len(cells)]
 
 
 def column_of_words(columns: Columns, name: Field, tells: Callable[[str], bool]) -> None:
@@ -283,6 +299,14 @@ def tell_untitled(columns: Columns) -> None:
         exits = sum(cells[cell] for cell in some if has_word(cell, TELLING_EXITS) or is_cross(cell))
         line, text = next((line, texts[at]) for line, texts in columns.sheet.rows if at < len(texts) and texts[at])
         columns.notes.append(ColumnUntitled(letters_of(at), cells.total(), line, text, exits))
+
+
+def tell_parents_from_others(columns: Columns, parents: list[Field]) -> None:
+    """Parents whose ids stand in a column with another title than the usual ones."""
+    for name in (one for one in parents if one in columns.found):
+        title, usual = columns.title(columns.found[name]), columns.titled(KNOWN_TITLES[name])
+        if usual and plain(title) not in KNOWN_TITLES[name]:
+            columns.notes.append(ParentsFromOther(name, title, columns.title(usual[0])))
 
 
 def tell_parents_beside(columns: Columns, unknown: Container[str]) -> None:

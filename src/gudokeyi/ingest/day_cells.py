@@ -1,6 +1,7 @@
 """What the cells of days say, and whether days with slashes or hyphens have the day first or the month."""
 from __future__ import annotations
 
+import collections
 import datetime
 import functools
 import re
@@ -18,12 +19,14 @@ from gudokeyi.ingest.days import (
 )  # fmt: skip
 from gudokeyi.ingest.findings.cells import DayLeftOut
 from gudokeyi.ingest.findings.days import DayReading
-from gudokeyi.ingest.findings.sheets import NoOrderShown, Place, WrongOrder
+from gudokeyi.ingest.findings.sheets import NoOrderShown, OneWrongOrder, Place, WrongOrder
 from gudokeyi.ingest.words import DEAD, exit_word, is_still_there, lives, word_fault
 from gudokeyi.ingest.words_beside import words_beside
 
 # Whether days with slashes or hyphens have the day first or the month, as a sheet's own days show.
 
+# so many days in one order show that one in the other is a slip, and so many that each further one is
+LEAST_RIGHT, MANY_RIGHT = 5, 20
 SLASHED = re.compile(r"(?<!\d)(\d{1,2})([/-])(\d{1,2})\2\d{4}(?!\d)")
 
 
@@ -50,11 +53,17 @@ class Order:
         """Can a text have such a day?"""
         return SLASHED.search(text) is not None
 
-    def fault(self, month_first: bool) -> WrongOrder | None:
-        """Why the days can't be read in the order that is wished."""
+    def fault(self, month_first: bool) -> WrongOrder | OneWrongOrder | None:
+        """Why the days can't be read in the order that is wished; nothing where so many of each column are written in it
+        that the others are slips, which are read by themselves."""
         wrong = self.days_first if month_first else self.months_first
         right = self.months_first if month_first else self.days_first
-        return WrongOrder(month_first, wrong[0], len(wrong), right[0] if right else None) if wrong else None
+        slips, others = (collections.Counter(one.field for one in places) for places in (wrong, right))
+        if all(others[field] >= max(LEAST_RIGHT, MANY_RIGHT * (count - 1)) for field, count in slips.items()):
+            return None
+        if len(wrong) == 1 < len(right):
+            return OneWrongOrder(month_first, wrong[0], len(right), right[0])
+        return WrongOrder(month_first, wrong[0], len(wrong), right[0] if right else None)
 
     def note(self, month_first: bool) -> NoOrderShown | None:
         """What is told where no day shows the order."""
@@ -174,9 +183,9 @@ class DayCells:
             span = within or read_span(said, self.month_first, legible=not is_exit)
             span = span.before() if is_exit and BEFORE.search(text) else span
         except Unreadable as error:
-            # days in the wrong order keep the whole sheet from being taken, and are told once
+            # many days in the wrong order keep the whole sheet from being taken, and are told once
             if error.fault is DayFault.WRONG_ORDER:
-                return DayCell()
+                return self.in_other_order(field, text, said)
             told = (word_fault(text), text) if has_left else (error.fault, text if error.text == said else error.text)
             # a year that a book can't have is read, and told by itself
             is_unread = error.fault is not DayFault.YEAR
@@ -184,6 +193,17 @@ class DayCells:
             return DayCell(open_days, fault=DayLeftOut(field, *told, is_exit), is_unread=is_unread)
         is_mistyped = not is_exit and len(re.findall(r"\d", span.text)) > 4
         return self.possible(field, text, span)._replace(reading=DayReading.YEAR_ALONE if is_mistyped else None)
+
+    def in_other_order(self, field: Field, text: str, said: str) -> DayCell:
+        """A day with the month first among others that have the day first, or the other way about: of a birth it is
+        inferred."""
+        try:
+            span = span_within(said, not self.month_first) or read_span(said, not self.month_first, legible=False)
+        except Unreadable:
+            return DayCell()
+        if field is Field.BIRTH and span.is_day:
+            span = span._replace(text=text, precision=Precision.MONTH)
+        return self.possible(field, text, span)._replace(reading=DayReading.OTHER_ORDER)
 
     def possible(self, field: Field, text: str, span: Span) -> DayCell:
         """A text with these days, which aren't taken where they are after today."""

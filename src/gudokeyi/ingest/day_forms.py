@@ -17,6 +17,7 @@ from gudokeyi.ingest.days import (
 from gudokeyi.ingest.findings.columns import SheetFinding
 from gudokeyi.ingest.findings.days import DayReading, DaysReadSo
 from gudokeyi.ingest.open_births import open_days
+from gudokeyi.ingest.periods_in_texts import PART_OF_MONTH, period_in
 from gudokeyi.ingest.words import LETTER
 
 
@@ -125,6 +126,10 @@ UNSURE = re.compile(
 )
 # two days, or a week, of which the text has one
 BETWEEN = re.compile(r"\b(?:zw|zwischen|between|entre|nuit|night|Nacht|week|Woche|semaine|w/c)\b", re.IGNORECASE)
+# to whom an animal went is no end of a time
+GONE_TO = re.compile(
+    r"\b(?:sold|sale|transferred|given|went|gone|moved|rehomed|exported|passed)\b[^?]*?\bto(?= +[^\W\d])", re.IGNORECASE
+)
 # a year of four digits
 YEAR = re.compile(r"(?<!\d)(?:19|20)\d{2}(?!\d)")
 
@@ -149,6 +154,9 @@ class DayForms:
         sure is that of no exit: the word for that tells it."""
         if is_span(text) or MARKED.match(text):
             return None
+        if PART_OF_MONTH.search(text):
+            found = self.read(PART_OF_MONTH.sub(r"\1 ", text), is_exit)
+            return (found[0]._replace(text=text if found[0].text else ""), found[1]) if found else None
         if winter := self.winter(text):
             return winter, DayReading.ONE_OF
         if either := self.of_either_year(text):
@@ -312,9 +320,11 @@ class DayForms:
         """The only day, week, month or season within a text; none where the text says that it isn't that one."""
         if season := week_of(text) or season_of(text):
             return season, DayReading.WITHIN
+        if period := period_in(text, self.year_near):
+            return period, DayReading.ONE_OF if period.precision is Precision.DAYS else DayReading.WITHIN
         if short_season := self.short_season(text):
             return short_season, DayReading.TWO_DIGITS
-        if NOT_THAT_YEAR.search(text):
+        if NOT_THAT_YEAR.search(GONE_TO.sub(" ", text)):
             return None
         two = TWO.search(text)
         if two and not YEAR.search(text) and not re.search(r"[\w.,/-]", text[max(two.start() - 1, 0) : two.start()]):

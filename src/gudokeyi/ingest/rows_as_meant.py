@@ -13,13 +13,16 @@ from typing import Container, NamedTuple
 
 from gudokeyi.domain.findings import Report
 from gudokeyi.domain.kinds import Field
+from gudokeyi.ingest.births_beside import births_said
+from gudokeyi.ingest.day_forms import TWO
 from gudokeyi.ingest.days import places_within
+from gudokeyi.ingest.exits_beside import Exits
 from gudokeyi.ingest.findings.cells import UnseenInId
 from gudokeyi.ingest.findings.rows import CellsRepeated, MarksAreNames, NoteRow, NothingRepeated
 from gudokeyi.ingest.findings.sheets import UnseenDropped
 from gudokeyi.ingest.marked_ids import without_signs_of_exits
 from gudokeyi.ingest.sheets import Sheet, SheetRow, cell_of, with_cell
-from gudokeyi.ingest.statuses import SOLD, TAKER, Exits, exits_said, taker_of_owner
+from gudokeyi.ingest.statuses import SOLD, TAKER, exits_said, taker_of_owner
 from gudokeyi.ingest.texts import nearly, plain, shape, shapes_of
 from gudokeyi.ingest.unknown_parents import UnknownParents, names_no_owner
 from gudokeyi.ingest.words import KNOWN_EXITS, KNOWN_SEXES, KNOWN_SUMS, is_in_doubt, lives_besides, sex_word
@@ -241,6 +244,10 @@ def as_meant(
         report.add(line, "", NoteRow(text))
     rows = [row for row in sheet.rows if row.line not in notes] if notes else sheet.rows
     rows = Marks(sheet, columns, called, unknown.more).repeat(rows, report)
+    births = births_said(rows, sheet, columns, unknown, report)
+    if births:
+        birth = columns[Field.BIRTH]
+        rows = [with_cell(row, birth, births[at]) if at in births else row for at, row in enumerate(rows)]
     exits = exits_said(rows, sheet, columns, unknown, report) if Field.EXIT in columns else Exits()
     if exits.texts:
         exit, texts = columns[Field.EXIT], exits.texts
@@ -275,7 +282,7 @@ class Takers:
     def named(self, text: str) -> tuple[str, ...]:
         """The owners who are named behind `verkauft an`, or in a text that begins with whom."""
         found = TAKER.search(text) or TO_WHOM.match(text)
-        return self.called(found["taker"]) if found and not lives_besides(text) else ()
+        return self.called(without_days(found["taker"])) if found and not lives_besides(text) else ()
 
     def behind_sale(self, text: str) -> tuple[str, ...]:
         """The owners whom a text may mean that has nothing but a name and a day beside a word for a sale, as
@@ -334,7 +341,7 @@ def name_behind_sale(text: str) -> str:
 
 
 def without_days(name: str) -> str:
-    for day in places_within(name):
+    for day in [*places_within(name), *TWO.finditer(name)]:
         name = name.replace(day[0], " ")
     return name
 

@@ -4,13 +4,13 @@ from __future__ import annotations
 import functools
 import re
 from collections.abc import Mapping, Sequence
-from dataclasses import dataclass, field
 from typing import Container, NamedTuple
 
 from gudokeyi.domain.findings import Report
 from gudokeyi.domain.kinds import Field
 from gudokeyi.ingest.day_cells import is_other_state
 from gudokeyi.ingest.days import is_span, places_within
+from gudokeyi.ingest.exits_beside import Exits, add_buyers, add_exit_days
 from gudokeyi.ingest.findings.exits import NoExits, Remark
 from gudokeyi.ingest.findings.rows import StatusDisagrees, StatusRead
 from gudokeyi.ingest.sheets import Sheet, SheetRow, cell_of
@@ -90,18 +90,6 @@ class Said(NamedTuple):
     has_taker: bool
 
 
-@dataclass
-class Exits:
-    """What is found in a status beside the exits: the texts for exits, by the places of rows, and the lines of those
-    that are a word of the status alone; the reasons beside days of exits, by their lines; and what is to be kept as
-    notes."""
-
-    texts: dict[int, str] = field(default_factory=dict)
-    of_status: dict[int, str] = field(default_factory=dict)
-    reasons: dict[int, str] = field(default_factory=dict)
-    remarks: list[Remark] = field(default_factory=list)
-
-
 class Statuses:
     """Takes what the status says where the column of exits says nothing, keeps it as a reason beside a day, and tells
     where they disagree."""
@@ -151,12 +139,22 @@ class Statuses:
             self.found.texts[place] = f"{said.text} {exit}"
         if says_exit and said.is_reason:
             self.found.reasons[row.line] = said.text
+        elif says_exit and said.is_still_there:
+            self.look_at_no_exit(place, row, exit, said.text)
         elif said.is_still_there or said.is_other_state:
             self.found.remarks.append(Remark(row.line, self.titles[1], said.text))
         elif not says_exit and not said.tells_none and (said.tells or not exit or self.is_unknown(exit)):
             self.take(place, row, exit, said.text)
         if says_exit and said.lives:
             self.tell(row, exit, True)
+
+    def look_at_no_exit(self, place: int, row: SheetRow, exit: str, said: str) -> None:
+        """A day of exits has a word beside it that tells of something else, as `ausgeliehen`: where that is why the
+        animal left it is none; a state may be that of the time before."""
+        if self.is_of_states or not is_span(exit):
+            self.tell(row, exit, True)
+        else:
+            self.found.texts[place] = f"{said} {exit}"
 
     def take(self, place: int, row: SheetRow, exit: str, said: str) -> None:
         """The word of the status stands for an exit of which its column says nothing, or that there is none."""
@@ -201,6 +199,8 @@ def exits_said(
     else:
         exits = Exits(exits_of_living(rows, sheet.titles[at], at))
     add_days_of_sales(exits, rows, sheet.titles, columns)
+    add_exit_days(exits, rows, sheet, columns, unknown, report)
+    add_buyers(exits, rows, sheet, columns, unknown, report)
     return exits
 
 
@@ -230,5 +230,8 @@ def add_reasons(exits: Exits, rows: list[SheetRow], of_reasons: int, at: int, un
     says = functools.cache(lambda text: not lives(text) and (text not in unknown or DEAD.search(text) is not None))
     for place, row in enumerate(rows):
         reason = cell_of(row, of_reasons)
-        if reason and says(reason) and says(exits.texts.get(place) or cell_of(row, at)):
+        exit = exits.texts.get(place) or cell_of(row, at)
+        if reason and says(reason) and says(exit) and is_still_there(reason) and is_span(exit):
+            exits.texts[place] = f"{reason} {exit}"
+        elif reason and says(reason) and says(exit):
             exits.reasons[row.line] = reason

@@ -118,6 +118,21 @@ def usual_titles(field: Field) -> list[str]:
     return [one for one in dict.fromkeys(both + alone + pairs) if one not in KNOWN_OTHERS]
 
 
+BETWEEN_WORDS = re.compile(r"[^\w♂♀]+")
+# words for parents that titles have with others
+PARENT_WORDS = {
+    Field.SIRE: {plain(word) for word in listed("sire, sires, father, fathers, Vater, Vaters, Vatertier, père")},
+    Field.DAM: {plain(word) for word in listed("dam, dams, mother, mothers, Mutter, Muttertier, mère")},
+}
+
+
+def names_parent(title: str, parent: Field) -> bool:
+    """Does a title name this parent among other words, and no other one, as `N° de travail du père`?"""
+    words = [plain(word) for word in BETWEEN_WORDS.split(title)]
+    named = [word for word in words if any(word in known for known in PARENT_WORDS.values())]
+    return len(named) == 1 < len(words) and named[0] in PARENT_WORDS[parent]
+
+
 KNOWN_TITLES: dict[str, list[str]] = {field: usual_titles(field) for field in TITLES}
 KNOWN_PAIRS = {field: {plain(title) for title in listed(titles)} for field, titles in PAIRS.items()}
 KNOWN_DOUBTFUL = {plain(title) for title in listed(DOUBTFUL_EXITS)}
@@ -188,7 +203,6 @@ def read_sexes(words: list[str]) -> dict[str, str]:
 
 # Titles of several words for one thing, as `Dog/Bitch` and `gestorben/verkauft am`.
 
-BETWEEN_WORDS = re.compile(r"[^\w♂♀]+")
 # what stands beside words of exits and tells nothing else
 BESIDE_EXITS = {plain(word) for word in "am, im, den, und, oder, on, or, and, date, of, le, la, et, ou, Datum, du, de".split(", ")}
 
@@ -212,13 +226,16 @@ def names_both_sexes(title: str) -> bool:
     return bool(words_of_sexes(title))
 
 
+# titles of one word that name a death or a sale, and a day
+DEATHS = {plain(title) for title in ("Todesdatum", "Todestag", "Sterbedatum", "Sterbetag", "Schlachtdatum")}
+SALE_DAYS = {plain(title) for title in ("Verkaufsdatum", "Verkaufstag", "Abgabedatum")}
+
+
 def names_exits_alone(title: str) -> bool:
+    if plain(title) in DEATHS | SALE_DAYS:
+        return True
     words = {plain(word) for word in BETWEEN_WORDS.split(title)} - BESIDE_EXITS - {""}
     return bool(words) and words <= KNOWN_EXITS
-
-
-# titles of one word that name a death and a day
-DEATHS = {plain(title) for title in ("Todesdatum", "Todestag", "Sterbedatum", "Sterbetag", "Schlachtdatum")}
 
 
 def names_other_exits(title: str) -> bool:

@@ -96,13 +96,21 @@ def by_partner(offspring: Sequence[AnimalRow], role: Role) -> dict[str, list[Ani
 # Who bred an animal: whom the society's own column names, or else who had its dam when it was born.
 
 # how such a column is called
-OF_BREEDERS = {"breeder", "bred by", "züchter", "züchterin", "gezüchtet von", "éleveur", "naisseur"}
+OF_BREEDERS = {
+    "breeder", "bred by", "breeder name", "name of breeder", "breeder's name", "züchter", "züchterin", "gezüchtet von",
+    "züchtername", "name des züchters", "éleveur", "eleveur", "éleveuse", "naisseur", "naisseuse", "nom de l'éleveur",
+    "nom du naisseur",
+}
+
+
+def is_of_breeders(title: str) -> bool:
+    return title.strip().casefold() in OF_BREEDERS
 
 
 def column_of_breeders(book: Book) -> OwnColumn | None:
     """The column by which the society says who bred an animal, if it has one."""
     columns = columns_now(book.connection)
-    return next((one for one in columns if one.is_kept and one.title.strip().casefold() in OF_BREEDERS), None)
+    return next((one for one in columns if one.is_kept and is_of_breeders(one.title)), None)
 
 
 def breeders_of(book: Book, numbers: Iterable[str]) -> dict[str, str]:

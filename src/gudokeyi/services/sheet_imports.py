@@ -12,9 +12,12 @@ from gudokeyi.domain.changes import Option, Source
 from gudokeyi.domain.findings import Call, Entry, ImportRefused, Report, StrictlyRefused, What
 from gudokeyi.domain.kinds import Field, Remembered
 from gudokeyi.ingest.animals import LINE_OF
+from gudokeyi.ingest.births_beside import year_column
+from gudokeyi.ingest.exits_beside import columns_beside
 from gudokeyi.ingest.files import GivenFile
 from gudokeyi.ingest.findings.columns import ColumnUntitled
 from gudokeyi.ingest.parents_beside import tell_parents_named_otherwise
+from gudokeyi.ingest.sheets import cell_of
 from gudokeyi.ingest.statuses import reasons_beside
 from gudokeyi.process import keep
 from gudokeyi.reconcile.all_animals import complete
@@ -22,6 +25,7 @@ from gudokeyi.reconcile.cells_as_notes import keep_as_notes
 from gudokeyi.reconcile.commands import Filing
 from gudokeyi.reconcile.exits import leave_out_early_exits, tell_most_changed, tell_withdrawn_exits
 from gudokeyi.reconcile.findings.obstacles import StrictlyNothing
+from gudokeyi.reconcile.findings.own_columns import BreedersNotKept
 from gudokeyi.reconcile.ids import call_as_now, give_numbers, letters_unsaid, numbers_begin
 from gudokeyi.reconcile.import_options import (
     ImportOptions, again, limits_of, remember, remember_columns, remember_worksheet, rename_owners, with_settings,
@@ -43,6 +47,7 @@ from gudokeyi.reconcile.pedigree_links import refuse_lost_links
 from gudokeyi.reconcile.plausibility import PlausibilityChecks, tell_swapped_columns
 from gudokeyi.reconcile.sexes import tell_sexes_of_others
 from gudokeyi.reconcile.values_from_book import keep_unsaid
+from gudokeyi.services.animals import is_of_breeders
 from gudokeyi.services.book_program import BookProgram
 from gudokeyi.services.output_files import check_place
 from gudokeyi.services.prepared_changes import Prepared
@@ -233,6 +238,7 @@ def import_sheet_into(
     tell_parents_named_otherwise(read.columns, next_book.animals, next_book.report)
     own = find_own_columns(book, read.columns, import_options.own)
     used = again(words, import_options) + [Option("--worksheet", read.sheet.as_before)] * bool(read.sheet.as_before)
+    tell_breeders(read, own, next_book.report)
     lacks_own = tell_lost_own_columns(book, own, read.columns, next_book.report)
     understood = understood_of(path, read, used, {} if lacks_own else titles_before(book), own)
     remember_columns(book, read.columns.titles_found())
@@ -246,12 +252,26 @@ def import_sheet_into(
     return finish(next_book, program, import_options, source, about)
 
 
+def tell_breeders(read: ReadSheet, own: OwnSheetColumns, report: Report) -> None:
+    """A column of breeders isn't kept, and nobody said that it shan't be."""
+    if any(is_of_breeders(one.title) for one in own.after):
+        return
+    titles = enumerate(read.sheet.titles)
+    for at in [at for at, title in titles if is_of_breeders(title) and read.columns.is_free(at)][:1]:
+        found = [(row.line, cell_of(row, at)) for row in read.sheet.rows if cell_of(row, at)]
+        if found:
+            line, text = found[0]
+            report.add(0, "", BreedersNotKept(read.sheet.titles[at], len(found), line, text))
+
+
 def understood_of(
     path: pathlib.Path, read: ReadSheet, remembered: list[Option], before: dict[str, str], own: OwnSheetColumns
 ) -> Understood:
     sheet, columns = read.sheet, read.columns
     of_reasons = reasons_beside(sheet.titles, read.columns.found)
     kept = tuple(sheet.titles[at] for at in sorted({*own.places.values(), *of_reasons}))
+    places_beside = [*columns_beside(sheet, columns.found), *year_column(sheet, columns.found)]
+    beside = [sheet.titles[at] for at in places_beside]
     titles = tuple(ColumnRead(Field(name), title) for name, title in columns.titles_found())
     return Understood(
         str(path),
@@ -259,7 +279,7 @@ def understood_of(
         sheet.line,
         sheet.how,
         titles,
-        tuple(title for title in columns.titles_not_read() if title not in kept),
+        tuple(title for title in columns.titles_not_read() if title not in {*kept, *beside}),
         tuple(remembered),
         dict(columns.titles_found()) == before,
         kept,

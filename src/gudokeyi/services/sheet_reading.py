@@ -19,7 +19,9 @@ from gudokeyi.domain.findings import Entry, ImportRefused, Report
 from gudokeyi.domain.kinds import Field, Remembered
 from gudokeyi.domain.messages import MOST_NAMED
 from gudokeyi.ingest.animals import UNREAD_OF, SheetAnimal
+from gudokeyi.ingest.births_beside import year_column
 from gudokeyi.ingest.columns import Columns, find_columns
+from gudokeyi.ingest.exits_beside import columns_beside
 from gudokeyi.ingest.files import GivenFile
 from gudokeyi.ingest.rows_as_meant import Notes, as_meant, marks_in, member_numbered
 from gudokeyi.ingest.sheet_animals import Rows
@@ -103,9 +105,10 @@ class Reading:
         return *values, [*self.no_animals], self.sure, self.born, self.owners, self.called, self.today
 
     def meant_by(self) -> tuple[object, ...]:
-        """By what the rows are changed into what they mean: by words for unknown parents beside a status alone, but for
-        those that are marks for a cell above."""
-        words = (self.unknown.more, self.unknown.known) if Field.STATUS in self.columns else ()
+        """By what the rows are changed into what they mean: by words for unknown parents where columns are read beside
+        those of the births and exits alone, but for those that are marks for a cell above."""
+        beside = columns_beside(self.sheet, self.columns) or year_column(self.sheet, self.columns)
+        words = (self.unknown.more, self.unknown.known) if beside or Field.STATUS in self.columns else ()
         return dict(self.columns), self.sure, words, marks_in(self.unknown.more), self.called
 
     def meant(self, report: Report, notes_of: Callable[[Sheet, Mapping[str, int]], Notes] = Notes) -> Sheet:

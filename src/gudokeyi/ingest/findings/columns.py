@@ -106,6 +106,22 @@ class IdsFromOther(SheetFinding):
 
 
 @dataclass(frozen=True, slots=True)
+class ParentsFromOther(SheetFinding):
+    """The ids of a parent are found in another column than that with the usual title."""
+
+    field: Field
+    title: str
+    usual: str
+
+    severity = Severity.PARENTS
+    code = "parents from other"
+    message = Text("{field} is read from '{title}', which has more of the ids, and not from '{usual}'")
+
+    def suggestions(self) -> tuple[Suggestion, ...]:
+        return (Suggestion(f"if '{self.usual}' is the one", (column(self.field, self.usual),)),)
+
+
+@dataclass(frozen=True, slots=True)
 class NamedColumnLacks(SheetFinding):
     """A title that an option names isn't there; `meant` is the one that is nearest to it, if one is near."""
 

@@ -6,7 +6,7 @@ from dataclasses import dataclass
 
 from gudokeyi.domain.findings import Severity
 from gudokeyi.domain.messages import Worded
-from gudokeyi.domain.wording import Counted, OptionalPart, Text
+from gudokeyi.domain.wording import Counted, OptionalPart, Quoted, Text
 from gudokeyi.ingest.findings.columns import SheetFinding
 
 
@@ -21,6 +21,7 @@ class DayReading(Worded):
     PERIOD_WITHIN = "period within"
     # a day that may be mistyped, as `12..3.2020`
     YEAR_ALONE = "year alone"
+    OTHER_ORDER = "other order"
 
     def words(self) -> str:
         return READINGS[self]
@@ -34,6 +35,7 @@ READINGS = {
     DayReading.UNSURE: "a day that isn't sure",
     DayReading.PERIOD_WITHIN: "a text with a month, a week or a season",
     DayReading.YEAR_ALONE: "a text of which the year alone can be read",
+    DayReading.OTHER_ORDER: "day and month in the other order than elsewhere",
 }
 
 
@@ -87,4 +89,61 @@ class DaysExchanged(SheetFinding):
         "a spreadsheet seems to have exchanged day and month in '{title}': none of its {count} days is later in a "
         "month than the 12th, and each of the {texts} that it kept as text is, such as {text} in line {text_line}. "
         "{day} in line {line} may be {after}: write these days anew, where the spreadsheet has the day first"
+    )
+
+
+@dataclass(frozen=True, slots=True)
+class BirthsJoined(SheetFinding):
+    """Days of births that stand in three columns: how many, and the first one."""
+
+    titles: tuple[str, ...]
+    count: int
+    line: int
+    text: str
+
+    code = "births joined"
+    message = Counted(
+        "the birth day of {count} row is read from the columns {of_parts}: '{text}' in line {line}",
+        "the birth days of {count} rows are read from the columns {of_parts}, as '{text}' in line {line}",
+        "count",
+    )
+
+    def values(self) -> Mapping[str, object]:
+        return {"of_parts": Quoted(self.titles)}
+
+
+@dataclass(frozen=True, slots=True)
+class BirthYearsRead(SheetFinding):
+    """A column of years beside that of the births: in so many rows it alone has one."""
+
+    title: str
+    of_births: str
+    count: int
+
+    code = "birth years read"
+    message = Counted(
+        "the column '{title}' has the year of a birth in {count} row where '{of_births}' has none: it is taken there",
+        "the column '{title}' has the years of births in {count} rows where '{of_births}' has none: they are taken there",
+        "count",
+    )
+
+
+@dataclass(frozen=True, slots=True)
+class BirthYearsDisagree(SheetFinding):
+    """Cells of a column of years that have another year than those of births: how many, and the first one."""
+
+    title: str
+    of_births: str
+    count: int
+    line: int
+    birth: str
+    year: str
+
+    severity = Severity.FACTS
+    code = "birth years disagree"
+    message = Counted(
+        "'{of_births}' says '{birth}', and '{title}' says '{year}', in line {line}: the first is taken",
+        "'{of_births}' says another year than '{title}' in {count} rows, the first is line {line}, with '{birth}' and "
+        "'{year}': '{of_births}' is taken",
+        "count",
     )

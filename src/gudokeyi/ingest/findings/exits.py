@@ -95,6 +95,40 @@ class ExitInDoubt(Finding):
     )
 
 
+@dataclass(frozen=True, slots=True)
+class ExitDaysRead(SheetFinding):
+    """A column of days such as `geschlachtet am`, which is read beside that of the exits: in so many rows it alone has
+    one."""
+
+    title: str
+    of_exits: str
+    count: int
+
+    severity = Severity.FACTS
+    code = "exit days read"
+    message = Counted(
+        "the column '{title}' has the day of an exit in {count} row where '{of_exits}' has none: it is taken there",
+        "the column '{title}' has the days of exits in {count} rows where '{of_exits}' has none: they are taken there",
+        "count",
+    )
+
+
+@dataclass(frozen=True, slots=True)
+class BuyersRead(SheetFinding):
+    """A column that says to whom animals were sold, in so many rows whose exits don't say so."""
+
+    title: str
+    count: int
+
+    severity = Severity.FACTS
+    code = "buyers read"
+    message = Counted(
+        "the column '{title}' says to whom an animal was sold, in {count} row: that is read as a part of its exit",
+        "the column '{title}' says to whom animals were sold, in {count} rows: that is read as a part of their exits",
+        "count",
+    )
+
+
 class Remark(NamedTuple):
     """A cell that tells of something which no field has: it is kept as a note."""
 

@@ -65,6 +65,26 @@ class WrongOrder(SheetFinding):
 
 
 @dataclass(frozen=True, slots=True)
+class OneWrongOrder(SheetFinding):
+    """One day has the month first, or, where that is wished, the day; `others` are in the order that is wished."""
+
+    month_first: bool
+    wrong: Place
+    others: int
+    right: Place
+
+    code = "one wrong order"
+    message = Text(
+        "{wrong} has the {is_first} first, and {others} others have the {is_second} first, as {right}: write this day as "
+        "2001-03-01 or 01.03.2001, or all days where the others are wrong"
+    )
+
+    def values(self) -> Mapping[str, object]:
+        is_first, is_second = ("day", "month") if self.month_first else ("month", "day")
+        return {"is_first": is_first, "is_second": is_second}
+
+
+@dataclass(frozen=True, slots=True)
 class NoOrderShown(SheetFinding):
     """Days that could have the month first, and none of the sheet shows whether they do."""
 

@@ -6,10 +6,13 @@ from collections.abc import Hashable, Mapping
 from dataclasses import dataclass
 from typing import ClassVar
 
-from gudokeyi.domain.findings import Finding, LeftOut, Part, PlausibilityWarning, Suggestion, What, kept_as
+from gudokeyi.domain.findings import (
+    Finding, LeftOut, Part, PlausibilityWarning, Severity, Suggestion, What, kept_as,
+)  # fmt: skip
 from gudokeyi.domain.messages import Worded
 from gudokeyi.domain.own_columns import OwnKind
 from gudokeyi.domain.wording import Counted, Text
+from gudokeyi.ingest.findings.columns import SheetFinding
 
 
 class OwnCells(Finding):
@@ -208,3 +211,26 @@ class OwnDaysAmongTexts(PlausibilityWarning):
         "days of texts such as 5/4: if these are none, give the column the format text, and write them anew",
         "count",
     )
+
+
+@dataclass(frozen=True, slots=True)
+class BreedersNotKept(SheetFinding):
+    """A column of breeders that isn't kept, with so many cells: the book finds others in place of them."""
+
+    title: str
+    count: int
+    line: int
+    text: str
+
+    severity = Severity.FACTS
+    code = "breeders not kept"
+    message = Counted(
+        "the column '{title}' isn't kept, with '{text}' in line {line}: as the breeder of an animal the owner of its dam "
+        "at its birth is printed",
+        "the column '{title}' isn't kept, with {count} cells, the first '{text}' in line {line}: as the breeder of an "
+        "animal the owner of its dam at its birth is printed",
+        "count",
+    )
+
+    def suggestions(self) -> tuple[Suggestion, ...]:
+        return (Suggestion("to have the breeders of the list", (kept_as(self.title, OwnKind.TEXT),)),)

@@ -1,0 +1,206 @@
+"""Columns beside that of the exits which tell of these too: days such as `geschlachtet am`, and to whom an animal was
+sold."""
+from __future__ import annotations
+
+from collections.abc import Mapping, Sequence
+from dataclasses import dataclass, field
+from typing import Container
+
+from gudokeyi.domain.findings import Report
+from gudokeyi.domain.kinds import Field
+from gudokeyi.ingest.day_forms import SERIAL, TWO
+from gudokeyi.ingest.days import Unreadable, is_span, places_within, read_span
+from gudokeyi.ingest.findings.exits import BuyersRead, ExitDaysRead, Remark
+from gudokeyi.ingest.findings.rows import StatusDisagrees
+from gudokeyi.ingest.sheets import Sheet, SheetRow, cell_of
+from gudokeyi.ingest.texts import listed, plain
+from gudokeyi.ingest.titles import (
+    BETWEEN_WORDS, DEATHS, KNOWN_DOUBTFUL, KNOWN_TITLES, SALE_DAYS, names_exits_alone, names_other_exits,
+)  # fmt: skip
+from gudokeyi.ingest.words import KNOWN_EXITS, KNOWN_SALES, LETTER, exit_word, lives, says_lives
+
+# titles of columns that say to whom animals were sold, by how the cell of an exit says so
+BUYERS = {
+    "verkauft an": "verkauft an, abgegeben an, Käufer, Käuferin, Abnehmer, Abnehmerin, neuer Besitzer, neuer Eigentümer, "
+    "neuer Halter",
+    "sold to": "sold to, buyer, purchaser, bought by, purchased by, new owner",
+    "vendu à": "vendu à, vendue à, vendu(e) à, acheteur, acheteuse, acquéreur, nouveau propriétaire",
+}
+KNOWN_BUYERS = {plain(title): said for said, titles in BUYERS.items() for title in listed(titles)}
+
+
+@dataclass
+class Exits:
+    """What is found beside the exits: the texts for exits, by the places of rows, and the lines of those that are a
+    word of the status alone; the reasons beside days of exits, by their lines; the titles of the columns whose days are
+    taken, by the places of rows; and what is to be kept as notes."""
+
+    texts: dict[int, str] = field(default_factory=dict)
+    of_status: dict[int, str] = field(default_factory=dict)
+    reasons: dict[int, str] = field(default_factory=dict)
+    titles: dict[int, str] = field(default_factory=dict)
+    remarks: list[Remark] = field(default_factory=list)
+
+
+def exit_day_columns(sheet: Sheet, columns: Mapping[str, int]) -> list[int]:
+    """The columns that aren't read, name exits and have days."""
+    if Field.EXIT not in columns:
+        return []
+    usual = {*KNOWN_TITLES[Field.EXIT]} - KNOWN_DOUBTFUL
+    free = [at for at, title in enumerate(sheet.titles) if title and at not in columns.values()]
+    named = [at for at in free if names_exits_alone(sheet.titles[at]) or plain(sheet.titles[at]) in usual]
+    return [at for at in named if has_days(sheet.column(at))]
+
+
+def buyer_columns(sheet: Sheet, columns: Mapping[str, int]) -> list[int]:
+    """The column that isn't read, and says to whom animals were sold."""
+    if Field.EXIT not in columns:
+        return []
+    titles = enumerate(sheet.titles)
+    return [at for at, title in titles if at not in columns.values() and plain(title) in KNOWN_BUYERS][:1]
+
+
+def columns_beside(sheet: Sheet, columns: Mapping[str, int]) -> list[int]:
+    """All of these."""
+    return [*exit_day_columns(sheet, columns), *buyer_columns(sheet, columns)]
+
+
+def has_days(texts: list[str]) -> bool:
+    said = [text for text in texts if text]
+    return bool(said) and 2 * sum(map(says_day, said)) > len(said)
+
+
+def says_day(text: str) -> bool:
+    return is_span(text) or any(form.fullmatch(text) for form in (TWO, SERIAL)) or bool(places_within(text))
+
+
+def word_of(title: str) -> str:
+    """The words of a title that say why an animal left."""
+    if plain(title) in SALE_DAYS:
+        return "verkauft"
+    words = [word for word in BETWEEN_WORDS.split(title) if plain(word) in KNOWN_EXITS]
+    return title if plain(title) in DEATHS else " ".join(words)
+
+
+class ExitDays:
+    """Takes the days of such columns where that of the exits has none, and tells where they disagree."""
+
+    def __init__(self, sheet: Sheet, columns: Mapping[str, int], unknown: Container[str], report: Report) -> None:
+        self.sheet, self.columns, self.unknown, self.report = sheet, columns, unknown, report
+        self.exit = columns[Field.EXIT]
+
+    def add(self, exits: Exits, rows: Sequence[SheetRow], at: int) -> None:
+        title, word, count = self.sheet.titles[at], word_of(self.sheet.titles[at]), 0
+        for place, row in enumerate(rows):
+            day = cell_of(row, at)
+            if not day or day in self.unknown or not says_day(day):
+                continue
+            text = self.taken(exits, place, row, at)
+            if text:
+                exits.texts[place], exits.titles[place] = text, title
+                count += 1
+            if text == day and word:
+                exits.reasons.setdefault(row.line, word)
+        if count:
+            self.report.add(0, "", ExitDaysRead(title, self.sheet.titles[self.exit], count))
+
+    def taken(self, exits: Exits, place: int, row: SheetRow, at: int) -> str:
+        """The text for the exit that has the day of the other column, empty where another is taken."""
+        day, exit = cell_of(row, at), exits.texts.get(place) or cell_of(row, self.exit)
+        if not exit or exit in self.unknown:
+            self.look_at_status(row, at)
+            return day
+        if lives(exit):
+            self.tell(row, self.title(exits, place), exit, at, False)
+            return day
+        title, has_digits = self.sheet.titles[at], any(map(str.isdigit, exit))
+        if not has_digits and names_other_exits(exit) == names_other_exits(title):
+            return f"{exit} {day}"
+        if not has_digits or not is_same_day(exit, day):
+            self.tell(row, self.title(exits, place), exit, at, has_digits)
+        return ""
+
+    def title(self, exits: Exits, place: int) -> str:
+        return exits.titles.get(place) or self.sheet.titles[self.exit]
+
+    def look_at_status(self, row: SheetRow, at: int) -> None:
+        """A status may say that the animal lives."""
+        status_at = self.columns.get(Field.STATUS)
+        if status_at is not None and says_lives(cell_of(row, status_at)):
+            self.tell(row, self.sheet.titles[at], cell_of(row, at), status_at, True)
+
+    def tell(self, row: SheetRow, exit_title: str, exit: str, at: int, has_day: bool) -> None:
+        found = StatusDisagrees(exit_title, exit, self.sheet.titles[at], cell_of(row, at), has_day)
+        self.report.add(row.line, cell_of(row, self.columns[Field.ID]), found)
+
+
+def is_same_day(exit: str, day: str) -> bool:
+    """May it be one day? Where a text has more than a day, as `verkauft 2020`, nothing else is said."""
+    try:
+        return read_span(exit, legible=False).meets(read_span(day, legible=False))
+    except Unreadable:
+        return True
+
+
+def add_exit_days(
+    exits: Exits, rows: Sequence[SheetRow], sheet: Sheet, columns: Mapping[str, int], unknown: Container[str],
+    report: Report,
+) -> None:  # fmt: skip
+    for at in exit_day_columns(sheet, columns):
+        ExitDays(sheet, columns, unknown, report).add(exits, rows, at)
+
+
+class Buyers:
+    """Says in the text for an exit to whom the animal was sold, as another column has it."""
+
+    def __init__(self, sheet: Sheet, columns: Mapping[str, int], unknown: Container[str], at: int) -> None:
+        self.titles, self.exit, self.unknown, self.at = sheet.titles, columns[Field.EXIT], unknown, at
+        self.said = KNOWN_BUYERS[plain(sheet.titles[at])]
+
+    def add(self, exits: Exits, rows: Sequence[SheetRow], report: Report) -> None:
+        count = 0
+        for place, row in enumerate(rows):
+            buyer = cell_of(row, self.at)
+            if not LETTER.search(buyer) or buyer in self.unknown or lives(buyer):
+                continue
+            exit = exits.texts.get(place) or cell_of(row, self.exit)
+            exit = "" if exit in self.unknown else exit
+            reason = exits.reasons.get(row.line, "")
+            if self.may_be_sale(exit, reason):
+                exits.texts[place] = self.text(exit, buyer)
+                exits.reasons.pop(row.line, None)
+                count += 1
+        if count:
+            report.add(0, "", BuyersRead(self.titles[self.at], count))
+
+    def may_be_sale(self, exit: str, reason: str) -> bool:
+        """Is it no other exit, and says it not itself to whom?"""
+        if lives(exit) and exit:
+            return False
+        if reason:
+            return plain(reason) in KNOWN_SALES
+        if exit and names_other_exits(self.titles[self.exit]):
+            return False
+        word = exit_word(exit)
+        return not LETTER.search(exit) or is_span(exit) or plain(word) in KNOWN_SALES and not has_more(exit, word)
+
+    def text(self, exit: str, buyer: str) -> str:
+        word = exit_word(exit)
+        said = f"{word} {self.said.rpartition(' ')[2]}" if word else self.said
+        return f"{said} {buyer} {exit.replace(word, '', 1).strip()}".strip()
+
+
+def has_more(exit: str, word: str) -> bool:
+    """Has it more than a word and a day?"""
+    rest = exit.replace(word, " ", 1)
+    for day in places_within(rest):
+        rest = rest.replace(day[0], " ")
+    return LETTER.search(rest) is not None
+
+
+def add_buyers(
+    exits: Exits, rows: Sequence[SheetRow], sheet: Sheet, columns: Mapping[str, int], unknown: Container[str],
+    report: Report,
+) -> None:  # fmt: skip
+    for at in buyer_columns(sheet, columns):
+        Buyers(sheet, columns, unknown, at).add(exits, rows, report)

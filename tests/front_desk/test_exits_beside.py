@@ -1,0 +1,85 @@
+"""Columns beside that of the exits: other days of exits, such as `geschlachtet am`, and to whom an animal was sold."""
+from __future__ import annotations
+
+import pytest
+
+from front_desk.desk import Desk
+from front_desk.test_reasons_of_exits import reason
+from front_desk.test_sheets_as_they_are import owner_of
+
+BEGIN = "Ohrmarke;Name;Geschlecht;Geburt;Vater;Mutter;Besitzer;"
+PARENTS = "1;Anna;w;01.03.2015;;;Meier;{}\n2;Bert;m;02.03.2015;;;Huber;{}\n"
+CALF = "{};{};w;02.03.2018;2;1;Meier;{}\n"
+
+
+def rows(parents: tuple[str, str], *calves: str) -> str:
+    return PARENTS.format(*parents) + "".join(CALF.format(at, chr(64 + at), one) for at, one in enumerate(calves, 3))
+
+
+def test_days_of_several_columns(desk: Desk) -> None:
+    """The days of each are exits, with its word as why; where two have one, the first is taken, and it is told."""
+    sheet = BEGIN + "Gestorben am;Geschlachtet am;Verkauft am\n"
+    sheet += rows(("1.1.2020;;", ";3.3.2021;"), ";;4.4.2022", ";;4.5.22", "1.6.2023;;4.4.2022", "7.2022;;4.7.2022", ";;-")
+    done = desk.take(sheet)
+    done.shows(
+        "to look at: the column 'Geschlachtet am' has the day of an exit in 1 row where 'Gestorben am' has none: it is "
+        "taken there",
+        "to look at: the column 'Verkauft am' has the days of exits in 2 rows where 'Gestorben am' has none: they are "
+        "taken there",
+        "line 6: 5: to look at: 'Gestorben am' says '1.6.2023', and 'Verkauft am' says '4.4.2022': the animal counts as "
+        "gone, on the day of the first",
+    )
+    assert "line 7: 6: to look at" not in done.told and "not read" not in done.out
+    assert [reason(desk, id) for id in "1234567"] == [
+        ("2020-01-01", ""), ("2021-03-03", "Geschlachtet"), ("2022-04-04", "Verkauft"), ("2022-05-04", "Verkauft"),
+        ("2023-06-01", ""), ("2022-07-31", ""), ("", ""),
+    ]  # fmt: skip
+    assert " 0 changed" in desk.take(sheet).last
+
+
+@pytest.mark.parametrize("titles", ["Date of death;Date sold", "Date sold;Slaughtered", "Todesdatum;Verkaufsdatum"])
+def test_titles_of_such_columns(desk: Desk, titles: str) -> None:
+    desk.take(BEGIN + titles + "\n" + rows(("1.1.2020;", ";3.3.2021")))
+    assert (reason(desk, "1")[0], reason(desk, "2")[0]) == ("2020-01-01", "2021-03-03")
+
+
+def test_days_beside_words(desk: Desk) -> None:
+    """A word without a day gets that of the other column, but not of another exit; what says that the animal lives is
+    told."""
+    words = ";4.4.2022;verkauft", ";4.4.2022;gestorben", ";4.4.2022;lebt", "lebt;4.4.2022;"
+    done = desk.take(BEGIN + "Gestorben am;Verkauft am;Status\n" + rows(("1.1.2020;;tot", ";;lebt"), *words))
+    assert reason(desk, "3") == ("2022-04-04", "verkauft") and reason(desk, "4")[0] == ""
+    assert reason(desk, "5")[0] == reason(desk, "6")[0] == "2022-04-04"
+    done.tells(
+        "line 5: 4: to look at: 'Gestorben am' says 'gestorben', and 'Verkauft am' says '4.4.2022': the animal counts as "
+        "gone",
+        "line 6: 5: to look at: 'Verkauft am' says '4.4.2022', and 'Status' says 'lebt': the animal counts as gone, on "
+        "the day of the first",
+        "line 7: 6: to look at: 'Gestorben am' says 'lebt', and 'Verkauft am' says '4.4.2022': the animal counts as gone",
+    )
+
+
+@pytest.mark.parametrize("titles", ["Verkauft am;Käufer", "Date sold;Sold to", "Abgang;Verkauft an", "Vendu le;Acheteur"])
+def test_buyers(desk: Desk, titles: str) -> None:
+    """An owner of the society has the animal since that day; somebody else is kept beside the day."""
+    sold = "1.5.2020;Huber", "3. Mai 2020;Huber", "5.5.20;Huber", "6.5.2020;Schulze", ";Huber", "7.5.2020;", ";unbekannt"
+    sheet = BEGIN + titles + "\n" + rows((";", ";"), *sold)
+    done = desk.take(sheet)
+    assert [owner_of(desk, id) for id in "34567"] == ["Huber", "Huber", "Huber", "Meier", "Huber"]
+    assert [reason(desk, id)[0] for id in "3456789"] == ["", "", "", "2020-05-06", "", "2020-05-07", ""]
+    assert reason(desk, "6")[1].endswith("Schulze") and owner_of(desk, "8") == owner_of(desk, "9") == "Meier"
+    assert desk.transfer_days()[:3] == ["2020-05-01", "2020-05-03", "2020-05-05"]
+    title = titles.partition(";")[2]
+    done.shows(
+        f"to look at: the column '{title}' says to whom animals were sold, in 5 rows: that is read as a part of their exits"
+    )
+    assert "not read" not in done.out
+    assert " 0 new, 0 changed" in desk.take(sheet).last
+
+
+def test_buyers_of_other_exits(desk: Desk) -> None:
+    """Who bought an animal that died, or that lives, says nothing of its exit."""
+    sold = "5.5.2020;;Huber", ";6.6.2020;Huber", "gestorben 2020;;Huber", "lebt;;Huber"
+    desk.take(BEGIN + "Gestorben am;Verkauft am;Käufer\n" + rows((";;", ";;"), *sold))
+    assert [owner_of(desk, id) for id in "3456"] == ["Meier", "Huber", "Meier", "Meier"]
+    assert [reason(desk, id)[0] for id in "3456"] == ["2020-05-05", "", "2020-12-31", ""]
