@@ -14,8 +14,8 @@ from gudokeyi.ingest.findings.sheets import (
 )  # fmt: skip
 from gudokeyi.ingest.texts import plain
 from gudokeyi.ingest.words import (
-    BESIDE_WETHERS, CASTRATED_MALE, COUNTED_SEXES, KNOWN_CASTRATED, KNOWN_GELDED, KNOWN_NEGATIONS, KNOWN_NEUTERED,
-    KNOWN_SEXES, has_word, sex_word,
+    BESIDE_WETHERS, CASTRATED_MALE, COUNTED_SEXES, KNOWN_CASTRATED, KNOWN_DOUBTS, KNOWN_GELDED, KNOWN_NEGATIONS,
+    KNOWN_NEUTERED, KNOWN_SEXES, has_word, sex_word,
 )  # fmt: skip
 
 
@@ -245,6 +245,11 @@ def is_all_but_one(single: set[str], by_letter: Mapping[str, str], words: set[st
     meant = plain(by_letter[others.pop()])
     kind = KNOWN_SEXES[meant], meant in KNOWN_CASTRATED
     return any((KNOWN_SEXES.get(word), word in KNOWN_CASTRATED) == kind for word in words)
+
+
+def is_unsure(text: str) -> bool:
+    """Does a text for a sex say that it isn't sure, as `w?` or `prob. female`?"""
+    return "?" in text or " " in text and has_word(text, KNOWN_DOUBTS)
 
 
 def is_castrated(text: str) -> bool:

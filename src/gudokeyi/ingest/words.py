@@ -58,6 +58,11 @@ BESIDE_FEMALES = (
     "f, female, fem, cow, heifer, ewe, gimmer, doe, nanny, mare, filly, sow, gilt, bitch, brood bitch, queen, jenny, "
     "jennet, Stute, Jungstute, Zuchtstute, Stutfohlen"
 )
+# words with which a sex isn't sure
+DOUBTS = (
+    "verm, vermutl, vermutlich, wohl, evtl, eventuell, wahrsch, wahrscheinlich, unsicher, prob, probably, maybe, perhaps, "
+    "possibly, uncertain, unsure, not sure, peut-être, probable, probablement, incertain, pas sûr"
+)
 # how breeders of small animals count males and females
 COUNTED_SEXES = {"1,0": "M", "0,1": "F", "1.0": "M", "0.1": "F"}
 # a word for a grown male that isn't castrated tells behind one of these that it was castrated since
@@ -191,6 +196,7 @@ KNOWN_SEXES |= {word: "M" for word in KNOWN_CASTRATED}
 KNOWN_NEUTERED = {plain(word) for word in listed(NEUTERED)}
 KNOWN_GELDED = {plain(word) for word in listed(GELDED)}
 BESIDE_WETHERS = {plain(word) for word in listed(BESIDE_FEMALES)}
+KNOWN_DOUBTS = {plain(word) for word in listed(DOUBTS)}
 KNOWN_YES = {word.casefold() for word in listed(YES)}
 KNOWN_NO = {word.casefold() for word in listed(NO)}
 KNOWN_STAYS = {plain(word) for word in listed(STAYS)}

@@ -374,6 +374,25 @@ class SexWordsShort(SheetFinding):
 
 
 @dataclass(frozen=True, slots=True)
+class SexesUnsure(SheetFinding):
+    """Cells that say that a sex isn't sure, as `w?`: how many, and the first."""
+
+    title: str
+    count: int
+    text: str
+    line: int
+
+    code = "sexes unsure"
+    message = Counted(
+        "{count} cell of the column '{title}' has a sex that isn't sure, '{text}' in line {line}: it is inferred, and "
+        "taken where nothing else says the sex",
+        "{count} cells of the column '{title}' have a sex that isn't sure, the first '{text}' in line {line}: it is "
+        "inferred, and taken where nothing else says the sex",
+        "count",
+    )
+
+
+@dataclass(frozen=True, slots=True)
 class SexCount(Told):
     """A word for a sex, and how many animals have it."""
 
