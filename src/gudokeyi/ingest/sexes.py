@@ -7,11 +7,13 @@ import re
 from collections.abc import Callable, Collection, Iterable, Mapping, Sequence
 from typing import NamedTuple
 
+from gudokeyi.domain.kinds import Field
 from gudokeyi.ingest.animals import DAM_OF, SIRE_OF, SheetAnimal
 from gudokeyi.ingest.findings.columns import SheetFinding
-from gudokeyi.ingest.findings.sheets import (
-    CastratedLetter, FemaleLetter, OneSexAlone, SexCount, SexWord, SexWordsShort, TextCount,
+from gudokeyi.ingest.findings.sexes import (
+    CastratedLetter, FemaleLetter, OneSexAlone, SexCount, SexWord, SexWordsShort,
 )  # fmt: skip
+from gudokeyi.ingest.findings.sheets import TextCount
 from gudokeyi.ingest.texts import plain
 from gudokeyi.ingest.words import (
     BESIDE_WETHERS, CASTRATED_MALE, COUNTED_SEXES, KNOWN_CASTRATED, KNOWN_DOUBTS, KNOWN_GELDED, KNOWN_NEGATIONS,
@@ -200,6 +202,13 @@ class Sexes:
             kind = CastratedLetter if self.letter.is_castrated else FemaleLetter
             told.append(kind(title, self.letter.letter, self.letter.females))
         return told
+
+
+def sexes_of_dams(column: Callable[[str], list[str]]) -> list[str]:
+    """The cells for the sexes of rows whose ids or names are dams, by the texts of the columns."""
+    dams = {*map(str.casefold, {*column(Field.DAM)})} - {""}
+    rows = zip(*map(column, (Field.ID, Field.NAME, Field.SEX)))
+    return [sex for id, name, sex in rows if id.casefold() in dams or name.casefold() in dams]
 
 
 def one_sex_alone(

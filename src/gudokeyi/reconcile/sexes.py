@@ -167,9 +167,9 @@ def animals_named(animals: Mapping[str, SheetAnimal]) -> dict[str, str]:
 
 
 def find_sexes(next_book: NextBook) -> None:
-    """An animal without a sex has that of the parent that it is, or else that of the book, or the likely one of its cell;
-    else it is taken for a female, and stays one for that reason. One that was invented stays so where no row has the
-    animal as a parent."""
+    """An animal without a sex has that of the parent that it is, or else that of the book, or the likely one of its
+    cell; else it is taken for a female, and stays one for that reason. One that was invented stays so where no row has
+    the animal as a parent."""
     without = [(id, animal) for id, animal in next_book.animals.items() if not animal.sex]
     rows = [animal for animal in next_book.animals.values() if animal.line] if without else []
     parents_of_rows = {*map(SIRE_OF, rows), *map(DAM_OF, rows)}
