@@ -79,7 +79,10 @@ def mend_sexes(next_book: NextBook, gone: Mapping[str, SheetAnimal]) -> None:
         written = animal.cells.get(Field.SEX, "") or animal.sex
         told = SexAgainstOffspring(written, role.sex, role, len(its), min(its), in_book)
         next_book.report.add(animal.line, animal.id, told)
-        animal.sex, animal.sex_source, animal.castrated = role.sex, SexSource(role.value), False
+        # what somebody gave the book stays given, or it would count no more when the sheet is taken again
+        known = next_book.book.society_records.get(animal.id) if in_book else None
+        source = known.sex if known and not known.sex.is_inferred else SexSource(role.value)
+        animal.sex, animal.sex_source, animal.castrated = role.sex, source, False
 
 
 def tell_sexes_of_others(next_book: NextBook) -> None:
