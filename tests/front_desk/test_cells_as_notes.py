@@ -124,3 +124,25 @@ def test_exit_that_was_none(desk: Desk) -> None:
         "line 2: 001: changed: kept as a note: 'Abgang: gedeckt 12.05.2020'",
     )
     assert not [one for one in desk.table("book/ids.csv") if one["exit"]]
+
+
+NOT_BRED = (
+    "Non-breeding", "non breeding", "not for breeding", "no longer breeding 2020", "nicht zur Zucht", "nicht mehr in Zucht",
+    "kein Zuchttier", "zuchtuntauglich", "aus der Zucht genommen", "non reproducteur", "réformé de la reproduction",
+    "réformée de la reproduction 2020", "hors reproduction", "plus apte à la reproduction",
+)  # fmt: skip
+GONE = (
+    "réformé", "réformée de la reproduction, vendue", "Non-breeding, sold", "nicht mehr im Bestand", "nicht mehr im Zuchtbuch",
+    "not active", "zuchtuntauglich, geschlachtet 2020",
+)  # fmt: skip
+
+
+@pytest.mark.parametrize("title", ["Status", "Abgang"])
+@pytest.mark.parametrize("text", [*NOT_BRED, *GONE])
+def test_not_bred(desk: Desk, text: str, title: str) -> None:
+    """An animal that isn't bred from is still there, and what its cell says is kept as a note."""
+    rows = "a1;F;2015-03-13;;;active\na2;M;2015-03-14;;;active\na4;F;2015-03-14;;;sold 2020-01-01\na5;F;2015-03-14;;;alive\n"
+    done = desk.take(f"id;sex;born;sire;dam;{title}\n{rows}a3;F;2017-03-14;a2;a1;{text}\n")
+    is_there = text in NOT_BRED
+    assert (f"line 6: a3: changed: kept as a note: '{title}: {text}'" in done.report) == is_there
+    assert desk.good("list", "--living").out.count("a3") == is_there

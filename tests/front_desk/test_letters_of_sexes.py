@@ -80,6 +80,16 @@ def test_letter_of_dams(desk: Desk, dams: tuple[str, ...], is_told: bool) -> Non
     assert any(one.endswith("--sexes w=mc") for one in done.commands()) == is_told
 
 
+def test_letter_of_mistaken_dam(desk: Desk) -> None:
+    """One that is named as a dam beside many others is a castrated male too, and no dam."""
+    rows = "".join(f"f{at},,F,2010-01-01,,\n" for at in range(9)) + "2,,M,2010-01-01,,\n"
+    progeny = "".join(f"c{at},,M,2015-01-01,2,f{at}\n" for at in range(9))
+    done = desk.take(TITLES + rows + progeny + "w1,,W,2010-01-01,,\nw2,,W,2010-01-01,,\nc9,,M,2015-01-01,2,w1\n")
+    assert "'W' (2 animals) of the column 'Sex' is read as a castrated male" in done.out
+    assert sexes_of(desk, "w1", "w2") == ["male, castrated"] * 2
+    assert "its dam w1 (line 21) is left out: it isn't female (refusal 6)" in done.told
+
+
 def test_letter_of_few(desk: Desk) -> None:
     """Where `F` is the letter of dams, wethers may be more than these."""
     rows = "".join(f"{id},,W,2012-01-01,2,1\n" for id in range(3, 9))

@@ -246,6 +246,16 @@ def test_sex_that_changes_later(desk: Desk) -> None:
     assert done.out.count("is wrong, or its offspring are") == 2 and "isn't" not in done.told
 
 
+def test_sex_that_changes_for_one_offspring(desk: Desk) -> None:
+    """What the book has given speaks against the cell also when the sheet is taken again."""
+    rows = PAIR + "003;A;w;1.2.2014;001;002;Huber;\n"
+    desk.take(TITLES + rows)
+    for _ in range(2):
+        done = desk.take(TITLES + rows.replace("Eva;w", "Eva;m"))
+        assert "its sex 'm' is wrong, or its offspring are: it is the dam of 1 animal, 003, and female in the book" in done.out
+        assert " 0 changed" in done.last and desk.parents()["003"] == ("001", "002")
+
+
 def test_parents_without_a_row_any_more(desk: Desk) -> None:
     """A parent whose animal lost its row in a later sheet is still that animal, however it is written."""
     desk.take(TITLES + NAMED)

@@ -22,11 +22,12 @@ from gudokeyi.ingest.findings.cells import (
 from gudokeyi.ingest.findings.columns import SheetFinding
 from gudokeyi.ingest.findings.exits import ExitInDoubt, ExitInferred, ExitsInOtherWords, ExitsWithoutDay, NoExits, Remark
 from gudokeyi.ingest.findings.rows import OwnerInExit, OwnerSold, SoldWithin, StatusDisagrees, TakerUnclear
+from gudokeyi.ingest.findings.sexes import SexesUnsure
 from gudokeyi.ingest.findings.sheets import (
     MOST_TEXTS, Cells, CellsUnread, ErrorCells, ErrorColumn, NarrowCells, NarrowColumn, TextCount,
 )  # fmt: skip
 from gudokeyi.ingest.rows_as_meant import Takers
-from gudokeyi.ingest.sexes import Sexes
+from gudokeyi.ingest.sexes import Sexes, is_unsure
 from gudokeyi.ingest.sheets import Sheet
 from gudokeyi.ingest.statuses import taker_of_owner
 from gudokeyi.ingest.texts import plain
@@ -53,6 +54,8 @@ class Unread:
         self.other_words: list[Cell] = []
         # texts that tell of something else than an exit
         self.no_exits: list[Cell] = []
+        # those of sexes that aren't sure
+        self.unsure: list[Cell] = []
         self.read: collections.Counter[str] = collections.Counter()
         # the title of a status, by the lines whose exits are its words
         self.of_status: Mapping[int, str] = {}
@@ -67,6 +70,7 @@ class Unread:
         ]
         told += map(ExitsWithoutDay, self.of_each(Field.EXIT, self.exits))
         told += [NoExits.of(self.remarks())] if self.no_exits else []
+        told += [SexesUnsure(self.titles[Field.SEX], len(self.unsure), *self.unsure[0])] if self.unsure else []
         return [*told, *map(ExitsInOtherWords, self.of_each(Field.EXIT, self.other_words))]
 
     def remarks(self) -> list[Remark]:
@@ -262,6 +266,9 @@ class AnimalCells:
         animal.sex, animal.castrated = self.sexes.read(text)
         if animal.sex:
             self.unread.read[Field.SEX] += 1
+            if is_unsure(text):
+                animal.sex, animal.likely_sex = "", animal.sex
+                self.unread.unsure.append((text, animal.line))
         elif text not in self.unknown:
             self.unread.read[Field.SEX] += 1
             self.leave_out(animal, Field.SEX, text, SexUnread(text))

@@ -54,6 +54,8 @@ class SheetAnimal:
     owner_before: str = ""
     # does another cell than that of such days say since when, which tells of a sale?
     is_since_sale: bool = False
+    # the sex of a cell that isn't sure, where nothing else says one
+    likely_sex: str = ""
 
     def parents(self) -> list[tuple[Role, str]]:
         """The known parents, each with its role."""

@@ -19,6 +19,7 @@ from gudokeyi.ingest.animals import SheetAnimal
 from gudokeyi.ingest.day_cells import ExitCell
 from gudokeyi.ingest.days import ANY_DAY, Span
 from gudokeyi.ingest.encodings import LOST, decoded_twice
+from gudokeyi.ingest.sexes import is_unsure
 from gudokeyi.ingest.sheets import Sheet
 from gudokeyi.ingest.statuses import taker_of_owner
 from gudokeyi.ingest.texts import plain
@@ -254,7 +255,8 @@ class PlainRows:
         self.short = {text: meaning.word for text, meaning in meanings.items() if meaning.word}
         castrated = {text for text, meaning in meanings.items() if meaning.is_castrated}
         silent = meanings.keys() - self.saying[Field.SEX]
-        self.leave(Field.SEX, castrated.union(text for text in silent if text not in self.cells.unknown))
+        unsure = {*filter(is_unsure, self.saying[Field.SEX])}
+        self.leave(Field.SEX, (castrated | unsure).union(text for text in silent if text not in self.cells.unknown))
         return self.values(Field.SEX, {text: meaning.sex for text, meaning in meanings.items()})
 
     def days(self, field: Field, nothing: Nothing) -> Iterable[Span | Nothing]:

@@ -7,15 +7,17 @@ import re
 from collections.abc import Callable, Collection, Iterable, Mapping, Sequence
 from typing import NamedTuple
 
+from gudokeyi.domain.kinds import Field
 from gudokeyi.ingest.animals import DAM_OF, SIRE_OF, SheetAnimal
 from gudokeyi.ingest.findings.columns import SheetFinding
-from gudokeyi.ingest.findings.sheets import (
-    CastratedLetter, FemaleLetter, OneSexAlone, SexCount, SexWord, SexWordsShort, TextCount,
+from gudokeyi.ingest.findings.sexes import (
+    CastratedLetter, FemaleLetter, OneSexAlone, SexCount, SexWord, SexWordsShort,
 )  # fmt: skip
+from gudokeyi.ingest.findings.sheets import TextCount
 from gudokeyi.ingest.texts import plain
 from gudokeyi.ingest.words import (
-    BESIDE_WETHERS, CASTRATED_MALE, COUNTED_SEXES, KNOWN_CASTRATED, KNOWN_GELDED, KNOWN_NEGATIONS, KNOWN_NEUTERED,
-    KNOWN_SEXES, has_word, sex_word,
+    BESIDE_WETHERS, CASTRATED_MALE, COUNTED_SEXES, KNOWN_CASTRATED, KNOWN_DOUBTS, KNOWN_GELDED, KNOWN_NEGATIONS,
+    KNOWN_NEUTERED, KNOWN_SEXES, has_word, sex_word,
 )  # fmt: skip
 
 
@@ -38,8 +40,8 @@ THREE_LETTERS = (
 LETTER, WETHER = "w", "wether"
 # the letter of a female beside which it isn't one
 OF_AUE = "a"
-# so many animals may be named as dams by mistake
-FEW_MISTAKEN = 2
+# so many animals may be named as dams by mistake, or one for so many others; with so many others for each they are
+FEW_MISTAKEN, MANY_MORE, FEW_MORE = 2, 20, 5
 
 
 class LetterRead(NamedTuple):
@@ -101,7 +103,7 @@ class Sexes:
 
     def letter_beside_females(self, texts: list[str], of_dams: Callable[[], Iterable[str]]) -> LetterRead | None:
         """What `W` is where the column has other words for females too: the word that begins with it, a castrated male
-        beside such as `F` and `ewe`, unless it is the letter of dams, or else a female, as it is beside `M` alone."""
+        beside such as `F` and `ewe`, unless dams have it too, or else a female, as it is beside `M` alone."""
         written = {sex_word(text): text for text in reversed([*dict.fromkeys(texts)])}
         sexes = {word: self.known.get(word, "") for word in written if word != LETTER}
         females = {word for word, sex in sexes.items() if sex == "F"}
@@ -114,14 +116,14 @@ class Sexes:
             self.letters = {LETTER: longer[0][0]}
             return None
         counts, dams = (collections.Counter(map(sex_word, cells)) for cells in (texts, of_dams()))
-        if dams[LETTER] > FEW_MISTAKEN:
+        others, some = (sum(those[word] for word in females) for those in (dams, counts))
+        if dams[LETTER] > max(FEW_MISTAKEN, others // MANY_MORE):
             return None
-        has_dams, some = any(dams[word] for word in females), sum(counts[word] for word in females)
-        is_castrated = are_english and not dams[LETTER] and (has_dams or counts[LETTER] <= some)
+        is_castrated = are_english and (others > FEW_MORE * dams[LETTER] or not dams[LETTER] and counts[LETTER] <= some)
         if is_castrated:
             self.letters = {LETTER: WETHER}
-        letter, *others = (SexCount(written[word], counts[word]) for word in (LETTER, *sorted(females)))
-        return LetterRead(letter, tuple(others), is_castrated)
+        letter, *beside = (SexCount(written[word], counts[word]) for word in (LETTER, *sorted(females)))
+        return LetterRead(letter, tuple(beside), is_castrated)
 
     def leave_open(self, texts: list[str]) -> None:
         """Beside letters that aren't known, as `A` for Aue, `W` isn't either where no word of the column is: all are
@@ -202,6 +204,13 @@ class Sexes:
         return told
 
 
+def sexes_of_dams(column: Callable[[str], list[str]]) -> list[str]:
+    """The cells for the sexes of rows whose ids or names are dams, by the texts of the columns."""
+    dams = {*map(str.casefold, {*column(Field.DAM)})} - {""}
+    rows = zip(*map(column, (Field.ID, Field.NAME, Field.SEX)))
+    return [sex for id, name, sex in rows if id.casefold() in dams or name.casefold() in dams]
+
+
 def one_sex_alone(
     title: str, texts: Sequence[str], sexes: Sexes, animals: Collection[SheetAnimal]
 ) -> list[SheetFinding]:
@@ -245,6 +254,11 @@ def is_all_but_one(single: set[str], by_letter: Mapping[str, str], words: set[st
     meant = plain(by_letter[others.pop()])
     kind = KNOWN_SEXES[meant], meant in KNOWN_CASTRATED
     return any((KNOWN_SEXES.get(word), word in KNOWN_CASTRATED) == kind for word in words)
+
+
+def is_unsure(text: str) -> bool:
+    """Does a text for a sex say that it isn't sure, as `w?` or `prob. female`?"""
+    return "?" in text or " " in text and has_word(text, KNOWN_DOUBTS)
 
 
 def is_castrated(text: str) -> bool:

@@ -32,7 +32,7 @@ from gudokeyi.ingest.odd_texts import first_days, tell_exits_in_ids, tell_exits_
 from gudokeyi.ingest.plain_rows import CELLS_OF, SIGNS, PlainRows, chooser, first_sum
 from gudokeyi.ingest.rows_as_meant import DITTO, Takers
 from gudokeyi.ingest.same_ids import SameIds, tell_used_again
-from gudokeyi.ingest.sexes import Sexes, one_sex_alone
+from gudokeyi.ingest.sexes import Sexes, one_sex_alone, sexes_of_dams
 from gudokeyi.ingest.sheets import Sheet, SheetRow
 from gudokeyi.ingest.spellings import CUT
 from gudokeyi.ingest.titles import KNOWN_STATES, parts_of, words_of_sexes
@@ -212,7 +212,7 @@ class Rows:
         self.errors = ErrorValues(sheet, columns)
         # of words of a title such as `Dog/Bitch` cells have the first letters
         named = words_of_sexes(sheet.titles[columns[Field.SEX]]) if Field.SEX in columns else []
-        self.sexes = Sexes([*self.texts(Field.SEX), *named], sexes, self.sexes_of_dams)
+        self.sexes = Sexes([*self.texts(Field.SEX), *named], sexes, functools.partial(sexes_of_dams, self.texts))
         self.unread = Unread({name: sheet.titles[at] for name, at in columns.items()})
         self.unread.of_status = sheet.of_status
         self.forms = DayForms(self.texts(Field.BIRTH), (born or {}).values(), month_first)
@@ -237,12 +237,6 @@ class Rows:
             return [""] * len(self.sheet.rows)
         texts = self.sheet.column(at)
         return [self.value(text) for text in texts] if self.errors.found else texts
-
-    def sexes_of_dams(self) -> list[str]:
-        """The cells for the sexes of rows whose ids or names are dams."""
-        dams = {*map(str.casefold, {*self.texts(Field.DAM)})} - {""}
-        rows = zip(*map(self.texts, (Field.ID, Field.NAME, Field.SEX)))
-        return [sex for id, name, sex in rows if id.casefold() in dams or name.casefold() in dams]
 
     def value(self, text: str) -> str:
         return "" if is_error_value(text) else text

@@ -58,6 +58,11 @@ BESIDE_FEMALES = (
     "f, female, fem, cow, heifer, ewe, gimmer, doe, nanny, mare, filly, sow, gilt, bitch, brood bitch, queen, jenny, "
     "jennet, Stute, Jungstute, Zuchtstute, Stutfohlen"
 )
+# words with which a sex isn't sure
+DOUBTS = (
+    "verm, vermutl, vermutlich, wohl, evtl, eventuell, wahrsch, wahrscheinlich, unsicher, prob, probably, maybe, perhaps, "
+    "possibly, uncertain, unsure, not sure, peut-être, probable, probablement, incertain, pas sûr"
+)
 # how breeders of small animals count males and females
 COUNTED_SEXES = {"1,0": "M", "0,1": "F", "1.0": "M", "0.1": "F"}
 # a word for a grown male that isn't castrated tells behind one of these that it was castrated since
@@ -113,7 +118,9 @@ STILL_THERE = (
     "retraité, retraitée, retraite, à la retraite, en retraite, mis à la retraite, en pension, mis en pension, prêté, "
     "prêtée, prêt, en prêt, loué, louée, castré, castrée, castration, stérilisé, stérilisée, saillie, sailli, saillies, "
     "couverte, inséminé, inséminée, insémination, gestante, pleine, gravide, sevré, sevrée, vacciné, vaccinée, tondu, "
-    "tondue, pucé, pucée, revenu, revenue, de retour, retour, à vendre, réservé, réservée, exposé, exposée"
+    "tondue, pucé, pucée, revenu, revenue, de retour, retour, à vendre, réservé, réservée, exposé, exposée, "
+    "non-breeding, non breeder, nicht zur Zucht, nicht in Zucht, zuchtuntauglich, zuchtunfähig, zuchtgesperrt, "
+    "Zuchtsperre, Zuchtverbot, non reproducteur, non reproductrice, hors reproduction"
 )
 # the same of animals that came, are still there, or were looked at
 OTHER_EVENTS = (
@@ -192,6 +199,7 @@ KNOWN_SEXES |= {word: "M" for word in KNOWN_CASTRATED}
 KNOWN_NEUTERED = {plain(word) for word in listed(NEUTERED)}
 KNOWN_GELDED = {plain(word) for word in listed(GELDED)}
 BESIDE_WETHERS = {plain(word) for word in listed(BESIDE_FEMALES)}
+KNOWN_DOUBTS = {plain(word) for word in listed(DOUBTS)}
 KNOWN_YES = {word.casefold() for word in listed(YES)}
 KNOWN_NO = {word.casefold() for word in listed(NO)}
 KNOWN_STAYS = {plain(word) for word in listed(STAYS)}
@@ -252,6 +260,16 @@ PLAIN_EXITS = TELLING_EXITS & {
 }  # fmt: skip
 # a word that tells of an exit tells of none here
 SALE_NOT_MADE = re.compile(r"\bfor\s+sale\b", re.IGNORECASE)
+# an animal that isn't bred from is still there, though a word tells of its breeding with one that negates it, or of an
+# exit
+NO_BREEDING = re.compile(
+    r"\b(?:non[- ]?breed(?:ing|er)|(?:not|no longer|unfit|unsuitable)\s+(?:(?:used|suitable|fit|for|a|in)\s+)*breed(?:ing|er)|"
+    r"(?:nicht|kein|keine)\s+(?:(?:mehr|zur|zum|für|in|der|die)\s+)*Zucht(?:tier|tauglich|einsatz)?|"
+    r"Zucht(?:untauglich|unfähig|gesperrt|sperre|verbot)|aus\s+der\s+Zucht(?:\s+genommen)?|"
+    r"(?:non|pas|plus|inapte)\s+(?:(?:un|une|de|en|à|la|apte|pour)\s+)*reproduct(?:eur|rice|ion)|"
+    r"(?:réformée?|retirée?|exclue?|sortie?|hors)\s+(?:de\s+)?(?:la\s+)?reproduction)\b",
+    re.IGNORECASE,
+)
 # a word behind one that negates it
 NEGATED = re.compile(
     r"\b(?:nicht|kein\w*|nie|niemals|not|no|never|pas|non|jamais)\s+(?:(?:yet|been|encore|noch|mehr|de)\s+)*(?P<word>\w+)\.?",
@@ -301,7 +319,7 @@ def is_still_there(text: str) -> bool:
     if lives_besides(text) or lives_and_more(text):
         return True
     sold = SALE_NOT_MADE.sub(" ", text)
-    rest = sold
+    rest = NO_BREEDING.sub(" ", sold)
     for negated in (NEGATED, DENIED):
         rest = negated.sub(lambda found: " " if plain(found["word"]) in TELLING_EXITS else found[0], rest)
     if has_word(rest, TELLING_EXITS) or says_gone(rest):
@@ -327,6 +345,7 @@ def tells_of_itself(text: str) -> bool:
 
 def says_gone(text: str) -> bool:
     """Does it say that the animal doesn't live any more, as `lebt nicht mehr`?"""
+    text = NO_BREEDING.sub(" ", text)
     return has_word(text, KNOWN_STAYS) and has_word(text, KNOWN_NEGATIONS)
 
 

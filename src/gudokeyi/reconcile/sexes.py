@@ -7,11 +7,11 @@ import itertools
 from collections.abc import Mapping
 from typing import NamedTuple
 
-from gudokeyi.domain.findings import Report
+from gudokeyi.domain.findings import Finding, Report
 from gudokeyi.domain.kinds import Field, Role
 from gudokeyi.domain.provenance import SexSource
 from gudokeyi.ingest.animals import DAM_OF, ID_OF, NAME_OF, SEX_OF, SIRE_OF, UNREAD_OF, Link, SheetAnimal
-from gudokeyi.reconcile.findings.animals import SexInferred, SexNotKnown
+from gudokeyi.reconcile.findings.animals import SexInferred, SexNotKnown, SexUnsure
 from gudokeyi.reconcile.findings.by_hand import ValueChanged
 from gudokeyi.reconcile.findings.parents import Couple, NoSexesFit, ParentsSwapped
 from gudokeyi.reconcile.findings.same_animals import SexAgainstOffspring, SexOfAnother
@@ -79,7 +79,10 @@ def mend_sexes(next_book: NextBook, gone: Mapping[str, SheetAnimal]) -> None:
         written = animal.cells.get(Field.SEX, "") or animal.sex
         told = SexAgainstOffspring(written, role.sex, role, len(its), min(its), in_book)
         next_book.report.add(animal.line, animal.id, told)
-        animal.sex, animal.sex_source, animal.castrated = role.sex, SexSource(role.value), False
+        # what somebody gave the book stays given, or it would count no more when the sheet is taken again
+        known = next_book.book.society_records.get(animal.id) if in_book else None
+        source = known.sex if known and not known.sex.is_inferred else SexSource(role.value)
+        animal.sex, animal.sex_source, animal.castrated = role.sex, source, False
 
 
 def tell_sexes_of_others(next_book: NextBook) -> None:
@@ -167,8 +170,9 @@ def animals_named(animals: Mapping[str, SheetAnimal]) -> dict[str, str]:
 
 
 def find_sexes(next_book: NextBook) -> None:
-    """An animal without a sex has that of the parent that it is, or else that of the book; else it is taken for a
-    female, and stays one for that reason. One that was invented stays so where no row has the animal as a parent."""
+    """An animal without a sex has that of the parent that it is, or else that of the book, or the likely one of its
+    cell; else it is taken for a female, and stays one for that reason. One that was invented stays so where no row has
+    the animal as a parent."""
     without = [(id, animal) for id, animal in next_book.animals.items() if not animal.sex]
     rows = [animal for animal in next_book.animals.values() if animal.line] if without else []
     parents_of_rows = {*map(SIRE_OF, rows), *map(DAM_OF, rows)}
@@ -179,13 +183,20 @@ def find_sexes(next_book: NextBook) -> None:
         elif in_book and in_book.sex is not SexSource.NOTHING:
             animal.sex, animal.sex_source = in_book.registration_number[6], SexSource.BOOK
         else:
-            animal.sex, animal.sex_source = "F", SexSource.NOTHING
+            of_book = in_book.registration_number[6] if in_book else "F"
+            animal.sex, animal.sex_source = animal.likely_sex or of_book, SexSource.NOTHING
+        animal.castrated = animal.castrated and animal.sex == "M"
         if animal.line:
-            found = SexInferred(animal.sex, animal.sex_source, "sex" in animal.unread)
-            next_book.report.add(animal.line, id, found)
+            next_book.report.add(animal.line, id, sex_found(animal))
         is_invented = in_book is not None and in_book.sex is SexSource.INVENTED
         if in_book and is_invented and in_book.registration_number[6] == animal.sex and id not in parents_of_rows:
             animal.sex_source = SexSource.INVENTED
+
+
+def sex_found(animal: SheetAnimal) -> Finding:
+    if animal.likely_sex:
+        return SexUnsure(animal.sex, animal.sex_source, animal.cells[Field.SEX])
+    return SexInferred(animal.sex, animal.sex_source, "sex" in animal.unread)
 
 
 # Sexes for a geneticist's pedigree, `id sire dam`: invented so that nothing is refused for them.

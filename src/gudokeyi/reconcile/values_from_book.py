@@ -9,14 +9,14 @@ from gudokeyi.domain.animals import SocietyRecord
 from gudokeyi.domain.commands import RegisterRecord
 from gudokeyi.domain.findings import Entry
 from gudokeyi.domain.kinds import CELL_FIELDS, Field, Role
-from gudokeyi.domain.provenance import GIVEN_EXIT, ExitBasis, Period, reason_of
+from gudokeyi.domain.provenance import GIVEN_EXIT, ExitBasis, Period, SexSource, reason_of
 from gudokeyi.ingest.animals import SheetAnimal, birth_in_book
 from gudokeyi.ingest.days import DayFault, Span
 from gudokeyi.ingest.findings.cells import DayLeftOut
 from gudokeyi.ingest.findings.exits import ExitInferred
 from gudokeyi.ingest.words_beside import words_beside
 from gudokeyi.reconcile.exits import Exit, exit_in_book, given_day
-from gudokeyi.reconcile.findings.animals import KeptByHand, KeptFromBook
+from gudokeyi.reconcile.findings.animals import KeptByHand, KeptFromBook, SexUnsure
 from gudokeyi.reconcile.impossible_parents import tried_again
 from gudokeyi.reconcile.next_book import NextBook
 from gudokeyi.reconcile.owner_days import DaysOfOthers
@@ -116,7 +116,12 @@ class Keeping:
             animal.castrated = in_book.castrated
         if not animal.sex and not in_book.sex.is_inferred:
             animal.sex = record.registration_number[6]
-            self.tell_kept(animal, Field.SEX, animal.sex)
+            animal.castrated = animal.castrated and animal.sex == "M"
+            if animal.likely_sex:
+                found = SexUnsure(animal.sex, SexSource.BOOK, animal.cells[Field.SEX])
+                self.report.add(animal.line, animal.id, found)
+            else:
+                self.tell_kept(animal, Field.SEX, animal.sex)
 
     def keep_exit(self, animal: SheetAnimal, exit: Exit) -> None:
         animal.left, animal.exit_basis = exit

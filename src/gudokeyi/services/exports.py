@@ -37,11 +37,13 @@ def sexes_said(
     _: PedigreeFacts, numbers: Sequence[str], castrated: Sequence[int], sources: Sequence[str], sires: Sequence[str],
     dams: Sequence[str],
 ) -> Iterator[str]:  # fmt: skip
-    """What a sheet says of sexes: nothing of an inferred one that an import infers again, of a parent or a female."""
+    """What a sheet says of sexes: nothing of an inferred one that an import infers again, of a parent or a female; that
+    of a male whose cell wasn't sure isn't sure here either."""
     parents = {*sires, *dams}
     for number, is_castrated, source in zip(numbers, castrated, sources):
         is_inferred = source not in GIVEN and (number in parents or number[6] == "F")
-        yield CASTRATED if is_castrated else "" if is_inferred else number[6]
+        doubt = "?" if source == SexSource.NOTHING.value else ""
+        yield "" if is_inferred and not is_castrated else (CASTRATED if is_castrated else number[6]) + doubt
 
 
 def inferred_sex(number: str, source: str) -> str:

@@ -111,6 +111,24 @@ class SexInferred(Finding):
 
 
 @dataclass(frozen=True, slots=True)
+class SexUnsure(Finding):
+    """A cell has a sex that isn't sure."""
+
+    sex: str
+    source: SexSource
+    text: str
+
+    what = What.INFERRED
+    code = "sex unsure"
+    message = Text("sex {sex}{maybe_source}, and its cell isn't sure: '{text}'")
+    parts = {"maybe_source": OptionalPart(", {why}")}
+
+    def values(self) -> Mapping[str, object]:
+        why = "" if self.source is SexSource.NOTHING else self.source
+        return {"sex": SEXES.get(self.sex, self.sex), "why": why}
+
+
+@dataclass(frozen=True, slots=True)
 class BirthDayInferred(Finding):
     """A birth day that the sheet doesn't give. One that is kept was inferred for the book: its reason may not hold any
     more. `named_in` is the line that names a parent without a row, `text` a cell in which a year is legible."""

@@ -1,0 +1,134 @@
+"""What is found of the words for sexes of a sheet: each kind as data, and in words."""
+from __future__ import annotations
+
+from collections.abc import Mapping
+from dataclasses import dataclass
+
+from gudokeyi.domain.changes import Option
+from gudokeyi.domain.findings import Suggestion
+from gudokeyi.domain.wording import SEXES, Counted, OptionalPart, Text, Told
+from gudokeyi.ingest.findings.columns import SheetFinding
+from gudokeyi.ingest.findings.sheets import TextCount, sexes_of
+
+
+@dataclass(frozen=True, slots=True)
+class SexWord(Told):
+    """A word for a sex that is taken for a longer one of the same column, and how often; nothing as the longer one of a
+    text that says by itself that the male is castrated."""
+
+    word: TextCount
+    whole: str
+
+    message = Text("{word} as {maybe_whole}{maybe_castrated}")
+    parts = {
+        "maybe_whole": OptionalPart("'{whole}'"),
+        "maybe_castrated": OptionalPart("a castrated male", when="is_castrated"),
+    }
+
+    def values(self) -> Mapping[str, object]:
+        return {"is_castrated": not self.whole}
+
+
+@dataclass(frozen=True, slots=True)
+class SexWordsShort(SheetFinding):
+    taken: tuple[SexWord, ...]
+
+    code = "sex words short"
+    message = Text("words for sexes are read as others of the column: {taken}")
+
+
+@dataclass(frozen=True, slots=True)
+class SexesUnsure(SheetFinding):
+    """Cells that say that a sex isn't sure, as `w?`: how many, and the first."""
+
+    title: str
+    count: int
+    text: str
+    line: int
+
+    code = "sexes unsure"
+    message = Counted(
+        "{count} cell of the column '{title}' has a sex that isn't sure, '{text}' in line {line}: it is inferred, and "
+        "taken where nothing else says the sex",
+        "{count} cells of the column '{title}' have a sex that isn't sure, the first '{text}' in line {line}: it is "
+        "inferred, and taken where nothing else says the sex",
+        "count",
+    )
+
+
+@dataclass(frozen=True, slots=True)
+class SexCount(Told):
+    """A word for a sex, and how many animals have it."""
+
+    text: str
+    animals: int
+
+    message = Counted("'{text}' ({animals} animal)", "'{text}' ({animals} animals)", "animals")
+
+
+@dataclass(frozen=True, slots=True)
+class OneSexAlone(SheetFinding):
+    """All words of a column mean one sex, though one may stand for the other; `likely` is the one that does."""
+
+    title: str
+    sex: str
+    counts: tuple[SexCount, ...]
+    likely: str = ""
+
+    code = "one sex alone"
+    message = Text(
+        "each sex of the column '{title}' is read as {sex}: {counts}: does one of these words stand for {other}"
+        "{maybe_likely}?"
+    )
+    parts = {
+        "maybe_likely": OptionalPart(", '{likely}' as for Widder or wether"),
+    }
+
+    def values(self) -> Mapping[str, object]:
+        return {"sex": SEXES.get(self.sex, self.sex), "other": SEXES[self.other()]}
+
+    def other(self) -> str:
+        return "F" if self.sex == "M" else "M"
+
+    def suggestions(self) -> tuple[Suggestion, ...]:
+        words = [self.likely] if self.likely else [one.text for one in self.counts]
+        sex = self.other().lower()
+        said = [(word, Option("--sexes", f"{word}={sex}")) for word in words if not {",", "="} & {*word}]
+        return tuple(Suggestion(f"if '{word}' is {SEXES[self.other()].value}", (option,)) for word, option in said)
+
+
+@dataclass(frozen=True, slots=True)
+class CastratedLetter(SheetFinding):
+    """A letter that stands for females elsewhere, as `W`, is read as a castrated male, since the column has other words
+    for females."""
+
+    title: str
+    letter: SexCount
+    females: tuple[SexCount, ...]
+
+    code = "castrated letter"
+    message = Text(
+        "{letter} of the column '{title}' is read as a castrated male, as for wether or Wallach, since females are written otherwise "
+        "there: {females}"
+    )
+
+    def suggestions(self) -> tuple[Suggestion, ...]:
+        return sexes_of(self.letter.text, "f", "m")
+
+
+@dataclass(frozen=True, slots=True)
+class FemaleLetter(SheetFinding):
+    """The same of a letter that is read as a female."""
+
+    title: str
+    letter: SexCount
+    females: tuple[SexCount, ...]
+
+    code = "female letter"
+    message = Text(
+        "{letter} of the column '{title}' is read as female, as for weiblich, though females are written otherwise there "
+        "too: {females}"
+    )
+
+    def suggestions(self) -> tuple[Suggestion, ...]:
+        return sexes_of(self.letter.text, "mc", "m")
