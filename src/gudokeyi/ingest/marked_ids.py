@@ -1,4 +1,4 @@
-"""Ids with a sign or a word by which animals leave beside them, as `†DE 103` and `DE 111 (tot)`: they are read without."""
+"""Ids with a sign or a word by which animals leave, as `†DE 103` and `DE 111 (tot)`: they are read without it."""
 from __future__ import annotations
 
 import re
