@@ -45,6 +45,51 @@ def test_letters_decoded_twice(desk: Desk, encoding: str) -> None:
     assert ("letters are lost in 1 text: 'S\ufffd' (line 3)" in done.out) == (encoding == "utf-8")
 
 
+OF_MAC = (
+    "to look at: the letters are read as an older Mac writes them (Mac Roman), as '{}' in line {}, which would be '{}' "
+    "else: if they are wrong, save the sheet as CSV in UTF-8"
+)
+
+
+@pytest.mark.parametrize(
+    "name, as_windows",
+    [("Müller", "MŸller"), ("Höß", "Hš§"), ("René", "RenŽ"), ("HÖß", "H…§"), ("Übergrößen", "†bergrš§en"),
+     ("Françoise", "Fran\ufffdoise")],
+)  # fmt: skip
+@pytest.mark.parametrize("end", ["\r\n", "\r"])
+def test_letters_of_a_mac(desk: Desk, name: str, as_windows: str, end: str) -> None:
+    """They are read so where they make words so alone, also beside its quotation marks."""
+    sheet = SHEET.replace("Ä1", "A1").replace("Müller", "“Max”").replace("Süße", name)
+    done = desk.take(sheet.replace("\n", end).encode("mac_roman"))
+    assert "2 rows below the titles in line 1, Mac Roman, cells separated" in done.out
+    assert [row["name"] for row in desk.table("book/ids.csv")] == ["“Max”", name]
+    if name[0].isascii():
+        done.shows(OF_MAC.format(name, 3, as_windows))
+
+
+@pytest.mark.parametrize(
+    "data, word",
+    [
+        (b"Gr\x94\xe1e", "Gr”áe"), (b"\x80nne", "€nne"), (b"M\x9fller;w;1.1.2003;;\nC3;M\xfcller", "MŸller"),
+        (b"Propri\x82taire", "Propri‚taire"),
+    ],
+)  # fmt: skip
+def test_doubtful_letters(desk: Desk, data: bytes, word: str) -> None:
+    """Words that are none in the encoding of Windows are told where it isn't sure how they were written."""
+    sheet = SHEET.replace("Ä1", "A1").replace("Müller", "Max").encode().replace("Süße".encode(), data)
+    desk.take(sheet).shows(
+        f"to look at: letters may be decoded wrongly, the first in '{word}' in line 3: if they are, save the sheet anew "
+        "from the spreadsheet in which the letters are right, as CSV in UTF-8"
+    )
+
+
+@pytest.mark.parametrize("name", ["“Süße”", "Žižka Dušan", "†Süße", "Süße – 5€", "d’Été", "5 € …und", "§ 4", "STRAßE", "Mª"])
+def test_letters_of_windows(desk: Desk, name: str) -> None:
+    done = desk.take(SHEET.replace("Süße", name).encode("cp1252"))
+    assert "Windows-1252" in done.out and "letters" not in done.out
+    assert name in [row["name"] for row in desk.table("book/ids.csv")]
+
+
 def test_letters_of_each_name() -> None:
     """Of an animal's id, of its parents and of its owner as of its name."""
     for field in Field.ID, Field.NAME, Field.SIRE, Field.DAM, Field.OWNER:

@@ -130,8 +130,8 @@ NEXT = (
 
 @pytest.mark.parametrize("name, day", [("Mini", "20.03.2026"), ("Lora", "12.05.2025"), ("Nola", "27.04.2025")])
 def test_tag_used_again_within_two_years(desk: Desk, name: str, day: str) -> None:
-    """With another name and another birth day, weeks apart at least, it is another animal: the first one stays, with its
-    offspring."""
+    """With another name and another birth day, weeks apart at least, it is another animal: the first one stays, with
+    its offspring."""
     lamb = "L3;Lina;w;1.10.2026;Max;Lamm 1;Huber;\n"
     desk.take(TITLES + LAMBS + lamb)
     later = LAMBS.replace("Lola;w;16.3.2025", f"{name};w;{day}") + lamb

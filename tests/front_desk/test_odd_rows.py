@@ -91,6 +91,16 @@ def test_titles_in_another_order(desk: Desk, titles: str, row: str) -> None:
     ]  # fmt: skip
 
 
+def test_titles_in_another_order_with_one_twice(desk: Desk) -> None:
+    """Also where two columns have one title."""
+    titles = "Ohrmarke;Name;Geburt;Vater;Mutter;Notiz;Notiz\n"
+    other = "Ohrmarke;Notiz;Name;Geburt;Mutter;Vater;Notiz\n"
+    rows = "a;Anna;1.3.2015;;;x;\nb;Bert;2.3.2015;;;;y\n"
+    done = desk.take(f"{titles}{rows}{other}c;x;Cora;3.3.2019;a;b;y\n")
+    done.shows(f"line 4: {IN_OTHER_ORDER}")
+    assert desk.parents()["c"] == ("b", "a") and desk.born()["c"] == "2019-03-03"
+
+
 def test_rows_like_titles(desk: Desk) -> None:
     """Some titles in a row, or one that none has, are no other order; a cell for which there is no title isn't lost."""
     rows = "a;Anna;w;1.3.2015;;;Meier;\nb;Bert;m;2.3.2015;;;Meier;\n"

@@ -1,4 +1,4 @@
-"""From a file's bytes to its text: UTF-8, UTF-16 or Windows-1252, and what is wrong with the letters."""
+"""From a file's bytes to its text: UTF-8, UTF-16, Windows-1252 or Mac Roman, and what is wrong with the letters."""
 from __future__ import annotations
 
 import functools
@@ -27,11 +27,12 @@ LOST = "\ufffd"
 
 
 class Decoded(NamedTuple):
-    """A file's text, the encoding in words, and what is wrong with some bytes, if anything is."""
+    """A file's text, the encoding in words, and what is wrong with some bytes, if anything is, or told of them."""
 
     text: str
     encoding: str
     fault: StrayBytes | None = None
+    note: SheetFinding | None = None
 
 
 def decoding(path: pathlib.Path, data: bytes) -> Decoded:
@@ -62,8 +63,16 @@ def decoded(path: pathlib.Path, data: bytes) -> tuple[str, str]:
 
 
 def windows(path: pathlib.Path, data: bytes) -> Decoded:
+    """The text in the encoding of Windows, or in that of a Mac, where it has words in this one alone."""
+    # most files are UTF-8
+    from gudokeyi.ingest.findings.files import LettersOfMac
+    from gudokeyi.ingest.letters_of_words import MAC, WINDOWS, letters_found
+
+    note = letters_found(data)
+    if isinstance(note, LettersOfMac):
+        return Decoded(data.decode(MAC), "Mac Roman", note=note)
     try:
-        return Decoded(data.decode("cp1252"), "Windows-1252")
+        return Decoded(data.decode(WINDOWS), "Windows-1252", note=note)
     except UnicodeDecodeError:
         raise no_text(path) from None
 

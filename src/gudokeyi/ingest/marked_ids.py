@@ -1,4 +1,4 @@
-"""Ids with a sign or a word by which animals leave beside them, as `†DE 103` and `DE 111 (tot)`: they are read without."""
+"""Ids with a sign or a word by which animals leave, as `†DE 103` and `DE 111 (tot)`: they are read without it."""
 from __future__ import annotations
 
 import re
@@ -7,41 +7,39 @@ from dataclasses import replace
 from typing import Container
 
 from gudokeyi.domain.kinds import Field
-from gudokeyi.ingest.odd_texts import SHORT, SMALL, SURE
+from gudokeyi.ingest.odd_texts import SHORT, SMALL, SURE, having
 from gudokeyi.ingest.sheets import Sheet, SheetRow, cell_of, with_cell
 
 CROSSES = "†✝✞✟"
+MARKS = (*CROSSES, " +", "(+", "( +", *SURE, *SHORT, *SMALL)
 WORDS = rf"(?i:(?:{'|'.join((*SURE, *SMALL))})\b|(?:{'|'.join(SHORT)})\b\.?)"
 # a cross before an id, or behind it, where a plus in brackets or alone, or a word, may stand too, with a day behind it
 MARKED = re.compile(
     rf"[{CROSSES}] ?(?P<behind>\w[^{CROSSES}]*)|"
-    rf"(?P<before>[^{CROSSES}(]*\w) ?(?:[{CROSSES}]| \+|\( ?(?:[{CROSSES}+]|{WORDS})[^)]*\)|(?<= ){WORDS})[ \d./-]*"
+    rf"(?P<before>[^{CROSSES}(]*\w) ?(?:[{CROSSES}]|(?<= )\+|\( ?(?:[{CROSSES}+]|{WORDS})[^)]*\)|(?<= ){WORDS})"
+    r"(?: ?(?:\d\d?[./-]){0,2}(?:\d\d)?\d\d)?"
 )
 
 
 def marked_among(texts: Collection[str]) -> dict[str, str]:
     """Those of many texts that have such a sign, each with the id that it has; a word stands beside a digit alone."""
-    together = "\n".join(texts)
-    crosses = [cross for cross in CROSSES if cross in together]
-    likely = {text for text in texts if not text[-1:].isdigit()}
-    likely |= {text for text in texts if any(cross in text for cross in crosses)} if crosses else set()
+    likely = having(MARKS, texts)
     found = {text: one["behind"] or one["before"] for text in likely if (one := MARKED.fullmatch(text))}
-    return {text: id for text, id in found.items() if any(map(str.isdigit, id)) or any(one in text for one in crosses)}
+    return {text: id for text, id in found.items() if any(map(str.isdigit, id)) or any(one in text for one in CROSSES)}
 
 
 def without_signs_of_exits(sheet: Sheet, columns: Mapping[str, int], animals: Container[str]) -> Sheet:
     """The sheet with such ids as they are meant, also where they are parents. An animal that is there by such an id
     keeps it."""
     at = columns[Field.ID]
-    texts = {*sheet.column(at)}
-    meant = {text: id for text, id in marked_among(texts).items() if text not in animals}
+    meant = {text: id for text, id in marked_among(sheet.column(at)).items() if text not in animals}
     if not meant:
         return sheet
     marked = {row.line: text for row, text in zip(sheet.rows, sheet.column(at)) if text in meant}
     rows = [with_cell(row, at, meant[marked[row.line]]) if row.line in marked else row for row in sheet.rows]
-    ids = texts.union(meant.values())
+    ids = {*sheet.column(at), *meant.values()}
     for place in [columns[role] for role in (Field.SIRE, Field.DAM) if role in columns]:
-        parents = marked_among({*sheet.column(place)})
+        parents = marked_among(sheet.column(place))
         rows = with_parents(rows, place, {text: id for text, id in parents.items() if id in ids and text not in animals})
     return replace(sheet, rows=rows, kept={}, marked=marked)
 

@@ -124,14 +124,23 @@ def parts_of(id: str, shapes: Collection[str]) -> Iterator[tuple[str, ...]]:
 WITH_ANOTHER = re.compile(
     r"(?P<first>(?:.*[^\d\n])?(?P<number>\d+)) ?(?:[+&;,]| (?:und|u\.|and|et)(?= )) ?(?P<other>\d+)", re.IGNORECASE
 )
-ANOTHER = ("+", "&", ";", ",", " u", " U", " a", " A", " e", " E")
+ANOTHER = ("+", "&", ";", ",", " und ", " u. ", " and ", " et ")
+
+
+NO_DIGITS = str.maketrans("", "", "0123456789")
+
+
+def having(marks: Iterable[str], texts: Collection[str]) -> list[str]:
+    """Those of many texts that have one of some marks, in small letters and without digits. Few sheets have any; most
+    ids are alike but for their digits."""
+    without_digits = "\n".join({*"\n".join(texts).lower().translate(NO_DIGITS).split("\n")})
+    there = [mark for mark in marks if mark in without_digits]
+    return [text for text in texts if any(mark in text.lower() for mark in there)] if there else []
 
 
 def ids_with_another(ids: Collection[str]) -> dict[str, tuple[str, ...]]:
     """The ids that have the end of another one behind them, and are written as others are without it."""
-    together = "\n".join(ids)
-    signs = [sign for sign in ANOTHER if sign in together]
-    likely = [id for id in ids if any(sign in id for sign in signs)] if signs else []
+    likely = having(ANOTHER, ids)
     found = {id: one for id in likely if (one := WITH_ANOTHER.fullmatch(id)) and len(one["other"]) <= len(one["number"])}
     shapes = {shape(id) for id, _ in zip((id for id in ids if id not in found), range(SOME))} if found else set()
     both = {id: (one["first"], one["first"][: -len(one["other"])] + one["other"]) for id, one in found.items()}

@@ -175,10 +175,11 @@ def read_sheet(file: GivenFile, score: Score, worksheet: str = "", before: Named
     else:
         if worksheet:
             raise Mistake(SheetFault.NO_WORKSHEETS.said(path=path))
-        text, encoding, fault = decoding(path, data)
+        text, encoding, fault, note = decoding(path, data)
         tops, best = tops_of(text), best_separator
         taken = best(tops, score)
         rows, unread = rows_of_text(text, taken, score)
+        unread += [note] if note else []
         how = f"{encoding}, cells separated by " + {";": "semicolons", "\t": "tabs", ",": "commas"}[taken]
         faults = [fault] if fault else []
     rows, unseen = without_unseen(rows)

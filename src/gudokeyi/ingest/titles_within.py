@@ -51,14 +51,13 @@ class Ordered(NamedTuple):
 def in_order(rows: Sequence[tuple[int, list[str]]], titles: Sequence[str], together: str) -> Ordered:
     """The rows below the first titles. `together` has all cells, each between tabulators: few sheets have titles
     twice."""
-    places = {text: at for at, title in enumerate(titles) if (text := plain(title))}
-    named = [*filter(None, titles)]
-    is_twice = any(together.count(f"\t{title}\t") > 1 for title in named[:SOME])
-    if not is_twice or len(places) < len(named):
+    named = {title: titles.count(title) for title in titles if title}
+    if not any(together.count(f"\t{title}\t") > count for title, count in [*named.items()][:SOME]):
         return Ordered({}, frozenset())
+    places = places_of(titles)
     orders, of_titles, order = dict[int, Order](), set[int](), dict[int, int]()
     for line, cells in rows:
-        if found := order_of(cells, places):
+        if found := order_of(cells, places, sum(named.values())):
             order = found if any(at != place for at, place in found.items()) else {}
             of_titles |= {line} if order else set()
         if order:
@@ -66,11 +65,21 @@ def in_order(rows: Sequence[tuple[int, list[str]]], titles: Sequence[str], toget
     return Ordered(orders, frozenset(of_titles))
 
 
-def order_of(cells: Sequence[str], places: Mapping[str, int]) -> dict[int, int]:
-    """Where the cells below a row belong that has nothing but titles, and nearly all of them; empty of any other."""
-    if cells[0] and plain(cells[0]) not in places:
+def places_of(titles: Sequence[str]) -> dict[tuple[str, int], int]:
+    """Where each title stands, by its letters and how often these stand before it."""
+    counts, found = collections.Counter[str](), dict[tuple[str, int], int]()
+    for at, title in enumerate(titles):
+        if title:
+            text = plain(title) or title
+            found[text, counts[text]] = at
+            counts[text] += 1
+    return found
+
+
+def order_of(cells: Sequence[str], places: Mapping[tuple[str, int], int], titles: int) -> dict[int, int]:
+    """Where the cells below a row belong that has nothing but titles, and nearly all of so many; empty of any other."""
+    if cells[0] and (plain(cells[0]) or cells[0], 0) not in places:
         return {}
-    named = {at: plain(cell) for at, cell in enumerate(cells) if cell}
-    found = {at: places[text] for at, text in named.items() if text in places}
-    is_one = len(named) == len(found) == len({*found.values()}) and 4 * len(found) >= 3 * len(places)
-    return found if is_one else {}
+    named = places_of(cells)
+    found = {at: places[key] for key, at in named.items() if key in places}
+    return found if len(named) == len(found) and 4 * len(found) >= 3 * titles else {}

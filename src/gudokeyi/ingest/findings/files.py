@@ -99,6 +99,37 @@ class DecodedTwice(SheetFinding):
 
 
 @dataclass(frozen=True, slots=True)
+class LettersOfMac(SheetFinding):
+    """A file whose letters make words in the encoding of a Mac alone: the first such word, its line, and how Windows
+    would read it."""
+
+    word: str
+    line: int
+    as_windows: str
+
+    code = "letters of mac"
+    message = Text(
+        "the letters are read as an older Mac writes them (Mac Roman), as '{word}' in line {line}, which would be "
+        "'{as_windows}' else: if they are wrong, save the sheet as CSV in UTF-8"
+    )
+
+
+@dataclass(frozen=True, slots=True)
+class LettersDoubtful(SheetFinding):
+    """A file with a word that is none in the encoding of Windows, and is one in another: the first one and its line."""
+
+    word: str
+    line: int
+
+    severity = Severity.ANIMALS
+    code = "letters doubtful"
+    message = Text(
+        "letters may be decoded wrongly, the first in '{word}' in line {line}: if they are, save the sheet anew from the "
+        "spreadsheet in which the letters are right, as CSV in UTF-8"
+    )
+
+
+@dataclass(frozen=True, slots=True)
 class LettersLost(SheetFinding):
     texts: tuple[TextInLine, ...]
 
