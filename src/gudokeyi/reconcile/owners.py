@@ -163,8 +163,9 @@ def tell_owners_with_more(next_book: NextBook, owners_before: set[str]) -> None:
     told = {(one.before, one.now) for one in findings if isinstance(one, OwnerRespelt)}
     for owner in owners:
         others = [
-            one for one in longer.get(last_name(owner), ())
+            one for one in longer.get(last_name(TITLE.sub(" ", owner)), ())
             if not owners_before.issuperset((owner, one)) and (owner, one) not in told and (one, owner) not in told
+            and len(of_one_sex([Spelling(owner, 1), Spelling(one, 1)])) == 1
         ]  # fmt: skip
         if others:
             in_book = [one for one in (owner, *others) if one in owners_before and one not in rows]
@@ -179,7 +180,7 @@ def last_name(text: str) -> str:
 
 def last_names(owner: str) -> set[str]:
     """What may be the last name of an owner with initials or first names: it stands first or last."""
-    words = owner.replace(",", " ").split()
+    words = TITLE.sub(" ", owner).replace(",", " ").split()
     if not 1 < len(words) <= 1 + MOST_FIRST_NAMES or not all(map(A_NAME.fullmatch, words)) or FAMILY.search(owner):
         return set()
     if not NO_FIRST_NAMES.isdisjoint(map(str.casefold, words)):

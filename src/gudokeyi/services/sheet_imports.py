@@ -38,6 +38,7 @@ from gudokeyi.reconcile.lost_own_columns import tell_lost_own_columns
 from gudokeyi.reconcile.own_sheet_columns import OwnSheetColumns, find_own_columns, take_own_values
 from gudokeyi.reconcile.outcome import BookAfter, ColumnRead, Outcome, Understood
 from gudokeyi.reconcile.owner_days import OwnerDays
+from gudokeyi.reconcile.owner_words import tell_owners_of_like_words
 from gudokeyi.reconcile.owners import (
     tell_born_dead, tell_doubtful_owners, tell_mistyped_owners, tell_owners_alike, tell_owners_with_more,
     tell_renamed_owners, tell_respelt_owners,
@@ -153,6 +154,7 @@ def tell_owners(next_book: NextBook, owners_before: set[str]) -> None:
     tell_owners_alike(next_book)
     tell_mistyped_owners(next_book, owners_before)
     tell_owners_with_more(next_book, owners_before)
+    tell_owners_of_like_words(next_book, owners_before)
     tell_doubtful_owners(next_book, owners_before)
 
 
