@@ -66,8 +66,9 @@ def columns_beside(sheet: Sheet, columns: Mapping[str, int]) -> list[int]:
 
 
 def has_days(texts: list[str]) -> bool:
-    said = [text for text in texts if text]
-    return bool(said) and 2 * sum(map(says_day, said)) > len(said)
+    """Are most of the different texts days?"""
+    said = {*texts} - {""}
+    return 2 * sum(map(says_day, said)) > len(said)
 
 
 def says_day(text: str) -> bool:

@@ -16,9 +16,12 @@ from gudokeyi.reconcile.owners import A_NAME, FAMILY, OF_MEN, OF_WOMEN, TITLE, l
 BETWEEN, LOST = re.compile(r"[\s,;.]+"), re.compile(r"(?<=[^\W\d_])\?(?=[^\W\d_]|$|\s)")
 
 
-def tell_owners_of_like_words(next_book: NextBook, owners_before: set[str]) -> None:
-    """Owners of whom one at least is new: others were told when they came."""
-    rows = owners_of_rows(next_book)
+def tell_owners_of_like_words(
+    next_book: NextBook, owners_before: set[str], rows: collections.Counter[str] | None = None
+) -> None:
+    """Owners of whom one at least is new: others were told when they came. `rows` are the owners' of the sheet where
+    they are counted already."""
+    rows = owners_of_rows(next_book) if rows is None else rows
     new = rows.keys() - owners_before
     if not new:
         return

@@ -149,10 +149,13 @@ A_NAME = re.compile(r"[^\W\d_]+(?:-[^\W\d_]+)*\.?")
 NO_FIRST_NAMES = {"hof", "farm", "ferme", "gut", "betrieb", "stall", "zucht"}
 
 
-def tell_owners_with_more(next_book: NextBook, owners_before: set[str]) -> None:
+def tell_owners_with_more(
+    next_book: NextBook, owners_before: set[str], rows: collections.Counter[str] | None = None
+) -> None:
     """Names that are the last name of others who have an initial or a first name more. Two of whom the book had both
-    before were told when they came."""
-    rows, longer = owners_of_rows(next_book), collections.defaultdict[str, list[str]](list)
+    before were told when they came. `rows` are the owners' of the sheet where they are counted already."""
+    rows = owners_of_rows(next_book) if rows is None else rows
+    longer = collections.defaultdict[str, list[str]](list)
     if rows.keys() <= owners_before:
         return
     owners = sorted({*rows, *owners_before})
