@@ -83,3 +83,13 @@ def test_buyers_of_other_exits(desk: Desk) -> None:
     desk.take(BEGIN + "Gestorben am;Verkauft am;Käufer\n" + rows((";;", ";;"), *sold))
     assert [owner_of(desk, id) for id in "3456"] == ["Meier", "Huber", "Meier", "Meier"]
     assert [reason(desk, id)[0] for id in "3456"] == ["2020-05-05", "", "2020-12-31", ""]
+
+
+def test_buyers_in_place_of_owners(desk: Desk) -> None:
+    """The day of the sale stands beside that of deaths."""
+    sheet = BEGIN + "Gestorben am;Verkauft am\n" + rows(("1.1.2020;", ";"), ";3.5.2020").replace(
+        "2;1;Meier", "2;1;verkauft an Huber"
+    )
+    desk.take(sheet)
+    assert owner_of(desk, "3") == "Huber" and reason(desk, "3") == ("", "") and desk.transfer_days() == ["2020-05-03"]
+    assert " 0 new, 0 changed" in desk.take(sheet).last
