@@ -77,7 +77,7 @@ def test_what_is_no_exit(desk: Desk, title: str) -> None:
 
 
 # a word for a living animal and what else is said, and such words that say no more than that
-LIVES_AND_MORE = ("lebt, hat gut gelammt", "aktiv - Zuchtpreis 2021", "lebt, geht an Meier", "vivante (boite)", "alive; lame")
+LIVES_AND_MORE = ("lebt, hat gut gelammt", "aktiv - Zuchtpreis 2021", "lebt, geht an Meier", "aktiv (A)", "alive; lame")
 LIVES_ALONE = (
     "lebt", "lebt noch", "lebt (Stand Mai 24)", "im Bestand seit 1.2.2019", "aktiv, im Herdbuch", "alive as of 2024",
     "toujours en vie", "nein", "-",
@@ -99,6 +99,19 @@ def test_what_is_said_of_a_living_animal(desk: Desk, title: str) -> None:
     }
     assert [one["id"] for one in desk.table("book/ids.csv") if one["exit"]] == [f"{len(cells):03}"]
     assert " 0 changed" in desk.take(text).last
+
+
+@pytest.mark.parametrize("title", ["lebt", "Abgang;lebt"])
+def test_more_behind_a_yes_or_a_no(desk: Desk, title: str) -> None:
+    """In a column of living animals what stands behind a yes is kept too, and a no tells of an exit."""
+    beside = ";" * title.count(";")
+    cells = ("ja", "ja, hat gut gelammt", "nein", "nein, Wolf", "ja (Stand 2024)", "nein (3.4.2020)")
+    rows = "".join(f"{at};;w;2.2.2009;;;Huber;{beside}{cell}\n" for at, cell in enumerate(cells, 1))
+    desk.take(TITLES.replace("Abgang", title) + rows)
+    assert {id: those for id, those in notes(desk).items() if those} == {"2": {"lebt: lebt, hat gut gelammt"}}
+    assert {one["id"]: one["exit"] for one in desk.table("book/ids.csv") if one["exit"]} == {
+        "3": "day unknown: 'nicht lebt'", "4": "day unknown: 'nicht lebt, Wolf'", "6": "'nicht lebt'",
+    }  # fmt: skip
 
 
 def test_exit_that_was_none(desk: Desk) -> None:

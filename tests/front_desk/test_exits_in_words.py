@@ -92,9 +92,9 @@ def test_exits_in_words_alone(desk: Desk) -> None:
         "line 2: a0: its exit is left out: 'verkauft' has no day; the animal counts as gone",
         "line 2: a0: inferred: exit on 2001-03-01, as in the book, since its cell gives no day",
     )
-    # a day that is filed by hand is known
+    # a day that is filed by hand is known, and the word stays with it
     desk.good("exit", "a2", "--day", "2012-01-01")
-    assert [row["exit"] for row in desk.table("book/ids.csv")][2:4] == ["", "day unknown: 'sold'"]
+    assert [row["exit"] for row in desk.table("book/ids.csv")][2:4] == ["'verkauft'", "day unknown: 'sold'"]
 
 
 @pytest.mark.parametrize(

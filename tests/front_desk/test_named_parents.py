@@ -163,6 +163,12 @@ def test_name_of_a_male_and_of_a_female(desk: Desk) -> None:
         f"line 6: L3: inferred: its dam 'Toni' is T2 by its name: {MEANT}",
     )
     assert " 0 changed" in desk.take(sheet, "--book", "new").last
+    # the name says what the id said, so the sire by hand stays
+    by_id = sheet.replace("L1,,F,2004-01-01,Toni", "L1,,F,2004-01-01,T1") + "S,,M,2001-03-01,,\n"
+    desk.take(by_id, "--book", "hand")
+    desk.good("correct", "L1", "--sire", "S", "--book", "hand")
+    done = desk.take(by_id.replace("L1,,F,2004-01-01,T1", "L1,,F,2004-01-01,Toni"), "--book", "hand")
+    assert " 0 changed" in done.last and "  sire          S" in desk.good("show", "L1", "--book", "hand").out
     # of two males and a female two may be the sire, and the male that is too young stays told as one who may be meant
     done = desk.take(sheet + "T3,Toni,M,2001-03-01,,\n", "--book", "three")
     done.tells(

@@ -299,6 +299,10 @@ class Takers:
         """The owners whom a text may mean that has nothing but a name and a day beside a word for a sale, as
         `verk. Meier`."""
         name = name_behind_sale(text)
+        # few such texts have a word of an owner's name
+        if not name or self.having.keys().isdisjoint(words_of_taker(name)):
+            return ()
+        name = without_days(name)
         return self.called(name) if len(plain(name)) >= SHORTEST and not words_of(name) <= KNOWN_EXITS else ()
 
     def sold_to(self, text: str) -> tuple[str, ...]:
@@ -306,7 +310,7 @@ class Takers:
         owners = self.behind_sale(text)
         if len(owners) != 1 or is_in_doubt(text):
             return ()
-        words = words_of_taker(name_behind_sale(text))
+        words = words_of_taker(without_days(name_behind_sale(text)))
         return owners if any(its == words for its, _ in self.having[min(words)]) else ()
 
     def within(self, text: str) -> tuple[str, ...]:
@@ -342,9 +346,9 @@ class Takers:
 
 
 def name_behind_sale(text: str) -> str:
-    """What stands behind a word for a sale that begins a text, without days; empty where it has a word for to whom."""
-    found = SOLD.match(text) if TAKER.search(text) is None else None
-    return without_days(found["taker"]) if found else ""
+    """What stands behind a word for a sale that begins a text; empty where it has a word for to whom."""
+    found = SOLD.match(text)
+    return found["taker"] if found and TAKER.search(text) is None else ""
 
 
 def without_days(name: str) -> str:

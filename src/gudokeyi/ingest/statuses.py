@@ -18,7 +18,7 @@ from gudokeyi.ingest.texts import plain
 from gudokeyi.ingest.titles import (
     KNOWN_REASONS, KNOWN_STATES, KNOWN_STATUSES, OF_LIVING, names_exits_alone, names_other_exits,
 )  # fmt: skip
-from gudokeyi.ingest.words import DEAD, KNOWN_YES, exit_word, is_still_there, lives, lives_besides, says_lives
+from gudokeyi.ingest.words import DEAD, KNOWN_YES, SIGN, exit_word, is_still_there, lives, lives_besides, says_lives
 
 # what says no in a column of living animals
 NO_WORDS = {"nein", "n", "no", "non", "false", "falsch", "faux", "0"}
@@ -31,8 +31,8 @@ TAKER = re.compile(
 )
 # the same without a word for to whom, as `verk. Meier`: before it nothing stands but a day
 SOLD = re.compile(
-    r"[\W\d]*\b(?:verkauft|verkauf|verk|abgegeben|abgeg|weggegeben|verschenkt|umgestellt|sold|sale|vendue?|vente|cédée?|"
-    r"donnée?)\b[.:]?\s*(?P<taker>\S.*)",
+    r"[\W\d]*\b(?:verkauft|verkauf|verk|abgegeben|abgeg|weggegeben|verschenkt|umgestellt|sold|sale|vendue?|vente|"
+    r"cédée?|donnée?)\b[.:]?\s*(?P<taker>\S.*)",
     re.IGNORECASE,
 )
 # the same of a text that stands for an owner
@@ -54,12 +54,15 @@ def taker_of_owner(text: str) -> str:
 
 
 def said_of(status: str, title: str) -> str:
-    """What a status says, as a cell of exits says it."""
+    """What a status says, as a cell of exits says it; more may stand behind a yes or a no, as in `nein, Wolf`."""
     if negation := OF_LIVING.get(plain(title)):
-        if status.casefold() in KNOWN_YES or status == "+":
-            return title
-        if status.casefold() in NO_WORDS:
-            return f"{negation} {title}"
+        begin = SIGN.split(status, maxsplit=1)[0].rstrip()
+        word = begin if len(begin) > 1 else status
+        rest = status[len(word) :]
+        if word.casefold() in KNOWN_YES or word == "+":
+            return title + rest
+        if word.casefold() in NO_WORDS:
+            return f"{negation} {title}{rest}"
     return status
 
 

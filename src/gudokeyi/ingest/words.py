@@ -65,9 +65,10 @@ STAYS = (
 )
 # what may stand beside such a word, and says no more than that
 AROUND_STAYS = (
-    "Stand, per, seit, ab, am, im, in, den, dem, der, noch, immer, bei, uns, hier, da, heute, aktuell, derzeit, zurzeit, "
-    "und, ja, of, as, on, since, at, to, the, here, today, still, now, currently, date, and, is, yes, depuis, le, en, "
-    "au, à, ce, jour, encore, toujours, ici, actuellement, chez, nous, et, est, oui, ist, z, Zt, aktive, aktiver, aktives"
+    "Stand, per, seit, ab, am, im, in, den, dem, der, noch, immer, bei, uns, hier, da, heute, aktuell, derzeit, "
+    "zurzeit, z, Zt, ist, und, ja, aktive, aktiver, aktives, of, as, on, since, at, to, the, here, today, still, now, "
+    "currently, date, and, is, yes, depuis, le, en, au, à, ce, jour, encore, toujours, ici, actuellement, chez, nous, "
+    "et, est, oui"
 )
 EXITS = (
     "ja, yes, oui, x, verkauft, verk, Verkauf, geschlachtet, Schlachtung, geschl, schl, gestorben, gest, verstorben, "
@@ -277,8 +278,9 @@ def lives_and_more(text: str) -> bool:
         return False
     for day in places_within(text):
         text = text.replace(day[0], " ")
-    words = [word for word in re.split(r"\W+", text) if LETTER.search(word)]
-    return any(plain(word) not in KNOWN_AROUND_STAYS and compared(word) not in MONTHS for word in words)
+    words = [word for word in re.split(r"\W+", text) if LETTER.search(word) and compared(word) not in MONTHS]
+    # a capital letter alone may stand for a class
+    return any(plain(word) not in KNOWN_AROUND_STAYS or (len(word) == 1 and word.isupper()) for word in words)
 
 
 def is_still_there(text: str) -> bool:

@@ -25,7 +25,7 @@ from gudokeyi.store.state import Rows, Table
 
 # What cells mean, however they are written: a day in another form, a parent by its id or by its name, an unknown one.
 
-PARENTS, DAYS = (Field.SIRE, Field.DAM), (Field.BIRTH, Field.SINCE)
+PARENTS, DAYS = {Field.SIRE: Role.SIRE, Field.DAM: Role.DAM}, (Field.BIRTH, Field.SINCE)
 
 
 class Meanings:
@@ -43,7 +43,7 @@ class Meanings:
 
     def of(self, id: str, field: Field, text: str) -> object:
         if field in PARENTS:
-            return self.parent(id, text)
+            return self.parent(id, text, PARENTS[field])
         if field in DAYS:
             return days_of(self.days.day(field, text), text)
         if field is Field.EXIT:
@@ -54,15 +54,25 @@ class Meanings:
             return (KNOWN_SEXES[word], word in KNOWN_CASTRATED) if word in KNOWN_SEXES else clean(text)
         return text.casefold() in KNOWN_YES if field is Field.EMBRYO else clean(text)
 
-    def parent(self, offspring: str, text: str) -> str:
-        """The animal that a text means, by its id, or where it is the only one by its name or an id that is nearly
-        this."""
+    def parent(self, offspring: str, text: str, role: Role) -> str:
+        """The animal that a text means, by its id, or where it is the only one by its name, also the only one of its
+        sex, or by an id that is nearly this."""
         if text in self.days.unknown or text in self.animals or text in self.book.society_records:
             return "" if text in self.days.unknown else text
-        for ids in (self.near.get(nearly(text), set()), self.named.get(text.casefold(), set())):
-            if len(ids - {offspring}) == 1:
-                return min(ids - {offspring})
+        near, named = self.near.get(nearly(text), set()), self.named.get(text.casefold(), set()) - {offspring}
+        if len(named) > 1 and all(map(self.sex, named)):
+            named = {id for id in named if self.sex(id) == role.sex}
+        for ids in near - {offspring}, named:
+            if len(ids) == 1:
+                return min(ids)
         return text
+
+    def sex(self, id: str) -> str:
+        """That of an animal, where a row or the book says it."""
+        if id in self.animals and self.animals[id].sex:
+            return self.animals[id].sex
+        in_book = self.book.society_records.get(id)
+        return in_book.registration_number[6] if in_book and not in_book.sex.is_inferred else ""
 
     @functools.cached_property
     def near(self) -> Mapping[str, set[str]]:

@@ -82,9 +82,9 @@ class Names:
         return (self.before or self).by_name.same(name)
 
     def find_parents(self, lacking: dict[str, SheetAnimal], next_book: NextBook, with_id: Collection[str]) -> None:
-        """A parent that is none of the ids that were given, but the name of one animal alone, or of one with its sex, is
-        taken for that one where it can be it. What is the parent in the book stays it, whatever other animals have its name. `lacking` are
-        the rows that name a parent without one."""
+        """A parent that is none of the ids that were given, but the name of one animal alone, or of one of its sex, is
+        taken for that one where it can be it. What is the parent in the book stays it, whatever other animals have its
+        name. `lacking` are the rows that name a parent without one."""
         book, ids = next_book.book, next_book.in_book.ids
         links = links_outside(lacking.values(), with_id)
         links = [(offspring, role, text) for offspring, role, text in links if self.same(text)]
@@ -192,7 +192,7 @@ class Names:
         return not any(next(self.meant(one, role, parent) for one, role, text in self.without_row if text == parent))
 
     def named(self, parent: str, roles: Sequence[Role]) -> list[str]:
-        """The animals that have the text of a parent without a row as their name, and may be a parent of these roles."""
+        """The animals that have the text of a parent without a row as their name, and may be one of these roles."""
         those = [self.animals[id] for id in self.same(parent) if id in self.animals and id != parent]
         likely = {one.id for role in roles for one in of_sex(those, role)}
         return [one.id for one in those if one.id in likely]
@@ -323,7 +323,7 @@ def try_parents_again(
         in_book = next_book.book.society_records[id]
         left_out = [role for role in Role if in_book.written(role) and not offspring.parent(role)]
         for role in left_out:
-            parent = animals.get(next_book.meanings.parent(id, in_book.written(role)))
+            parent = animals.get(next_book.meanings.parent(id, in_book.written(role), role))
             if parent and tried.is_possible(parent, role, offspring):
                 offspring.set_parent(role, parent.id)
                 next_book.tried.add((id, role))
