@@ -303,6 +303,8 @@ def test_new_tag(desk: Desk) -> None:
     later = NAMED.replace("006;D", "777;D") + "008;N;w;1.2.2020;001;006;Huber;\n"
     done = desk.take(TITLES + later, "--preview")
     assert "line 8: 777: to look at: it has the name, the birth day and the parents of 006" in done.out
+    # which is told once
+    assert "has its name and its birth day too" not in done.told
     [command] = [one for one in done.commands() if "--new-tag" in one]
     assert " 8 animals, 1 new" in desk.typed(command.replace(" --preview", "")).last
     assert desk.parents()["008"] == ("001", "777") and "006" not in desk.numbers()
