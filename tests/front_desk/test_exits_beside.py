@@ -22,10 +22,9 @@ def test_days_of_several_columns(desk: Desk) -> None:
     sheet += rows(("1.1.2020;;", ";3.3.2021;"), ";;4.4.2022", ";;4.5.22", "1.6.2023;;4.4.2022", "7.2022;;4.7.2022", ";;-")
     done = desk.take(sheet)
     done.shows(
-        "to look at: the column 'Geschlachtet am' has the day of an exit in 1 row where 'Gestorben am' has none: it is "
-        "taken there",
-        "to look at: the column 'Verkauft am' has the days of exits in 2 rows where 'Gestorben am' has none: they are "
-        "taken there",
+        "to look at: the column 'Geschlachtet am' has an exit in 1 row where 'Gestorben am' has none: it is taken from "
+        "there",
+        "to look at: the column 'Verkauft am' has exits in 2 rows where 'Gestorben am' has none: they are taken from there",
         "line 6: 5: to look at: 'Gestorben am' says '1.6.2023', and 'Verkauft am' says '4.4.2022': the animal counts as "
         "gone, on the day of the first",
     )
@@ -57,6 +56,19 @@ def test_days_beside_words(desk: Desk) -> None:
         "the day of the first",
         "line 7: 6: to look at: 'Gestorben am' says 'lebt', and 'Verkauft am' says '4.4.2022': the animal counts as gone",
     )
+
+
+def test_yes_in_such_a_column(desk: Desk) -> None:
+    """It says that the animal left, on a day that isn't known, unless another column tells of its exit."""
+    cells = ";x", ";nein", "3.3.2021;x", ";-", ";Ja"
+    done = desk.take(BEGIN + "Gestorben am;Verkauft\n" + rows(("1.1.2020;", ";2.2.2020"), *cells))
+    done.shows("to look at: the column 'Verkauft' has exits in 3 rows where 'Gestorben am' has none: they are taken from there")
+    told = {row["id"]: row["exit"] for row in desk.table("book/ids.csv") if row["exit"]}
+    assert told == {"2": "'Verkauft'", "3": "day unknown: 'Verkauft'", "7": "day unknown: 'Verkauft'"}
+    assert reason(desk, "5")[0] == "2021-03-03" and "not read" not in done.out
+    # a tag may be lost
+    done = desk.take(BEGIN + "Gestorben am;Lost\n" + rows(("1.1.2020;x", ";x"), ";x"), "--book", "two")
+    assert "not read: 'Lost'" in done.out
 
 
 @pytest.mark.parametrize("titles", ["Verkauft am;Käufer", "Date sold;Sold to", "Abgang;Verkauft an", "Vendu le;Acheteur"])
