@@ -105,3 +105,20 @@ def test_buyers_in_place_of_owners(desk: Desk) -> None:
     desk.take(sheet)
     assert owner_of(desk, "3") == "Huber" and reason(desk, "3") == ("", "") and desk.transfer_days() == ["2020-05-03"]
     assert " 0 new, 0 changed" in desk.take(sheet).last
+
+
+def test_buyers_alone(desk: Desk) -> None:
+    """Where nothing else tells of exits such a column is told, and read as that of the exits where somebody says so."""
+    sold = "Huber", "Huber 3.5.2020", "Schulze", "Schulze 4.5.20", "verkauft an Huber 5.5.2020", "-"
+    sheet = BEGIN + "Verkauft an\n" + rows(("", ""), *sold)
+    done = desk.take(sheet)
+    done.tells("to look at: nothing is read as exit, though the column 'Verkauft an' looks like that, with 6 cells: "
+               "Huber, Huber 3.5.2020, Schulze, Schulze 4.5.20, verkauft an Huber 5.5.2020; if it is the one, say "
+               "--columns 'exit=Verkauft an'")  # fmt: skip
+    assert [owner_of(desk, id) for id in "345678"] == ["Meier"] * 6
+    desk.take(sheet, "--columns", "exit=Verkauft an")
+    assert [owner_of(desk, id) for id in "345678"] == ["Huber", "Huber", "Meier", "Meier", "Huber", "Meier"]
+    assert {row["id"]: row["exit"] for row in desk.table("book/ids.csv") if row["exit"]} == {
+        "5": "day unknown: 'verkauft an Schulze'", "6": "'verkauft an Schulze'",
+    }  # fmt: skip
+    assert " 0 new, 0 changed" in desk.take(sheet).last

@@ -160,6 +160,15 @@ def add_exit_days(
         ExitDays(sheet, columns, unknown, report).add(exits, rows, at)
 
 
+def add_sales_to(exits: Exits, rows: Sequence[SheetRow], sheet: Sheet, at: int, unknown: Container[str]) -> None:
+    """The cells of a column for exits that says to whom animals were sold are read with what its title says."""
+    said = KNOWN_BUYERS.get(plain(sheet.titles[at]))
+    for place, row in enumerate(rows if said else ()):
+        buyer = cell_of(row, at)
+        if LETTER.search(buyer) and buyer not in unknown and not lives(buyer) and not exit_word(buyer):
+            exits.texts.setdefault(place, f"{said} {buyer}")
+
+
 class Buyers:
     """Says in the text for an exit to whom the animal was sold, as another column has it."""
 

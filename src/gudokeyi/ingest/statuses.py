@@ -10,7 +10,7 @@ from gudokeyi.domain.findings import Report
 from gudokeyi.domain.kinds import Field
 from gudokeyi.ingest.day_cells import is_other_state
 from gudokeyi.ingest.days import is_span, places_within
-from gudokeyi.ingest.exits_beside import Exits, add_buyers, add_exit_days
+from gudokeyi.ingest.exits_beside import Exits, add_buyers, add_exit_days, add_sales_to
 from gudokeyi.ingest.findings.exits import NoExits, Remark
 from gudokeyi.ingest.findings.rows import StatusDisagrees, StatusRead
 from gudokeyi.ingest.sheets import Sheet, SheetRow, cell_of
@@ -199,6 +199,7 @@ def exits_said(
     else:
         exits = Exits(exits_of_living(rows, sheet.titles[at], at))
     add_days_of_sales(exits, rows, sheet.titles, columns)
+    add_sales_to(exits, rows, sheet, at, unknown)
     add_exit_days(exits, rows, sheet, columns, unknown, report)
     add_buyers(exits, rows, sheet, columns, unknown, report)
     return exits
