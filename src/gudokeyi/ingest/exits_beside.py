@@ -1,5 +1,5 @@
-"""Columns beside that of the exits which tell of these too: `geschlachtet am` and `verkauft`, with days or a yes, and to
-whom an animal was sold."""
+"""Columns beside that of the exits which tell of these too: `geschlachtet am` and `verkauft`, with days or a yes, and
+to whom an animal was sold."""
 from __future__ import annotations
 
 from collections.abc import Mapping, Sequence
