@@ -22,10 +22,9 @@ def test_days_of_several_columns(desk: Desk) -> None:
     sheet += rows(("1.1.2020;;", ";3.3.2021;"), ";;4.4.2022", ";;4.5.22", "1.6.2023;;4.4.2022", "7.2022;;4.7.2022", ";;-")
     done = desk.take(sheet)
     done.shows(
-        "to look at: the column 'Geschlachtet am' has the day of an exit in 1 row where 'Gestorben am' has none: it is "
-        "taken there",
-        "to look at: the column 'Verkauft am' has the days of exits in 2 rows where 'Gestorben am' has none: they are "
-        "taken there",
+        "to look at: the column 'Geschlachtet am' has an exit in 1 row where 'Gestorben am' has none: it is taken from "
+        "there",
+        "to look at: the column 'Verkauft am' has exits in 2 rows where 'Gestorben am' has none: they are taken from there",
         "line 6: 5: to look at: 'Gestorben am' says '1.6.2023', and 'Verkauft am' says '4.4.2022': the animal counts as "
         "gone, on the day of the first",
     )
@@ -59,6 +58,19 @@ def test_days_beside_words(desk: Desk) -> None:
     )
 
 
+def test_yes_in_such_a_column(desk: Desk) -> None:
+    """It says that the animal left, on a day that isn't known, unless another column tells of its exit."""
+    cells = ";x", ";nein", "3.3.2021;x", ";-", ";Ja"
+    done = desk.take(BEGIN + "Gestorben am;Verkauft\n" + rows(("1.1.2020;", ";2.2.2020"), *cells))
+    done.shows("to look at: the column 'Verkauft' has exits in 3 rows where 'Gestorben am' has none: they are taken from there")
+    told = {row["id"]: row["exit"] for row in desk.table("book/ids.csv") if row["exit"]}
+    assert told == {"2": "'Verkauft'", "3": "day unknown: 'Verkauft'", "7": "day unknown: 'Verkauft'"}
+    assert reason(desk, "5")[0] == "2021-03-03" and "not read" not in done.out
+    # a tag may be lost
+    done = desk.take(BEGIN + "Gestorben am;Lost\n" + rows(("1.1.2020;x", ";x"), ";x"), "--book", "two")
+    assert "not read: 'Lost'" in done.out
+
+
 @pytest.mark.parametrize("titles", ["Verkauft am;Käufer", "Date sold;Sold to", "Abgang;Verkauft an", "Vendu le;Acheteur"])
 def test_buyers(desk: Desk, titles: str) -> None:
     """An owner of the society has the animal since that day; somebody else is kept beside the day."""
@@ -83,3 +95,30 @@ def test_buyers_of_other_exits(desk: Desk) -> None:
     desk.take(BEGIN + "Gestorben am;Verkauft am;Käufer\n" + rows((";;", ";;"), *sold))
     assert [owner_of(desk, id) for id in "3456"] == ["Meier", "Huber", "Meier", "Meier"]
     assert [reason(desk, id)[0] for id in "3456"] == ["2020-05-05", "", "2020-12-31", ""]
+
+
+def test_buyers_in_place_of_owners(desk: Desk) -> None:
+    """The day of the sale stands beside that of deaths."""
+    sheet = BEGIN + "Gestorben am;Verkauft am\n" + rows(("1.1.2020;", ";"), ";3.5.2020").replace(
+        "2;1;Meier", "2;1;verkauft an Huber"
+    )
+    desk.take(sheet)
+    assert owner_of(desk, "3") == "Huber" and reason(desk, "3") == ("", "") and desk.transfer_days() == ["2020-05-03"]
+    assert " 0 new, 0 changed" in desk.take(sheet).last
+
+
+def test_buyers_alone(desk: Desk) -> None:
+    """Where nothing else tells of exits such a column is told, and read as that of the exits where somebody says so."""
+    sold = "Huber", "Huber 3.5.2020", "Schulze", "Schulze 4.5.20", "verkauft an Huber 5.5.2020", "-"
+    sheet = BEGIN + "Verkauft an\n" + rows(("", ""), *sold)
+    done = desk.take(sheet)
+    done.tells("to look at: nothing is read as exit, though the column 'Verkauft an' looks like that, with 6 cells: "
+               "Huber, Huber 3.5.2020, Schulze, Schulze 4.5.20, verkauft an Huber 5.5.2020; if it is the one, say "
+               "--columns 'exit=Verkauft an'")  # fmt: skip
+    assert [owner_of(desk, id) for id in "345678"] == ["Meier"] * 6
+    desk.take(sheet, "--columns", "exit=Verkauft an")
+    assert [owner_of(desk, id) for id in "345678"] == ["Huber", "Huber", "Meier", "Meier", "Huber", "Meier"]
+    assert {row["id"]: row["exit"] for row in desk.table("book/ids.csv") if row["exit"]} == {
+        "5": "day unknown: 'verkauft an Schulze'", "6": "'verkauft an Schulze'",
+    }  # fmt: skip
+    assert " 0 new, 0 changed" in desk.take(sheet).last

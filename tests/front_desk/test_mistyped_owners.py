@@ -14,9 +14,10 @@ from front_desk.desk import Desk
 from gudokeyi.domain.findings import Finding, Report
 from gudokeyi.ingest.animals import SheetAnimal
 from gudokeyi.ingest.texts import plain
-from gudokeyi.reconcile.findings.animals import OwnerMistyped, OwnerRespelt, OwnersAlike, Spelling
-from gudokeyi.reconcile.findings.plausibility import OwnerOfSeveral, OwnerWithMore
+from gudokeyi.reconcile.findings.animals import OwnerMistyped, OwnerRespelt, OwnersAlike, OwnersOtherwise, Spelling
+from gudokeyi.reconcile.findings.plausibility import OwnerOfSeveral, OwnerWithInitial, OwnerWithMore
 from gudokeyi.reconcile.next_book import NextBook
+from gudokeyi.reconcile.owner_words import tell_owners_of_like_words
 from gudokeyi.reconcile.owners import (
     MORE, differ_by_one, is_no_name, tell_doubtful_owners, tell_mistyped_owners, tell_owners_alike,
     tell_owners_with_more, tell_respelt_owners,
@@ -122,6 +123,49 @@ def test_owners_with_more(rows: list[str], before: set[str], found: list[OwnerWi
     """One has an initial or a first name more: two initials tell owners apart, and so do a farm's name and numbers. A
     name of the book that no row has any more may be written otherwise now."""
     assert report_of(dict.fromkeys(rows, 1), lambda next_book: tell_owners_with_more(next_book, before)) == found
+
+
+def spellings(*owners: str) -> tuple[Spelling, ...]:
+    return tuple(Spelling(owner, 1) for owner in owners)
+
+
+@pytest.mark.parametrize(("rows", "before", "found"), [
+    (["EARL Le Goff", "Le Goff EARL"], set(), [OwnersOtherwise(spellings("EARL Le Goff", "Le Goff EARL"))]),
+    (["Mme Tanguy Anne", "Anne Tanguy"], set(), [OwnersOtherwise(spellings("Anne Tanguy", "Mme Tanguy Anne"))]),
+    (["Mme Tanguy Anne", "M. Anne Tanguy"], set(), []), (["Anne Tanguy", "Tanguy, Anne"], set(), []),
+    (["Le Goff", "Legoff", "Le Goff A. B."], set(), []), (["Hof 2", "Hof 3"], set(), []),
+    (["GAEC du Chêne", "GAEC du Ch?ne"], set(), [OwnersAlike(spellings("GAEC du Ch?ne", "GAEC du Chêne"))]),
+    (["Andr?", "André"], set(), [OwnersAlike(spellings("Andr?", "André"))]),
+    (["Huber ?", "Hubert", "Ch?ne", "Charne", "Ch-ne"], set(), []),
+    (["Tanguy A.", "Anne Tanguy"], set(), [OwnerWithInitial("Tanguy A.", ("Anne Tanguy",))]),
+    (["Mme A Tanguy", "Tanguy Anne", "Mr Alan Tanguy"], set(), [OwnerWithInitial("Mme A Tanguy", ("Tanguy Anne",))]),
+    (["Tanguy A.", "Bob Tanguy", "A. Goff", "Tanguy B. A.", "A. B."], set(), []),
+    (["Tanguy A.", "Anne Tanguy"], {"Tanguy A.", "Anne Tanguy"}, []),
+    (["Tanguy A."], {"Anne Tanguy"}, [OwnerWithInitial("Tanguy A.", ("Anne Tanguy",))]),
+])  # fmt: skip
+def test_owners_of_like_words(rows: list[str], before: set[str], found: list[Finding]) -> None:
+    """The same words in another order, an initial in place of a first name, and a sign in place of a letter that was
+    lost: neither a man and a woman, nor two of whom the book had both before."""
+    assert report_of(dict.fromkeys(rows, 1), lambda next_book: tell_owners_of_like_words(next_book, before)) == found
+
+
+@pytest.mark.parametrize(("rows", "is_told"), [
+    (["Dr Singh", "Dr A Singh"], True), (["Singh", "Dr A Singh"], True), (["Mr Fox", "Paul Fox"], True),
+    (["Mr Fox", "Mrs P Fox"], False), (["Mr Fox", "Fox"], False), (["Dr Singh", "Dr Sing"], False),
+])  # fmt: skip
+def test_titles_beside_more(rows: list[str], is_told: bool) -> None:
+    found = report_of(dict.fromkeys(rows, 1), lambda next_book: tell_owners_with_more(next_book, set()))
+    assert bool(found) == is_told
+
+
+def test_owners_of_like_words_in_a_sheet(desk: Desk) -> None:
+    owners = "EARL Le Goff", "Le Goff EARL", "Anne Tanguy", "Tanguy A.", "GAEC du Chêne", "GAEC du Ch?ne"
+    rows = "".join(f"{at};m;2001-01-01;;;{owner}\n" for at, owner in enumerate(owners, 1))
+    sheet = "id;sex;birth;sire;dam;owner\n" + rows
+    told = desk.take(sheet).told
+    assert "'EARL Le Goff' (1 animal) and 'Le Goff EARL' (1 animal) differ" in told
+    assert "'Tanguy A.' may be Anne Tanguy" in told and "'GAEC du Ch?ne' (1 animal) and 'GAEC du Chêne'" in told
+    assert "Tanguy" not in desk.take(sheet).told
 
 
 def test_owner_with_a_first_name(desk: Desk) -> None:

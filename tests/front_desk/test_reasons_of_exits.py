@@ -110,8 +110,8 @@ def test_reasons_beside_a_status(desk: Desk) -> None:
 
 @pytest.mark.parametrize("titles", ["Sorti le;Motif de sortie", "Sorti le;Motif de sortie;Statut"])
 def test_reason_that_is_no_exit(desk: Desk, titles: str) -> None:
-    """The day of a loan is none of an exit: the animal stays, and that is told. A state that isn't why an animal left is
-    told beside the exit."""
+    """The day of a loan is none of an exit: the animal stays, and that is told. A state that isn't why an animal left
+    is told beside the exit."""
     state = {"Statut": ";Sorti"}.get(titles.rpartition(";")[2], "")
     rows = f"a;M;2001-01-01;;;2020-01-01;Mort{state}\nb;F;2001-01-01;;;2020-01-02;Prêtée{state}\n"
     rows += f"d;F;2002-01-01;;;2020-01-03;Vendue{state}\ne;F;2003-01-01;;;2020-01-04;Abattage{state}\n"

@@ -118,7 +118,8 @@ def with_years(
 ) -> dict[int, str]:
     """The years of a column where that of births has nothing; where both speak and disagree, that is told."""
     said = [(place, row.line, cell_of(row, at), cell_of(row, of_years)) for place, row in enumerate(rows)]
-    said = [one for one in said if len({*SOME_YEAR.findall(one[3])}) == 1]
+    years = {text for text in {text for *_, text in said} if len({*SOME_YEAR.findall(text)}) == 1}
+    said = [one for one in said if one[3] in years]
     found = {place: year for place, _, birth, year in said if not birth or birth in unknown}
     others = [(line, birth, year) for place, line, birth, year in said if place not in found and not agree(birth, year)]
     titles = sheet.titles[of_years], sheet.titles[at]
@@ -132,6 +133,8 @@ def with_years(
 
 def agree(birth: str, year: str) -> bool:
     """May a birth be in the year? A text without a year of four digits ends with two of them, if it has any."""
+    if year in birth:
+        return True
     [said] = {*SOME_YEAR.findall(year)}
     years = SOME_YEAR.findall(birth)
     short = re.search(r"\D(\d\d)\W*$", birth)

@@ -15,6 +15,7 @@ from gudokeyi.ingest.births_beside import parts_of_births
 from gudokeyi.ingest.column_detection import MOST_COMPARED, IdColumn, LikelyColumns, are_row_numbers
 from gudokeyi.ingest.days import is_span
 from gudokeyi.ingest.encodings import Letters, decoded_twice
+from gudokeyi.ingest.exits_beside import KNOWN_BUYERS
 from gudokeyi.ingest.findings.columns import (
     ColumnLost, ColumnsLack, ColumnUntitled, LikelierColumn, NamedColumnLacks, ParentsBeside, ParentsFromOther,
     SheetFinding, TellsNoExits, TitleTwice,
@@ -333,7 +334,8 @@ def tell_unread_fields(columns: Columns, named: Mapping[str, str]) -> None:
             continue
         for at in [at for at, title in enumerate(columns.sheet.titles) if title and columns.is_free(at)][:MOST_COMPARED]:
             cells = collections.Counter(cell for cell in columns.cells(at) if cell)
-            if cells.total() >= SOME and len(cells) <= MOST_DIFFERENT and look(columns.title(at), cells):
+            least = 1 if plain(columns.title(at)) in KNOWN_BUYERS else SOME
+            if cells.total() >= least and len(cells) <= MOST_DIFFERENT and look(columns.title(at), cells):
                 said = tuple([*cells][:MOST_SHOWN])
                 columns.notes.append(FieldUnread(name, columns.title(at), cells.total(), said))
 
@@ -345,6 +347,9 @@ def looks_like_sexes(_: str, cells: collections.Counter[str]) -> bool:
 
 
 def looks_like_exit_days(title: str, cells: collections.Counter[str]) -> bool:
+    """Is it one of exits' days, or one that says to whom animals were sold?"""
+    if plain(title) in KNOWN_BUYERS:
+        return any(map(LETTER.search, cells))
     return has_word(title, TELLING_EXITS) and 2 * sum(cells[cell] for cell in cells if is_span(cell)) > cells.total()
 
 

@@ -54,8 +54,8 @@ class Order:
         return SLASHED.search(text) is not None
 
     def fault(self, month_first: bool) -> WrongOrder | OneWrongOrder | None:
-        """Why the days can't be read in the order that is wished; nothing where so many of each column are written in it
-        that the others are slips, which are read by themselves."""
+        """Why the days can't be read in the order that is wished; nothing where so many of each column are written in
+        it that the others are slips, which are read by themselves."""
         wrong = self.days_first if month_first else self.months_first
         right = self.months_first if month_first else self.days_first
         slips, others = (collections.Counter(one.field for one in places) for places in (wrong, right))

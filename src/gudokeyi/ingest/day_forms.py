@@ -17,7 +17,7 @@ from gudokeyi.ingest.days import (
 from gudokeyi.ingest.findings.columns import SheetFinding
 from gudokeyi.ingest.findings.days import DayReading, DaysReadSo
 from gudokeyi.ingest.open_births import open_days
-from gudokeyi.ingest.periods_in_texts import PART_OF_MONTH, period_in
+from gudokeyi.ingest.periods_in_texts import PART_OF_MONTH, period_in, two_months
 from gudokeyi.ingest.words import LETTER
 
 
@@ -159,6 +159,8 @@ class DayForms:
             return (found[0]._replace(text=text if found[0].text else ""), found[1]) if found else None
         if winter := self.winter(text):
             return winter, DayReading.ONE_OF
+        if months := two_months(text, self.year_near):
+            return months, DayReading.ONE_OF if months.precision is Precision.DAYS else DayReading.WITHIN
         if either := self.of_either_year(text):
             if is_exit:
                 raise Unreadable(DayFault.NO_DAY, text)

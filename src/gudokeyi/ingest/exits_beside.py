@@ -1,5 +1,5 @@
-"""Columns beside that of the exits which tell of these too: days such as `geschlachtet am`, and to whom an animal was
-sold."""
+"""Columns beside that of the exits which tell of these too: `geschlachtet am` and `verkauft`, with days or a yes, and
+to whom an animal was sold."""
 from __future__ import annotations
 
 from collections.abc import Mapping, Sequence
@@ -17,7 +17,9 @@ from gudokeyi.ingest.texts import listed, plain
 from gudokeyi.ingest.titles import (
     BETWEEN_WORDS, DEATHS, KNOWN_DOUBTFUL, KNOWN_TITLES, SALE_DAYS, names_exits_alone, names_other_exits,
 )  # fmt: skip
-from gudokeyi.ingest.words import KNOWN_EXITS, KNOWN_SALES, LETTER, exit_word, lives, says_lives
+from gudokeyi.ingest.words import (
+    KNOWN_EXITS, KNOWN_NO, KNOWN_SALES, KNOWN_YES, LETTER, PLAIN_EXITS, exit_word, has_word, lives, says_lives,
+)  # fmt: skip
 
 # titles of columns that say to whom animals were sold, by how the cell of an exit says so
 BUYERS = {
@@ -43,13 +45,13 @@ class Exits:
 
 
 def exit_day_columns(sheet: Sheet, columns: Mapping[str, int]) -> list[int]:
-    """The columns that aren't read, name exits and have days."""
+    """The columns that aren't read, name exits and have days, or a yes."""
     if Field.EXIT not in columns:
         return []
     usual = {*KNOWN_TITLES[Field.EXIT]} - KNOWN_DOUBTFUL
     free = [at for at, title in enumerate(sheet.titles) if title and at not in columns.values()]
     named = [at for at in free if names_exits_alone(sheet.titles[at]) or plain(sheet.titles[at]) in usual]
-    return [at for at in named if has_days(sheet.column(at))]
+    return [at for at in named if tells_exits(sheet.column(at), word_of(sheet.titles[at]))]
 
 
 def buyer_columns(sheet: Sheet, columns: Mapping[str, int]) -> list[int]:
@@ -65,9 +67,11 @@ def columns_beside(sheet: Sheet, columns: Mapping[str, int]) -> list[int]:
     return [*exit_day_columns(sheet, columns), *buyer_columns(sheet, columns)]
 
 
-def has_days(texts: list[str]) -> bool:
-    said = [text for text in texts if text]
-    return bool(said) and 2 * sum(map(says_day, said)) > len(said)
+def tells_exits(texts: list[str], word: str) -> bool:
+    """Are most of the different texts days, or a yes or a no?"""
+    said = {*texts} - {""}
+    known = KNOWN_YES | KNOWN_NO if has_word(word, PLAIN_EXITS) else set[str]()
+    return 2 * sum(text.casefold() in known or says_day(text) for text in said) > len(said)
 
 
 def says_day(text: str) -> bool:
@@ -92,14 +96,15 @@ class ExitDays:
     def add(self, exits: Exits, rows: Sequence[SheetRow], at: int) -> None:
         title, word, count = self.sheet.titles[at], word_of(self.sheet.titles[at]), 0
         for place, row in enumerate(rows):
-            day = cell_of(row, at)
-            if not day or day in self.unknown or not says_day(day):
+            cell = cell_of(row, at)
+            is_yes = cell.casefold() in KNOWN_YES and has_word(word, PLAIN_EXITS)
+            if not is_yes and (not cell or cell in self.unknown or not says_day(cell)):
                 continue
-            text = self.taken(exits, place, row, at)
+            text = self.of_yes(exits, place, row, word) if is_yes else self.taken(exits, place, row, at)
             if text:
                 exits.texts[place], exits.titles[place] = text, title
                 count += 1
-            if text == day and word:
+            if text == cell and word:
                 exits.reasons.setdefault(row.line, word)
         if count:
             self.report.add(0, "", ExitDaysRead(title, self.sheet.titles[self.exit], count))
@@ -119,6 +124,11 @@ class ExitDays:
         if not has_digits or not is_same_day(exit, day):
             self.tell(row, self.title(exits, place), exit, at, has_digits)
         return ""
+
+    def of_yes(self, exits: Exits, place: int, row: SheetRow, word: str) -> str:
+        """The word of a column such as `verkauft` that says yes where nothing tells of another exit."""
+        exit = exits.texts.get(place) or cell_of(row, self.exit)
+        return word if not exit or exit in self.unknown else ""
 
     def title(self, exits: Exits, place: int) -> str:
         return exits.titles.get(place) or self.sheet.titles[self.exit]
@@ -148,6 +158,15 @@ def add_exit_days(
 ) -> None:  # fmt: skip
     for at in exit_day_columns(sheet, columns):
         ExitDays(sheet, columns, unknown, report).add(exits, rows, at)
+
+
+def add_sales_to(exits: Exits, rows: Sequence[SheetRow], sheet: Sheet, at: int, unknown: Container[str]) -> None:
+    """The cells of a column for exits that says to whom animals were sold are read with what its title says."""
+    said = KNOWN_BUYERS.get(plain(sheet.titles[at]))
+    for place, row in enumerate(rows if said else ()):
+        buyer = cell_of(row, at)
+        if LETTER.search(buyer) and buyer not in unknown and not lives(buyer) and not exit_word(buyer):
+            exits.texts.setdefault(place, f"{said} {buyer}")
 
 
 class Buyers:

@@ -7,7 +7,7 @@ import re
 from collections.abc import Callable
 
 from gudokeyi.ingest.days import (
-    FIRST_YEAR, LAST_YEAR, MONTHS, NAME, NOT_THAT_YEAR, Precision, Span, compared, month_of, year_of,
+    FIRST_YEAR, LAST_YEAR, LONGEST_SEASON, MONTHS, NAME, NOT_THAT_YEAR, Precision, Span, compared, month_of, year_of,
 )  # fmt: skip
 
 FOUR, SHORT = r"(?P<year>(?:19|20|21)\d{2})(?!\d)", r"'?(?P<year>\d{4}|\d{2})(?!\w|[./-]\d)"
@@ -18,8 +18,11 @@ UNKNOWN_DAY = (
     re.compile(rf"(?P<year>\d{{4}})-(?P<month>\d{{1,2}})-{NO_DIGITS}"),
     re.compile(rf"{NO_DIGITS}[ ./-]*(?P<name>{NAME})[ ./-]*{SHORT}", re.IGNORECASE),
 )
+# a word for a part of a month, before its name
+PART = "mid|mi|mitte|early|late|anfang|ende|beginning|end|début|debut|fin"
 TWO_MONTHS = re.compile(
-    rf"(?<!\w)(?P<name>{NAME})\s*(?:[/–—&+-]|\b(?:or|and|to|oder|od\.?|und|u\.|bis|ou|et|au|à)(?=\s))\s*"
+    rf"(?<!\w)(?P<name>{NAME})(?:[ ./-]*(?P<own>(?:19|20|21)\d{{2}}))?\s*"
+    rf"(?:[/–—&+-]|\b(?:or|and|to|oder|od\.?|und|u\.|bis|ou|et|au|à)(?=\s))\s*(?:(?:{PART})\s+)?"
     rf"(?P<last>{NAME})[ ./,-]*{SHORT}",
     re.IGNORECASE,
 )
@@ -40,10 +43,8 @@ PART_OF_YEAR = (
 )
 # the months of a year
 MOST = 12
-# a word for a part of a month that a hyphen joins with its name, as `mid-April`
-PART_OF_MONTH = re.compile(
-    rf"\b(mid|mi|mitte|early|late|anfang|ende|beginning|end|début|debut|fin)-(?={NAME}(?!\w))", re.IGNORECASE
-)
+# such a word that a hyphen joins with the name, as `mid-April`
+PART_OF_MONTH = re.compile(rf"\b({PART})-(?={NAME}(?!\w))", re.IGNORECASE)
 YearNear = Callable[[str], int]
 
 
@@ -74,16 +75,20 @@ def is_alone(found: re.Match[str]) -> bool:
 
 
 def two_months(text: str, year_near: YearNear) -> Span | None:
-    """The days of two months, of which the first may be in the year before."""
+    """The days of two months, of which the first may be in the year before; of two with their years where they are one
+    beside the other."""
     found = TWO_MONTHS.search(text)
     if found is None or not is_alone(found):
         return None
     first, last = (MONTHS[compared(found[name])] for name in ("name", "last"))
     year = year_of_text(found["year"], year_near)
-    if not FIRST_YEAR < year <= LAST_YEAR:
+    begins = int(found["own"]) if found["own"] else year - (first > last)
+    if not FIRST_YEAR < year <= LAST_YEAR or not FIRST_YEAR <= begins <= year:
         return None
-    begin, end = month_of(year - (first > last), first).first, month_of(year, last).last
-    return days_of_year(begin, end, text) if first <= last else Span(begin, end, "", text, Precision.DAYS)
+    begin, end = month_of(begins, first).first, month_of(year, last).last
+    if found["own"] and not begin < end <= begin + LONGEST_SEASON:
+        return None
+    return days_of_year(begin, end, text) if begins == year else Span(begin, end, "", text, Precision.DAYS)
 
 
 def part_of_year(text: str) -> Span | None:

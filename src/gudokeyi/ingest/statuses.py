@@ -10,7 +10,7 @@ from gudokeyi.domain.findings import Report
 from gudokeyi.domain.kinds import Field
 from gudokeyi.ingest.day_cells import is_other_state
 from gudokeyi.ingest.days import is_span, places_within
-from gudokeyi.ingest.exits_beside import Exits, add_buyers, add_exit_days
+from gudokeyi.ingest.exits_beside import Exits, add_buyers, add_exit_days, add_sales_to
 from gudokeyi.ingest.findings.exits import NoExits, Remark
 from gudokeyi.ingest.findings.rows import StatusDisagrees, StatusRead
 from gudokeyi.ingest.sheets import Sheet, SheetRow, cell_of
@@ -199,6 +199,7 @@ def exits_said(
     else:
         exits = Exits(exits_of_living(rows, sheet.titles[at], at))
     add_days_of_sales(exits, rows, sheet.titles, columns)
+    add_sales_to(exits, rows, sheet, at, unknown)
     add_exit_days(exits, rows, sheet, columns, unknown, report)
     add_buyers(exits, rows, sheet, columns, unknown, report)
     return exits
@@ -211,12 +212,14 @@ def add_days_of_sales(exits: Exits, rows: list[SheetRow], titles: Sequence[str],
     of_days = [at for at in of_days if not names_other_exits(titles[at])]
     if len(of_days) != 1:
         return
+    is_of_others = names_other_exits(titles[exit_at])
     for place, row in enumerate(rows):
         exit, day = exits.texts.get(place) or cell_of(row, exit_at), cell_of(row, of_days[0])
         said = exit or (cell_of(row, owner_at) if owner_at is not None else "")
         has_taker = TAKER.search(said) or SOLD.match(said) if exit else taker_of_owner(said)
         if is_span(day) and has_taker and not places_within(said):
-            exits.texts[place] = f"{exit} {day}".strip()
+            # a day alone would be one of another exit there
+            exits.texts[place] = f"{said if is_of_others else exit} {day}".strip()
 
 
 def reasons_beside(titles: Sequence[str], columns: Mapping[str, int]) -> list[int]:

@@ -149,10 +149,13 @@ A_NAME = re.compile(r"[^\W\d_]+(?:-[^\W\d_]+)*\.?")
 NO_FIRST_NAMES = {"hof", "farm", "ferme", "gut", "betrieb", "stall", "zucht"}
 
 
-def tell_owners_with_more(next_book: NextBook, owners_before: set[str]) -> None:
+def tell_owners_with_more(
+    next_book: NextBook, owners_before: set[str], rows: collections.Counter[str] | None = None
+) -> None:
     """Names that are the last name of others who have an initial or a first name more. Two of whom the book had both
-    before were told when they came."""
-    rows, longer = owners_of_rows(next_book), collections.defaultdict[str, list[str]](list)
+    before were told when they came. `rows` are the owners' of the sheet where they are counted already."""
+    rows = owners_of_rows(next_book) if rows is None else rows
+    longer = collections.defaultdict[str, list[str]](list)
     if rows.keys() <= owners_before:
         return
     owners = sorted({*rows, *owners_before})
@@ -163,8 +166,9 @@ def tell_owners_with_more(next_book: NextBook, owners_before: set[str]) -> None:
     told = {(one.before, one.now) for one in findings if isinstance(one, OwnerRespelt)}
     for owner in owners:
         others = [
-            one for one in longer.get(last_name(owner), ())
+            one for one in longer.get(last_name(TITLE.sub(" ", owner)), ())
             if not owners_before.issuperset((owner, one)) and (owner, one) not in told and (one, owner) not in told
+            and len(of_one_sex([Spelling(owner, 1), Spelling(one, 1)])) == 1
         ]  # fmt: skip
         if others:
             in_book = [one for one in (owner, *others) if one in owners_before and one not in rows]
@@ -179,7 +183,7 @@ def last_name(text: str) -> str:
 
 def last_names(owner: str) -> set[str]:
     """What may be the last name of an owner with initials or first names: it stands first or last."""
-    words = owner.replace(",", " ").split()
+    words = TITLE.sub(" ", owner).replace(",", " ").split()
     if not 1 < len(words) <= 1 + MOST_FIRST_NAMES or not all(map(A_NAME.fullmatch, words)) or FAMILY.search(owner):
         return set()
     if not NO_FIRST_NAMES.isdisjoint(map(str.casefold, words)):

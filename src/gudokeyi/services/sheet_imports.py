@@ -17,7 +17,6 @@ from gudokeyi.ingest.exits_beside import columns_beside
 from gudokeyi.ingest.files import GivenFile
 from gudokeyi.ingest.findings.columns import ColumnUntitled
 from gudokeyi.ingest.parents_beside import tell_parents_named_otherwise
-from gudokeyi.ingest.sheets import cell_of
 from gudokeyi.ingest.statuses import reasons_beside
 from gudokeyi.process import keep
 from gudokeyi.reconcile.all_animals import complete
@@ -38,8 +37,9 @@ from gudokeyi.reconcile.lost_own_columns import tell_lost_own_columns
 from gudokeyi.reconcile.own_sheet_columns import OwnSheetColumns, find_own_columns, take_own_values
 from gudokeyi.reconcile.outcome import BookAfter, ColumnRead, Outcome, Understood
 from gudokeyi.reconcile.owner_days import OwnerDays
+from gudokeyi.reconcile.owner_words import tell_owners_of_like_words
 from gudokeyi.reconcile.owners import (
-    tell_born_dead, tell_doubtful_owners, tell_mistyped_owners, tell_owners_alike, tell_owners_with_more,
+    owners_of_rows, tell_born_dead, tell_doubtful_owners, tell_mistyped_owners, tell_owners_alike, tell_owners_with_more,
     tell_renamed_owners, tell_respelt_owners,
 )  # fmt: skip
 from gudokeyi.reconcile.parents import may_be_unknown
@@ -152,7 +152,9 @@ def tell_owners(next_book: NextBook, owners_before: set[str]) -> None:
     tell_respelt_owners(next_book, owners_before)
     tell_owners_alike(next_book)
     tell_mistyped_owners(next_book, owners_before)
-    tell_owners_with_more(next_book, owners_before)
+    rows = owners_of_rows(next_book)
+    tell_owners_with_more(next_book, owners_before, rows)
+    tell_owners_of_like_words(next_book, owners_before, rows)
     tell_doubtful_owners(next_book, owners_before)
 
 
@@ -258,10 +260,10 @@ def tell_breeders(read: ReadSheet, own: OwnSheetColumns, report: Report) -> None
         return
     titles = enumerate(read.sheet.titles)
     for at in [at for at, title in titles if is_of_breeders(title) and read.columns.is_free(at)][:1]:
-        found = [(row.line, cell_of(row, at)) for row in read.sheet.rows if cell_of(row, at)]
-        if found:
-            line, text = found[0]
-            report.add(0, "", BreedersNotKept(read.sheet.titles[at], len(found), line, text))
+        texts = read.sheet.column(at)
+        if count := len(texts) - texts.count(""):
+            line, text = next((row.line, text) for row, text in zip(read.sheet.rows, texts) if text)
+            report.add(0, "", BreedersNotKept(read.sheet.titles[at], count, line, text))
 
 
 def understood_of(

@@ -97,8 +97,7 @@ class ExitInDoubt(Finding):
 
 @dataclass(frozen=True, slots=True)
 class ExitDaysRead(SheetFinding):
-    """A column of days such as `geschlachtet am`, which is read beside that of the exits: in so many rows it alone has
-    one."""
+    """A column such as `geschlachtet am`, which is read beside that of the exits: in so many rows it alone has one."""
 
     title: str
     of_exits: str
@@ -107,8 +106,8 @@ class ExitDaysRead(SheetFinding):
     severity = Severity.FACTS
     code = "exit days read"
     message = Counted(
-        "the column '{title}' has the day of an exit in {count} row where '{of_exits}' has none: it is taken there",
-        "the column '{title}' has the days of exits in {count} rows where '{of_exits}' has none: they are taken there",
+        "the column '{title}' has an exit in {count} row where '{of_exits}' has none: it is taken from there",
+        "the column '{title}' has exits in {count} rows where '{of_exits}' has none: they are taken from there",
         "count",
     )
 

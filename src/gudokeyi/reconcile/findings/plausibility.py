@@ -89,6 +89,27 @@ class OwnerWithMore(PlausibilityWarning):
         return is_renamed if self.before else ()
 
 
+# so many others are told
+MOST_OTHERS = 5
+
+
+@dataclass(frozen=True, slots=True)
+class OwnerWithInitial(PlausibilityWarning):
+    """An owner has an initial where others of the same last name have a first name that begins so."""
+
+    owner: str
+    others: tuple[str, ...]
+
+    code = "owner with initial"
+    message = Text(
+        "the owner '{owner}' may be {which}, whose first name begins so: if they are one, write the name alike in all "
+        "rows, and take the sheet again"
+    )
+
+    def values(self) -> Mapping[str, object]:
+        return {"which": AnyOf(self.others)}
+
+
 @dataclass(frozen=True, slots=True)
 class BornDead(PlausibilityWarning):
     """An animal whose name says that it never lived."""

@@ -41,6 +41,7 @@ OF_FINDINGS: dict[enum.Enum, str] = {
     DayReading.UNSURE: "a day that isn't sure",
     DayReading.PERIOD_WITHIN: "a text with a month, a week or a season",
     DayReading.YEAR_ALONE: "a text of which the year alone can be read",
+    DayReading.OTHER_ORDER: "day and month in the other order than elsewhere",
     BirthSource.GIVEN: "as given",
     BirthSource.PERIOD: "from a month or year",
     BirthSource.OFFSPRING: "from its offspring",
