@@ -260,7 +260,7 @@ def test_winters_and_mistyped_days(desk: Desk) -> None:
     in_column = "of the column 'Whelped':"
     done.tells(
         f"to look at: a text with a month, a week or a season in 1 cell {in_column} 'Winter 2019' in line 2 is read as "
-        "2019",
+        "2019-01-01 to 2019-02-28",
         f"to look at: one of several days in 1 cell {in_column} 'Winter 2018/19' in line 3 is read as 2018-12-01 to "
         "2019-02-28",
         f"to look at: a text of which the year alone can be read in 2 cells {in_column} '12..3.2020' in line 9 is read "

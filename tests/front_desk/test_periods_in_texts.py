@@ -43,6 +43,8 @@ def test_births_within_periods(desk: Desk) -> None:
     rows = "".join(f"{at};F;{cell};2;1;\n" for at, cell in enumerate(cells, 3))
     sheet = "id;sex;birth;sire;dam;exit\n1;F;2010-01-01;;;??.04.2019\n2;M;2010-01-01;;;2. Hälfte 2021\n" + rows
     done = desk.take(sheet)
+    done.tells("to look at: a text with a month, a week or a season in 2 cells of the column 'birth': 'Mai/Juni 2020' in "
+               "line 6 is read as 2020-05-01 to 2020-06-30, and the others alike")  # fmt: skip
     born = desk.born()
     for id, cell in zip("3456", cells):
         first, last = PERIODS[cell]

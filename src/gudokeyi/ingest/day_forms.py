@@ -467,9 +467,10 @@ class Readings:
             reading = DayReading.PERIOD_WITHIN
         of = field, reading, span.precision
         self.counts[of] += 1
-        is_one = span.first == span.last or reading is DayReading.ONE_OF
-        day = span.first.isoformat() if is_one else span.period().text
-        self.first.setdefault(of, (line, text, day, str(span.last) if reading is DayReading.ONE_OF else ""))
+        is_part = span.precision is Precision.YEAR and (span.first.month, span.last.month) != (1, 12)
+        are_days = reading is DayReading.ONE_OF or is_part and reading is DayReading.PERIOD_WITHIN
+        day = span.first.isoformat() if span.first == span.last or are_days else span.period().text
+        self.first.setdefault(of, (line, text, day, str(span.last) if are_days else ""))
 
     def told(self) -> list[SheetFinding]:
         return [
