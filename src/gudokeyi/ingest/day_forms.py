@@ -17,7 +17,7 @@ from gudokeyi.ingest.days import (
 from gudokeyi.ingest.findings.columns import SheetFinding
 from gudokeyi.ingest.findings.days import DayReading, DaysReadSo
 from gudokeyi.ingest.open_births import open_days
-from gudokeyi.ingest.periods_in_texts import PART_OF_MONTH, period_in, two_months
+from gudokeyi.ingest.periods_in_texts import PART_OF_MONTH, part_of_year, two_months, unknown_day
 from gudokeyi.ingest.words import LETTER
 
 
@@ -322,8 +322,10 @@ class DayForms:
         """The only day, week, month or season within a text; none where the text says that it isn't that one."""
         if season := week_of(text) or season_of(text):
             return season, DayReading.WITHIN
-        if period := period_in(text, self.year_near):
-            return period, DayReading.ONE_OF if period.precision is Precision.DAYS else DayReading.WITHIN
+        if month := unknown_day(text, self.year_near):
+            return month, DayReading.ONE_OF
+        if part := part_of_year(text):
+            return part, DayReading.WITHIN
         if short_season := self.short_season(text):
             return short_season, DayReading.TWO_DIGITS
         if NOT_THAT_YEAR.search(GONE_TO.sub(" ", text)):
@@ -334,8 +336,8 @@ class DayForms:
                 raise Unreadable(DayFault.NO_DAY, text)
             day = self.two_digits(two)
             return (day, DayReading.TWO_DIGITS) if day else None
-        if month := self.month_within(text):
-            return month._replace(text=text), DayReading.TWO_DIGITS
+        if within := self.month_within(text):
+            return within._replace(text=text), DayReading.TWO_DIGITS
         span = span_within(text, self.month_first)
         if span is None or span.precision is Precision.YEAR:
             return None

@@ -48,11 +48,6 @@ PART_OF_MONTH = re.compile(rf"\b({PART})-(?={NAME}(?!\w))", re.IGNORECASE)
 YearNear = Callable[[str], int]
 
 
-def period_in(text: str, year_near: YearNear) -> Span | None:
-    """Such a month, or such days; `year_near` says which year two digits mean."""
-    return unknown_day(text, year_near) or two_months(text, year_near) or part_of_year(text)
-
-
 def unknown_day(text: str, year_near: YearNear) -> Span | None:
     """The month of a day that nobody knows."""
     found = next(filter(None, (form.fullmatch(text) for form in UNKNOWN_DAY)), None)
