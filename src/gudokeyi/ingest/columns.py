@@ -126,10 +126,16 @@ def find_columns(
     tell_unread_statuses(columns, named)
     tell_unread_fields(columns, named)
     tell_likelier(columns, given, before)
-    likely = LikelyColumns(columns, unknown)
+    tell_lacking(columns, named, before, LikelyColumns(columns, unknown))
+    return columns
+
+
+def tell_lacking(
+    columns: Columns, named: Mapping[str, str], before: Mapping[str, str], likely: LikelyColumns
+) -> None:
+    """The fields without a column: those that a sheet needs, and those that the last one had."""
     tell_missing(columns, named, likely)
     tell_lost(columns, before, likely)
-    return columns
 
 
 def find_births_in_parts(columns: Columns, given: Mapping[str, str]) -> None:

@@ -12,7 +12,7 @@ from typing import Container, NamedTuple
 from gudokeyi.domain.collections import made
 from gudokeyi.domain.kinds import Field
 from gudokeyi.domain.provenance import GIVEN_EXIT, ExitBasis, ExitSource
-from gudokeyi.ingest.day_forms import DayForms, last_month
+from gudokeyi.ingest.day_forms import DayForms
 from gudokeyi.ingest.days import (
     BEFORE, DayFault, Precision, Span, Unreadable, behind_since, is_span, read_span, span_within, tells_other_event,
     usual_day,
@@ -20,6 +20,7 @@ from gudokeyi.ingest.days import (
 from gudokeyi.ingest.findings.cells import DayLeftOut
 from gudokeyi.ingest.findings.days import DayReading
 from gudokeyi.ingest.findings.sheets import NoOrderShown, OneWrongOrder, Place, WrongOrder
+from gudokeyi.ingest.seasons import last_month
 from gudokeyi.ingest.words import DEAD, exit_word, is_still_there, lives, word_fault
 from gudokeyi.ingest.words_beside import words_beside
 

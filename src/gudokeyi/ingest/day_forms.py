@@ -12,14 +12,14 @@ from collections.abc import Iterable
 from gudokeyi.domain.kinds import Field
 from gudokeyi.ingest.days import (
     FIRST_DAY, FIRST_YEAR, LAST_YEAR, MONTHS, NAME, NOT_THAT_YEAR, DayFault, Precision, Span, Unreadable, compared,
-    is_span, month_of, places_within, read_span, span_said, span_within, year_of,
+    is_span, month_of, places_within, read_span, span_said, span_within,
 )  # fmt: skip
 from gudokeyi.ingest.findings.columns import SheetFinding
 from gudokeyi.ingest.findings.days import DayReading, DaysReadSo
 from gudokeyi.ingest.open_births import open_days
 from gudokeyi.ingest.periods_in_texts import PART_OF_MONTH, part_of_year, two_months, unknown_day
+from gudokeyi.ingest.seasons import SEASON, SHORT_SEASON, WINTER, YEAR, not_that, season_of, week_of
 from gudokeyi.ingest.words import LETTER
-
 
 # the days of a spreadsheet are counted from this one, and those that animals of a book may have have five digits
 EPOCH, SERIAL = datetime.date(1899, 12, 30), re.compile(r"(\d{5})(?:[.,]\d+)?")
@@ -46,38 +46,6 @@ COUNTED = re.compile(r"\b(?:Nr|No|Los|lot|num\w*|tag|id)\.? $|[#°] ?$", re.IGNO
 LONG_AGO = 40
 # a list marks days that were inferred for the book
 MARKED = re.compile(r".*\((?:inferred|invented)\)")
-# the first and the last month of a season; a winter has these of its year, where it is named by one alone
-SEASONS = {
-    "frühjahr frühj frühling spring printemps": (3, 5),
-    "sommer summer été ete": (6, 8),
-    "herbst autumn fall automne": (9, 11),
-    "winter hiver": (1, 2),
-    "anfang anf beginning early début debut": (1, 4),
-    "mitte middle mid mi": (5, 8),
-    "ende end late fin": (9, 12),
-}
-SEASON_WORDS = {word: months for words, months in SEASONS.items() for word in words.split()}
-SEASON = re.compile(
-    rf"\b({'|'.join(SEASON_WORDS)})\b[ .-]*(?:of |de |d'|du )?((?:19|20|21)\d{{2}})(?!\d)", re.IGNORECASE
-)
-# the same with two digits of the year
-SHORT_SEASON = re.compile(
-    rf"\b(?P<season>{'|'.join(SEASON_WORDS)})\b[ .-]*(?:of |de |d'|du )?'?(?P<year>\d{{2}})(?![\w?*#~]|[./,-]\d)",
-    re.IGNORECASE,
-)
-# a winter that has both of its years, as `Winter 2019/20`
-WINTER = re.compile(
-    r"\b(?:winter|hiver)\b[ .-]*(?:of |de |d'|du )?(?P<first>(?:19|20|21)?\d{2}) ?[/–-] ?(?P<last>(?:19|20|21)?\d{2})"
-    r"(?!\d)",
-    re.IGNORECASE,
-)
-# a week of a year, as `KW 12/2010` and `12. Woche 2010`
-WEEK = re.compile(
-    r"(?:\b(?:KW|Kalenderwoche|Woche|week|wk|semaine|sem)\.? ?(?P<week>\d{1,2})|"
-    r"(?<!\d)(?P<counted>\d{1,2})(?:\.|th|e|ème)? ?(?:KW|Kalenderwoche|Woche|week|semaine))"
-    r"[ .,/-]*(?:of |in |de )?(?P<year>(?:19|20)\d{2})(?!\d)",
-    re.IGNORECASE,
-)
 # one of some days that follow one another, as `12/13.06.2019` and `12 or 13 June 2019`
 ONE_OF = re.compile(
     r"(?<![\w./-])(?P<from>\d{1,2})(?:\.|er|st|nd|rd|th)?"
@@ -130,8 +98,6 @@ BETWEEN = re.compile(r"\b(?:zw|zwischen|between|entre|nuit|night|Nacht|week|Woch
 GONE_TO = re.compile(
     r"\b(?:sold|sale|transferred|given|went|gone|moved|rehomed|exported|passed)\b[^?]*?\bto(?= +[^\W\d])", re.IGNORECASE
 )
-# a year of four digits
-YEAR = re.compile(r"(?<!\d)(?:19|20)\d{2}(?!\d)")
 
 
 class DayForms:
@@ -412,47 +378,6 @@ def tells_another_day(found: re.Match[str]) -> bool:
 def is_only_number(found: re.Match[str]) -> bool:
     """Has a text no digits besides?"""
     return not re.search(r"\d", found.string[: found.start()] + found.string[found.end() :])
-
-
-def not_that(before: str) -> bool:
-    """Does the word before a season say that another time is meant?"""
-    words = before.split()
-    return bool(words) and NOT_THAT_YEAR.fullmatch(words[-1]) is not None
-
-
-def season_of(text: str) -> Span | None:
-    """The days of a season of a year, as of `Frühjahr 2018`."""
-    found = SEASON.search(text)
-    if found is None or len(YEAR.findall(text)) > 1 or not_that(text[: found.start()]):
-        return None
-    (first, last), year = SEASON_WORDS[found[1].casefold()], int(found[2])
-    begin, end = month_of(year, first).first, month_of(year, last).last
-    return year_of(year, text=text)._replace(first=begin, last=end)
-
-
-def week_of(text: str) -> Span | None:
-    """The days of a week of a year that are in the month of its middle."""
-    found = WEEK.search(text)
-    if found is None or len(YEAR.findall(text)) > 1 or not_that(text[: found.start()]):
-        return None
-    try:
-        monday = datetime.date.fromisocalendar(int(found["year"]), int(found["week"] or found["counted"]), 1)
-    except ValueError:
-        return None
-    days = [monday + datetime.timedelta(at) for at in range(7)]
-    days = [day for day in days if day.month == days[3].month]
-    return month_of(days[3].year, days[3].month)._replace(first=days[0], last=days[-1], text=text)
-
-
-def last_month(span: Span) -> Span:
-    """That of a season, on whose last day an exit is; of a winter with one year it is December."""
-    if span.precision is Precision.DAYS:
-        return month_of(span.last.year, span.last.month)
-    if span.precision is Precision.YEAR and (span.first.month, span.last.month) == SEASONS["winter hiver"]:
-        return month_of(span.last.year, 12)
-    if span.precision is Precision.YEAR and span.text and (span.first.month, span.last.month) != (1, 12):
-        return month_of(span.last.year, span.last.month)
-    return span
 
 
 class Readings:

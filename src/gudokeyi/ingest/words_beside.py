@@ -4,10 +4,9 @@ from __future__ import annotations
 import functools
 import re
 
-from gudokeyi.ingest.day_forms import (
-    MARKED, MONTH, MONTH_OF_EXIT, MONTH_WITHIN, SEASON, SHORT_SEASON, TWO, UNSURE, WEEK, WINTER, not_that,
-)  # fmt: skip
+from gudokeyi.ingest.day_forms import MARKED, MONTH, MONTH_OF_EXIT, MONTH_WITHIN, TWO, UNSURE
 from gudokeyi.ingest.days import is_span, places_within
+from gudokeyi.ingest.seasons import SEASON, SHORT_SEASON, WEEK, WINTER, not_that
 from gudokeyi.ingest.words import DEAD, KNOWN_YES, LETTER
 
 # what stands between a word and its day

@@ -79,10 +79,7 @@ MOST_ANIMALS = 60_000
 def add_others(next_book: NextBook, drop_gone: bool, columns: Columns | None = None) -> None:
     """Adds the animals of the book that have no row, and the parents that have none."""
     book, animals, report = next_book.book, next_book.animals, next_book.report
-    keep_values(next_book)
-    if next_book.rows_of_book:
-        # rows that lacked something have it of the book now
-        next_book.compare(next_book.rows_of_book)
+    give_values_of_book(next_book)
     next_book.texts = parents_written(next_book)
     gone = animals_of_book(next_book)
     next_book.exits_of_book |= gone.keys()
@@ -118,6 +115,13 @@ def add_others(next_book: NextBook, drop_gone: bool, columns: Columns | None = N
         add_founders(next_book, Names(animals, report, next_book.last_found, with_id, before), columns)
     if len(animals) > MOST_ANIMALS:
         raise too_many(next_book)
+
+
+def give_values_of_book(next_book: NextBook) -> None:
+    """Rows that lack something have it of the book from here on."""
+    keep_values(next_book)
+    if next_book.rows_of_book:
+        next_book.compare(next_book.rows_of_book)
 
 
 def parents_written(next_book: NextBook) -> dict[str, tuple[str, str]]:

@@ -226,8 +226,7 @@ def import_sheet_into(
     with bounds():
         read = read_animals(file, import_options, book, words, last)
     keep(book, read)
-    for found in renamed:
-        read.report.add(0, "", found)
+    read.report.entries += [Entry(0, "", found) for found in renamed]
     are_renamed = call_as_now(read.animals, book, read.report)
     next_book = NextBook(
         book, read.animals, set(read.columns.found), read.report, read.rows.cells.days, in_book=read.in_book,
@@ -243,8 +242,7 @@ def import_sheet_into(
     tell_breeders(read, own, next_book.report)
     lacks_own = tell_lost_own_columns(book, own, read.columns, next_book.report)
     understood = understood_of(path, read, used, {} if lacks_own else titles_before(book), own)
-    remember_columns(book, read.columns.titles_found())
-    remember_worksheet(book, import_options.worksheet, read.sheet.worksheets)
+    remember_places(book, read, import_options.worksheet)
 
     def take_own() -> None:
         take_own_values(next_book, own, read.sheet, bool(words[Remembered.MONTH_FIRST]))
@@ -252,6 +250,12 @@ def import_sheet_into(
 
     about = About(import_options.call(str(path)), understood.lines(), understood, limits_of(words), take_own=take_own)
     return finish(next_book, program, import_options, source, about)
+
+
+def remember_places(book: Book, read: ReadSheet, worksheet: str) -> None:
+    """From which worksheet and columns the next sheet is read."""
+    remember_columns(book, read.columns.titles_found())
+    remember_worksheet(book, worksheet, read.sheet.worksheets)
 
 
 def tell_breeders(read: ReadSheet, own: OwnSheetColumns, report: Report) -> None:
