@@ -87,12 +87,9 @@ class Columns:
 
 
 def find_columns(
-    sheet: Sheet,
-    given: Mapping[str, str],
-    before: Mapping[str, str],
-    unknown: Container[str],
+    sheet: Sheet, given: Mapping[str, str], before: Mapping[str, str], unknown: Container[str],
     ids: Collection[str] = (),
-) -> Columns:
+) -> Columns:  # fmt: skip
     """The columns by the titles that are `given`, else by those of the last time, `before`, and else by the usual ones.
     `ids` are those of the book."""
     columns = Columns(sheet)

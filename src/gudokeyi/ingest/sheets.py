@@ -154,55 +154,80 @@ def marked_by_grey(grey: list[int], line: int, rows: int) -> list[int]:
     return below if len(below) <= MOST_GREY * rows else []
 
 
+@dataclass
+class FileRead:
+    """The rows of a file with the titles among them, and what is read beside them, as `Sheet` has it."""
+
+    rows: list[SheetRow]
+    how: str
+    faults: list[SheetFinding]
+    unread: list[SheetFinding]
+    # the first rows, by which it was decided what is taken
+    tops: Tops
+    best: Callable[[Tops, Score], str]
+    taken: str
+    formulas: Formulas | None = None
+    grey: list[int] = field(default_factory=list)
+    hidden: list[int] = field(default_factory=list)
+    shown: Shown = field(default_factory=dict)
+    days: Mapping[int, list[int]] = field(default_factory=dict)
+    worksheets: tuple[str, ...] = ()
+    as_before: str = ""
+
+
+def read_file_of_workbook(file: GivenFile, score: Score, worksheet: str, before: NamedBefore) -> FileRead:
+    found = read_workbook(file.path, file.data, score, BEGINNING, worksheet, before)
+    rows = [SheetRow(*one) for one in found.rows]
+    return FileRead(
+        rows, found.how, found.faults, found.unread, found.tops, best_worksheet, found.title, found.formulas,
+        found.grey, found.hidden, found.shown, found.days, found.titles, found.title * found.as_before,
+    )  # fmt: skip
+
+
+def read_file_of_text(file: GivenFile, score: Score) -> FileRead:
+    text, encoding, fault, note = decoding(file.path, file.data)
+    tops = tops_of(text)
+    taken = best_separator(tops, score)
+    rows, unread = rows_of_text(text, taken, score)
+    how = f"{encoding}, cells separated by " + {";": "semicolons", "\t": "tabs", ",": "commas"}[taken]
+    notes = [note] if note else []
+    return FileRead(rows, how, [fault] if fault else [], unread + notes, tops, best_separator, taken)
+
+
+def read_file(file: GivenFile, score: Score, worksheet: str, before: NamedBefore) -> FileRead:
+    if file.is_workbook():
+        return read_file_of_workbook(file, score, worksheet, before)
+    if file.is_zipped():
+        raise Mistake(SheetFault.ODS.said(path=file.path))
+    if worksheet:
+        raise Mistake(SheetFault.NO_WORKSHEETS.said(path=file.path))
+    return read_file_of_text(file, score)
+
+
 def read_sheet(file: GivenFile, score: Score, worksheet: str = "", before: NamedBefore = NamedBefore()) -> Sheet:
     """The rows of a file. `score` says how many titles of a row are known: the separator that gives most is taken, and
     the worksheet where none is named, or was before."""
-    path, data = file.path, file.data
-    faults: list[SheetFinding]
-    formulas: Formulas | None = None
-    unread, grey, hidden, shown = list[SheetFinding](), list[int](), list[int](), Shown()
-    days: Mapping[int, list[int]] = {}
-    worksheets, as_before = tuple[str, ...](), ""
-    if file.is_zipped() and not file.is_workbook():
-        raise Mistake(SheetFault.ODS.said(path=path))
-    if file.is_workbook():
-        found = read_workbook(path, data, score, BEGINNING, worksheet, before)
-        worksheets, as_before = found.titles, found.title * found.as_before
-        rows, how, faults = [SheetRow(*one) for one in found.rows], found.how, found.faults
-        formulas, unread, grey, hidden = found.formulas, found.unread, found.grey, found.hidden
-        shown, days = found.shown, found.days
-        tops, best, taken = found.tops, best_worksheet, found.title
-    else:
-        if worksheet:
-            raise Mistake(SheetFault.NO_WORKSHEETS.said(path=path))
-        text, encoding, fault, note = decoding(path, data)
-        tops, best = tops_of(text), best_separator
-        taken = best(tops, score)
-        rows, unread = rows_of_text(text, taken, score)
-        unread += [note] if note else []
-        how = f"{encoding}, cells separated by " + {";": "semicolons", "\t": "tabs", ",": "commas"}[taken]
-        faults = [fault] if fault else []
-    rows, unseen = without_unseen(rows)
+    read = read_file(file, score, worksheet, before)
+    rows, unseen = without_unseen(read.rows)
     together = "\t".join(itertools.chain([""], *map(operator.itemgetter(1), rows), [""]))
     rows, apostrophes = without_apostrophes(rows, together)
     if not rows:
-        raise Mistake(SheetFault.EMPTY.said(path=path))
+        raise Mistake(SheetFault.EMPTY.said(path=file.path))
     first = [row.cells for row in rows[:BEGINNING]]
     at = title_row(first, score)
     line, titles = rows[at]
-    check_bounds(path, rows, at + 1)
+    check_bounds(file.path, rows, at + 1)
     below, above = rows[at + 1 :], rows[at - 1].cells if at else []
     ordered = in_order(below, titles, together)
     if ordered.orders:
         below = [row._replace(cells=ordered.cells(*row, titles)) if row.line in ordered.orders else row for row in below]
-    grey = marked_by_grey(grey, line, len(below))
     texts = [one for one in apostrophes if one > line]
-    unread += [Apostrophes(len(texts), texts[0])] if texts else []
-    decision = Decision(tops, best, taken, first, at)
+    unread = read.unread + ([Apostrophes(len(texts), texts[0])] if texts else [])
     return Sheet(
-        line, titles, below, how, faults, {}, ordered.places(unseen), formulas, unread, above, decision=decision,
-        worksheets=worksheets, as_before=as_before, grey=grey, hidden=hidden, shown=ordered.places(shown),
-        days=ordered.columns(days), other_orders=ordered.titles,
+        line, titles, below, read.how, read.faults, {}, ordered.places(unseen), read.formulas, unread, above,
+        decision=Decision(read.tops, read.best, read.taken, first, at), worksheets=read.worksheets,
+        as_before=read.as_before, grey=marked_by_grey(read.grey, line, len(below)), hidden=read.hidden,
+        shown=ordered.places(read.shown), days=ordered.columns(read.days), other_orders=ordered.titles,
     )  # fmt: skip
 
 
