@@ -297,7 +297,7 @@ def test_days_between_others(desk: Desk) -> None:
     texts = [*OPEN, *NOT_OPEN]
     rows = WITH_DAYS + "".join(f"A{at};Foo{at};f;{text};;;X;\n" for at, text in enumerate(texts))
     done = desk.take(TITLES + rows, *OPTIONS)
-    earliest = "the earliest that a book can have or its cell leaves open, since no parent and no offspring has one"
+    earliest = "the earliest that it can be, since no parent and no offspring has one"
     for at, text in enumerate(texts):
         cell = f", within what its cell says: '{text}'" if text in OPEN else f", and not what its cell has: '{text}'"
         day = OPEN.get(text, "1900-01-01")

@@ -119,7 +119,7 @@ def test_reasons_that_stay(desk: Desk) -> None:
     """An inferred day that stays has the reason by which it was inferred, whether its animal has a row or is gone;
     one that has to change gets another."""
     rows = "id,sex,born,sire,dam,exit\nbull,M,2001-01-01,,,\ncalf,M,2009-06-07,,mother,\n"
-    earliest = "the earliest that a book can have or its cell leaves open, since no parent and no offspring has one"
+    earliest = "the earliest that it can be, since no parent and no offspring has one"
     undated = {
         "year": ("year,F,2003,,,", "birth day 2003-07-02, from the year 2003"),
         "mother": ("mother,F,,,,", "birth day 2007-06-08, from its offspring"),

@@ -55,9 +55,7 @@ BIRTH_WORDS = {
     BirthSource.GIVEN: "",
     BirthSource.OFFSPRING: "from its offspring",
     BirthSource.PARENTS: "from its parents",
-    BirthSource.EARLIEST: (
-        "the earliest that a book can have or its cell leaves open, since no parent and no offspring has one"
-    ),
+    BirthSource.EARLIEST: "the earliest that it can be, since no parent and no offspring has one",
     BirthSource.NEAREST: "the nearest to the book's that an exit leaves open",
     BirthSource.INVENTED: "invented",
 }

@@ -46,9 +46,7 @@ OF_FINDINGS: dict[enum.Enum, str] = {
     BirthSource.PERIOD: "from a month or year",
     BirthSource.OFFSPRING: "from its offspring",
     BirthSource.PARENTS: "from its parents",
-    BirthSource.EARLIEST: (
-        "the earliest that a book can have or its cell leaves open, since no parent and no offspring has one"
-    ),
+    BirthSource.EARLIEST: "the earliest that it can be, since no parent and no offspring has one",
     BirthSource.NEAREST: "the nearest to the book's that an exit leaves open",
     BirthSource.INVENTED: "invented",
     ExitSource.GIVEN: "as given",
