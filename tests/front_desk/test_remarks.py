@@ -36,9 +36,9 @@ def test_exits(desk: Desk, text: str) -> None:
 @pytest.mark.parametrize(
     "text",
     [
-        "1 Lamm totgeboren 2021", "had a stillborn lamb 2024", "2 agneaux mort-nés", "2 totgeborene Lämmer 3.4.2020",
+        "1 Lamm totgeboren 2021", "had a stillborn lamb 2024", "2 agneaux mort-nés", "2 tot geborene Lämmer 3.4.2020",
         "Kitz tot geboren", "2023: 2 stillborn", "2x totgeboren 2021", "veau mort-né", "1 mort-née", "Fohlen mortné 2020",
-        "had stillbirth 2020",
+        "had stillborn 2020",
     ],
 )  # fmt: skip
 def test_young_born_dead(desk: Desk, text: str) -> None:
