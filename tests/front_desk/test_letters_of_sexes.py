@@ -98,6 +98,55 @@ def test_letter_of_few(desk: Desk) -> None:
     assert sexes_of(desk, "3", "8") == ["male, castrated"] * 2
 
 
+GERMAN_TITLES = "Ohrmarke,Name,{sex},Geburt,Vater,Mutter\n"
+PAIR = "DE100,Anna,{f},2015-03-01,,\nDE101,Bert,m,2015-03-02,,\n"
+LAMBS = "DE102,Cora,w,2018-03-02,DE101,DE100\nDE103,Dora,w,2019-03-02,DE101,DE100\n"
+
+
+@pytest.mark.parametrize("titles", [TITLES, GERMAN_TITLES.format(sex="Geschlecht")])
+def test_letter_of_females_of_the_book(desk: Desk, titles: str) -> None:
+    """A letter by which animals of the book are females stays one where somebody writes `F` for others, and is told."""
+    desk.take(titles + PAIR.format(f="w") + LAMBS)
+    numbers = desk.numbers()
+    done = desk.take(
+        titles + PAIR.format(f="F") + LAMBS
+        + "DE105,Fine,F,2021-03-02,DE101,DE100\nDE107,Hera,F,2021-03-02,DE101,DE100\nDE106,Gina,w,2022-03-02,DE101,DE100\n"
+    )
+    assert f"'w' (3 animals) of the column '{titles.split(',')[2]}' is {OF_WEIBLICH}" in done.out
+    assert [one.rsplit(" ", 1)[1] for one in done.commands()] == ["w=mc", "w=m"]
+    assert done.last.startswith("book: 7 animals, 3 new, 0 changed") and "the book has it as" not in done.told
+    assert sexes_of(desk, "DE102", "DE103", "DE106") == ["female"] * 3
+    assert numbers.items() <= desk.numbers().items()
+
+
+def test_letter_of_wethers_of_the_book(desk: Desk) -> None:
+    """One by which they are castrated males stays that too, though it is the more frequent then, and no dam is there."""
+    begin = TITLES + "1,,F,2010-01-01,,\n2,,M,2010-01-01,,\n3,,W,2012-01-01,,\n"
+    desk.take(begin)
+    done = desk.take(begin + "4,,W,2013-01-01,,\n5,,W,2013-01-01,,\n")
+    assert "'W' (3 animals) of the column 'Sex' is read as a castrated male" in done.out and " 0 changed" in done.last
+    assert sexes_of(desk, "3", "5") == ["male, castrated"] * 2
+
+
+@pytest.mark.parametrize(
+    "titles, female, wanted",
+    [
+        (GERMAN_TITLES.format(sex="Geschlecht"), "F", "female"), (GERMAN_TITLES.format(sex="m/w"), "f", "female"),
+        (GERMAN_TITLES.format(sex="Sex"), "F", "female"), (TITLES, "F", "male, castrated"),
+        # beside a mare it is Wallach
+        (GERMAN_TITLES.format(sex="Geschlecht"), "Stute", "male, castrated"),
+    ],
+)  # fmt: skip
+def test_letter_of_german_titles(desk: Desk, titles: str, female: str, wanted: str) -> None:
+    """Below German titles it is weiblich beside a few `F`, also where these alone are dams, and is told."""
+    rows = "".join(f"DE30{at},Wa{at},w,2017-04-0{at},DE101,DE100\n" for at in range(1, 8))
+    done = desk.take(titles + PAIR.format(f=female) + rows)
+    read = OF_WEIBLICH if wanted == "female" else "read as a castrated male, as for wether or Wallach"
+    assert f"'w' (7 animals) of the column '{titles.split(',')[2]}' is {read}" in done.out
+    assert sexes_of(desk, "DE301", "DE307") == [wanted] * 2
+    assert any(one.endswith("w=mc" if wanted == "female" else "w=f") for one in done.commands())
+
+
 def test_two_letters_asked_at_once(desk: Desk) -> None:
     """`W` and `A` are asked together, and nothing is taken before."""
     sheet = TITLES + "1,,A,2015-03-01,,\n2,,W,2015-03-02,,\n3,,A,2017-03-02,,\n4,,W,2018-03-02,,\n"

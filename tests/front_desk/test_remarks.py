@@ -16,7 +16,8 @@ OF_SEXES = "the column 'Bemerkung' isn't read for sexes, and "
 @pytest.mark.parametrize(
     "text",
     [
-        "† 3/2020", "eingeschl. 3/2020", "totgeboren", "stillborn", "PTS Jan 2022", "put to sleep", "Schlachter 3/20",
+        "† 3/2020", "eingeschl. 3/2020", "totgeboren", "totgeboren 3.4.2020", "5/2020 tot geboren", "mort-né le 3/9/19",
+        "1 Lamm totgeboren; verkauft 2022", "stillborn", "PTS Jan 2022", "put to sleep", "Schlachter 3/20",
         "zum Metzger 3.4.20", "boucherie 2020", "réformée 2020", "vom Wolf gerissen", "gerissen", "R.I.P.", "+ 12.3.20",
         "+ 3/2020", "left 2020", "geschl. 3/20", "mort-né",
     ],
@@ -30,6 +31,20 @@ def test_exits(desk: Desk, text: str) -> None:
         "counts as living: if it left, write that into the column for exits"
     )
     assert OF_SEXES not in done.told
+
+
+@pytest.mark.parametrize(
+    "text",
+    [
+        "1 Lamm totgeboren 2021", "had a stillborn lamb 2024", "2 agneaux mort-nés", "2 tot geborene Lämmer 3.4.2020",
+        "Kitz tot geboren", "2023: 2 stillborn", "2x totgeboren 2021", "veau mort-né", "1 mort-née", "Fohlen mortné 2020",
+        "had stillborn 2020",
+    ],
+)  # fmt: skip
+def test_young_born_dead(desk: Desk, text: str) -> None:
+    """What is told of a dam's young tells of no exit of hers."""
+    done = desk.take(TITLES + PAIR + f"a3,Cal,f,2018-03-13,a2,a1,,{text}\na4,Dan,f,2018-03-13,a2,a1,,totgeboren\n" + OTHERS)
+    assert f"{OF_EXITS}1 cell of it tells that an animal left which has no exit: 'totgeboren' in line 5" in done.told
 
 
 @pytest.mark.parametrize(

@@ -16,8 +16,8 @@ from gudokeyi.ingest.findings.sexes import (
 from gudokeyi.ingest.findings.sheets import TextCount
 from gudokeyi.ingest.texts import plain
 from gudokeyi.ingest.words import (
-    BESIDE_WETHERS, CASTRATED_MALE, COUNTED_SEXES, KNOWN_CASTRATED, KNOWN_DOUBTS, KNOWN_GELDED, KNOWN_NEGATIONS,
-    KNOWN_NEUTERED, KNOWN_SEXES, has_word, sex_word,
+    BESIDE_WETHERS, CASTRATED_MALE, COUNTED_SEXES, KNOWN_CASTRATED, KNOWN_DOUBTS, KNOWN_FEMALES, KNOWN_GELDED,
+    KNOWN_NEGATIONS, KNOWN_NEUTERED, KNOWN_SEXES, has_word, sex_word,
 )  # fmt: skip
 
 
@@ -57,9 +57,16 @@ class Sexes:
     """The words of a column, and those that are named by `--sexes`."""
 
     def __init__(
-        self, texts: list[str], given: dict[str, str], of_dams: Callable[[], Iterable[str]] = tuple
+        self,
+        texts: list[str],
+        given: dict[str, str],
+        of_dams: Callable[[], Iterable[str]] = tuple,
+        of_book: Callable[[], Iterable[tuple[str, str]]] = tuple,
+        is_german: bool = False,
     ) -> None:
-        """`of_dams` are those of its cells whose animals are dams."""
+        """`of_dams` are those of its cells whose animals are dams, `of_book` those whose animals the book has, each
+        with the sex there; `is_german` where its list has German titles."""
+        self.of_book, self.is_german = of_book, is_german
         self.known = KNOWN_SEXES | {word: "M" if sex == CASTRATED_MALE else sex for word, sex in given.items()}
         self.given = given
         self.given_castrated = {word for word, sex in given.items() if sex == CASTRATED_MALE}
@@ -119,11 +126,21 @@ class Sexes:
         others, some = (sum(those[word] for word in females) for those in (dams, counts))
         if dams[LETTER] > max(FEW_MISTAKEN, others // MANY_MORE):
             return None
-        is_castrated = are_english and (others > FEW_MORE * dams[LETTER] or not dams[LETTER] and counts[LETTER] <= some)
+        is_likely = others > FEW_MORE * dams[LETTER] or not dams[LETTER] and counts[LETTER] <= some
+        is_castrated = are_english and self.is_wether(females & BESIDE_WETHERS, is_likely)
         if is_castrated:
             self.letters = {LETTER: WETHER}
         letter, *beside = (SexCount(written[word], counts[word]) for word in (LETTER, *sorted(females)))
         return LetterRead(letter, tuple(beside), is_castrated)
+
+    def is_wether(self, beside: Collection[str], is_likely: bool) -> bool:
+        """Is the letter a castrated male beside these words for females? It stays what the book's own animals are that
+        have it; a German list may have a few `F` beside weiblich."""
+        in_book = collections.Counter(sex for text, sex in self.of_book() if sex_word(text) == LETTER)
+        more_males = in_book["M"] - in_book["F"]
+        if more_males < 0 or self.is_german and KNOWN_FEMALES.issuperset(beside) and more_males <= FEW_MISTAKEN:
+            return False
+        return is_likely or more_males > 0
 
     def leave_open(self, texts: list[str]) -> None:
         """Beside letters that aren't known, as `A` for Aue, `W` isn't either where no word of the column is: all are
@@ -209,6 +226,17 @@ def sexes_of_dams(column: Callable[[str], list[str]]) -> list[str]:
     dams = {*map(str.casefold, {*column(Field.DAM)})} - {""}
     rows = zip(*map(column, (Field.ID, Field.NAME, Field.SEX)))
     return [sex for id, name, sex in rows if id.casefold() in dams or name.casefold() in dams]
+
+
+def has_letter_beside_females(texts: Collection[str]) -> bool:
+    """Is the letter among these, and a word for females beside which it is none?"""
+    words = {*map(sex_word, texts)}
+    return LETTER in words and not BESIDE_WETHERS.isdisjoint(words)
+
+
+def sexes_in_book(column: Callable[[str], list[str]], in_book: Mapping[str, str]) -> list[tuple[str, str]]:
+    """The cells for the sexes of rows whose animals the book has, by their ids, each with the sex there."""
+    return [(sex, in_book[id]) for id, sex in zip(column(Field.ID), column(Field.SEX)) if id in in_book]
 
 
 def one_sex_alone(

@@ -32,10 +32,10 @@ from gudokeyi.ingest.odd_texts import first_days, tell_exits_in_ids, tell_exits_
 from gudokeyi.ingest.plain_rows import CELLS_OF, SIGNS, PlainRows, chooser, first_sum
 from gudokeyi.ingest.rows_as_meant import DITTO, Takers
 from gudokeyi.ingest.same_ids import SameIds, tell_used_again
-from gudokeyi.ingest.sexes import Sexes, one_sex_alone, sexes_of_dams
+from gudokeyi.ingest.sexes import Sexes, one_sex_alone, sexes_in_book, sexes_of_dams
 from gudokeyi.ingest.sheets import Sheet, SheetRow
 from gudokeyi.ingest.spellings import CUT
-from gudokeyi.ingest.titles import KNOWN_STATES, parts_of, words_of_sexes
+from gudokeyi.ingest.titles import KNOWN_STATES, is_german, parts_of, words_of_sexes
 from gudokeyi.ingest.unknown_parents import UnknownParents
 from gudokeyi.ingest.texts import nearly, plain
 from gudokeyi.ingest.words import KNOWN_SUMS, KNOWN_TO_COME, is_error_value
@@ -201,8 +201,10 @@ class Rows:
         no_animals: Sequence[str] = (),
         owners: Mapping[str, str] | None = None,
         before: PlainRows | None = None,
+        sexes_of_book: Mapping[str, str] | None = None,
     ) -> None:
-        """`before` are the plain rows as they were read before, where they are read again."""
+        """`before` are the plain rows as they were read before, where they are read again, `sexes_of_book` the sexes
+        that animals of the book were given, by their ids."""
         self.sheet, self.columns, self.unknown, self.report = sheet, columns, unknown, report
         self.no_animals = NoAnimals(no_animals)
         self.month_first = month_first
@@ -210,9 +212,14 @@ class Rows:
         self.width = 1 + max(columns.values(), default=0)
         self.chosen = chooser([*columns.values()])
         self.errors = ErrorValues(sheet, columns)
-        # of words of a title such as `Dog/Bitch` cells have the first letters
+        # of words of a title such as `Dog/Bitch` cells have the first letters; letters of a title are no cells
         named = words_of_sexes(sheet.titles[columns[Field.SEX]]) if Field.SEX in columns else []
-        self.sexes = Sexes([*self.texts(Field.SEX), *named], sexes, functools.partial(sexes_of_dams, self.texts))
+        named = [word for word in named if len(word) > 1]
+        self.sexes = Sexes(
+            [*self.texts(Field.SEX), *named], sexes, functools.partial(sexes_of_dams, self.texts),
+            functools.partial(sexes_in_book, self.texts, sexes_of_book or {}),
+            is_german(sheet.titles[columns[field]] for field in (Field.SEX, *ROLES) if field in columns),
+        )  # fmt: skip
         self.unread = Unread({name: sheet.titles[at] for name, at in columns.items()})
         self.unread.of_status = sheet.of_status
         self.forms = DayForms(self.texts(Field.BIRTH), (born or {}).values(), month_first)

@@ -222,6 +222,15 @@ def words_of_sexes(title: str) -> list[str]:
     return PAIRS_OF_LETTERS.get(frozenset(word.casefold() for word in words if len(word) == 1), [])
 
 
+# words by which the titles of sexes and parents are known for German ones
+GERMAN = re.compile(r"Geschl|Vater|Mutter|\bm\W*w\b|\bw\W*m\b", re.IGNORECASE)
+
+
+def is_german(titles: Iterable[str]) -> bool:
+    """Are titles of sexes and parents German?"""
+    return any(map(GERMAN.search, titles))
+
+
 def names_both_sexes(title: str) -> bool:
     return bool(words_of_sexes(title))
 

@@ -58,6 +58,8 @@ BESIDE_FEMALES = (
     "f, female, fem, cow, heifer, ewe, gimmer, doe, nanny, mare, filly, sow, gilt, bitch, brood bitch, queen, jenny, "
     "jennet, Stute, Jungstute, Zuchtstute, Stutfohlen"
 )
+# those of them that German lists have too, beside `w`
+FEMALES = "f, female, fem"
 # words with which a sex isn't sure
 DOUBTS = (
     "verm, vermutl, vermutlich, wohl, evtl, eventuell, wahrsch, wahrscheinlich, unsicher, prob, probably, maybe, perhaps, "
@@ -199,6 +201,7 @@ KNOWN_SEXES |= {word: "M" for word in KNOWN_CASTRATED}
 KNOWN_NEUTERED = {plain(word) for word in listed(NEUTERED)}
 KNOWN_GELDED = {plain(word) for word in listed(GELDED)}
 BESIDE_WETHERS = {plain(word) for word in listed(BESIDE_FEMALES)}
+KNOWN_FEMALES = {plain(word) for word in listed(FEMALES)}
 KNOWN_DOUBTS = {plain(word) for word in listed(DOUBTS)}
 KNOWN_YES = {word.casefold() for word in listed(YES)}
 KNOWN_NO = {word.casefold() for word in listed(NO)}

@@ -6,8 +6,8 @@ import datetime
 import functools
 import itertools
 
-from gudokeyi.domain.kinds import Standing
-from gudokeyi.domain.provenance import GIVEN_BIRTH, GIVEN_EXIT, BirthBasis, OwnerDay
+from gudokeyi.domain.kinds import Role, Standing
+from gudokeyi.domain.provenance import GIVEN_BIRTH, GIVEN_EXIT, BirthBasis, OwnerDay, SexSource
 from gudokeyi.ingest.animals import NAME_OF
 from gudokeyi.ingest.rows_as_meant import marks_in
 from gudokeyi.store.book import Book
@@ -76,6 +76,12 @@ class AnimalsOfBook:
             id: records[in_book.registration_number].born for id, in_book in self.society_records.items()
             if in_book.birth is GIVEN_BIRTH or not in_book.birth.is_inferred
         }  # fmt: skip
+
+    @functools.cached_property
+    def given_sexes(self) -> dict[str, str]:
+        """The sexes that were given, by the ids."""
+        records = self.society_records.items()
+        return {id: Role.SIRE.sex if one.is_male else Role.DAM.sex for id, one in records if one.sex is SexSource.GIVEN}
 
     @functools.cached_property
     def inferred(self) -> dict[str, tuple[int, BirthBasis]]:

@@ -24,6 +24,7 @@ from gudokeyi.ingest.columns import Columns, find_columns
 from gudokeyi.ingest.exits_beside import columns_beside
 from gudokeyi.ingest.files import GivenFile
 from gudokeyi.ingest.rows_as_meant import Notes, as_meant, marks_in, member_numbered
+from gudokeyi.ingest.sexes import has_letter_beside_females
 from gudokeyi.ingest.sheet_animals import Rows
 from gudokeyi.ingest.sheets import Sheet, read_sheet
 from gudokeyi.ingest.titles import known_titles, parts_of, read_given, read_sexes
@@ -98,11 +99,13 @@ class Reading:
     owners: dict[str, str]
     # the marks for a cell above that are names of its animals, each with the sex of one
     called: frozenset[tuple[str, str]]
+    # the sexes that animals of the book were given, where they tell what a letter of the sheet means
+    sexes_of_book: dict[str, str]
     today: datetime.date = field(default_factory=datetime.date.today)
 
     def read_by(self) -> tuple[object, ...]:
         values = (dict(self.columns), self.unknown.more, self.unknown.known, dict(self.sexes), self.month_first)
-        return *values, [*self.no_animals], self.sure, self.born, self.owners, self.called, self.today
+        return *values, [*self.no_animals], self.sure, self.born, self.owners, self.called, self.sexes_of_book, self.today
 
     def meant_by(self) -> tuple[object, ...]:
         """By what the rows are changed into what they mean: by words for unknown parents where columns are read beside
@@ -124,7 +127,7 @@ class Reading:
         is_same = is_of_file and before and before.columns == columns and Field.ID in columns
         return Rows(
             meant, columns, self.unknown, self.sexes, report, self.month_first, self.born, self.no_animals, self.owners,
-            before.plain if before and is_same else None,
+            before.plain if before and is_same else None, self.sexes_of_book,
         )  # fmt: skip
 
     def animals(self, report: Report) -> tuple[Rows, dict[str, SheetAnimal]]:
@@ -298,6 +301,12 @@ def names_of_owners(book: Book) -> dict[str, str]:
     return names | {name: name for name in now.values()}
 
 
+def sexes_of_book(sheet: Sheet, columns: Mapping[str, int], in_book: AnimalsOfBook) -> dict[str, str]:
+    """The sexes of the book's animals, which are asked where a letter may stand for either."""
+    texts = {*sheet.column(columns[Field.SEX])} if Field.SEX in columns else set[str]()
+    return in_book.given_sexes if has_letter_beside_females(texts) else {}
+
+
 def read_animals(
     file: GivenFile, import_options: ImportOptions, book: Book, words: RememberedWords, last: LastReading | None = None
 ) -> ReadSheet:
@@ -309,7 +318,7 @@ def read_animals(
         sheet, columns.found, UnknownParents(words[Remembered.UNKNOWN], words[Remembered.KNOWN]),
         read_sexes(words[Remembered.SEXES]), bool(words[Remembered.MONTH_FIRST]), words[Remembered.TOLD],
         frozenset({*book.society_records, *parts_of(import_options.animal)}), in_book.born, names_of_owners(book),
-        in_book.called_as_marks,
+        in_book.called_as_marks, sexes_of_book(sheet, columns.found, in_book),
     )  # fmt: skip
     rows, animals = last.animals_of(reading, report) if last else reading.animals(report)
     formulas = sheet.formulas.told([*columns.found.values()]) if sheet.formulas else []
