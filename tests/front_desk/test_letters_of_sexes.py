@@ -120,7 +120,7 @@ def test_letter_of_females_of_the_book(desk: Desk, titles: str) -> None:
 
 
 def test_letter_of_wethers_of_the_book(desk: Desk) -> None:
-    """One by which they are castrated males stays that too, though it is the more frequent then, and no dam is there."""
+    """One by which they are castrated males stays that too, though it is the more frequent, and no dam is there."""
     begin = TITLES + "1,,F,2010-01-01,,\n2,,M,2010-01-01,,\n3,,W,2012-01-01,,\n"
     desk.take(begin)
     done = desk.take(begin + "4,,W,2013-01-01,,\n5,,W,2013-01-01,,\n")

@@ -212,14 +212,7 @@ class Rows:
         self.width = 1 + max(columns.values(), default=0)
         self.chosen = chooser([*columns.values()])
         self.errors = ErrorValues(sheet, columns)
-        # of words of a title such as `Dog/Bitch` cells have the first letters; letters of a title are no cells
-        named = words_of_sexes(sheet.titles[columns[Field.SEX]]) if Field.SEX in columns else []
-        named = [word for word in named if len(word) > 1]
-        self.sexes = Sexes(
-            [*self.texts(Field.SEX), *named], sexes, functools.partial(sexes_of_dams, self.texts),
-            functools.partial(sexes_in_book, self.texts, sexes_of_book or {}),
-            is_german(sheet.titles[columns[field]] for field in (Field.SEX, *ROLES) if field in columns),
-        )  # fmt: skip
+        self.sexes = self.sexes_read(sexes, sexes_of_book or {})
         self.unread = Unread({name: sheet.titles[at] for name, at in columns.items()})
         self.unread.of_status = sheet.of_status
         self.forms = DayForms(self.texts(Field.BIRTH), (born or {}).values(), month_first)
@@ -232,6 +225,16 @@ class Rows:
         # what keeps the sheet from being taken, and what may be wrong
         self.faults: list[SheetFinding] = []
         self.notes: list[SheetFinding] = []
+
+    def sexes_read(self, given: dict[str, str], of_book: Mapping[str, str]) -> Sexes:
+        """How the column of the sexes is read."""
+        titles = {field: self.sheet.titles[self.columns[field]] for field in (Field.SEX, *ROLES) if field in self.columns}
+        # of words of a title such as `Dog/Bitch` cells have the first letters; letters of a title are no cells
+        named = [word for word in words_of_sexes(titles.get(Field.SEX, "")) if len(word) > 1]
+        return Sexes(
+            [*self.texts(Field.SEX), *named], given, functools.partial(sexes_of_dams, self.texts),
+            functools.partial(sexes_in_book, self.texts, of_book), is_german(titles.values()),
+        )  # fmt: skip
 
     def remarks(self) -> list[Remark]:
         """Cells that are kept as notes."""
