@@ -228,7 +228,8 @@ class Rows:
 
     def sexes_read(self, given: dict[str, str], of_book: Mapping[str, str]) -> Sexes:
         """How the column of the sexes is read."""
-        titles = {field: self.sheet.titles[self.columns[field]] for field in (Field.SEX, *ROLES) if field in self.columns}
+        places = {field: self.columns[field] for field in (Field.SEX, *ROLES) if field in self.columns}
+        titles = {field: self.sheet.titles[at] for field, at in places.items()}
         # of words of a title such as `Dog/Bitch` cells have the first letters; letters of a title are no cells
         named = [word for word in words_of_sexes(titles.get(Field.SEX, "")) if len(word) > 1]
         return Sexes(
