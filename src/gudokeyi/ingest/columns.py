@@ -11,8 +11,8 @@ from typing import Container
 
 from gudokeyi.domain.kinds import Field
 from gudokeyi.domain.spelling import closest
-from gudokeyi.ingest.births_beside import parts_of_births
-from gudokeyi.ingest.column_detection import MOST_COMPARED, IdColumn, LikelyColumns, are_row_numbers
+from gudokeyi.ingest.births_beside import TAG, parts_of_births
+from gudokeyi.ingest.column_detection import MOST_COMPARED, IdColumn, LikelyColumns, are_different, are_row_numbers
 from gudokeyi.ingest.days import is_span
 from gudokeyi.ingest.encodings import Letters, decoded_twice
 from gudokeyi.ingest.exits_beside import KNOWN_BUYERS
@@ -110,11 +110,11 @@ def find_columns(
     for name in BELOW:
         if name not in named and name not in columns.found:
             column_below(columns, name)
-    find_births_in_parts(columns, given)
+    find_births_in_parts(columns, given, only_ids(columns, before.get(Field.ID, "")))
     parents = [name for name in PARENTS if name not in named and name not in columns.found]
     IdColumn(columns, parents, unknown, ids, before.get(Field.ID, "")).find()
     tell_parents_from_others(columns, parents)
-    # `Tag` is a word for ids too
+    # `Tag` is a word for ids too, and it is seen now whether it has these
     find_births_in_parts(columns, given)
     if Field.STATUS in columns.found and Field.EXIT not in columns.found and named.get(Field.EXIT) != "":
         columns.found[Field.EXIT] = columns.found.pop(Field.STATUS)
@@ -135,13 +135,25 @@ def tell_lacking(
     tell_lost(columns, before, likely)
 
 
-def find_births_in_parts(columns: Columns, given: Mapping[str, str]) -> None:
+def find_births_in_parts(columns: Columns, given: Mapping[str, str], kept: Collection[int] = ()) -> None:
     """The days of births stand in three columns, of which that of the years has the field; one that is named, or is
-    read beside these, has it else."""
-    parts = parts_of_births(columns.sheet, {*columns.found.values()} - {columns.found.get(Field.BIRTH, -1)})
+    read beside these, has it else. Those that are `kept` are for something else."""
     at = columns.found.get(Field.BIRTH)
-    if parts and (at == parts.year or Field.BIRTH not in given and at in (None, *parts)):
-        columns.found[Field.BIRTH], columns.parts = parts.year, (parts.day, parts.month)
+    parts = parts_of_births(columns.sheet, {*columns.found.values(), *kept} - {-1 if at is None else at})
+    if parts and (at == parts.year or Field.BIRTH not in given and at in (None, *parts.places())):
+        columns.found[Field.BIRTH] = parts.year
+        columns.parts = [one for one in parts.places() if one != parts.year]
+
+
+def only_ids(columns: Columns, before: str) -> list[int]:
+    """The columns called `Tag` where no other one has a title for ids, and the cells differ as those of ids do. The
+    ids of the book have the title `before`."""
+    if Field.ID in columns.found:
+        return []
+    usual = columns.titled({*KNOWN_TITLES[Field.ID], plain(before)} - {""})
+    tags = [at for at in usual if plain(columns.title(at)) == TAG]
+    are_ids = len(tags) == len(usual) and all(are_different(columns.cells(at)) for at in tags)
+    return tags if are_ids or plain(before) == TAG else []
 
 
 def name_column(columns: Columns, name: str, named: Mapping[str, str]) -> None:
