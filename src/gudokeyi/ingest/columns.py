@@ -22,6 +22,7 @@ from gudokeyi.ingest.findings.columns import (
 )  # fmt: skip
 from gudokeyi.ingest.findings.rows import CastratedInRemarks, ExitsInRemarks, FieldUnread, StatusUnread
 from gudokeyi.ingest.findings.sheets import MOST_SHOWN
+from gudokeyi.ingest.names_for_ids import names_for_ids
 from gudokeyi.ingest.remarks import telling_castrations, telling_exits
 from gudokeyi.ingest.sheets import Sheet
 from gudokeyi.ingest.statuses import said_of
@@ -326,11 +327,14 @@ def tell_parents_from_others(columns: Columns, parents: list[Field]) -> None:
 
 
 def tell_parents_beside(columns: Columns, unknown: Container[str]) -> None:
-    """Parents whose names stand in a column of their own, where those of others have their ids."""
+    """Parents whose names stand in a column of their own, where those of others have their ids, and aren't read."""
+    sheet, found = columns.sheet, columns.found
     for name in (one for one in PARENTS if one in columns.found):
+        read = {sheet.rows[place].line for place in names_for_ids(sheet.rows, sheet, found, name, unknown)}
         for at in columns.titled(KNOWN_TITLES[name]):
             both = zip(columns.sheet.rows, columns.cells(columns.found[name]), columns.cells(at))
             lacking = [(row.line, beside) for row, id, beside in both if id in unknown and beside not in unknown]
+            lacking = [one for one in lacking if one[0] not in read] if lacking else []
             if lacking and 2 * len(lacking) <= len(columns.sheet.rows):
                 title, beside = columns.title(columns.found[name]), columns.title(at)
                 others = tuple(line for line, _ in lacking[1:MOST_ALIKE])

@@ -17,6 +17,7 @@ from gudokeyi.ingest.exits_beside import columns_beside
 from gudokeyi.ingest.files import GivenFile
 from gudokeyi.ingest.findings.columns import ColumnUntitled
 from gudokeyi.ingest.parents_beside import tell_parents_named_otherwise
+from gudokeyi.ingest.names_for_ids import names_read
 from gudokeyi.ingest.statuses import reasons_beside
 from gudokeyi.process import keep
 from gudokeyi.reconcile.all_animals import complete
@@ -291,3 +292,4 @@ def understood_of(
         kept,
         tuple(one.letters for one in columns.notes if isinstance(one, ColumnUntitled)),
     )
+    places_beside += names_read(sheet, columns.found, read.rows.unknown)
