@@ -62,3 +62,32 @@ def test_three_columns_of_something_else(desk: Desk) -> None:
     assert "are read from the columns" not in desk.take(sheet).told
     sheet = "id;sex;Day;Month;Year;sire;dam\n1;F;Mon;3;2005;;\n2;M;Tue;3;2006;;\n"
     assert "are read from the columns" not in desk.take(sheet, "--book", "two").told
+
+
+@pytest.mark.parametrize("titles", ["Tag;Month;Year", "Tag;Month of birth;Year of birth", "Tag;Monat;Jahr", "N°;Mois;Année"])
+def test_months_and_years_without_days(desk: Desk, titles: str) -> None:
+    """`Tag` is no day where it has the ids; months and years are one birth without a column of days."""
+    id, month, year = titles.split(";")
+    sheet = f"{id};Name;Sex;{month};{year};Sire;Dam;Owner\n"
+    sheet += "1;Ann;F;3;2005;;;Hart\n2;Ben;M;4;2005;;;Hart\n3;Cal;M;5;2008;2;1;Hart\n4;Dan;M;;2009;2;1;Hart\n"
+    done = desk.take(sheet)
+    told = f"to look at: the birth days of 3 rows are read from the columns '{month}', '{year}', as '3.2005' in line 2"
+    done.shows(told)
+    assert f"id from '{id}'" in done.out and f"birth from '{year}'" in done.out and "not read" not in done.out
+    born = [json.loads(desk.good("show", id, "--json").out)["animal"]["born"] for id in "1234"]
+    assert born == ["2005-03-16", "2005-04-16", "2008-05-16", "2009-07-02"] and desk.parents()["3"] == ("2", "1")
+    again = desk.take(sheet)
+    again.shows(told)
+    assert " 0 new, 0 changed" in again.last
+
+
+def test_tags_beside_months_and_years(desk: Desk) -> None:
+    """In English `Tag` is no day beside other ids either, and in German it is one, which is no id where days are there
+    twice."""
+    rows = "101;7;F;3;2005;;\n102;8;M;4;2005;;\n103;7;M;5;2008;102;101\n"
+    done = desk.take("ID;Tag;Sex;Month;Year;Sire;Dam\n" + rows)
+    assert "read from the columns 'Month', 'Year', as '3.2005' in line 2" in done.out and "not read: 'Tag'" in done.out
+    done = desk.take("Ohrmarke;Tag;Geschlecht;Monat;Jahr;Vater;Mutter\n" + rows, "--book", "two")
+    assert "read from the columns 'Tag', 'Monat', 'Jahr', as '7.3.2005' in line 2" in done.out
+    done = desk.take("Nummern;Tag;Geschlecht;Monat;Jahr;Vater;Mutter\n" + rows, "--book", "three")
+    assert "id from 'Nummern'" in done.out and "'7.3.2005'" in done.told

@@ -148,3 +148,17 @@ def test_column_of_breeders(desk: Desk, title: str) -> None:
         page = (desk.room / f"{id}.html").read_text(encoding="utf-8")
         assert f'<dt>Breeder</dt><dd><div class="lines">{breeder}</div></dd>' in page
         assert "who owned the dam" not in page
+
+
+def test_breeders_that_the_book_finds(desk: Desk) -> None:
+    """Breeders who are the owners of the dams, and of founders their own, aren't told; others are, as many as there
+    are."""
+    rows = "id,name,sex,birth,sire,dam,owner,Breeder\nD,Berta,f,2001-02-01,,,Huber,huber\n"
+    rows += "X,Anna,f,2003-03-01,,D,Meier,Huber\nY,Eva,f,2004-03-01,,X,Huber,MEIER\nZ,Ida,f,2004-03-02,,D,Lang,?\n"
+    for _ in range(2):
+        assert "Breeder' isn't kept" not in desk.take(rows).told
+    told = "to look at: the column 'Breeder' isn't kept, with "
+    assert told + "'Garside' in line 2:" in desk.take(rows.replace(",huber", ",Garside")).out
+    assert told + "'Meier' in line 3:" in desk.take(rows.replace("Meier,Huber", "Meier,Meier")).out
+    others = rows.replace("MEIER", "Lang").replace("?", "Lange")
+    assert told + "2 other breeders, the first 'Lang' in line 4:" in desk.take(others).out

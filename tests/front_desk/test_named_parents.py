@@ -232,3 +232,40 @@ def test_ids_beside_names(desk: Desk, titles: str) -> None:
     assert " 0 new, 0 changed" in desk.take(titles + "\n" + rows).last
     names = "1;Ann;F;2005-03-01;;;;;\n2;Ben;M;2005-03-02;;;;;\n3;Cal;M;2008-03-13;2;Ben;;1;Ann\n"
     assert "which has more of the ids" not in desk.take(titles + "\n" + names, "--book", "two").told
+
+
+def test_names_where_ids_lack(desk: Desk) -> None:
+    """A name beside an empty cell for an id is found as names are, each year; one that others have beside an id without
+    a row isn't, and that is told."""
+    sheet = "Tag;Name;Sex;DOB;Sire Name;Sire IAR no.;Dam Name;Dam IAR no.\n"
+    sheet += "1;Ann;F;2005-03-01;;;;\n2;Ben;M;2005-03-02;;;;\n3;Ben;M;2008-03-13;Ben;2;Ann;1\n4;Dan;F;2011-03-13;Ben;3;Ann;1\n"
+    sheet += "5;Eve;F;2012-03-13;Zar;Z9;ANN;\n6;Fay;F;2012-03-14;Zar;;Ann;?\n7;Gil;F;2012-03-15;Xaver;;unknown;\n"
+    sheet += "8;Hob;M;2012-03-16;Ben;2;Ann;1\n9;Ida;F;2012-03-17;Ben;2;\";\n"
+    for added in 2, 0:
+        done = desk.take(sheet)
+        done.tells(
+            f"line 6: 5: inferred: its dam 'ANN' is 1 by its name: {MEANT}",
+            f"line 7: 6: inferred: its dam 'Ann' is 1 by its name: {MEANT}",
+        )
+        done.shows(
+            "to look at: 1 row has nothing in 'Sire IAR no.', and 'Zar' in 'Sire Name', which isn't read, in line 7: this "
+            "parent counts as unknown; write it into 'Sire IAR no.'"
+        )
+        assert f" {added} added" in done.last and "nothing in 'Dam IAR no.'" not in done.told
+        parents = desk.parents()
+        assert [parents[id] for id in "56789"] == [("Z9", "1"), ("", "1"), ("Xaver", ""), ("2", "1"), ("2", "1")]
+    assert " 0 new, 0 changed" in done.last
+
+
+def test_names_or_ids(desk: Desk) -> None:
+    """Each row has one of them."""
+    sheet = "Tag;Name;Sex;DOB;Sire;Sire IAR no.;Dam\n1;Ann;F;2005-03-01;;;\n2;Ben;M;2005-03-02;;;\n3;Cal;M;2008-03-13;;2;1\n"
+    desk.take(sheet + "4;Dan;F;2011-03-13;;2;1\n5;Eve;F;2011-03-14;Cal;;1\n")
+    assert [desk.parents()[id] for id in "345"] == [("2", "1"), ("2", "1"), ("3", "1")]
+
+
+def test_other_ids_where_ids_lack(desk: Desk) -> None:
+    """Ids in both columns are no names."""
+    sheet = "Tag;Sex;DOB;Sire;Sire by DNA;Dam\n1;F;2005-03-01;;;\n2;M;2005-03-02;;;\n3;M;2008-03-13;2;2;1\n4;F;2011-03-13;3;;1\n"
+    desk.take(sheet, "--columns", "sire=Sire by DNA")
+    assert desk.parents()["3"] == ("2", "1") and desk.parents()["4"] == ("", "1")

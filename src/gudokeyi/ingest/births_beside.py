@@ -25,6 +25,9 @@ PARTS = {
 }
 KNOWN_YEARS = {plain(title) for title in listed(OF_YEARS)}
 KNOWN_PARTS = {part: {plain(title) for title in listed(titles)} for part, titles in PARTS.items()}
+# `Tag` is a day beside months and years in German alone: in other lists ids are called so
+TAG = plain("Tag")
+GERMAN = {plain(title) for title in listed("Monat, Geburtsmonat, Jahr, Geburtsjahr, Geb.-Jahr, Jahrgang")}
 # what such a column has
 NUMBER = re.compile(r"0?\d{1,2}(?:\.0*)?")
 # so great a part of its cells at least
@@ -32,23 +35,31 @@ MOSTLY = 0.9
 
 
 class BirthParts(NamedTuple):
-    """The places of the columns that have the days, months and years of births."""
+    """The places of the columns that have the months and years of births, and the days, if there is one."""
 
-    day: int
+    day: int | None
     month: int
     year: int
 
+    def places(self) -> tuple[int, ...]:
+        return (self.month, self.year) if self.day is None else (self.day, self.month, self.year)
+
 
 def parts_of_births(sheet: Sheet, taken: Container[int]) -> BirthParts | None:
-    """Those of a sheet that has one of each, which aren't taken for something else; most of their cells are such
-    numbers."""
+    """Those of a sheet that has one of each, or none of days, which aren't taken for something else; most of their
+    cells are such numbers."""
     titles = [(at, plain(title)) for at, title in enumerate(sheet.titles) if title and at not in taken]
     found = {part: [at for at, title in titles if title in known] for part, known in KNOWN_PARTS.items()}
-    if not all(len(places) == 1 for places in found.values()):
+    if not all(len(found[part]) == 1 for part in ("month", "year")):
         return None
-    parts = BirthParts(*(places[0] for places in found.values()))
-    looks = {parts.day: is_day, parts.month: is_month, parts.year: is_year}
-    said = {at: [cell for cell in sheet.column(at) if cell] for at in parts}
+    [month], [year] = found["month"], found["year"]
+    if not all(plain(sheet.titles[at]) in GERMAN for at in (month, year)):
+        found["day"] = [at for at in found["day"] if plain(sheet.titles[at]) != TAG]
+    if len(found["day"]) > 1:
+        return None
+    parts = BirthParts(next(iter(found["day"]), None), month, year)
+    looks = dict(zip(reversed(parts.places()), (is_year, is_month, is_day)))
+    said = {at: [cell for cell in sheet.column(at) if cell] for at in looks}
     are_so = (sum(map(look, said[at])) >= max(1, MOSTLY * len(said[at])) for at, look in looks.items())
     return parts if all(are_so) else None
 
@@ -97,12 +108,14 @@ def joined(
     rows: Sequence[SheetRow], sheet: Sheet, parts: BirthParts, unknown: Container[str], report: Report
 ) -> dict[int, str]:
     """The days of three columns; where the day isn't known, the month."""
-    cells = [[cell_of(row, at) for at in parts] for row in rows]
+    places = parts.places()
+    no_day = [""] * (parts.day is None)
+    cells = [no_day + [cell_of(row, at) for at in places] for row in rows]
     said = [["" if text in unknown or not text.strip("0") else text for text in texts] for texts in cells]
     found = {place: day_of(*texts) for place, texts in enumerate(said) if texts[1] and texts[2]}
     if found:
         first, text = next(iter(found.items()))
-        titles = tuple(sheet.titles[at] for at in parts)
+        titles = tuple(sheet.titles[at] for at in places)
         report.add(0, "", BirthsJoined(titles, len(found), rows[first].line, text))
     return found
 

@@ -164,8 +164,7 @@ class IdColumn:
         return sum(cell not in self.unknown for at in places.values() for cell in self.columns.cells(at))
 
     def are_different(self, at: int) -> bool:
-        cells = self.columns.cells(at)
-        return len({*cells} - {""}) >= MOSTLY * len(cells)
+        return are_different(self.columns.cells(at))
 
     def are_row_numbers(self, at: int) -> bool:
         return are_row_numbers(self.columns.cells(at))
@@ -176,6 +175,10 @@ def parent_columns(columns: Columns, parent: Field) -> list[int]:
     usual = columns.titled(KNOWN_TITLES[parent])
     titles = enumerate(columns.sheet.titles) if usual else ()
     return usual + [at for at, title in titles if at not in usual and columns.is_free(at) and names_parent(title, parent)]
+
+
+def are_different(cells: list[str]) -> bool:
+    return len({*cells} - {""}) >= MOSTLY * len(cells)
 
 
 def are_row_numbers(cells: list[str]) -> bool:

@@ -11,8 +11,8 @@ from typing import Container
 
 from gudokeyi.domain.kinds import Field
 from gudokeyi.domain.spelling import closest
-from gudokeyi.ingest.births_beside import parts_of_births
-from gudokeyi.ingest.column_detection import MOST_COMPARED, IdColumn, LikelyColumns, are_row_numbers
+from gudokeyi.ingest.births_beside import TAG, parts_of_births
+from gudokeyi.ingest.column_detection import MOST_COMPARED, IdColumn, LikelyColumns, are_different, are_row_numbers
 from gudokeyi.ingest.days import is_span
 from gudokeyi.ingest.encodings import Letters, decoded_twice
 from gudokeyi.ingest.exits_beside import KNOWN_BUYERS
@@ -22,6 +22,7 @@ from gudokeyi.ingest.findings.columns import (
 )  # fmt: skip
 from gudokeyi.ingest.findings.rows import CastratedInRemarks, ExitsInRemarks, FieldUnread, StatusUnread
 from gudokeyi.ingest.findings.sheets import MOST_SHOWN
+from gudokeyi.ingest.names_for_ids import names_for_ids
 from gudokeyi.ingest.remarks import telling_castrations, telling_exits
 from gudokeyi.ingest.sheets import Sheet
 from gudokeyi.ingest.statuses import said_of
@@ -110,11 +111,11 @@ def find_columns(
     for name in BELOW:
         if name not in named and name not in columns.found:
             column_below(columns, name)
-    find_births_in_parts(columns, given)
+    find_births_in_parts(columns, given, only_ids(columns, before.get(Field.ID, "")))
     parents = [name for name in PARENTS if name not in named and name not in columns.found]
     IdColumn(columns, parents, unknown, ids, before.get(Field.ID, "")).find()
     tell_parents_from_others(columns, parents)
-    # `Tag` is a word for ids too
+    # `Tag` is a word for ids too, and it is seen now whether it has these
     find_births_in_parts(columns, given)
     if Field.STATUS in columns.found and Field.EXIT not in columns.found and named.get(Field.EXIT) != "":
         columns.found[Field.EXIT] = columns.found.pop(Field.STATUS)
@@ -135,13 +136,25 @@ def tell_lacking(
     tell_lost(columns, before, likely)
 
 
-def find_births_in_parts(columns: Columns, given: Mapping[str, str]) -> None:
+def find_births_in_parts(columns: Columns, given: Mapping[str, str], kept: Collection[int] = ()) -> None:
     """The days of births stand in three columns, of which that of the years has the field; one that is named, or is
-    read beside these, has it else."""
-    parts = parts_of_births(columns.sheet, {*columns.found.values()} - {columns.found.get(Field.BIRTH, -1)})
+    read beside these, has it else. Those that are `kept` are for something else."""
     at = columns.found.get(Field.BIRTH)
-    if parts and (at == parts.year or Field.BIRTH not in given and at in (None, *parts)):
-        columns.found[Field.BIRTH], columns.parts = parts.year, (parts.day, parts.month)
+    parts = parts_of_births(columns.sheet, {*columns.found.values(), *kept} - {-1 if at is None else at})
+    if parts and (at == parts.year or Field.BIRTH not in given and at in (None, *parts.places())):
+        columns.found[Field.BIRTH] = parts.year
+        columns.parts = [one for one in parts.places() if one != parts.year]
+
+
+def only_ids(columns: Columns, before: str) -> list[int]:
+    """The columns called `Tag` where no other one has a title for ids, and the cells differ as those of ids do. The
+    ids of the book have the title `before`."""
+    if Field.ID in columns.found:
+        return []
+    usual = columns.titled({*KNOWN_TITLES[Field.ID], plain(before)} - {""})
+    tags = [at for at in usual if plain(columns.title(at)) == TAG]
+    are_ids = len(tags) == len(usual) and all(are_different(columns.cells(at)) for at in tags)
+    return tags if are_ids or plain(before) == TAG else []
 
 
 def name_column(columns: Columns, name: str, named: Mapping[str, str]) -> None:
@@ -314,11 +327,14 @@ def tell_parents_from_others(columns: Columns, parents: list[Field]) -> None:
 
 
 def tell_parents_beside(columns: Columns, unknown: Container[str]) -> None:
-    """Parents whose names stand in a column of their own, where those of others have their ids."""
+    """Parents whose names stand in a column of their own, where those of others have their ids, and aren't read."""
+    sheet, found = columns.sheet, columns.found
     for name in (one for one in PARENTS if one in columns.found):
+        read = {sheet.rows[place].line for place in names_for_ids(sheet.rows, sheet, found, name, unknown)}
         for at in columns.titled(KNOWN_TITLES[name]):
             both = zip(columns.sheet.rows, columns.cells(columns.found[name]), columns.cells(at))
             lacking = [(row.line, beside) for row, id, beside in both if id in unknown and beside not in unknown]
+            lacking = [one for one in lacking if one[0] not in read] if lacking else []
             if lacking and 2 * len(lacking) <= len(columns.sheet.rows):
                 title, beside = columns.title(columns.found[name]), columns.title(at)
                 others = tuple(line for line, _ in lacking[1:MOST_ALIKE])

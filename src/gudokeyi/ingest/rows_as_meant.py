@@ -21,6 +21,7 @@ from gudokeyi.ingest.findings.cells import UnseenInId
 from gudokeyi.ingest.findings.rows import CellsRepeated, MarksAreNames, NoteRow, NothingRepeated
 from gudokeyi.ingest.findings.sheets import UnseenDropped
 from gudokeyi.ingest.marked_ids import without_signs_of_exits
+from gudokeyi.ingest.names_for_ids import with_names_for_ids
 from gudokeyi.ingest.sheets import Sheet, SheetRow, cell_of, with_cell
 from gudokeyi.ingest.statuses import SOLD, TAKER, exits_said, taker_of_owner
 from gudokeyi.ingest.texts import nearly, plain, shape, shapes_of
@@ -239,6 +240,9 @@ def as_meant(
     """The sheet with its rows as they are meant; what is read so is told. `animals` are the ids of animals for sure,
     `called` the marks that are names of the book, as `Marks` has them, and `notes_of` has the notes of a sheet."""
     sheet = without_signs_of_exits(as_seen(sheet, columns, animals, report), columns, animals)
+    for at, names in with_names_for_ids(sheet, columns, unknown).items():
+        rows = [with_cell(row, at, names[place]) if place in names else row for place, row in enumerate(sheet.rows)]
+        sheet = replace(sheet, rows=rows, kept={})
     notes = notes_of(sheet, columns).found(animals)
     for line, text in notes.items():
         report.add(line, "", NoteRow(text))

@@ -3,21 +3,24 @@ nothing is refused, and told."""
 from __future__ import annotations
 
 import contextlib
+import functools
 import itertools
 import pathlib
 from collections.abc import Callable
 from dataclasses import dataclass
 
 from gudokeyi.domain.changes import Option, Source
-from gudokeyi.domain.findings import Call, Entry, ImportRefused, Report, StrictlyRefused, What
+from gudokeyi.domain.findings import Call, Entry, ImportRefused, StrictlyRefused, What
 from gudokeyi.domain.kinds import Field, Remembered
 from gudokeyi.ingest.animals import LINE_OF
 from gudokeyi.ingest.births_beside import year_column
 from gudokeyi.ingest.exits_beside import columns_beside
 from gudokeyi.ingest.files import GivenFile
 from gudokeyi.ingest.findings.columns import ColumnUntitled
+from gudokeyi.ingest.names_for_ids import names_read
 from gudokeyi.ingest.parents_beside import tell_parents_named_otherwise
 from gudokeyi.ingest.statuses import reasons_beside
+from gudokeyi.ingest.texts import plain
 from gudokeyi.process import keep
 from gudokeyi.reconcile.all_animals import complete
 from gudokeyi.reconcile.cells_as_notes import keep_as_notes
@@ -239,7 +242,7 @@ def import_sheet_into(
     tell_parents_named_otherwise(read.columns, next_book.animals, next_book.report)
     own = find_own_columns(book, read.columns, import_options.own)
     used = again(words, import_options) + [Option("--worksheet", read.sheet.as_before)] * bool(read.sheet.as_before)
-    tell_breeders(read, own, next_book.report)
+    tell_breeders(read, own, next_book)
     lacks_own = tell_lost_own_columns(book, own, read.columns, next_book.report)
     understood = understood_of(path, read, used, {} if lacks_own else titles_before(book), own)
     remember_places(book, read, import_options.worksheet)
@@ -258,16 +261,28 @@ def remember_places(book: Book, read: ReadSheet, worksheet: str) -> None:
     remember_worksheet(book, worksheet, read.sheet.worksheets)
 
 
-def tell_breeders(read: ReadSheet, own: OwnSheetColumns, report: Report) -> None:
-    """A column of breeders isn't kept, and nobody said that it shan't be."""
+def tell_breeders(read: ReadSheet, own: OwnSheetColumns, next_book: NextBook) -> None:
+    """A column of breeders isn't kept, which has others than the owners by whom they are found, and nobody said that it
+    shan't be."""
     if any(is_of_breeders(one.title) for one in own.after):
         return
     titles = enumerate(read.sheet.titles)
     for at in [at for at, title in titles if is_of_breeders(title) and read.columns.is_free(at)][:1]:
-        texts = read.sheet.column(at)
-        if count := len(texts) - texts.count(""):
-            line, text = next((row.line, text) for row, text in zip(read.sheet.rows, texts) if text)
-            report.add(0, "", BreedersNotKept(read.sheet.titles[at], count, line, text))
+        rows = zip(read.sheet.rows, read.sheet.column(at))
+        said = {row.line: text for row, text in rows if text and text not in read.rows.unknown}
+        if others := other_breeders(said, next_book):
+            line, text = others[0]
+            next_book.report.add(0, "", BreedersNotKept(read.sheet.titles[at], len(others), line, text))
+
+
+def other_breeders(said: dict[int, str], next_book: NextBook) -> list[tuple[int, str]]:
+    """Those of some lines who aren't the owner of the dam, or of a founder its own one, as the sheet has these."""
+    animals, respelt = next_book.animals, next_book.book.respelt
+    compared = functools.cache(lambda owner: plain(respelt(owner)))
+    rows = [animal for animal in animals.values() if animal.line in said]
+    owners = ((one.line, animals.get(one.dam) if one.dam else one) for one in rows)
+    of_lines = {line: compared(one.owner_before or one.owner) if one else "" for line, one in owners}
+    return sorted((line, said[line]) for line, owner in of_lines.items() if compared(said[line]) != owner)
 
 
 def understood_of(
@@ -277,6 +292,7 @@ def understood_of(
     of_reasons = reasons_beside(sheet.titles, read.columns.found)
     kept = tuple(sheet.titles[at] for at in sorted({*own.places.values(), *of_reasons}))
     places_beside = [*columns_beside(sheet, columns.found), *year_column(sheet, columns.found)]
+    places_beside += names_read(sheet, columns.found, read.rows.unknown)
     beside = [sheet.titles[at] for at in places_beside]
     titles = tuple(ColumnRead(Field(name), title) for name, title in columns.titles_found())
     return Understood(

@@ -23,6 +23,7 @@ from gudokeyi.ingest.births_beside import year_column
 from gudokeyi.ingest.columns import Columns, find_columns
 from gudokeyi.ingest.exits_beside import columns_beside
 from gudokeyi.ingest.files import GivenFile
+from gudokeyi.ingest.names_for_ids import names_columns
 from gudokeyi.ingest.rows_as_meant import Notes, as_meant, marks_in, member_numbered
 from gudokeyi.ingest.sexes import has_letter_beside_females
 from gudokeyi.ingest.sheet_animals import Rows
@@ -109,8 +110,9 @@ class Reading:
 
     def meant_by(self) -> tuple[object, ...]:
         """By what the rows are changed into what they mean: by words for unknown parents where columns are read beside
-        those of the births and exits alone, but for those that are marks for a cell above."""
-        beside = columns_beside(self.sheet, self.columns) or year_column(self.sheet, self.columns)
+        those of the births, exits and parents alone, but for those that are marks for a cell above."""
+        sheet, columns = self.sheet, self.columns
+        beside = columns_beside(sheet, columns) or year_column(sheet, columns) or names_columns(sheet, columns)
         words = (self.unknown.more, self.unknown.known) if beside or Field.STATUS in self.columns else ()
         return dict(self.columns), self.sure, words, marks_in(self.unknown.more), self.called
 

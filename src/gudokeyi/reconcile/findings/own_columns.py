@@ -215,7 +215,7 @@ class OwnDaysAmongTexts(PlausibilityWarning):
 
 @dataclass(frozen=True, slots=True)
 class BreedersNotKept(SheetFinding):
-    """A column of breeders that isn't kept, with so many cells: the book finds others in place of them."""
+    """A column of breeders that isn't kept, with so many others than the book finds in place of them."""
 
     title: str
     count: int
@@ -227,8 +227,8 @@ class BreedersNotKept(SheetFinding):
     message = Counted(
         "the column '{title}' isn't kept, with '{text}' in line {line}: as the breeder of an animal the owner of its dam "
         "at its birth is printed",
-        "the column '{title}' isn't kept, with {count} cells, the first '{text}' in line {line}: as the breeder of an "
-        "animal the owner of its dam at its birth is printed",
+        "the column '{title}' isn't kept, with {count} other breeders, the first '{text}' in line {line}: as the breeder "
+        "of an animal the owner of its dam at its birth is printed",
         "count",
     )
 
