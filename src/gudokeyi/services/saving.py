@@ -6,6 +6,7 @@ import copy
 import pathlib
 from collections.abc import Callable
 from dataclasses import replace
+from typing import NamedTuple
 
 from gudokeyi.background import Background
 from gudokeyi.domain.animals import SocietyRecord
@@ -87,19 +88,47 @@ def as_saved(outcome: Outcome, found: Saved) -> Outcome:
     return replace(outcome, report=report, after=replace(outcome.after, animals=animals))
 
 
+class AnswersAfter(NamedTuple):
+    """What the program says of the book after the commands; it works meanwhile."""
+
+    coefficients: Background[list[str]]
+    records: Background[dict[str, RegisterRecord]]
+
+
 def prepared_of(
     next_book: NextBook, filed: Filed, program: BookProgram, import_options: ImportOptions, source: Source, new: int
 ) -> Prepared:
     """What is to be written. Nothing is yet."""
-    book, report = next_book.book, next_book.report
+    book = next_book.book
+    answers = answers_after(book, filed, program)
+    made = details_of(next_book, import_options, source, new)
+    new_owners = owners_that_came(book)
+    if not book.is_there:
+        # where the program fails no book is begun
+        answers.coefficients.value()
+        # nobody waits for it: it is found out beside the writing of its journal
+        found = Background(lambda: state_after(next_book, answers, new_owners))
+        return Prepared(None, filed, lambda _: found.value(), made)
+    # it is found out before the change begins, for which others wait
+    state = with_changed_rows(state_after(next_book, answers, new_owners))
+    basis = None if import_options.drop_gone else basis_of(book, state, len(next_book.animals))
+    return Prepared(book.change, filed, lambda _: state, made, basis)
+
+
+def answers_after(book: Book, filed: Filed, program: BookProgram) -> AnswersAfter:
     text = text_after(book, filed)
     givers = givers_after(book, filed)
     coefficients = Background(lambda: program.lines(["inbreeding"], text))
     # its lines aren't kept, as much as they take
     records = Background(lambda: records_of(program.lines(["records"], text), givers))
-    owner_codes = {*book.owners_came().values()}
+    return AnswersAfter(coefficients, records)
+
+
+def details_of(next_book: NextBook, import_options: ImportOptions, source: Source, new: int) -> ChangeDetails:
+    """What the history tells of the import."""
+    report = next_book.report
     counts = report.counts()
-    made = ChangeDetails(
+    return ChangeDetails(
         ChangeKind.PEDIGREE if next_book.is_pedigree else ChangeKind.TAKE,
         source,
         import_options.options(),
@@ -111,30 +140,25 @@ def prepared_of(
         tuple(told_of(entry) for entry in report.in_order()),
         form=import_options.form,
     )
-    new_owners = {owner: owner_code for owner, owner_code in book.owners.items() if owner_code not in owner_codes}
-    if not book.is_there:
-        # where the program fails no book is begun
-        coefficients.value()
 
-    def find_state() -> State:
-        return State(
-            changed_animals(book, known_after(next_book), records.value()),
-            Rows(cells_before(book), cell_rows(next_book)),
-            book.remembered,
-            new_owners,
-            others=tuple(next_book.others),
-            coefficients=coefficients.value(),
-            former_ids=former_ids_after(book),
-        )
 
-    if not book.is_there:
-        # nobody waits for it: it is found out beside the writing of its journal
-        found = Background(find_state)
-        return Prepared(None, filed, lambda _: found.value(), made)
-    # it is found out before the change begins, for which others wait
-    state = with_changed_rows(find_state())
-    basis = None if import_options.drop_gone else basis_of(book, state, len(next_book.animals))
-    return Prepared(book.change, filed, lambda _: state, made, basis)
+def owners_that_came(book: Book) -> dict[str, int]:
+    """The owners with their herds that the book didn't have."""
+    owner_codes = {*book.owners_came().values()}
+    return {owner: owner_code for owner, owner_code in book.owners.items() if owner_code not in owner_codes}
+
+
+def state_after(next_book: NextBook, answers: AnswersAfter, new_owners: dict[str, int]) -> State:
+    book = next_book.book
+    return State(
+        changed_animals(book, known_after(next_book), answers.records.value()),
+        Rows(cells_before(book), cell_rows(next_book)),
+        book.remembered,
+        new_owners,
+        others=tuple(next_book.others),
+        coefficients=answers.coefficients.value(),
+        former_ids=former_ids_after(book),
+    )
 
 
 def with_changed_rows(state: State) -> State:

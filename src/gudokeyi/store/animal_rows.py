@@ -94,6 +94,10 @@ def fields_of(words: str) -> frozenset[Field]:
     return frozenset(Field(word) for word in words.split()) if words else NO_FIELDS
 
 
+def words_of(fields: frozenset[Field]) -> str:
+    return " ".join(sorted(field.value for field in fields))
+
+
 def society_record_of(row: AnimalRow) -> SocietyRecord:
     """What the society knows of it."""
     return SocietyRecord(
@@ -131,26 +135,17 @@ def record_of(row: AnimalRow) -> RegisterRecord:
 
 def row_of(animal: SocietyRecord, record: RegisterRecord | None) -> AnimalRow:
     """The row for both; an animal that was dropped has no record."""
-    (
-        number,
-        id,
-        name,
-        standing,
-        birth,
-        exit,
-        sex,
-        castrated,
-        written_sire,
-        written_dam,
-        by_hand,
-        owner_day,
-        reason,
-    ) = animal
+    register = NOT_IN_REGISTER if record is None else register_values(record)
+    return made(AnimalRow, (*society_values(animal), *register, animal.exit_reason or None))
+
+
+def society_values(animal: SocietyRecord) -> tuple[str | int | None, ...]:
+    """What the society knows of it, up to what the register has."""
+    number, id, name, standing, birth, exit, sex, castrated, sire, dam, by_hand, owner_day, _ = animal
     birth_source, birth_period, no_such_birth = GIVEN_BIRTH_TEXTS if birth is GIVEN_BIRTH else birth_texts(birth)
     exit_source, exit_period, no_such_exit, text = GIVEN_EXIT_TEXTS if exit is GIVEN_EXIT else exit_texts(exit)
-    register = NOT_IN_REGISTER if record is None else register_of(record)
     # `_value_` is what `value` looks for, in a fraction of the time
-    values = (
+    return (
         id,
         number,
         name,
@@ -166,14 +161,11 @@ def row_of(animal: SocietyRecord, record: RegisterRecord | None) -> AnimalRow:
         text,
         sex._value_,
         int(castrated),
-        written_sire,
-        written_dam,
-        " ".join(sorted(one.value for one in by_hand)) if by_hand else "",
+        sire,
+        dam,
+        words_of(by_hand) if by_hand else "",
         owner_day._value_,
-        *register,
-        reason or None,
     )
-    return made(AnimalRow, values)
 
 
 def birth_texts(basis: BirthBasis) -> tuple[str, str | None, str | None]:
@@ -195,7 +187,7 @@ Register = tuple[str | None, str | None, str | None, int | None, int | None, str
 NOT_IN_REGISTER: Register = (None, None, None, None, None, None, None, None)
 
 
-def register_of(record: RegisterRecord) -> Register:
+def register_values(record: RegisterRecord) -> Register:
     _, born, sire, dam, embryo, owner_code, since, left, from_owner = record
     day = day_text(born)
     return (

@@ -41,54 +41,78 @@ SETTINGS = {
 
 
 def add_words(words: CommandWords) -> None:
-    history = words.add_for_book("history", do_history, "write what was changed, when and by whom", answers=told)
-    history.add_argument(
+    add_history(words)
+    add_undo(words)
+    add_settings(words)
+    add_verify(words)
+    add_backup(words)
+    add_restore(words)
+
+
+def add_history(words: CommandWords) -> None:
+    word = words.add_for_book("history", do_history, "write what was changed, when and by whom", answers=told)
+    word.add_argument(
         "number", nargs="?", type=whole_number, metavar="N", help="what this change did, animal by animal [all changes]"
     )
-    back = words.add(
+
+
+def add_undo(words: CommandWords) -> None:
+    word = words.add(
         "undo",
         do_undo,
         "bring back the state before the last change that changed something, as a new change",
         "Nothing is lost by it.",
     )
-    which = back.add_mutually_exclusive_group()
+    which = word.add_mutually_exclusive_group()
     which.add_argument("--to", type=whole_number, metavar="N", help="the state after this change, 0 for the empty book")
     which.add_argument(
         "--change", type=whole_number, metavar="N", help="undo this change alone, where no later one stands on it"
     )
-    back.add_argument("--with-later", action="store_true", help="with --change: undo those that stand on it too")
-    settings = words.add(
+    word.add_argument("--with-later", action="store_true", help="with --change: undo those that stand on it too")
+
+
+def add_settings(words: CommandWords) -> None:
+    word = words.add(
         "settings",
         do_settings,
         "keep what the society says of itself, or write it",
         "Certificates show name, address, breed and picture.",
     )
     for setting in Setting:
-        settings.add_argument(
+        word.add_argument(
             f"--{setting}", dest=setting.value, metavar="TEXT", help=f"{SETTINGS[setting]}, '' for none [as it is]"
         )
-    settings.add_argument(
+    word.add_argument(
         "--picture", metavar="FILE", help="its picture, a PNG or JPEG of at most 1 MB, '' for none [as it is]"
     )
-    whole = words.add_for_book(
+
+
+def add_verify(words: CommandWords) -> None:
+    word = words.add_for_book(
         "verify",
         do_verify,
         "see whether the book is whole, and its replies and coefficients are the program's",
         shows=False,
         answers=seen,
     )
-    whole.add_argument(
+    word.add_argument(
         "--published", type=pathlib.Path, metavar="FILE",
         help="see too whether each line of a file of published seals is that of the journal",
     )  # fmt: skip
-    copy = words.add_for_book(
+
+
+def add_backup(words: CommandWords) -> None:
+    word = words.add_for_book(
         "backup", do_backup, "write the whole book with its history to a file, while others work", shows=False
     )
-    copy.add_argument("file", type=file, metavar="FILE", help="the file")
-    add_force(copy)
-    again = words.add("restore", do_restore, "make the book of a backup that of the folder")
-    again.add_argument("file", type=pathlib.Path, metavar="FILE", help="the backup")
-    again.add_argument(
+    word.add_argument("file", type=file, metavar="FILE", help="the file")
+    add_force(word)
+
+
+def add_restore(words: CommandWords) -> None:
+    word = words.add("restore", do_restore, "make the book of a backup that of the folder")
+    word.add_argument("file", type=pathlib.Path, metavar="FILE", help="the backup")
+    word.add_argument(
         "--anyway", action="store_true", help="where there is a book too, which goes to the folder `old` of it"
     )
 

@@ -46,28 +46,36 @@ def add_words(words: CommandWords) -> None:
         word.add_argument("pedigree", type=pathlib.Path, metavar="PEDIGREE", help=FILE_HELP)
         add_reading(word)
         add_json(word, name)
-    relationships.add_argument("ids", nargs="*", metavar="ID", help="the animals")
-    relationships.add_argument(
-        "--with", dest="others", type=pathlib.Path, metavar="FILE", help=f"each with each of these, {IDS}"
-    )
-    relationships.add_argument(
+    add_pairs(relationships)
+    for word in relationships, measures:
+        word.add_argument("--among", type=pathlib.Path, metavar="FILE", help=f"the animals that a file names, {IDS}")
+        add_output(word)
+    add_other_numbers(audit)
+    inbreeding.add_argument("--out", type=file, metavar="FILE", help="write to this file, not to the screen")
+    add_force(inbreeding)
+
+
+def add_pairs(word: argparse.ArgumentParser) -> None:
+    """Of which pairs relationships are asked for, and how they are shown."""
+    word.add_argument("ids", nargs="*", metavar="ID", help="the animals")
+    word.add_argument("--with", dest="others", type=pathlib.Path, metavar="FILE", help=f"each with each of these, {IDS}")
+    word.add_argument(
         "--matrix",
         choices=("kinship", "relationship"),
         help="a matrix of kinships or relationships, not a table of pairs",
     )
-    for word in relationships, measures:
-        word.add_argument("--among", type=pathlib.Path, metavar="FILE", help=f"the animals that a file names, {IDS}")
-        add_output(word)
-    audit.add_argument(
+
+
+def add_other_numbers(word: argparse.ArgumentParser) -> None:
+    """The numbers of another program, which are compared."""
+    word.add_argument(
         "--against", type=pathlib.Path, required=True, metavar="FILE",
         help="the other program's numbers: `id,F` in each line, or `id,id,value`",
     )  # fmt: skip
-    audit.add_argument(
+    word.add_argument(
         "--what", choices=("inbreeding", "relationship", "kinship", "inverse"),
         help="what they are [inbreeding of one id, relationship of two]",
     )  # fmt: skip
-    inbreeding.add_argument("--out", type=file, metavar="FILE", help="write to this file, not to the screen")
-    add_force(inbreeding)
 
 
 FILE_HELP = "a text file with `id sire dam` in each line, or with these among its titles, also packed as .gz; - is standard input"
