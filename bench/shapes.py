@@ -58,34 +58,37 @@ def overlapping(
     for year in range(10_000):
         if len(book) >= animals:
             break
-        here_m, here_f = list[int](), list[int]()
-        base = 365 * year
-        pool_m = [it for made in used_males[max(0, year - 7) : max(0, year - 1)] for it in made]
-        pool_f = [it for made in used_females[max(0, year - 9) : max(0, year - 1)] for it in made]
-        for _ in range(a_year):
-            if len(book) >= animals:
-                break
+        sires = [it for made in used_males[max(0, year - 7) : max(0, year - 1)] for it in made]
+        dams = [it for made in used_females[max(0, year - 9) : max(0, year - 1)] for it in made]
+        born: dict[str, list[int]] = {"M": [], "F": []}
+        for _ in range(min(a_year, animals - len(book))):
             sex = "F" if draw.random() < 0.5 else "M"
-            day = base + draw.randrange(365)
-            sire = dam = None
-            if pool_m and pool_f and draw.random() >= bought:
-                # The square favours the front of the pool, so a few sires are popular.
-                sire = pool_m[int(len(pool_m) * draw.random() ** 2)]
-                dam = pool_f[int(len(pool_f) * draw.random())]
-                if draw.random() < unknown:
-                    sire = None
-                if draw.random() < unknown:
-                    dam = None
-                while limit < 1 + max([book.depth[it] for it in (sire, dam) if it is not None], default=-1):
-                    # At the limit: an animal with unknown parents in its place.
-                    sire = dam = None
-            it = book.add(day, sex, sire, dam)
-            (here_f if sex == "F" else here_m).append(it)
-        draw.shuffle(here_m)
-        draw.shuffle(here_f)
-        used_males.append(here_m[: max(1, sires_a_year)])
-        used_females.append(here_f[: max(1, int(len(here_f) * dam_share))])
+            day = 365 * year + draw.randrange(365)
+            born[sex].append(book.add(day, sex, *mates(draw, book, sires, dams, unknown, bought)))
+        draw.shuffle(born["M"])
+        draw.shuffle(born["F"])
+        used_males.append(born["M"][: max(1, sires_a_year)])
+        used_females.append(born["F"][: max(1, int(len(born["F"]) * dam_share))])
     return book
+
+
+def mates(
+    draw: random.Random, book: Book, sires: list[int], dams: list[int], unknown: float, bought: float
+) -> tuple[int | None, int | None]:
+    """A sire and a dam of these, each of which may be unknown; both are, of an animal that is bought."""
+    if not sires or not dams or draw.random() < bought:
+        return None, None
+    # The square favours the front of the pool, so a few sires are popular.
+    sire: int | None = sires[int(len(sires) * draw.random() ** 2)]
+    dam: int | None = dams[int(len(dams) * draw.random())]
+    if draw.random() < unknown:
+        sire = None
+    if draw.random() < unknown:
+        dam = None
+    if book.limit <= max([book.depth[it] for it in (sire, dam) if it is not None], default=-1):
+        # At the limit: an animal with unknown parents in its place.
+        return None, None
+    return sire, dam
 
 
 def narrow(draw: random.Random, animals: int, limit: int, unknown: float) -> Book:
