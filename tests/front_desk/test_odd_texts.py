@@ -185,3 +185,50 @@ def test_column_without_a_title(desk: Desk) -> None:
     )
     numbered = f";{TITLES}1;a1;A;f;2019;;;X;\n2;a2;A;f;2019;;;X;\n3;a3;A;f;2019;;;X;\n"
     assert "has no title" not in desk.take(numbered, "--book", "numbered").told
+
+
+BEFORE = FOUR.format("DE103", "") + "DE104;Dora;f;2022-03-03;DE102;DE103;X;\n"
+
+
+@pytest.mark.parametrize("sign", ["†", "† ", "+"])
+def test_id_that_the_book_has_with_a_sign(desk: Desk, sign: str) -> None:
+    """It is proposed as the new tag of that one, also where its row says something else; else it is a new animal."""
+    with_sign, rows = f"{sign}DE103", BEFORE.replace("Cora", "")
+    desk.take(TITLES + rows.replace("DE103", with_sign), "--animal", with_sign)
+    told = f"line 4: DE103: to look at: the book has {with_sign}, which has no row: is it this animal, from a list"
+    done = desk.take(TITLES + rows, "--preview")
+    assert told in done.out and " 5 animals, 1 new, " in done.last
+    [command] = [one for one in done.commands() if "--new-tag" in one]
+    assert " 4 animals, 0 new, 0 changed, 0 inferred, 0 left out, 0 added, 0 gone" in desk.typed(command).last
+    desk.typed(command.replace(" --preview", ""))
+    assert desk.parents()["DE104"] == ("DE102", "DE103")
+    assert "the book has" not in desk.take(TITLES + rows).told
+
+
+@pytest.mark.parametrize("sign", ["†", "+"])
+def test_parent_that_the_book_has_with_a_sign(desk: Desk, sign: str) -> None:
+    """A parent without a row is that animal once this has one; and it is proposed as its new tag."""
+    first = TITLES + f"DE102;Bert;m;2015-03-02;;;X;\nDE104;Dora;f;2022-03-03;DE102;{sign}DE103;X;\n"
+    desk.take(first)
+    done = desk.take(first + "DE103;Cora;f;2019-03-03;;;X;\n", "--preview")
+    done.shows("line 3: DE104: changed: dam: DE103, before " + f"{sign}DE103")
+    assert f"the book has {sign}DE103, which has no row: is it this animal" in done.out
+    [command] = [one for one in done.commands() if "--new-tag" in one]
+    assert " 3 animals, 0 new, " in desk.typed(command).last
+
+
+def test_animal_that_the_book_has_twice(desk: Desk) -> None:
+    """With a sign at its id and without: whichever its row has, it is the one without, and the other is told until it
+    is dropped; but where the sign is said to be of the id."""
+    desk.take(TITLES + BEFORE)
+    with_sign = TITLES + BEFORE.replace("DE103", "†DE103")
+    desk.take(with_sign, "--animal", "†DE103")
+    assert {"DE103", "†DE103"} < {*desk.numbers()}
+    told = "line 4: DE103: to look at: the book has †DE103 too, which has no row and a sign before the same id: are they"
+    for sheet in with_sign, TITLES + BEFORE:
+        done = desk.take(sheet, "--preview")
+        assert told in done.out and done.out.count("the book has") == 1 and " 0 new, 1 changed, " in done.last
+    assert "the book has" not in desk.take(with_sign, "--preview", "--animal", "†DE103").out
+    assert told not in desk.take(with_sign, "--drop-gone").told
+    assert desk.parents()["DE104"] == ("DE102", "DE103") and "†DE103" not in desk.numbers()
+    assert "the book has" not in desk.take(TITLES + BEFORE).told

@@ -111,3 +111,31 @@ def test_day_of_a_sale_that_no_cell_says(desk: Desk, today: datetime.date) -> No
     assert desk.transfer_days() == [str(today)]
     assert "no cell says" not in desk.take(owners_sheet("Huber", "Huber", "Kunz")).told
     assert "no cell says" not in desk.take(owners_sheet("Huber", "Kunz", "Kunz"), "--day", str(today)).told
+
+
+def test_owner_of_the_book_alike(desk: Desk) -> None:
+    """An owner of animals without a row, whose name differs from one of the sheet in capitals alone, is told with what
+    makes one of them, until they are one; a new one is only written otherwise."""
+    first = owners_sheet("bert Mai", "Huber", "Huber", "Huber")
+    desk.take(first)
+    later = first.replace("a1;", "a5;").replace("bert", "Bert")
+    told = "to look at: the owner 'bert Mai' of 1 animal of the book differs from 'Bert Mai' in case, accents, umlauts, "
+    done = desk.take(later, "--preview")
+    assert told in done.out
+    [command] = [one for one in done.commands() if "--owner" in one]
+    renamed = desk.typed(command)
+    assert told not in renamed.out and "'bert Mai' of 1 animal is written 'Bert Mai' from now on" in renamed.out
+    # once the book has both, they are joined
+    for _ in range(2):
+        assert told in desk.take(later).told
+    [joined] = [line for line in desk.take(later, "--preview").out.splitlines() if line.startswith(told)]
+    desk.typed(joined.partition("are they one? ")[2].removesuffix(" makes one of them"))
+    assert {*owners_listed(desk)} == {"Bert Mai", "Huber"} and "are they one?" not in desk.take(later).told
+
+
+def test_owner_of_the_book_without_animals(desk: Desk) -> None:
+    """One who has no animal any more isn't told, nor is one of whom is told that all his animals are another's."""
+    desk.take(owners_sheet("bert Mai", "Huber"))
+    later = owners_sheet("Bert Mai", "Huber")
+    for _ in range(2):
+        assert "of the book differs" not in desk.take(later, "--day", "2010-01-01").told

@@ -3,6 +3,8 @@ from __future__ import annotations
 
 import random
 
+import pytest
+
 from front_desk.desk import Desk
 from gudokeyi.ingest.unknown_parents import KNOWN_UNKNOWN, SIGNS, UnknownParents, compared, names_no_owner
 from gudokeyi.ingest.words import is_error_value
@@ -139,3 +141,27 @@ def test_how_a_text_begins_hides_no_word_sign_or_error() -> None:
     for text in texts:
         is_sign = SIGNS.fullmatch(text) is not None
         assert unknown.is_one(text) == (compared(text) in KNOWN_UNKNOWN or is_error_value(text) or is_sign), text
+
+
+@pytest.mark.parametrize("title", ["Sire Name", "Vater Name", "Name der Mutter", "SIRE", "père"])
+def test_title_as_parent(desk: Desk, title: str) -> None:
+    """A parent without a row that is called as a column of parents may be no animal, also where the book has it, and
+    where the row that names it is gone; once it is said to be unknown it isn't told."""
+    rows = TITLES + "s1;M;2001-01-01;;\na1;F;2003-01-01;s1;\n" + f"a2;F;2003-01-01;{title};\n"
+    told = f"{title} has no row and is what a column of parents is called, and is the sire of 1: it may be no animal"
+    for options in (), ("--preview",):
+        assert told in desk.take(rows, *options).out
+    gone = rows.replace("a2;", "a3;").replace(title, "s1")
+    assert told in desk.take(gone, "--preview").out
+    [command] = [one for one in desk.take(rows, "--preview").commands() if "--unknown" in one]
+    done = desk.typed(command)
+    assert told not in done.out and " 1 changed, " in done.last
+    desk.typed(command.replace(" --preview", ""))
+    assert desk.parents()["a2"] == ("", "") and "a column of parents" not in desk.take(rows).told
+
+
+def test_animal_with_a_title_as_its_id(desk: Desk) -> None:
+    """One that has a row, or had one, is an animal; so is one whose name says only its sex."""
+    rows = TITLES + "Father;M;2001-01-01;;\na1;F;2003-01-01;Father;\na2;F;2003-01-01;Hengst;\n"
+    for sheet in rows, rows.replace("Father;M;2001-01-01;;\n", ""):
+        assert "a column of parents" not in desk.take(sheet, "--anyway").told

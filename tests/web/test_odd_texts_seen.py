@@ -57,3 +57,35 @@ def test_tag_used_again(empty_site: Site, language: str) -> None:
     label = says("They are the same animals: take all such lines")
     assert label in buttons_of(page)
     press(site, address, page, label)
+
+
+OF_BOOK = (
+    "†DE 0001;;2014-05-03;;;Meier Ida;\nDE 0002;Sepp;2017-03-17;†DE 0001;Mutter Name;Meier Ida;\n"
+    "DE 0003;Uwe;2014-05-04;;;Huber hans;\n"
+)
+NOW = OF_BOOK.replace("†", "").replace("DE 0003;Uwe;2014-05-04;;;Huber hans", "DE 0004;Udo;2014-05-05;;;Huber Hans")
+
+
+@pytest.mark.parametrize("language", LANGUAGES)
+def test_what_the_book_has_so(empty_site: Site, language: str) -> None:
+    """An id with a sign before it, a title as a parent and an owner in other capitals, which the book has from an
+    earlier list: each is said, and one button makes it what the list has now."""
+    site, says = empty_site, Says(language)
+    address, _ = look_at(site, TITLES + OF_BOOK, animal="†DE 0001")
+    site.take(address)
+    site.get(f"/language/{language}")
+    address, page = look_at(site, TITLES + NOW)
+    told = shown(part(page, "May be wrong", language))
+    assert not [one for one in (" the ", "column", " and ", "row ", " is ") if one in told and language != "en"], told
+    for label in (
+        says("{} has the tag {} from now on", "†DE 0001", "DE 0001"),
+        says("'{}' means: {}", "Mutter Name", says("unknown parent")),
+        says("'{}' is written '{}' from now on", "Huber hans", "Huber Hans"),
+    ):
+        page = press(site, address, page, label)
+        assert label not in buttons_of(page)
+    site.take(address)
+    with site.desk.opened() as book:
+        assert book and "†DE 0001" not in book.society_records and {"Huber Hans"} == {*book.owners} - {"Meier Ida"}
+        records = {id: book.records[one.registration_number] for id, one in book.society_records.items()}
+        assert book.ids[records["DE 0002"].sire] == "DE 0001" and not records["DE 0002"].dam

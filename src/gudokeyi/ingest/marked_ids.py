@@ -11,6 +11,9 @@ from gudokeyi.ingest.odd_texts import SHORT, SMALL, SURE, having
 from gudokeyi.ingest.sheets import Sheet, SheetRow, cell_of, with_cell
 
 CROSSES = "†✝✞✟"
+# signs before an id; a plus is read as a part of it in a sheet
+SIGNS = CROSSES + "+"
+BEHIND_SIGN = re.compile(rf"[{re.escape(SIGNS)}] ?(\w.*)", re.DOTALL)
 MARKS = (*CROSSES, " +", "(+", "( +", *SURE, *SHORT, *SMALL)
 WORDS = rf"(?i:(?:{'|'.join((*SURE, *SMALL))})\b|(?:{'|'.join(SHORT)})\b\.?)"
 # a cross before an id, or behind it, where a plus in brackets or alone, or a word, may stand too, with a day behind it
@@ -19,6 +22,12 @@ MARKED = re.compile(
     rf"(?P<before>[^{CROSSES}(]*\w) ?(?:[{CROSSES}]|(?<= )\+|\( ?(?:[{CROSSES}+]|{WORDS})[^)]*\)|(?<= ){WORDS})"
     r"(?: ?(?:\d\d?[./-]){0,2}(?:\d\d)?\d\d)?"
 )
+
+
+def without_sign(text: str) -> str:
+    """What stands behind such a sign; empty where a text begins with none."""
+    found = BEHIND_SIGN.fullmatch(text) if text[:1] in SIGNS else None
+    return found[1] if found else ""
 
 
 def marked_among(texts: Collection[str]) -> dict[str, str]:

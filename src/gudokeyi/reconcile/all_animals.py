@@ -18,7 +18,7 @@ from gudokeyi.reconcile.ids import NearIds, leave_out_used_tags
 from gudokeyi.reconcile.ids_elsewhere import ids_elsewhere
 from gudokeyi.reconcile.import_options import ImportOptions
 from gudokeyi.reconcile.messages import ImportFault
-from gudokeyi.reconcile.new_tags import tell_new_tags
+from gudokeyi.reconcile.new_tags import tell_ids_with_signs, tell_new_tags
 from gudokeyi.reconcile.next_book import NextBook
 from gudokeyi.reconcile.parents import Names, join_spellings, keep_parents_named, try_parents_again
 from gudokeyi.reconcile.parents_in_texts import ParentsInTexts
@@ -136,7 +136,7 @@ def add_founders(next_book: NextBook, names: Names, columns: Columns | None) -> 
     """Adds the parents without a row, of whom is told which may be meant, and which texts may stand for nobody."""
     if columns and names.lacking:
         names.elsewhere = ids_elsewhere(columns, next_book.animals.values(), names.lacking)
-    names.advise_unknown(next_book.is_pedigree)
+    names.advise_unknown(next_book.is_pedigree, next_book.meanings.days.unknown)
     names.add_parents()
 
 
@@ -162,6 +162,7 @@ def complete(next_book: NextBook, columns: Columns, import_options: ImportOption
             next_book.otherwise = {row.id: row for row in next_book.rows_otherwise()}
     exchanged = tell_exchanged_ids(next_book, guards.otherwise)
     add_others(next_book, import_options.drop_gone, columns)
+    tell_ids_with_signs(next_book)
     tell_tags_of_others(next_book, guards, exchanged)
     found += guards.of_animals(next_book.animals)
     if found and not import_options.anyway:

@@ -16,10 +16,11 @@ from gudokeyi.ingest.animals import (
     ID_OF, WEEKS_LATER, YEARS_LATER, SheetAnimal, by_age, lines_that_name, links_outside,
 )  # fmt: skip
 from gudokeyi.ingest.findings.same_ids import IdUsedAgain
+from gudokeyi.ingest.marked_ids import without_sign
 from gudokeyi.ingest.texts import nearly, nearly_all
 from gudokeyi.reconcile.findings.animals import FormerId
 from gudokeyi.reconcile.findings.obstacles import LettersUnsaid
-from gudokeyi.reconcile.findings.parents import FoundByDigits, FoundByNearId
+from gudokeyi.reconcile.findings.parents import FoundByDigits, FoundByNearId, FoundWithin
 from gudokeyi.reconcile.findings.by_hand import IdsAlike
 from gudokeyi.reconcile.findings.rows import BornAfterOffspring
 from gudokeyi.reconcile.last_found import Kept, LastFound
@@ -62,17 +63,19 @@ class NearIds:
         return near
 
     def find_parents(self, report: Report) -> None:
-        """A parent that is no id, but differs so from just one, or has the digits of just one, is that animal where it
-        can be it."""
+        """A parent that is no id, but differs so from just one, has the digits of just one, or has a sign before one by
+        which animals leave, is that animal where it can be it."""
         links = links_outside(self.lacking.values(), self.with_id)
         by_digits = ids_by_digits({text for _, _, text in links if nearly(text) not in self.near}, self.ids)
         for offspring, role, text in links:
             near = self.near.get(nearly(text), [])
             id = by_digits.get(text, "") if not near else near[0] if len(near) == 1 else ""
+            kind: type[FoundWithin | FoundByDigits | FoundByNearId] = FoundByNearId if near else FoundByDigits
+            if not id and (behind := without_sign(text)) in self.with_id:
+                id, kind = behind, FoundWithin
             if id and id != offspring.id and can_be(self.animals[id], role, offspring):
                 offspring.set_parent(role, id)
-                found = (FoundByNearId if near else FoundByDigits)(role, text, id)
-                report.add(offspring.line, offspring.id, found)
+                report.add(offspring.line, offspring.id, kind(role, text, id))
 
     def tell_alike(self, report: Report) -> None:
         """Rows whose ids differ only so. Most sheets have none."""

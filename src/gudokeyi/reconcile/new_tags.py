@@ -1,20 +1,25 @@
 """Animals with a new tag: a row with another id, and with the name, the birth day and the parents of an animal of the
-book that has no row any more, or with its old id in a column that isn't read, is proposed as that animal; where
-somebody says so it is, and where the book's id has an apostrophe which cells are read without."""
+book that has no row any more, with its old id in a column that isn't read, or with its id without a sign, is proposed
+as that animal; where somebody says so it is, and where the book's id has an apostrophe which cells are read without."""
 from __future__ import annotations
 
+import itertools
 import re
-from collections.abc import Iterator, Mapping
+from collections.abc import Collection, Iterator, Mapping
 
 from gudokeyi.domain.cells import TEXT
+from gudokeyi.domain.kinds import Standing
 from gudokeyi.domain.messages import Mistake
 from gudokeyi.ingest.animals import FIRST_OF, SheetAnimal
 from gudokeyi.ingest.columns import Columns
 from gudokeyi.ingest.findings.columns import SheetFinding
+from gudokeyi.ingest.marked_ids import SIGNS, without_sign
 from gudokeyi.ingest.sheets import without_apostrophe
 from gudokeyi.ingest.texts import nearly
 from gudokeyi.ingest.titles import parts_of
-from gudokeyi.reconcile.findings.same_animals import IdsWithApostrophe, NewTag, OldTag
+from gudokeyi.reconcile.findings.same_animals import (
+    IdsWithApostrophe, NewTag, OldTag, SameButForSign, TagWithoutSign,
+)  # fmt: skip
 from gudokeyi.reconcile.messages import ImportFault
 from gudokeyi.reconcile.next_book import NextBook
 from gudokeyi.store.book import Book
@@ -146,3 +151,35 @@ def may_be_one(one: SheetAnimal, other: SheetAnimal) -> bool:
     if one.has_day() and other.has_day():
         return one.birth.first == other.birth.first
     return bool(one.name) and one.name.casefold() == other.name.casefold()
+
+
+# Ids with a sign before them, by which animals leave, as `†DE 103`: earlier versions took them as they stood.
+
+
+def ids_with_signs(book: Book) -> dict[str, str]:
+    """The ids of the book that have such a sign, each with what stands behind it."""
+    begin = [id for sign in SIGNS for id in ids_that_begin(book, sign)] if book.society_records else []
+    return {id: now for id in begin if id in book.society_records and (now := without_sign(id))}
+
+
+def ids_for_sure(book: Book, said: Collection[str]) -> frozenset[str]:
+    """Those of animals of the book, and those that are said to be some: not the one with a sign of an animal that had a
+    row without it too."""
+    records, signs = book.society_records, ids_with_signs(book)
+    twice = {id for id, now in signs.items() if now in records and records[now].standing is not Standing.PARENT}
+    return frozenset({*itertools.filterfalse(twice.__contains__, records), *said} if twice else {*records, *said})
+
+
+def tell_ids_with_signs(next_book: NextBook) -> None:
+    """Animals of the book that have no row, and such a sign before the id of one that has: where the book hasn't that
+    one it is proposed as their new tag, unless something else proposes them already."""
+    animals, records = next_book.animals, next_book.book.society_records
+    lines = {id: animals[id].line for both in ids_with_signs(next_book.book).items() for id in both if id in animals}
+    signs = {id: now for id, now in ids_with_signs(next_book.book).items() if lines.get(now) and not lines.get(id)}
+    findings = [entry.finding for entry in next_book.report.entries] if signs else []
+    told = {one.before for one in findings if isinstance(one, (NewTag, OldTag))}
+    for before, now in signs.items():
+        if now not in records and before not in told:
+            next_book.report.add(lines[now], now, TagWithoutSign(before, now))
+        elif now in records and before in animals:
+            next_book.report.add(lines[now], now, SameButForSign(before))

@@ -14,7 +14,7 @@ from gudokeyi.ingest.words import (
     BEGINS_BORN_DEAD, DEAD, KNOWN_BORN_DEAD, KNOWN_NO_NAMES, PLAIN_EXITS, TELLING_EXITS, has_word,
 )  # fmt: skip
 from gudokeyi.reconcile.findings.animals import (
-    OwnerMistyped, OwnerRenamed, OwnerRespelt, OwnersAlike, OwnersOtherwise, Spelling,
+    OwnerMistyped, OwnerOfBookAlike, OwnerRenamed, OwnerRespelt, OwnersAlike, OwnersOtherwise, Spelling,
 )  # fmt: skip
 from gudokeyi.reconcile.findings.plausibility import BornDead, OwnerIsNoName, OwnerOfSeveral, OwnerWithMore
 from gudokeyi.reconcile.next_book import NextBook
@@ -84,7 +84,7 @@ def tell_owners_alike(next_book: NextBook) -> None:
     animals = owners_of_rows(next_book)
     alike = collections.defaultdict[str, list[Spelling]](list)
     for owner, count in sorted(animals.items()):
-        for name in {plain(owner), plain(owner.casefold().translate(UMLAUTS))}:
+        for name in plain_names(owner):
             alike[name].append(Spelling(owner, count))
     tell_otherwise(next_book, animals)
     several = dict.fromkeys(tuple(alike[name]) for name in sorted(alike) if name and len(alike[name]) > 1)
@@ -97,6 +97,26 @@ def tell_owners_alike(next_book: NextBook) -> None:
     for told in several:
         if not any(set(told) < other for other in having[told[0]]):
             next_book.report.add(0, "", OwnersAlike(told))
+
+
+def plain_names(owner: str) -> set[str]:
+    """What names have in common that differ so alone."""
+    return {plain(owner), plain(owner.casefold().translate(UMLAUTS))}
+
+
+def tell_owners_of_book_alike(next_book: NextBook, owners_before: set[str], rows: Collection[str]) -> None:
+    """Owners of the book who have no row, and whose names differ so from one of the `rows`; but for those of whom it is
+    told that all their animals are of that one."""
+    book, others = next_book.book, owners_before.difference(rows)
+    named = {name: owner for owner in rows for name in plain_names(owner)} if others else {}
+    alike = {one: named[name] for one in sorted(others) for name in plain_names(one) - {""} if name in named}
+    findings = [entry.finding for entry in next_book.report.entries] if alike else []
+    told = {one.before for one in findings if isinstance(one, OwnerRespelt)}
+    counts = collections.Counter(record.owner_code for record in book.records.values()) if alike else {}
+    for before, now in alike.items():
+        count = counts.get(book.owners[before], 0)
+        if count and before not in told:
+            next_book.report.add(0, "", OwnerOfBookAlike(before, now, count, now not in owners_before))
 
 
 FAMILY = re.compile(r"\b(?:familie|family|famille|fam)\b\.?", re.IGNORECASE)

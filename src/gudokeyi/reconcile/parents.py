@@ -5,7 +5,7 @@ from __future__ import annotations
 import collections
 import functools
 import itertools
-from collections.abc import Collection, Mapping, Sequence, Set
+from collections.abc import Collection, Container, Mapping, Sequence, Set
 
 from gudokeyi.domain.findings import Finding, Report
 from gudokeyi.domain.kinds import Field, Role, Standing
@@ -16,15 +16,18 @@ from gudokeyi.ingest.animals import (
 )  # fmt: skip
 from gudokeyi.ingest.days_for_ids import DaysForIds, is_day
 from gudokeyi.ingest.findings.cells import TextTooLong
-from gudokeyi.ingest.texts import nearly, without_accents
+from gudokeyi.ingest.texts import nearly, plain, without_accents
+from gudokeyi.ingest.titles import NAMING_PARENTS
 from gudokeyi.ingest.words import KNOWN_NO_PARENTS, has_word
 from gudokeyi.reconcile.findings.parents import (
     AddedAsParent, FoundByDigits, FoundByName, FoundByNearId, FoundInBook, FoundWithin,
 )  # fmt: skip
-from gudokeyi.reconcile.findings.unknown_parents import LikeNoId, MayBeUnknown, MoreMayBeUnknown, NameOfAnimals
+from gudokeyi.reconcile.findings.unknown_parents import (
+    LikeNoId, MayBeUnknown, MoreMayBeUnknown, NameOfAnimals, TitleAsParent,
+)  # fmt: skip
 from gudokeyi.reconcile.ids_by_name import IdsByName
 from gudokeyi.reconcile.last_found import Kept, LastFound
-from gudokeyi.reconcile.near_names import DAY, have_digits, is_like_word
+from gudokeyi.reconcile.near_names import DAY, DIGITS, have_digits, is_like_word
 from gudokeyi.reconcile.near_tags import NearTags, ids_by_digits
 from gudokeyi.reconcile.next_book import NextBook
 from gudokeyi.store.book import Book
@@ -154,9 +157,11 @@ class Names:
     def lacking(self) -> set[str]:
         return {parent for _, _, parent in self.without_row} - self.animals.keys()
 
-    def advise_unknown(self, is_pedigree: bool) -> None:
+    def advise_unknown(self, is_pedigree: bool, unknown: Container[str] = ()) -> None:
         """A parent without a row that several animals have may be a word for an unknown one: one that is both a sire
-        and a dam, or, in a sheet, a text without a digit; and so may be one that is written like no id there."""
+        and a dam, or, in a sheet, a text without a digit; and so may be one that is written like no id there, or a
+        title. What is `unknown` was said to be one already."""
+        titles = set[str]() if is_pedigree else self.titles(unknown)
         progeny = collections.defaultdict[str, dict[Role, int]](lambda: {Role.SIRE: 0, Role.DAM: 0})
         children = collections.defaultdict[str, set[str]](set)
         for offspring, role, parent in self.without_row:
@@ -169,16 +174,22 @@ class Names:
                 may_be = is_both and sum(counts.values()) >= MANY
             else:
                 may_be = len(children[parent]) >= SEVERAL and (is_both or not any(map(str.isdigit, parent)))
-            is_odd = not is_pedigree and not may_be and self.is_like_no_id(parent)
+            kind = TitleAsParent if parent in titles else MayBeUnknown if may_be else LikeNoId
+            is_odd = not is_pedigree and (parent in titles or not may_be and self.is_like_no_id(parent))
             if (may_be or is_odd) and "," not in parent:
-                told.append((-sum(counts.values()), parent, counts, MayBeUnknown if may_be else LikeNoId))
-        for _, parent, counts, kind in sorted(told, key=lambda one: one[:2])[:MOST_WORDS]:
+                told.append((parent not in titles, -sum(counts.values()), parent, counts, kind))
+        for _, _, parent, counts, kind in sorted(told, key=lambda one: one[:3])[:MOST_WORDS]:
             roles = [role for role in Role if counts[role]]
             named = [] if is_pedigree else self.named(parent, roles) or self.likely(parent)
             values = parent, counts[Role.SIRE], counts[Role.DAM]
             self.report.add(0, "", NameOfAnimals(*values, tuple(named)) if named else kind(*values))
         if len(told) > MOST_WORDS:
             self.report.add(0, "", MoreMayBeUnknown(len(told) - MOST_WORDS))
+
+    def titles(self, unknown: Container[str]) -> set[str]:
+        """The parents without a row that are called as columns of parents are, and whose ids nobody gave."""
+        texts = {parent for _, _, parent in self.without_row} - self.with_id
+        return {one for one in texts if not DIGITS.search(one) and plain(one) in NAMING_PARENTS and one not in unknown}
 
     def is_like_no_id(self, parent: str) -> bool:
         """Where ids have digits: is it a short word, or one behind an abbreviation, a day, or a text without a digit

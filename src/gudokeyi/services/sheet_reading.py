@@ -35,6 +35,7 @@ from gudokeyi.reconcile.animals_of_book import AnimalsOfBook
 from gudokeyi.reconcile.findings.obstacles import NoRowTaken
 from gudokeyi.reconcile.last_found import LastFound
 from gudokeyi.reconcile.import_options import ImportOptions, RememberedWords, worksheet_before
+from gudokeyi.reconcile.new_tags import ids_for_sure
 from gudokeyi.reconcile.rows_of_book import RowsOfBook
 from gudokeyi.store.book import Book
 from gudokeyi.store.members import members_by_code
@@ -319,7 +320,7 @@ def read_animals(
     reading = Reading(
         sheet, columns.found, UnknownParents(words[Remembered.UNKNOWN], words[Remembered.KNOWN]),
         read_sexes(words[Remembered.SEXES]), bool(words[Remembered.MONTH_FIRST]), words[Remembered.TOLD],
-        frozenset({*book.society_records, *parts_of(import_options.animal)}), in_book.born, names_of_owners(book),
+        ids_for_sure(book, parts_of(import_options.animal)), in_book.born, names_of_owners(book),
         in_book.called_as_marks, sexes_of_book(sheet, columns.found, in_book),
     )  # fmt: skip
     rows, animals = last.animals_of(reading, report) if last else reading.animals(report)

@@ -2,12 +2,14 @@
 from __future__ import annotations
 
 import datetime
+import shlex
 from collections.abc import Mapping
 from dataclasses import dataclass
 
 from gudokeyi.domain.changes import Option
 from gudokeyi.domain.findings import Finding, LeftOut, Part, PlausibilityWarning, Severity, Suggestion, What
 from gudokeyi.domain.kinds import Field
+from gudokeyi.domain.messages import CALLED
 from gudokeyi.domain.provenance import BirthBasis, SexSource
 from gudokeyi.domain.wording import SEXES, AllOf, Counted, OptionalPart, Text, Told, Word
 from gudokeyi.reconcile.findings.by_hand import WORDS_OF_BOOK
@@ -370,6 +372,45 @@ class OwnersOtherwise(PlausibilityWarning):
 
     def values(self) -> Mapping[str, object]:
         return {"names": AllOf(self.spellings)}
+
+
+@dataclass(frozen=True, slots=True)
+class OwnerOfBookAlike(PlausibilityWarning):
+    """An owner of so many animals of the book, and of none of the sheet, whose name differs from that of one of the
+    sheet in case, accents, umlauts, blanks or signs alone, whom the book had too unless it `is_new`."""
+
+    before: str
+    now: str
+    animals: int
+    is_new: bool
+
+    code = "owner of book alike"
+    message = Counted(
+        "the owner '{before}' of {animals} animal of the book differs from '{now}' in case, accents, umlauts, blanks or "
+        "signs alone: are they one?{maybe_joined}",
+        "the owner '{before}' of {animals} animals of the book differs from '{now}' in case, accents, umlauts, blanks or "
+        "signs alone: are they one?{maybe_joined}",
+        "animals",
+    )
+    page_message = Counted(
+        "the owner '{before}' of {animals} animal of the book differs from '{now}' in case, accents, umlauts, blanks or "
+        "signs alone: are they one?{maybe_joined_on_page}",
+        "the owner '{before}' of {animals} animals of the book differs from '{now}' in case, accents, umlauts, blanks or "
+        "signs alone: are they one?{maybe_joined_on_page}",
+        "animals",
+    )
+    parts = {
+        "maybe_joined": OptionalPart(" {command} makes one of them", when="is_known"),
+        "maybe_joined_on_page": OptionalPart(" The page of the owner '{before}' makes one of them", when="is_known"),
+    }
+
+    def values(self) -> Mapping[str, object]:
+        command = f"{CALLED} owner {shlex.quote(self.before)} --into {shlex.quote(self.now)}"
+        return {"command": command, "is_known": not self.is_new}
+
+    def suggestions(self) -> tuple[Suggestion, ...]:
+        option = Option("--owner", f"{self.before}={self.now}")
+        return (Suggestion("if the name is only written otherwise", (option,), undoes=True),) * self.is_new
 
 
 @dataclass(frozen=True, slots=True)

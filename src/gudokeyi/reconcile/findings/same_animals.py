@@ -87,6 +87,35 @@ class NewTag(PlausibilityWarning):
 
 
 @dataclass(frozen=True, slots=True)
+class TagWithoutSign(NewTag):
+    """A new row whose id has an animal without a row with a sign before it, by which animals leave."""
+
+    code = "tag without sign"
+    message = Text(
+        "the book has {before}, which has no row: is it this animal, from a list that had a sign before its id? It is "
+        "taken as another animal"
+    )
+
+
+@dataclass(frozen=True, slots=True)
+class SameButForSign(PlausibilityWarning):
+    """The book has an animal of a row twice: the `other`, which has no row, has a sign before the id."""
+
+    other: str
+
+    severity = Severity.ANIMALS
+    code = "same but for sign"
+    message = Text(
+        "the book has {other} too, which has no row and a sign before the same id: are they one animal? If so, "
+        "{other} needn't stay; --drop-gone drops what has no row, but for ancestors of animals that have one"
+    )
+    page_message = Text(
+        "the book has {other} too, which has no row and a sign before the same id: are they one animal? If so, "
+        "{other} needn't stay"
+    )
+
+
+@dataclass(frozen=True, slots=True)
 class IdsWithApostrophe(SheetFinding):
     """Ids that the book took from a sheet with an apostrophe before them: how many, the first, and what it is now."""
 

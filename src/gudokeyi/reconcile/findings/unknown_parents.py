@@ -54,6 +54,21 @@ class LikeNoId(MayBeUnknown):
 
 
 @dataclass(frozen=True, slots=True)
+class TitleAsParent(MayBeUnknown):
+    """A parent without a row that is called as columns of parents are."""
+
+    code = "title as parent"
+    message = Text(
+        "{word} has no row and is what a column of parents is called, and is {maybe_sire_of}{maybe_has_both}{maybe_dam_of}"
+        ": it may be no animal"
+    )
+    page_message = Text(
+        "'{word}' has no row, and is what a column of parents is called{maybe_sire_of_on_page}{maybe_dam_of_on_page}: it "
+        "may be no animal"
+    )
+
+
+@dataclass(frozen=True, slots=True)
 class NameOfAnimals(PlausibilityWarning):
     """A parent without a row, whose text is the name of other animals."""
 
