@@ -187,6 +187,10 @@ def test_column_without_a_title(desk: Desk) -> None:
     assert "has no title" not in desk.take(numbered, "--book", "numbered").told
 
 
+TWICE = (
+    "to look at: the book has †DE103 too, which has no row and a sign before the same id: are they one animal? If so, "
+    "†DE103 needn't stay; --drop-gone drops what has no row, but for ancestors of animals that have one"
+)
 BEFORE = FOUR.format("DE103", "") + "DE104;Dora;f;2022-03-03;DE102;DE103;X;\n"
 
 
@@ -224,7 +228,7 @@ def test_animal_that_the_book_has_twice(desk: Desk) -> None:
     with_sign = TITLES + BEFORE.replace("DE103", "†DE103")
     desk.take(with_sign, "--animal", "†DE103")
     assert {"DE103", "†DE103"} < {*desk.numbers()}
-    told = "line 4: DE103: to look at: the book has †DE103 too, which has no row and a sign before the same id: are they"
+    told = f"line 4: DE103: {TWICE}"
     for sheet in with_sign, TITLES + BEFORE:
         done = desk.take(sheet, "--preview")
         assert told in done.out and done.out.count("the book has") == 1 and " 0 new, 1 changed, " in done.last
@@ -232,3 +236,15 @@ def test_animal_that_the_book_has_twice(desk: Desk) -> None:
     assert told not in desk.take(with_sign, "--drop-gone").told
     assert desk.parents()["DE104"] == ("DE102", "DE103") and "†DE103" not in desk.numbers()
     assert "the book has" not in desk.take(TITLES + BEFORE).told
+
+
+def test_row_with_a_sign_of_a_parent_without_one(desk: Desk) -> None:
+    """A row that an earlier list had with a sign, beside a parent without a row: from now on it is the parent's."""
+    desk.take(TITLES + BEFORE.replace("DE103;Cora;f;2019-03-03;DE102;DE101;X;\n", ""))
+    rows = TITLES + BEFORE.replace("DE103;Cora", "†DE103;Cora")
+    desk.take(rows, "--animal", "†DE103")
+    assert desk.parents()["DE103"] == ("", "")
+    done = desk.take(rows)
+    done.tells(f"line 4: DE103: {TWICE}")
+    assert " 0 new, " in done.last and desk.parents()["DE103"] == ("DE102", "DE101")
+    assert desk.parents()["DE104"] == ("DE102", "DE103")

@@ -8,7 +8,6 @@ import re
 from collections.abc import Collection, Iterator, Mapping
 
 from gudokeyi.domain.cells import TEXT
-from gudokeyi.domain.kinds import Standing
 from gudokeyi.domain.messages import Mistake
 from gudokeyi.ingest.animals import FIRST_OF, SheetAnimal
 from gudokeyi.ingest.columns import Columns
@@ -163,10 +162,10 @@ def ids_with_signs(book: Book) -> dict[str, str]:
 
 
 def ids_for_sure(book: Book, said: Collection[str]) -> frozenset[str]:
-    """Those of animals of the book, and those that are said to be some: not the one with a sign of an animal that had a
-    row without it too."""
-    records, signs = book.society_records, ids_with_signs(book)
-    twice = {id for id, now in signs.items() if now in records and records[now].standing is not Standing.PARENT}
+    """Those of animals of the book, and those that are said to be some: not one with a sign that the book has without
+    it too."""
+    records = book.society_records
+    twice = {id for id, now in ids_with_signs(book).items() if now in records}
     return frozenset({*itertools.filterfalse(twice.__contains__, records), *said} if twice else {*records, *said})
 
 
