@@ -112,10 +112,9 @@ def tell_owners_of_book_alike(next_book: NextBook, owners_before: set[str], rows
     alike = {one: named[name] for one in sorted(others) for name in plain_names(one) - {""} if name in named}
     findings = [entry.finding for entry in next_book.report.entries] if alike else []
     told = {one.before for one in findings if isinstance(one, OwnerRespelt)}
-    counts = collections.Counter(record.owner_code for record in book.records.values()) if alike else {}
+    counts = collections.Counter(record.owner_code for record in (book.records.values() if alike else ()))
     for before, now in alike.items():
-        count = counts.get(book.owners[before], 0)
-        if count and before not in told:
+        if (count := counts[book.owners[before]]) and before not in told:
             next_book.report.add(0, "", OwnerOfBookAlike(before, now, count, now not in owners_before))
 
 
