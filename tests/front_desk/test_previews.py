@@ -109,3 +109,38 @@ def test_preview_of_another_flock(desk: Desk) -> None:
     assert "it looks like the sheet of another flock" in done.out
     done.shows("nothing is taken", "  if it is right all the same:")
     assert "a preview, nothing is written: book: 40 animals, 20 new, " in done.last
+
+
+MANY_KINDS = (
+    "Ohrmarke;Name;Sex;geb;Vater;Mutter;Besitzer;Abgang am;Bemerkung;\n"
+    "DE 01;Max;m;1.2.2010;;;Huber Hans;;;\nDE 02;Eva;w;1.2.2010;;;huber hans;;;\nDE 03;Ida;w;1.2.2010;;;Hubre Hans;;tot;x\n"
+    + "".join(f"DE {at};A{at};{'Zmw'[at % 3]};{at - 9}.3.2015;DE 01;DE 02;Huber Hans;;verkauft;x\n" for at in range(10, 22))
+    + "DE 30;Ute †;w;1.3.2016;Weide;DE 03;Huber Hans;;;\nDE 31;Uwe;m;2.3.2016;Weide;DE 01;Huber Hans;Exitus;;\n"
+    + "†DE 32;Leo;m;3.3.2099;NN?x;DE 03;Huber Hans;31.02.2020;;\nDE 32;Lea;w;4.3.2016;;DE 03;Huber Hans;1.2.2019;tot;\n"
+    + "DE 33;Ina;w;4.5.2018;;DE 03;Huber Hans;1.2.2019;tot;\nSumme;;;;;;;;;\n"
+)
+
+
+def test_preview_in_short(desk: Desk) -> None:
+    """A preview that is longer than a screen begins with how the sheet was read, and with a line for each kind of what
+    may be wrong: first what decides how it is read, and then the gravest; all of it stands below, as in a shorter
+    one."""
+    done = desk.take(MANY_KINDS, "--preview")
+    lines = done.out.splitlines()
+    assert lines[0].startswith("sheet.csv: ") and lines[1].startswith("columns: ")
+    heading = lines.index("what may be wrong: of each kind how many there are, and the first of them; all stand below")
+    short, below = lines[heading + 1 : lines.index("")], lines[lines.index("") + 1 :]
+    assert sum(-(-len(line) // 80) for line in lines[: lines.index("")]) <= 50
+    kinds = [line for line in short if line[:5].strip()]
+    assert len(kinds) >= 12 and all(line[:3].strip().isdecimal() for line in kinds)
+    firsts = [line[5:].removesuffix(" ..") for line in kinds]
+    assert [one for one in firsts if not any(line.startswith(one) for line in below)] == []
+    told = [firsts.index(next(one for one in firsts if word in one)) for word in ("'Bemerkung' isn't read", "is left out", "Weide", "Hubre")]
+    assert told == sorted(told) and told[0] < 4
+    assert "     if it means an unknown parent, say --unknown Weide" in short
+    assert sum(int(line[:3]) for line in kinds) > len(kinds)
+
+
+def test_preview_that_has_room(desk: Desk) -> None:
+    done = desk.take(MANY_KINDS[:300].rpartition("\n")[0], "--preview")
+    assert "differ in case" in done.out and "of each kind" not in done.out and done.out.startswith("to look at: ")

@@ -33,6 +33,8 @@ def test_what_is_said(empty_site: Site, program: str, tmp_path: pathlib.Path) ->
     first, left_out = shown(part(page, "May be wrong")), shown(part(page, "Left out"))
     assert not [one for one in SAID if one not in first]
     assert "it has no id; it says 'Hof Süd'" in left_out
+    # what decides how the sheet is read comes first
+    assert first.index("the column G has no title") < first.index("'Pending' reads like no id")
     told = Desk(tmp_path / "terminal", program).take(LIST, "--preview").out
     assert not [one for one in SAID if one not in told] and "it has no id; it says 'Hof Süd'" in told
 

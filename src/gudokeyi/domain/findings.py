@@ -192,6 +192,8 @@ class Finding(Told):
     what: ClassVar[What]
     part: ClassVar[Part | None] = None
     severity: ClassVar[Severity] = Severity.NONE
+    # much of what else is told hangs on it, as on which column has what
+    decides_much: ClassVar[bool] = False
 
     def __init_subclass__(cls) -> None:
         if "code" in cls.__dict__:
@@ -204,6 +206,10 @@ class Finding(Told):
     def does(self) -> Severity:
         """The harm that it can do."""
         return self.severity
+
+    def comes_first(self) -> bool:
+        """Is it told before all else?"""
+        return self.decides_much
 
     def theme(self) -> Hashable:
         """Findings of one kind and theme are told together."""

@@ -6,8 +6,9 @@ import collections
 import contextlib
 import itertools
 import math
+import textwrap
 from collections.abc import Iterable, Iterator, Sequence
-from dataclasses import dataclass
+from dataclasses import dataclass, replace
 
 from gudokeyi.domain.findings import (
     DROP_GONE, Call, Entry, Finding, ImportRefused, Report, Severity, StrictlyRefused, Suggestion, What,
@@ -122,18 +123,22 @@ class Piece:
 def told_within(report: Report, call: Call, room: int) -> tuple[list[str], int]:
     """What is told in so many rows, and how many entries aren't."""
     groups = grouped(report)
-    pieces = [piece for at, entries in enumerate(groups) for piece in pieces_of(at, entries, call)]
-    fitting, ended = set[Piece](), set[int]()
+    pieces = fitting([piece for at, entries in enumerate(groups) for piece in pieces_of(at, entries, call)], room)
+    lines = [line for piece in pieces for line in piece.lines]
+    return lines, sum(map(len, groups)) - sum(piece.entries for piece in pieces)
+
+
+def fitting(pieces: list[Piece], room: int) -> list[Piece]:
+    """Those for which there is room; of a group the first ones."""
+    those, ended = set[Piece](), set[int]()
     for piece in sorted(pieces, key=lambda one: (one.turn, one.group)):
         rows = rows_of(piece.lines)
         if rows > room or piece.group in ended:
             ended.add(piece.group)
             continue
-        fitting.add(piece)
+        those.add(piece)
         room -= rows
-    those = [piece for piece in pieces if piece in fitting]
-    lines = [line for piece in those for line in piece.lines]
-    return lines, sum(map(len, groups)) - sum(piece.entries for piece in those)
+    return [piece for piece in pieces if piece in those]
 
 
 def pieces_of(group: int, entries: list[Entry], call: Call) -> Iterator[Piece]:
@@ -147,6 +152,33 @@ def pieces_of(group: int, entries: list[Entry], call: Call) -> Iterator[Piece]:
             yield Piece(1, group, commands, 0)
         else:
             yield Piece(1 + place, group, [sentence.text, *commands], sentence.entries)
+
+
+# in short a sentence takes so many rows at most, behind so many letters for the number of entries, and so much is
+# suggested
+MOST_ROWS, INDENT, MOST_SUGGESTED = 3, 5, 2
+IN_SHORT = "what may be wrong: of each kind how many there are, and the first of them; all stand below"
+
+
+def in_short(report: Report, room: int) -> list[str]:
+    """For each of several kinds how many entries it has, the first of them, and what may be typed: in as many rows as
+    let all have room."""
+    groups = grouped(report)
+    for rows in range(MOST_ROWS, 0, -1):
+        pieces = [piece for at, entries in enumerate(groups) for piece in pieces_in_short(at, entries, rows)]
+        if sum(rows_of(piece.lines) for piece in pieces) <= room - 2:
+            break
+    lines = [line for piece in fitting(pieces, room - 2) for line in piece.lines]
+    return [IN_SHORT, *lines, ""] if len(groups) > 1 else []
+
+
+def pieces_in_short(group: int, entries: list[Entry], rows: int) -> Iterator[Piece]:
+    first = next(sentences_of(entries))
+    sentence = textwrap.shorten(first.text, rows * LETTERS - INDENT, placeholder=" ..")
+    yield Piece(0, group, [f"{len(entries):>{INDENT - 2}}  {sentence}"], len(entries))
+    # nothing has to be undone of what isn't taken yet
+    suggested = [replace(one, undoes=False).words() for one in first.suggestions[:MOST_SUGGESTED]]
+    yield Piece(1, group, [" " * INDENT + "; ".join(suggested)] if suggested else [], 0)
 
 
 def fields_summed_up(report: Report) -> set[Field | type[ErrorCells]]:
@@ -166,18 +198,20 @@ def is_summed_up(finding: Finding, summed_up: set[Field | type[ErrorCells]]) -> 
 
 
 def grouped(report: Report) -> list[list[Entry]]:
-    """What may be wrong, by kind and theme, the greatest harm first."""
+    """What may be wrong, by kind and theme, the greatest harm first; of what much hangs on each by itself."""
     groups: dict[object, list[Entry]] = {}
     summed_up = fields_summed_up(report)
     for entry in report.in_order():
         if entry.finding.does() is not Severity.NONE and not is_summed_up(entry.finding, summed_up):
-            groups.setdefault((type(entry.finding), entry.finding.theme()), []).append(entry)
+            theme = id(entry) if entry.finding.comes_first() else entry.finding.theme()
+            groups.setdefault((type(entry.finding), theme), []).append(entry)
     return sorted(groups.values(), key=lambda entries: order_of(entries[0].finding))
 
 
-def order_of(finding: Finding) -> tuple[Severity, bool]:
-    """What is left out comes before what is taken as it stands, but for what explains why rows are left out."""
-    return finding.does(), finding.what is not What.LEFT_OUT and not isinstance(finding, IdsExchanged)
+def order_of(finding: Finding) -> tuple[bool, Severity, bool]:
+    """What is left out comes before what is taken as it stands, but for what explains why rows are left out; before all
+    else what much hangs on."""
+    return not finding.comes_first(), finding.does(), finding.what is not What.LEFT_OUT and not isinstance(finding, IdsExchanged)
 
 
 # What is printed of an import: a screen that begins with what may be wrong, what does most harm first. All that was
@@ -189,8 +223,8 @@ ROWS = 24
 LEAST = 10
 # of so many own columns it is shown what has changed
 MOST_COLUMNS = 5
-# of a preview there is no report: there is room for so many rows
-EACH = 1000
+# of a preview there is no report: there is room for so many rows; one that is longer than a screen begins in short
+EACH, SCREEN = 1000, 50
 
 
 def lines_of(outcome: Outcome) -> list[str]:
@@ -198,11 +232,20 @@ def lines_of(outcome: Outcome) -> list[str]:
     above = list(obstacle_lines(outcome.obstacles, outcome.call)) if outcome.obstacles else []
     below, last = about(outcome), [summary(outcome)] if outcome.after else []
     if outcome.call.is_preview:
-        return [*above, *may_be_wrong(outcome, EACH), *below, *gone_lines(outcome), *changes(outcome), *last]
+        found = found_in_preview(outcome, below, SCREEN - rows_of(above))
+        return [*above, *found, *gone_lines(outcome), *changes(outcome), *last]
     room = max(ROWS - rows_of([*above, *below, *last]), LEAST)
     first = may_be_wrong(outcome, room)
     gone = gone_lines(outcome) if rows_of([*first, *gone_lines(outcome)]) <= room else []
     return [*above, *first, *below, *gone, *last]
+
+
+def found_in_preview(outcome: Outcome, below: list[str], room: int) -> list[str]:
+    """What may be wrong, and how the file was read; where both have no room on a screen, this stands above, and each
+    kind in short."""
+    told = may_be_wrong(outcome, EACH)
+    short = in_short(outcome.report, room - rows_of(below)) if rows_of([*told, *below]) > room else []
+    return [*below, *short, *told] if short else [*told, *below]
 
 
 def may_be_wrong(outcome: Outcome, room: int) -> list[str]:

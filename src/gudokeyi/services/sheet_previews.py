@@ -102,9 +102,9 @@ def others_of(book: Book, columns: Columns, said: Sequence[str]) -> tuple[tuple[
     return tuple((title, kinds.get(plain(title), "")) for title in [*titles][:MOST_OTHERS])
 
 
-def severity_of(entry: Entry) -> tuple[Severity, bool]:
-    """The greatest harm comes first; and before all else rows that may be no animals."""
-    return entry.finding.does(), not isinstance(entry.finding, OddRow)
+def severity_of(entry: Entry) -> tuple[bool, Severity, bool]:
+    """The greatest harm comes first, of it rows that may be no animals; and before all else what much hangs on."""
+    return not entry.finding.comes_first(), entry.finding.does(), not isinstance(entry.finding, OddRow)
 
 
 # What a sheet would change, animal by animal: so it is seen of which of them a look holds no more, since others changed

@@ -34,6 +34,7 @@ class TitleTwice(SheetFinding):
     columns: tuple[int, ...]
     have_same_cells: bool
 
+    decides_much = True
     code = "title twice"
     message = Text("the title '{title}' stands in the columns {columns}, {maybe_have_same_cells}{maybe_differ}")
     parts = {
@@ -51,6 +52,7 @@ class TellsNoExits(SheetFinding):
 
     title: str
 
+    decides_much = True
     code = "tells no exits"
     message = Text(
         "the column '{title}' isn't read, since most of its cells tell of no exit: if it has the exits, write the "
@@ -67,6 +69,7 @@ class LikelierColumn(SheetFinding):
     title: str
     other: str
 
+    decides_much = True
     code = "likelier column"
     message = Text("{field} is read from '{title}', as at the last time, and '{other}' isn't")
 
@@ -81,6 +84,7 @@ class IdsMoved(SheetFinding):
     title: str
     before: str
 
+    decides_much = True
     severity = Severity.ANIMALS
     code = "ids moved"
     message = Text("the ids of the book are in the column '{title}': they were in '{before}'")
@@ -94,6 +98,7 @@ class IdsFromOther(SheetFinding):
     found: int
     usual: str
 
+    decides_much = True
     severity = Severity.ANIMALS
     code = "ids from other"
     message = Text(
@@ -113,6 +118,7 @@ class ParentsFromOther(SheetFinding):
     title: str
     usual: str
 
+    decides_much = True
     severity = Severity.PARENTS
     code = "parents from other"
     message = Text("{field} is read from '{title}', which has more of the ids, and not from '{usual}'")
@@ -241,6 +247,7 @@ class ColumnLost(SheetFinding):
     title: str
     likely: str
 
+    decides_much = True
     code = "column lost"
     message = Text(
         "no column for {field} is found: it was '{title}' at the last time; what the book has stays"
@@ -260,6 +267,7 @@ class IdsCountRows(SheetFinding):
     title: str
     other: str
 
+    decides_much = True
     severity = Severity.ANIMALS
     code = "ids count rows"
     message = Text(
@@ -313,6 +321,7 @@ class ColumnUntitled(SheetFinding):
     text: str
     exits: int
 
+    decides_much = True
     code = "column untitled"
     message = Counted(
         "the column {letters} has no title and isn't read, and it has {count} cell with text: '{text}' in line "

@@ -167,6 +167,7 @@ class StatusUnread(SheetFinding):
     texts: tuple[str, ...]
     as_field: Field = Field.STATUS
 
+    decides_much = True
     severity = Severity.ANIMALS
     code = "status unread"
     message = Counted(
@@ -191,6 +192,7 @@ class FieldUnread(SheetFinding):
     count: int
     texts: tuple[str, ...]
 
+    decides_much = True
     severity = Severity.ANIMALS
     code = "field unread"
     message = Counted(

@@ -33,6 +33,7 @@ class SexWord(Told):
 class SexWordsShort(SheetFinding):
     taken: tuple[SexWord, ...]
 
+    decides_much = True
     code = "sex words short"
     message = Text("words for sexes are read as others of the column: {taken}")
 
@@ -75,6 +76,7 @@ class OneSexAlone(SheetFinding):
     counts: tuple[SexCount, ...]
     likely: str = ""
 
+    decides_much = True
     code = "one sex alone"
     message = Text(
         "each sex of the column '{title}' is read as {sex}: {counts}: does one of these words stand for {other}"
@@ -106,6 +108,7 @@ class CastratedLetter(SheetFinding):
     letter: SexCount
     females: tuple[SexCount, ...]
 
+    decides_much = True
     code = "castrated letter"
     message = Text(
         "{letter} of the column '{title}' is read as a castrated male, as for wether or Wallach, since females are written otherwise "
@@ -124,6 +127,7 @@ class FemaleLetter(SheetFinding):
     letter: SexCount
     females: tuple[SexCount, ...]
 
+    decides_much = True
     code = "female letter"
     message = Text(
         "{letter} of the column '{title}' is read as female, as for weiblich, though females are written otherwise there "

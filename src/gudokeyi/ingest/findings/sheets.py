@@ -90,6 +90,7 @@ class NoOrderShown(SheetFinding):
 
     count: int
 
+    decides_much = True
     code = "no order shown"
     message = Counted(
         "{count} day with / could have the month first, and no day of the sheet shows whether: the day is read "
@@ -224,6 +225,13 @@ class CellsUnread(SheetFinding):
 
     def values(self) -> Mapping[str, object]:
         return {"advice": OF_FIELDS.get(self.cells.field)}
+
+    def theme(self) -> Field:
+        return self.cells.field
+
+    def comes_first(self) -> bool:
+        """Many animals may have a word for a sex, and a column that is mostly unread may be another one's."""
+        return self.cells.field is Field.SEX or 2 * self.cells.count >= self.cells.said
 
     def suggestions(self) -> tuple[Suggestion, ...]:
         field, word = self.cells.field, self.cells.texts[0].text

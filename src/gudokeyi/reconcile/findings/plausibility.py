@@ -383,6 +383,7 @@ class ColumnsSwapped(PlausibilityWarning):
     sires: str
     dams: str
 
+    decides_much = True
     severity = Severity.ANIMALS
     code = "columns swapped"
     message = Text(
