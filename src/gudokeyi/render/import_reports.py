@@ -120,9 +120,8 @@ class Piece:
     entries: int
 
 
-def told_within(report: Report, call: Call, room: int) -> tuple[list[str], int]:
+def told_within(groups: list[list[Entry]], call: Call, room: int) -> tuple[list[str], int]:
     """What is told in so many rows, and how many entries aren't."""
-    groups = grouped(report)
     pieces = fitting([piece for at, entries in enumerate(groups) for piece in pieces_of(at, entries, call)], room)
     lines = [line for piece in pieces for line in piece.lines]
     return lines, sum(map(len, groups)) - sum(piece.entries for piece in pieces)
@@ -160,22 +159,21 @@ MOST_ROWS, INDENT, MOST_SUGGESTED = 3, 5, 2
 IN_SHORT = "what may be wrong: of each kind how many there are, and the first of them; all stand below"
 
 
-def in_short(report: Report, room: int) -> list[str]:
+def in_short(groups: list[list[Entry]], room: int) -> list[str]:
     """For each of several kinds how many entries it has, the first of them, and what may be typed: in as many rows as
     let all have room."""
-    groups = grouped(report)
+    firsts = [(len(entries), next(sentences_of(entries))) for entries in groups]
     for rows in range(MOST_ROWS, 0, -1):
-        pieces = [piece for at, entries in enumerate(groups) for piece in pieces_in_short(at, entries, rows)]
+        pieces = [piece for at, first in enumerate(firsts) for piece in pieces_in_short(at, *first, rows)]
         if sum(rows_of(piece.lines) for piece in pieces) <= room - 2:
             break
     lines = [line for piece in fitting(pieces, room - 2) for line in piece.lines]
     return [IN_SHORT, *lines, ""] if len(groups) > 1 else []
 
 
-def pieces_in_short(group: int, entries: list[Entry], rows: int) -> Iterator[Piece]:
-    first = next(sentences_of(entries))
+def pieces_in_short(group: int, entries: int, first: GroupMessage, rows: int) -> Iterator[Piece]:
     sentence = textwrap.shorten(first.text, rows * LETTERS - INDENT, placeholder=" ..")
-    yield Piece(0, group, [f"{len(entries):>{INDENT - 2}}  {sentence}"], len(entries))
+    yield Piece(0, group, [f"{entries:>{INDENT - 2}}  {sentence}"], entries)
     # nothing has to be undone of what isn't taken yet
     suggested = [replace(one, undoes=False).words() for one in first.suggestions[:MOST_SUGGESTED]]
     yield Piece(1, group, [" " * INDENT + "; ".join(suggested)] if suggested else [], 0)
@@ -235,7 +233,7 @@ def lines_of(outcome: Outcome) -> list[str]:
         found = found_in_preview(outcome, below, SCREEN - rows_of(above))
         return [*above, *found, *gone_lines(outcome), *changes(outcome), *last]
     room = max(ROWS - rows_of([*above, *below, *last]), LEAST)
-    first = may_be_wrong(outcome, room)
+    first = may_be_wrong(outcome, grouped(outcome.report), room)
     gone = gone_lines(outcome) if rows_of([*first, *gone_lines(outcome)]) <= room else []
     return [*above, *first, *below, *gone, *last]
 
@@ -243,13 +241,14 @@ def lines_of(outcome: Outcome) -> list[str]:
 def found_in_preview(outcome: Outcome, below: list[str], room: int) -> list[str]:
     """What may be wrong, and how the file was read; where both have no room on a screen, this stands above, and each
     kind in short."""
-    told = may_be_wrong(outcome, EACH)
-    short = in_short(outcome.report, room - rows_of(below)) if rows_of([*told, *below]) > room else []
+    groups = grouped(outcome.report)
+    told = may_be_wrong(outcome, groups, EACH)
+    short = in_short(groups, room - rows_of(below)) if rows_of([*told, *below]) > room else []
     return [*below, *short, *told] if short else [*told, *below]
 
 
-def may_be_wrong(outcome: Outcome, room: int) -> list[str]:
-    lines, more = told_within(outcome.report, outcome.call, room - 1)
+def may_be_wrong(outcome: Outcome, groups: list[list[Entry]], room: int) -> list[str]:
+    lines, more = told_within(groups, outcome.call, room - 1)
     has_each = "" if outcome.call.is_preview else f": {outcome.report_file()} has each"
     return lines + [f"and {more} more that may be wrong{has_each}"] * bool(more)
 
