@@ -119,7 +119,7 @@ def test_owner_of_the_book_alike(desk: Desk) -> None:
     first = owners_sheet("bert Mai", "Huber", "Huber", "Huber")
     desk.take(first)
     later = first.replace("a1;", "a5;").replace("bert", "Bert")
-    told = "to look at: the owner 'bert Mai' of 1 animal of the book differs from 'Bert Mai' in case, accents, umlauts, "
+    told = "to look at: the owner 'bert Mai' of 1 animal of the book differs from 'Bert Mai' in case, accents, umlauts"
     done = desk.take(later, "--preview")
     assert told in done.out
     [command] = [one for one in done.commands() if "--owner" in one]

@@ -113,8 +113,9 @@ def test_preview_of_another_flock(desk: Desk) -> None:
 
 MANY_KINDS = (
     "Ohrmarke;Name;Sex;geb;Vater;Mutter;Besitzer;Abgang am;Bemerkung;\n"
-    "DE 01;Max;m;1.2.2010;;;Huber Hans;;;\nDE 02;Eva;w;1.2.2010;;;huber hans;;;\nDE 03;Ida;w;1.2.2010;;;Hubre Hans;;tot;x\n"
-    + "".join(f"DE {at};A{at};{'Zmw'[at % 3]};{at - 9}.3.2015;DE 01;DE 02;Huber Hans;;verkauft;x\n" for at in range(10, 22))
+    "DE 01;Max;m;1.2.2010;;;Huber Hans;;;\nDE 02;Eva;w;1.2.2010;;;huber hans;;;\n"
+    "DE 03;Ida;w;1.2.2010;;;Hubre Hans;;tot;x\n"
+    + "".join(f"DE {at};A{at};{'Zmw'[at % 3]};{at}.3.2015;DE 01;DE 02;Huber Hans;;verkauft;x\n" for at in range(10, 22))
     + "DE 30;Ute †;w;1.3.2016;Weide;DE 03;Huber Hans;;;\nDE 31;Uwe;m;2.3.2016;Weide;DE 01;Huber Hans;Exitus;;\n"
     + "†DE 32;Leo;m;3.3.2099;NN?x;DE 03;Huber Hans;31.02.2020;;\nDE 32;Lea;w;4.3.2016;;DE 03;Huber Hans;1.2.2019;tot;\n"
     + "DE 33;Ina;w;4.5.2018;;DE 03;Huber Hans;1.2.2019;tot;\nSumme;;;;;;;;;\n"
@@ -135,8 +136,9 @@ def test_preview_in_short(desk: Desk) -> None:
     assert len(kinds) >= 12 and all(line[:3].strip().isdecimal() for line in kinds)
     firsts = [line[5:].removesuffix(" ..") for line in kinds]
     assert [one for one in firsts if not any(line.startswith(one) for line in below)] == []
-    told = [firsts.index(next(one for one in firsts if word in one)) for word in ("'Bemerkung' isn't read", "is left out", "Weide", "Hubre")]
-    assert told == sorted(told) and told[0] < 4
+    words = "'Bemerkung' isn't read", "the row is left out", "Weide has no row", "'Hubre Hans'"
+    places = [firsts.index(next(one for one in firsts if word in one)) for word in words]
+    assert places == sorted(places) and places[0] < 4
     assert "     if it means an unknown parent, say --unknown Weide" in short
     assert sum(int(line[:3]) for line in kinds) > len(kinds)
 

@@ -136,7 +136,7 @@ def names_parent(title: str, parent: Field) -> bool:
 KNOWN_TITLES: dict[str, list[str]] = {field: usual_titles(field) for field in TITLES}
 KNOWN_PAIRS = {field: {plain(title) for title in listed(titles)} for field, titles in PAIRS.items()}
 # titles that name a parent, and not only its sex
-NAMING_PARENTS = {title for parent, words in KNOWN_PAIRS.items() for title in KNOWN_TITLES[parent] if title not in words}
+NAMING_PARENTS = {title for role, pairs in KNOWN_PAIRS.items() for title in KNOWN_TITLES[role] if title not in pairs}
 KNOWN_DOUBTFUL = {plain(title) for title in listed(DOUBTFUL_EXITS)}
 KNOWN_STATUSES, KNOWN_REASONS = {*KNOWN_TITLES[Field.STATUS]}, {plain(title) for title in listed(REASONS)}
 # columns in which yes is said of the living, with what stands before the title where no is said

@@ -209,7 +209,8 @@ def grouped(report: Report) -> list[list[Entry]]:
 def order_of(finding: Finding) -> tuple[bool, Severity, bool]:
     """What is left out comes before what is taken as it stands, but for what explains why rows are left out; before all
     else what much hangs on."""
-    return not finding.comes_first(), finding.does(), finding.what is not What.LEFT_OUT and not isinstance(finding, IdsExchanged)
+    is_taken = finding.what is not What.LEFT_OUT and not isinstance(finding, IdsExchanged)
+    return not finding.comes_first(), finding.does(), is_taken
 
 
 # What is printed of an import: a screen that begins with what may be wrong, what does most harm first. All that was

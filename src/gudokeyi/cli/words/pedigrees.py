@@ -58,7 +58,9 @@ def add_words(words: CommandWords) -> None:
 def add_pairs(word: argparse.ArgumentParser) -> None:
     """Of which pairs relationships are asked for, and how they are shown."""
     word.add_argument("ids", nargs="*", metavar="ID", help="the animals")
-    word.add_argument("--with", dest="others", type=pathlib.Path, metavar="FILE", help=f"each with each of these, {IDS}")
+    word.add_argument(
+        "--with", dest="others", type=pathlib.Path, metavar="FILE", help=f"each with each of these, {IDS}"
+    )
     word.add_argument(
         "--matrix",
         choices=("kinship", "relationship"),

@@ -386,17 +386,17 @@ class OwnerOfBookAlike(PlausibilityWarning):
 
     code = "owner of book alike"
     message = Counted(
-        "the owner '{before}' of {animals} animal of the book differs from '{now}' in case, accents, umlauts, blanks or "
-        "signs alone: are they one?{maybe_joined}",
-        "the owner '{before}' of {animals} animals of the book differs from '{now}' in case, accents, umlauts, blanks or "
-        "signs alone: are they one?{maybe_joined}",
+        "the owner '{before}' of {animals} animal of the book differs from '{now}' in case, accents, umlauts, blanks "
+        "or signs alone: are they one?{maybe_joined}",
+        "the owner '{before}' of {animals} animals of the book differs from '{now}' in case, accents, umlauts, blanks "
+        "or signs alone: are they one?{maybe_joined}",
         "animals",
     )
     page_message = Counted(
-        "the owner '{before}' of {animals} animal of the book differs from '{now}' in case, accents, umlauts, blanks or "
-        "signs alone: are they one?{maybe_joined_on_page}",
-        "the owner '{before}' of {animals} animals of the book differs from '{now}' in case, accents, umlauts, blanks or "
-        "signs alone: are they one?{maybe_joined_on_page}",
+        "the owner '{before}' of {animals} animal of the book differs from '{now}' in case, accents, umlauts, blanks "
+        "or signs alone: are they one?{maybe_joined_on_page}",
+        "the owner '{before}' of {animals} animals of the book differs from '{now}' in case, accents, umlauts, blanks "
+        "or signs alone: are they one?{maybe_joined_on_page}",
         "animals",
     )
     parts = {

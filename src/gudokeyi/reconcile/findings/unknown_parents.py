@@ -59,12 +59,12 @@ class TitleAsParent(MayBeUnknown):
 
     code = "title as parent"
     message = Text(
-        "{word} has no row and is what a column of parents is called, and is {maybe_sire_of}{maybe_has_both}{maybe_dam_of}"
-        ": it may be no animal"
+        "{word} has no row and is what a column of parents is called, and is {maybe_sire_of}{maybe_has_both}"
+        "{maybe_dam_of}: it may be no animal"
     )
     page_message = Text(
-        "'{word}' has no row, and is what a column of parents is called{maybe_sire_of_on_page}{maybe_dam_of_on_page}: it "
-        "may be no animal"
+        "'{word}' has no row, and is what a column of parents is called{maybe_sire_of_on_page}{maybe_dam_of_on_page}: "
+        "it may be no animal"
     )
 
 
