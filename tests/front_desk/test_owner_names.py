@@ -139,3 +139,14 @@ def test_owner_of_the_book_without_animals(desk: Desk) -> None:
     later = owners_sheet("Bert Mai", "Huber")
     for _ in range(2):
         assert "of the book differs" not in desk.take(later, "--day", "2010-01-01").told
+
+
+def test_owners_in_other_capitals(desk: Desk) -> None:
+    """Two of whom the book has both are told with what makes one of them, though the sheet has both too."""
+    sheet = owners_sheet("Bert Mai", "bert mai", "Bert Mai", "Bert Maï")
+    told = "to look at: the owner 'bert mai' of 1 animal of the book differs from 'Bert Mai' in case, accents, umlauts"
+    assert "differs from" not in desk.take(sheet).told
+    [joined] = [line for line in desk.take(sheet).out.splitlines() if line.startswith(told)]
+    desk.typed(joined.partition("are they one? ")[2].removesuffix(" makes one of them"))
+    assert owners_listed(desk) == ["Bert Mai", "Bert Mai", "Bert Mai", "Bert Maï"]
+    assert "differs from" not in desk.take(sheet).told and desk.transfer_days() == []

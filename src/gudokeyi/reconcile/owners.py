@@ -5,7 +5,7 @@ import collections
 import difflib
 import itertools
 import re
-from collections.abc import Collection, Iterator, Mapping
+from collections.abc import Collection, Iterator, Mapping, Sequence
 
 from gudokeyi.ingest.animals import LINE_OF, NAME_OF, OWNER_OF
 from gudokeyi.ingest.statuses import taker_of_owner
@@ -104,18 +104,25 @@ def plain_names(owner: str) -> set[str]:
     return {plain(owner), plain(owner.casefold().translate(UMLAUTS))}
 
 
-def tell_owners_of_book_alike(next_book: NextBook, owners_before: set[str], rows: Collection[str]) -> None:
-    """Owners of the book who have no row, and whose names differ so from one of the `rows`; but for those of whom it is
-    told that all their animals are of that one."""
+def tell_owners_of_book_alike(next_book: NextBook, owners_before: set[str], rows: collections.Counter[str]) -> None:
+    """Owners of the book who have no row, and whose names differ so from one of the `rows`, but for those of whom it is
+    told that all their animals are of that one; and those with rows that differ in capitals alone."""
     book, others = next_book.book, owners_before.difference(rows)
     named = {name: owner for owner in rows for name in plain_names(owner)} if others else {}
     alike = {one: named[name] for one in sorted(others) for name in plain_names(one) - {""} if name in named}
+    alike |= in_other_capitals([one for one, _ in rows.most_common() if one in owners_before])
     findings = [entry.finding for entry in next_book.report.entries] if alike else []
     told = {one.before for one in findings if isinstance(one, OwnerRespelt)}
     counts = collections.Counter(record.owner_code for record in (book.records.values() if alike else ()))
     for before, now in alike.items():
         if (count := counts[book.owners[before]]) and before not in told:
             next_book.report.add(0, "", OwnerOfBookAlike(before, now, count, now not in owners_before))
+
+
+def in_other_capitals(owners: Sequence[str]) -> dict[str, str]:
+    """By names the first one that differs from them in capitals alone."""
+    first: dict[str, str] = {}
+    return {owner: one for owner in owners if (one := first.setdefault(owner.casefold(), owner)) != owner}
 
 
 FAMILY = re.compile(r"\b(?:familie|family|famille|fam)\b\.?", re.IGNORECASE)
