@@ -376,8 +376,8 @@ class OwnersOtherwise(PlausibilityWarning):
 
 @dataclass(frozen=True, slots=True)
 class OwnerOfBookAlike(PlausibilityWarning):
-    """An owner of so many animals of the book whose name differs from that of one of the sheet in case, accents, umlauts,
-    blanks or signs alone, whom the book had too unless he `is_new`."""
+    """An owner of so many animals of the book whose name differs from that of one of the sheet in case, accents,
+    umlauts, blanks or signs alone, whom the book had too unless he `is_new`."""
 
     before: str
     now: str
