@@ -129,7 +129,7 @@ def test_preview_in_short(desk: Desk) -> None:
     done = desk.take(MANY_KINDS, "--preview")
     lines = done.out.splitlines()
     assert lines[0].startswith("sheet.csv: ") and lines[1].startswith("columns: ")
-    heading = lines.index("what may be wrong: of each kind how many there are, and the first of them; all stand below")
+    [heading] = [at for at, line in enumerate(lines) if line.startswith("what may be wrong: of each kind how many")]
     short, below = lines[heading + 1 : lines.index("")], lines[lines.index("") + 1 :]
     assert sum(-(-len(line) // 80) for line in lines[: lines.index("")]) <= 50
     kinds = [line for line in short if line[:5].strip()]

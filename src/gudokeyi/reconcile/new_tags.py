@@ -173,8 +173,9 @@ def tell_ids_with_signs(next_book: NextBook) -> None:
     """Animals of the book that have no row, and such a sign before the id of one that has: where the book hasn't that
     one it is proposed as their new tag, unless something else proposes them already."""
     animals, records = next_book.animals, next_book.book.society_records
-    lines = {id: animals[id].line for both in ids_with_signs(next_book.book).items() for id in both if id in animals}
-    signs = {id: now for id, now in ids_with_signs(next_book.book).items() if lines.get(now) and not lines.get(id)}
+    signs = ids_with_signs(next_book.book)
+    lines = {id: animals[id].line for both in signs.items() for id in both if id in animals}
+    signs = {id: now for id, now in signs.items() if lines.get(now) and not lines.get(id)}
     findings = [entry.finding for entry in next_book.report.entries] if signs else []
     told = {one.before for one in findings if isinstance(one, (NewTag, OldTag))}
     for before, now in signs.items():

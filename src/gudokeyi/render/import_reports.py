@@ -156,19 +156,25 @@ def pieces_of(group: int, entries: list[Entry], call: Call) -> Iterator[Piece]:
 # in short a sentence takes so many rows at most, behind so many letters for the number of entries, and so much is
 # suggested
 MOST_ROWS, INDENT, MOST_SUGGESTED = 3, 5, 2
-IN_SHORT = "what may be wrong: of each kind how many there are, and the first of them; all stand below"
+IN_SHORT = "what may be wrong: of each kind how many there are, and the first of them; more of each stands below"
 
 
 def in_short(groups: list[list[Entry]], room: int) -> list[str]:
     """For each of several kinds how many entries it has, the first of them, and what may be typed: in as many rows as
     let all have room."""
+    if len(groups) < 2:
+        return []
     firsts = [(len(entries), next(sentences_of(entries))) for entries in groups]
+    # the heading has two rows
+    left = room - 4
     for rows in range(MOST_ROWS, 0, -1):
         pieces = [piece for at, first in enumerate(firsts) for piece in pieces_in_short(at, *first, rows)]
-        if sum(rows_of(piece.lines) for piece in pieces) <= room - 2:
+        if sum(rows_of(piece.lines) for piece in pieces) <= left:
             break
-    lines = [line for piece in fitting(pieces, room - 2) for line in piece.lines]
-    return [IN_SHORT, *lines, ""] if len(groups) > 1 else []
+    those = fitting(pieces, left)
+    more = len(groups) - len({piece.group for piece in those})
+    lines = [line for piece in those for line in piece.lines]
+    return [IN_SHORT, *lines, *[f"and {more} more kinds"] * bool(more), ""]
 
 
 def pieces_in_short(group: int, entries: int, first: GroupMessage, rows: int) -> Iterator[Piece]:
