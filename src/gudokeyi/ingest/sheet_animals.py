@@ -291,7 +291,8 @@ class Rows:
             elif self.unknown.is_one(id):
                 self.report.add(line, id, NoId(id, "" if id else text_of(cells)))
             elif id == id_title and are_titles(cells, self.sheet.titles):
-                self.report.add(line, "", TitlesAgain(line in self.sheet.other_orders or None))
+                moved = self.sheet.other_orders
+                self.report.add(line, "", TitlesAgain(line in moved or None, moved.get(line, ())))
             elif may_be_none and (word := self.no_animal(id, cells, said)):
                 self.report.add(line, id, NoAnimal(word))
             elif id not in found:
