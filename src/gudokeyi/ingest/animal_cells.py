@@ -11,7 +11,7 @@ from gudokeyi.domain.kinds import CELL_FIELDS, Field
 from gudokeyi.domain.messages import MOST_NAMED
 from gudokeyi.domain.provenance import ExitBasis, ExitSource
 from gudokeyi.domain.requests import MOST_IN_NAME, MOST_IN_OWNER
-from gudokeyi.ingest.animals import SheetAnimal
+from gudokeyi.ingest.animals import Castration, SheetAnimal
 from gudokeyi.ingest.day_cells import DayCell, DayCells, ExitCell, usual_cell
 from gudokeyi.ingest.day_forms import DayForms, Readings
 from gudokeyi.ingest.days import ANY_DAY, DayFault, Span, is_span
@@ -196,6 +196,8 @@ class AnimalCells:
         self.readings, self.takers = Readings(unread.titles), Takers({})
         # what stands beside the days of exits, by lines
         self.reasons: Mapping[int, str] = {}
+        # the titles and texts of other columns that tell of castrations, by lines
+        self.castrations: Mapping[int, tuple[str, str]] = {}
         # the animals that an owner took on the day of their exit
         self.sold: set[str] = set()
 
@@ -269,6 +271,9 @@ class AnimalCells:
             if is_unsure(text):
                 animal.sex, animal.likely_sex = "", animal.sex
                 self.unread.unsure.append((text, animal.line))
+            if "M" in (animal.sex, animal.likely_sex) and (said := self.castrations.get(animal.line)):
+                span = self.days.day(Field.EXIT, said[1]).span
+                animal.castrated, animal.castration = True, Castration(*said, span.last if span else None)
         elif text not in self.unknown:
             self.unread.read[Field.SEX] += 1
             self.leave_out(animal, Field.SEX, text, SexUnread(text))

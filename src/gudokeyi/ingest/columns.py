@@ -12,6 +12,7 @@ from typing import Container
 from gudokeyi.domain.kinds import Field
 from gudokeyi.domain.spelling import closest
 from gudokeyi.ingest.births_beside import TAG, parts_of_births
+from gudokeyi.ingest.castrations import castrated_places
 from gudokeyi.ingest.column_detection import MOST_COMPARED, IdColumn, LikelyColumns, are_different, are_row_numbers
 from gudokeyi.ingest.days import is_span
 from gudokeyi.ingest.encodings import Letters, decoded_twice
@@ -260,9 +261,11 @@ def tell_unread_statuses(columns: Columns, named: Mapping[str, str]) -> None:
 
 def tell_castrated(columns: Columns, at: int, texts: set[str]) -> None:
     """Some cells of a column that isn't read tell that an animal is castrated; it isn't told of females, nor of those
-    whose sex says so too."""
+    whose sex says so too, or another column."""
     cells = columns.cells(at)
     telling = [place for place, cell in enumerate(cells) if cell in texts] if texts else []
+    said = castrated_places(columns.sheet, columns.found) if telling else set[int]()
+    telling = [place for place in telling if place not in said]
     if Field.SEX in columns.found:
         sexes = columns.cells(columns.found[Field.SEX])
         others = {sex for sex in {*sexes} if KNOWN_SEXES.get(sex_word(sex)) == "F" or has_word(sex, KNOWN_SAID_CASTRATED)}

@@ -14,6 +14,7 @@ from gudokeyi.domain.findings import Call, Entry, ImportRefused, Report, Strictl
 from gudokeyi.domain.kinds import Field, Remembered
 from gudokeyi.ingest.animals import LINE_OF
 from gudokeyi.ingest.births_beside import year_column
+from gudokeyi.ingest.castrations import castration_columns
 from gudokeyi.ingest.exits_beside import columns_beside
 from gudokeyi.ingest.files import GivenFile
 from gudokeyi.ingest.findings.columns import ColumnUntitled, TitleBelow
@@ -304,8 +305,8 @@ def other_breeders(said: dict[int, str], next_book: NextBook) -> list[tuple[int,
 def places_beside(read: ReadSheet) -> list[int]:
     """The columns that are read beside those of fields."""
     sheet, found = read.sheet, read.columns.found
-    beside = [*columns_beside(sheet, found), *year_column(sheet, found), *reasons_beside(sheet.titles, found)]
-    return beside + names_read(sheet, found, read.rows.unknown)
+    beside = [*columns_beside(sheet, found), *year_column(sheet, found), *castration_columns(sheet, found)]
+    return [*beside, *reasons_beside(sheet.titles, found), *names_read(sheet, found, read.rows.unknown)]
 
 
 def understood_of(
