@@ -122,3 +122,31 @@ def test_buyers_alone(desk: Desk) -> None:
         "5": "day unknown: 'verkauft an Schulze'", "6": "'verkauft an Schulze'",
     }  # fmt: skip
     assert " 0 new, 0 changed" in desk.take(sheet).last
+
+
+@pytest.mark.parametrize("status", ["Active", "On loan", "aktiv", "lebt", "ausgeliehen"])
+@pytest.mark.parametrize("titles", ["Status;{}", "Exit date;Status;{}"])
+@pytest.mark.parametrize("title", ["Buyer", "Sold to", "Käufer", "Verkauft an", "Acheteur"])
+def test_buyers_of_living(desk: Desk, title: str, titles: str, status: str) -> None:
+    """One who isn't the owner is told beside a status that says that the animal is there, and nothing is changed by it."""
+    cells = "{};{}" if titles.startswith("Status") else ";{};{}"
+    sold = [cells.format(*one) for one in ((status, "Schulze"), (status, "Huber"), (status, "Meier"), ("verkauft", "Zoo"))]
+    sheet = BEGIN + titles.format(title) + "\n" + rows((cells.format("", ""),) * 2, *sold)
+    done = desk.take(sheet)
+    told = "line {}: {}: to look at: '{}' says '{}', and 'Status' says '{}': the animal counts as living, with its owner; if "
+    told += "it was sold, write sold, verkauft or vendu in place of '{}'"
+    done.tells(*(told.format(at + 1, at, title, buyer, status, status) for at, buyer in ((3, "Schulze"), (4, "Huber"))))
+    assert done.told.count("counts as living, with its owner") == 2 and "not read" not in done.out
+    assert [owner_of(desk, id) for id in "345"] == ["Meier"] * 3
+    assert {row["id"] for row in desk.table("book/ids.csv") if row["exit"]} == {"6"}
+    assert " 0 new, 0 changed" in desk.take(sheet).last
+
+
+def test_buyers_and_days(desk: Desk) -> None:
+    """Where the animal has the day of an exit too, that is told as before, and the buyer is read."""
+    sold = "5.5.2020;aktiv;Schulze", "-;;Schulze", "-;verkauft;Schulze", ";-;Schulze"
+    done = desk.take(BEGIN + "Abgang am;Status;Käufer\n" + rows((";;", ";;"), *sold))
+    assert "'Abgang am' says '5.5.2020', and 'Status' says 'aktiv': the animal counts as gone" in done.told
+    assert "line 5: 4: to look at: 'Käufer' says 'Schulze', and 'Abgang am' says '-': the animal counts as living" in done.told
+    assert done.told.count("counts as living, with its owner") == 1
+    assert {row["id"] for row in desk.table("book/ids.csv") if row["exit"]} == {"3", "5", "6"}
