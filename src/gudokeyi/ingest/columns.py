@@ -16,7 +16,7 @@ from gudokeyi.ingest.castrations import castrated_places
 from gudokeyi.ingest.column_detection import MOST_COMPARED, IdColumn, LikelyColumns, are_different, are_row_numbers
 from gudokeyi.ingest.days import is_span
 from gudokeyi.ingest.encodings import Letters, decoded_twice
-from gudokeyi.ingest.exits_beside import KNOWN_BUYERS
+from gudokeyi.ingest.exits_beside import KNOWN_BUYERS, says_day
 from gudokeyi.ingest.findings.columns import (
     ColumnLost, ColumnsLack, ColumnUntitled, LikelierColumn, NamedColumnLacks, ParentsBeside, ParentsFromOther,
     SheetFinding, TellsNoExits, TitleTwice,
@@ -189,7 +189,7 @@ def days_of_exits(columns: Columns) -> list[int]:
     """The columns such as `verkauft am`, most of whose cells are days."""
     titled = [at for at, title in enumerate(columns.sheet.titles) if columns.is_free(at) and names_exits_alone(title)]
     said = {at: [*filter(None, columns.cells(at))] for at in titled[:MOST_ALIKE]}
-    return [at for at, cells in said.items() if 2 * sum(map(is_span, cells)) > len(cells)]
+    return [at for at, cells in said.items() if 2 * sum(map(says_day, cells)) > len(cells)]
 
 
 def column_of_words(columns: Columns, name: Field, tells: Callable[[str], bool]) -> None:

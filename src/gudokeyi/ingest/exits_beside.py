@@ -35,14 +35,13 @@ KNOWN_BUYERS = {plain(title): said for said, titles in BUYERS.items() for title 
 
 @dataclass
 class Exits:
-    """What is found beside the exits: the texts for exits, by the places of rows, and the lines of those that are a
-    word of the status alone; the reasons beside days of exits, by their lines; the titles of the columns whose days are
-    taken, by the places of rows; and what is to be kept as notes."""
+    """What is found beside the exits: the texts for exits, by the places of rows; the titles of the columns whose days
+    or words are taken, by the lines of rows; the reasons beside days of exits, by their lines; and what is to be kept
+    as notes."""
 
     texts: dict[int, str] = field(default_factory=dict)
-    of_status: dict[int, str] = field(default_factory=dict)
-    reasons: dict[int, str] = field(default_factory=dict)
     titles: dict[int, str] = field(default_factory=dict)
+    reasons: dict[int, str] = field(default_factory=dict)
     remarks: list[Remark] = field(default_factory=list)
 
 
@@ -104,7 +103,7 @@ class ExitDays:
                 continue
             text = self.of_yes(exits, place, row, word) if is_yes else self.taken(exits, place, row, at)
             if text:
-                exits.texts[place], exits.titles[place] = text, title
+                exits.texts[place], exits.titles[row.line] = text, title
                 count += 1
             if text == cell and word:
                 exits.reasons.setdefault(row.line, word)
@@ -118,13 +117,13 @@ class ExitDays:
             self.look_at_status(row, at)
             return day
         if lives(exit):
-            self.tell(row, self.title(exits, place), exit, at, False)
+            self.tell(row, self.title(exits, row), exit, at, False)
             return day
         title, has_digits = self.sheet.titles[at], any(map(str.isdigit, exit))
         if not has_digits and names_other_exits(exit) == names_other_exits(title):
             return f"{exit} {day}"
         if not has_digits or not is_same_day(exit, day):
-            self.tell(row, self.title(exits, place), exit, at, has_digits)
+            self.tell(row, self.title(exits, row), exit, at, has_digits)
         return ""
 
     def of_yes(self, exits: Exits, place: int, row: SheetRow, word: str) -> str:
@@ -132,8 +131,8 @@ class ExitDays:
         exit = exits.texts.get(place) or cell_of(row, self.exit)
         return word if not exit or exit in self.unknown else ""
 
-    def title(self, exits: Exits, place: int) -> str:
-        return exits.titles.get(place) or self.sheet.titles[self.exit]
+    def title(self, exits: Exits, row: SheetRow) -> str:
+        return exits.titles.get(row.line) or self.sheet.titles[self.exit]
 
     def look_at_status(self, row: SheetRow, at: int) -> None:
         """A status may say that the animal lives."""

@@ -215,7 +215,7 @@ class Rows:
         self.errors = ErrorValues(sheet, columns)
         self.sexes = self.sexes_read(sexes, sexes_of_book or {})
         self.unread = Unread({name: sheet.titles[at] for name, at in columns.items()})
-        self.unread.of_status = sheet.of_status
+        self.unread.exit_titles = sheet.exit_titles
         self.forms = DayForms(self.texts(Field.BIRTH), (born or {}).values(), month_first)
         self.cells = AnimalCells(unknown, self.sexes, self.unread, report, month_first, self.forms)
         self.cells.reasons = sheet.reasons

@@ -102,8 +102,8 @@ class Sheet:
     above: list[str] = field(default_factory=list)
     # cells of a column that is read beside another one
     remarks: list[Remark] = field(default_factory=list)
-    # the title of that column, by the lines whose cell for an exit is its word
-    of_status: Mapping[int, str] = field(default_factory=dict)
+    # the titles of such columns, by the lines whose cell for an exit is their day or word
+    exit_titles: Mapping[int, str] = field(default_factory=dict)
     # what that column says beside the day of an exit, by lines
     reasons: Mapping[int, str] = field(default_factory=dict)
     decision: Decision | None = None
@@ -127,8 +127,8 @@ class Sheet:
 
     def is_same(self, meant: Sheet) -> bool:
         """Has another sheet that was made of the same one the same rows?"""
-        return (meant.rows, meant.unseen, meant.remarks, meant.of_status, meant.reasons, meant.marked) == (
-            self.rows, self.unseen, self.remarks, self.of_status, self.reasons, self.marked
+        return (meant.rows, meant.unseen, meant.remarks, meant.exit_titles, meant.reasons, meant.marked) == (
+            self.rows, self.unseen, self.remarks, self.exit_titles, self.reasons, self.marked
         )  # fmt: skip
 
     def column(self, at: int) -> list[str]:

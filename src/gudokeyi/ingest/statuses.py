@@ -143,7 +143,7 @@ class Statuses:
 
     def take(self, place: int, row: SheetRow, exit: str, said: str) -> None:
         """The word of the status stands for an exit of which its column says nothing, or that there is none."""
-        self.found.texts[place], self.found.of_status[row.line] = said, self.titles[1]
+        self.found.texts[place], self.found.titles[row.line] = said, self.titles[1]
         if not exit or self.is_unknown(exit):
             self.taken += 1
         else:
