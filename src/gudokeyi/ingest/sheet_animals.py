@@ -35,6 +35,7 @@ from gudokeyi.ingest.same_ids import SameIds, tell_used_again
 from gudokeyi.ingest.sexes import Sexes, one_sex_alone, sexes_in_book, sexes_of_dams
 from gudokeyi.ingest.sheets import Sheet, SheetRow
 from gudokeyi.ingest.spellings import CUT
+from gudokeyi.ingest.struck_cells import struck_told
 from gudokeyi.ingest.titles import KNOWN_STATES, is_german, parts_of, words_of_sexes
 from gudokeyi.ingest.unknown_parents import UnknownParents
 from gudokeyi.ingest.texts import nearly, plain
@@ -378,12 +379,14 @@ class Rows:
         tell_odd_ids(animals, told | tell_several_ids(animals, told, self.report), self.report)
 
     def marked_rows(self, animals: dict[str, SheetAnimal]) -> Iterator[SheetFinding]:
-        """The animals' rows that are filled grey, and those that are hidden."""
+        """The animals' rows that are filled grey, those that are hidden, and what is struck through."""
         marked = {GreyRows: self.sheet.grey, HiddenRows: self.sheet.hidden}
-        lines = {*map(LINE_OF, animals.values())} if any(marked.values()) else set[int]()
+        are_marked = any(marked.values()) or any(self.sheet.struck)
+        lines = {*map(LINE_OF, animals.values())} if are_marked else set[int]()
         for kind, marks in marked.items():
             if of_animals := [line for line in marks if line in lines]:
                 yield kind(len(of_animals), of_animals[0])
+        yield from struck_told(self.sheet, lines)
 
     def slashed_days(self) -> Iterator[Place]:
         """The cells of days that may show their order, each with its place."""
