@@ -22,7 +22,7 @@ from gudokeyi.ingest.findings.cells import (
 from gudokeyi.ingest.findings.columns import SheetFinding
 from gudokeyi.ingest.findings.exits import ExitInDoubt, ExitInferred, ExitsInOtherWords, ExitsWithoutDay, NoExits, Remark
 from gudokeyi.ingest.findings.rows import OwnerInExit, OwnerSold, SoldWithin, StatusDisagrees, TakerUnclear
-from gudokeyi.ingest.findings.sexes import SexesUnsure
+from gudokeyi.ingest.findings.sexes import SexesUnknown, SexesUnsure, UnknownSex
 from gudokeyi.ingest.findings.sheets import (
     MOST_TEXTS, Cells, CellsUnread, ErrorCells, ErrorColumn, NarrowCells, NarrowColumn, TextCount,
 )  # fmt: skip
@@ -57,6 +57,8 @@ class Unread:
         # those of sexes that aren't sure
         self.unsure: list[Cell] = []
         self.read: collections.Counter[str] = collections.Counter()
+        # how many animals with each text for a sex are sires, and how many dams
+        self.parents: Callable[[], Mapping[str, tuple[int, int]]] = dict
         # the title of a status, by the lines whose exits are its words
         self.of_status: Mapping[int, str] = {}
 
@@ -66,7 +68,7 @@ class Unread:
 
     def found(self) -> list[SheetFinding]:
         told: list[SheetFinding] = [
-            CellsUnread(one) for field, cells in self.cells.items() for one in self.of_each(field, cells)
+            self.told(one) for field, cells in self.cells.items() for one in self.of_each(field, cells)
         ]
         told += map(ExitsWithoutDay, self.of_each(Field.EXIT, self.exits))
         told += [NoExits.of(self.remarks())] if self.no_exits else []
@@ -102,8 +104,16 @@ class Unread:
         read: hardly anything of it would be taken."""
         columns = self.cells.items()
         return [
-            CellsUnread(self.of(field, cells)) for field, cells in columns if len(cells) > max(2, self.read[field] // 2)
+            self.told(self.of(field, cells)) for field, cells in columns if len(cells) > max(2, self.read[field] // 2)
         ]
+
+    def told(self, cells: Cells) -> CellsUnread:
+        """What is told of cells that can't be read; of sexes of which none can what the animals' offspring say too."""
+        if cells.field is not Field.SEX or cells.count < cells.said or cells.more or len(cells.texts) < 2:
+            return CellsUnread(cells)
+        parents = self.parents()
+        sexes = (UnknownSex(one.text, one.count, *parents.get(one.text, (0, 0))) for one in cells.texts)
+        return SexesUnknown(cells, (*sexes,))
 
 
 # Cells that show a spreadsheet's error value, as `#REF!`: they are empty, and told.

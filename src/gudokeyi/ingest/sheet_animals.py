@@ -32,7 +32,7 @@ from gudokeyi.ingest.odd_texts import first_days, tell_exits_in_ids, tell_exits_
 from gudokeyi.ingest.plain_rows import CELLS_OF, SIGNS, PlainRows, chooser, first_sum
 from gudokeyi.ingest.rows_as_meant import DITTO, Takers
 from gudokeyi.ingest.same_ids import SameIds, tell_used_again
-from gudokeyi.ingest.sexes import Sexes, one_sex_alone, sexes_in_book, sexes_of_dams
+from gudokeyi.ingest.sexes import Sexes, one_sex_alone, parents_by_text, sexes_in_book, sexes_of_dams
 from gudokeyi.ingest.sheets import Sheet, SheetRow
 from gudokeyi.ingest.spellings import CUT
 from gudokeyi.ingest.struck_cells import struck_told
@@ -346,6 +346,7 @@ class Rows:
         for field in (Field.NAME, Field.OWNER):
             if not TRUTHS.isdisjoint(self.plain.different.get(field, ())):
                 tell_truths(animals, field, self.report)
+        self.unread.parents = functools.partial(parents_by_text, animals.values())
         order = Order(self.slashed_days())
         fault, note = order.fault(self.month_first), order.note(self.month_first)
         self.faults += [*([fault] if fault else []), *self.cut_numbers(), *self.unread.mostly(), *self.errors.mostly()]
