@@ -206,6 +206,8 @@ class AnimalCells:
         self.readings, self.takers = Readings(unread.titles), Takers({})
         # what stands beside the days of exits, by lines
         self.reasons: Mapping[int, str] = {}
+        # the lines of rows whose sex a list of the book marks as inferred
+        self.inferred_sexes: Collection[int] = ()
         # the animals that an owner took on the day of their exit
         self.sold: set[str] = set()
 
@@ -277,8 +279,9 @@ class AnimalCells:
         if animal.sex:
             self.unread.read[Field.SEX] += 1
             if is_unsure(text):
-                animal.sex, animal.likely_sex = "", animal.sex
                 self.unread.unsure.append((text, animal.line))
+            if is_unsure(text) or animal.line in self.inferred_sexes:
+                animal.sex, animal.likely_sex = "", animal.sex
         elif text not in self.unknown:
             self.unread.read[Field.SEX] += 1
             self.leave_out(animal, Field.SEX, text, SexUnread(text))

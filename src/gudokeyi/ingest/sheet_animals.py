@@ -27,6 +27,7 @@ from gudokeyi.ingest.findings.columns import SheetFinding
 from gudokeyi.ingest.findings.exits import Remark
 from gudokeyi.ingest.findings.files import GreyRows, HiddenRows
 from gudokeyi.ingest.findings.sheets import CutNumber, FormulaCell, Place
+from gudokeyi.ingest.inferred_values import lines_of_inferred_sexes
 from gudokeyi.ingest.odd_ids import Oddity, odd_ids
 from gudokeyi.ingest.odd_texts import first_days, tell_exits_in_ids, tell_exits_in_names, tell_several_ids
 from gudokeyi.ingest.plain_rows import CELLS_OF, SIGNS, PlainRows, chooser, first_sum
@@ -219,6 +220,7 @@ class Rows:
         self.forms = DayForms(self.texts(Field.BIRTH), (born or {}).values(), month_first)
         self.cells = AnimalCells(unknown, self.sexes, self.unread, report, month_first, self.forms)
         self.cells.reasons = sheet.reasons
+        self.cells.inferred_sexes = lines_of_inferred_sexes(sheet, columns, lambda text: self.sexes.meaning(text).sex)
         self.cells.days.of_states = plain(self.unread.titles.get(Field.EXIT, "")) in KNOWN_STATES
         self.cells.takers = Takers({one: one for one in self.texts(Field.OWNER)} | dict(owners or {}))
         self.same_ids = SameIds(unknown, month_first, born or {})
@@ -265,7 +267,7 @@ class Rows:
         """The rows that are read together."""
         words = self.no_animals.words
         again = self.before.again(self.sheet, self.cells, words) if self.before else None
-        lines = {line for line, *_ in self.errors.found} | self.cells.lines_of_sales()
+        lines = {line for line, *_ in self.errors.found}.union(self.cells.lines_of_sales(), self.cells.inferred_sexes)
         found = again or PlainRows(self.sheet, self.columns, self.cells, words)
         found.leave_lines(lines)
         return found
