@@ -6,7 +6,7 @@ import io
 
 import openpyxl
 import pytest
-from openpyxl.styles import PatternFill
+from openpyxl.styles import Font, PatternFill
 
 from web.looks import Says, buttons_of, look_at, part, press
 from web.site import Site, shown
@@ -208,11 +208,14 @@ def test_new_tags_of_a_family(empty_site: Site, language: str) -> None:
         ("en", "2 rows are hidden, the first is line 5: they are taken like all others"),
         ("de", "2 Zeilen, zuerst 5, sind ausgeblendet: sie werden wie alle übernommen"),
         ("fr", "2 lignes, d'abord la 5, sont masquées : elles sont prises comme toutes"),
+        ("en", "the text of 1 cell is struck through, 'w' in line 8 of the column 'Geschlecht', and is read like all others"),
+        ("de", "der Text von 1 Zelle ist durchgestrichen, „w“ in Zeile 8 der Spalte „Geschlecht“; er wird wie alle gelesen"),
+        ("fr", "le texte de 1 cellule est barré, « w » en ligne 8 de la colonne « Geschlecht » ; il est lu comme tous"),
     ],
 )
 def test_grey_rows(empty_site: Site, language: str, told: str) -> None:
-    """That some rows are filled grey is told, with the first of them, and that some are hidden. Nobody knows what it
-    means, so there is no button for it, and their animals are taken as living ones."""
+    """That some rows are filled grey is told, with the first of them, and that some are hidden, or a cell is struck
+    through. Nobody knows what it means, so there is no button for it, and their animals are taken as living ones."""
     site = empty_site
     site.get(f"/language/{language}")
     workbook, file = openpyxl.Workbook(), io.BytesIO()
@@ -223,6 +226,7 @@ def test_grey_rows(empty_site: Site, language: str, told: str) -> None:
     for cell in [*sheet[4], *sheet[6]]:
         cell.fill = PatternFill("solid", fgColor="FFBFBFBF")
     sheet.row_dimensions.group(5, 6, hidden=True)
+    sheet["B8"].font = Font(strike=True)
     workbook.save(file)
     address = site.drop("liste.xlsx", file.getvalue())
     page = site.page(address)

@@ -71,12 +71,12 @@ def stands_alone(line: bytes) -> bool:
 @functools.cache
 def expression() -> re.Pattern[bytes]:
     """All of the words, also where blanks or signs stand within."""
-    root = Node()
+    root: Node = {}
     for word in WORDS:
         node = root
         for letter in word:
-            node = node.setdefault(letter, Node())
-        node[END] = Node()
+            node = node.setdefault(letter, {})
+        node[END] = {}
     return re.compile(f" {expressed(root, 0)}(?![a-z])".encode("ascii", "ignore"))
 
 
