@@ -22,7 +22,7 @@ from gudokeyi.ingest.findings.cells import (
 from gudokeyi.ingest.findings.columns import SheetFinding
 from gudokeyi.ingest.findings.exits import ExitInDoubt, ExitInferred, ExitsInOtherWords, ExitsWithoutDay, NoExits, Remark
 from gudokeyi.ingest.findings.rows import OwnerInExit, OwnerSold, SoldWithin, StatusDisagrees, TakerUnclear
-from gudokeyi.ingest.findings.sexes import SexesUnsure
+from gudokeyi.ingest.findings.sexes import SexesUnknown, SexesUnsure, UnknownSex
 from gudokeyi.ingest.findings.sheets import (
     MOST_TEXTS, Cells, CellsUnread, ErrorCells, ErrorColumn, NarrowCells, NarrowColumn, TextCount,
 )  # fmt: skip
@@ -59,6 +59,8 @@ class Unread:
         self.read: collections.Counter[str] = collections.Counter()
         # those of other columns, by the lines whose exits are their days or words
         self.exit_titles: Mapping[int, str] = {}
+        # how many animals with each text for a sex are sires, and how many dams
+        self.parents: Callable[[], Mapping[str, tuple[int, int]]] = dict
 
     def add(self, field: str, text: str, line: int) -> None:
         cells = self.exits if field == "exit" and exit_word(text) else self.cells[field]
@@ -66,7 +68,7 @@ class Unread:
 
     def found(self) -> list[SheetFinding]:
         told: list[SheetFinding] = [
-            CellsUnread(one) for field, cells in self.cells.items() for one in self.of_each(field, cells)
+            self.told(one) for field, cells in self.cells.items() for one in self.of_each(field, cells)
         ]
         told += map(ExitsWithoutDay, self.of_each(Field.EXIT, self.exits))
         told += [NoExits.of(self.remarks())] if self.no_exits else []
@@ -104,8 +106,16 @@ class Unread:
         read: hardly anything of it would be taken."""
         columns = self.cells.items()
         return [
-            CellsUnread(self.of(field, cells)) for field, cells in columns if len(cells) > max(2, self.read[field] // 2)
+            self.told(self.of(field, cells)) for field, cells in columns if len(cells) > max(2, self.read[field] // 2)
         ]
+
+    def told(self, cells: Cells) -> CellsUnread:
+        """What is told of cells that can't be read; of sexes of which none can what the animals' offspring say too."""
+        if cells.field is not Field.SEX or cells.count < cells.said or cells.more or len(cells.texts) < 2:
+            return CellsUnread(cells)
+        parents = self.parents()
+        sexes = (UnknownSex(one.text, one.count, *parents.get(one.text, (0, 0))) for one in cells.texts)
+        return SexesUnknown(cells, (*sexes,))
 
 
 # Cells that show a spreadsheet's error value, as `#REF!`: they are empty, and told.
@@ -200,6 +210,8 @@ class AnimalCells:
         self.reasons: Mapping[int, str] = {}
         # the titles and texts of other columns that tell of castrations, by lines
         self.castrations: Mapping[int, tuple[str, str]] = {}
+        # the lines of rows whose sex a list of the book marks as inferred
+        self.inferred_sexes: Collection[int] = ()
         # the animals that an owner took on the day of their exit
         self.sold: set[str] = set()
 
@@ -271,8 +283,9 @@ class AnimalCells:
         if animal.sex:
             self.unread.read[Field.SEX] += 1
             if is_unsure(text):
-                animal.sex, animal.likely_sex = "", animal.sex
                 self.unread.unsure.append((text, animal.line))
+            if is_unsure(text) or animal.line in self.inferred_sexes:
+                animal.sex, animal.likely_sex = "", animal.sex
             if "M" in (animal.sex, animal.likely_sex) and (said := self.castrations.get(animal.line)):
                 span = self.days.day(Field.EXIT, said[1]).span
                 animal.castrated, animal.castration = True, Castration(*said, span.last if span else None)

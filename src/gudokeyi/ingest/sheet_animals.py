@@ -28,14 +28,16 @@ from gudokeyi.ingest.findings.columns import SheetFinding
 from gudokeyi.ingest.findings.exits import Remark
 from gudokeyi.ingest.findings.files import GreyRows, HiddenRows
 from gudokeyi.ingest.findings.sheets import CutNumber, FormulaCell, Place
+from gudokeyi.ingest.inferred_values import lines_of_inferred_sexes
 from gudokeyi.ingest.odd_ids import Oddity, odd_ids
 from gudokeyi.ingest.odd_texts import first_days, tell_exits_in_ids, tell_exits_in_names, tell_several_ids
 from gudokeyi.ingest.plain_rows import CELLS_OF, SIGNS, PlainRows, chooser, first_sum
 from gudokeyi.ingest.rows_as_meant import DITTO, Takers
 from gudokeyi.ingest.same_ids import SameIds, tell_used_again
-from gudokeyi.ingest.sexes import Sexes, one_sex_alone, sexes_in_book, sexes_of_dams
+from gudokeyi.ingest.sexes import Sexes, one_sex_alone, parents_by_text, sexes_in_book, sexes_of_dams
 from gudokeyi.ingest.sheets import Sheet, SheetRow
 from gudokeyi.ingest.spellings import CUT
+from gudokeyi.ingest.struck_cells import struck_told
 from gudokeyi.ingest.titles import KNOWN_STATES, is_german, parts_of, words_of_sexes
 from gudokeyi.ingest.unknown_parents import UnknownParents
 from gudokeyi.ingest.texts import nearly, plain
@@ -221,6 +223,7 @@ class Rows:
         self.cells.reasons = sheet.reasons
         self.castrations = Castrations(sheet, columns, unknown)
         self.cells.castrations = self.castrations.lines
+        self.cells.inferred_sexes = lines_of_inferred_sexes(sheet, columns, lambda text: self.sexes.meaning(text).sex)
         self.cells.days.of_states = plain(self.unread.titles.get(Field.EXIT, "")) in KNOWN_STATES
         self.cells.takers = Takers({one: one for one in self.texts(Field.OWNER)} | dict(owners or {}))
         self.same_ids = SameIds(unknown, month_first, born or {})
@@ -267,7 +270,8 @@ class Rows:
         """The rows that are read together."""
         words = self.no_animals.words
         again = self.before.again(self.sheet, self.cells, words) if self.before else None
-        lines = {line for line, *_ in self.errors.found} | self.cells.lines_of_sales() | {*self.castrations.lines}
+        odd = self.cells.lines_of_sales(), self.cells.inferred_sexes, self.castrations.lines
+        lines = {line for line, *_ in self.errors.found}.union(*odd)
         found = again or PlainRows(self.sheet, self.columns, self.cells, words)
         found.leave_lines(lines)
         return found
@@ -349,6 +353,7 @@ class Rows:
         for field in (Field.NAME, Field.OWNER):
             if not TRUTHS.isdisjoint(self.plain.different.get(field, ())):
                 tell_truths(animals, field, self.report)
+        self.unread.parents = functools.partial(parents_by_text, animals.values())
         order = Order(self.slashed_days())
         fault, note = order.fault(self.month_first), order.note(self.month_first)
         self.faults += [*([fault] if fault else []), *self.cut_numbers(), *self.unread.mostly(), *self.errors.mostly()]
@@ -383,12 +388,14 @@ class Rows:
         tell_odd_ids(animals, told | tell_several_ids(animals, told, self.report), self.report)
 
     def marked_rows(self, animals: dict[str, SheetAnimal]) -> Iterator[SheetFinding]:
-        """The animals' rows that are filled grey, and those that are hidden."""
+        """The animals' rows that are filled grey, those that are hidden, and what is struck through."""
         marked = {GreyRows: self.sheet.grey, HiddenRows: self.sheet.hidden}
-        lines = {*map(LINE_OF, animals.values())} if any(marked.values()) else set[int]()
+        are_marked = any(marked.values()) or any(self.sheet.struck)
+        lines = {*map(LINE_OF, animals.values())} if are_marked else set[int]()
         for kind, marks in marked.items():
             if of_animals := [line for line in marks if line in lines]:
                 yield kind(len(of_animals), of_animals[0])
+        yield from struck_told(self.sheet, lines)
 
     def slashed_days(self) -> Iterator[Place]:
         """The cells of days that may show their order, each with its place."""

@@ -25,6 +25,7 @@ from gudokeyi.ingest.findings.files import Apostrophes, MarksAlone
 from gudokeyi.ingest.messages import SheetFault
 from gudokeyi.ingest.shown_cells import Shown
 from gudokeyi.ingest.stray_quotes import with_marks_doubled
+from gudokeyi.ingest.struck_texts import NOTHING_STRUCK, Struck
 from gudokeyi.ingest.texts import clean
 from gudokeyi.ingest.titles_within import in_order, needed_in
 from gudokeyi.ingest.workbooks import Formulas, NamedBefore, best_of, read_workbook
@@ -114,6 +115,8 @@ class Sheet:
     grey: list[int] = field(default_factory=list)
     # and of those that a workbook hides
     hidden: list[int] = field(default_factory=list)
+    # what is struck through in a workbook
+    struck: Struck = NOTHING_STRUCK
     # the cells of a workbook of which it shows another text, by their lines and places
     shown: Shown = field(default_factory=dict)
     # the lines of cells of a workbook that are days, by the places of their columns
@@ -172,6 +175,7 @@ class FileRead:
     formulas: Formulas | None = None
     grey: list[int] = field(default_factory=list)
     hidden: list[int] = field(default_factory=list)
+    struck: Struck = NOTHING_STRUCK
     shown: Shown = field(default_factory=dict)
     days: Mapping[int, list[int]] = field(default_factory=dict)
     worksheets: tuple[str, ...] = ()
@@ -183,7 +187,7 @@ def read_file_of_workbook(file: GivenFile, score: Score, worksheet: str, before:
     rows = [SheetRow(*one) for one in found.rows]
     return FileRead(
         rows, found.how, found.faults, found.unread, found.tops, best_worksheet, found.title, found.formulas,
-        found.grey, found.hidden, found.shown, found.days, found.titles, found.title * found.as_before,
+        found.grey, found.hidden, found.struck, found.shown, found.days, found.titles, found.title * found.as_before,
     )  # fmt: skip
 
 
@@ -231,8 +235,8 @@ def read_sheet(file: GivenFile, score: Score, worksheet: str = "", before: Named
         line, ordered.titles, below, read.how, read.faults, {}, ordered.places(unseen), read.formulas, unread, above,
         decision=Decision(read.tops, read.best, read.taken, first, at), worksheets=read.worksheets,
         as_before=read.as_before, grey=marked_by_grey(read.grey, line, len(below)), hidden=read.hidden,
-        shown=ordered.places(read.shown), days=ordered.columns(read.days), other_orders=ordered.moved,
-        added=ordered.added,
+        struck=read.struck._replace(cells=ordered.places(read.struck.cells)), shown=ordered.places(read.shown),
+        days=ordered.columns(read.days), other_orders=ordered.moved, added=ordered.added,
     )  # fmt: skip
 
 

@@ -11,6 +11,7 @@ from gudokeyi.domain.findings import Finding, Report
 from gudokeyi.domain.kinds import Field, Role
 from gudokeyi.domain.provenance import SexSource
 from gudokeyi.ingest.animals import DAM_OF, ID_OF, NAME_OF, SEX_OF, SIRE_OF, UNREAD_OF, Link, SheetAnimal
+from gudokeyi.ingest.sexes import is_unsure
 from gudokeyi.reconcile.findings.animals import SexInferred, SexNotKnown, SexUnsure
 from gudokeyi.reconcile.findings.by_hand import ValueChanged
 from gudokeyi.reconcile.findings.parents import Couple, NoSexesFit, ParentsSwapped
@@ -194,7 +195,7 @@ def find_sexes(next_book: NextBook) -> None:
 
 
 def sex_found(animal: SheetAnimal) -> Finding:
-    if animal.likely_sex:
+    if animal.likely_sex and is_unsure(animal.cells[Field.SEX]):
         return SexUnsure(animal.sex, animal.sex_source, animal.cells[Field.SEX])
     return SexInferred(animal.sex, animal.sex_source, "sex" in animal.unread)
 
