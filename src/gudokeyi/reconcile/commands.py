@@ -5,11 +5,11 @@ import datetime
 import functools
 import itertools
 import operator
-from collections.abc import Iterable
+from collections.abc import Iterable, Iterator
 
 from gudokeyi.domain.animals import NO_OWNER, SocietyRecord
 from gudokeyi.domain.collections import made
-from gudokeyi.domain.commands import Command, RegisterRecord, leave, lines_of, text_of
+from gudokeyi.domain.commands import HEADER, Command, RegisterRecord, leave, lines_of, text_of
 from gudokeyi.domain.kinds import CommandKind
 from gudokeyi.domain.messages import Mistake, why
 from gudokeyi.domain.provenance import NO_DAY, ExitBasis, reason_of
@@ -23,7 +23,7 @@ from gudokeyi.reconcile.findings.by_hand import NewAnimal, ValueChanged
 from gudokeyi.reconcile.findings.rows import CommandLeftOut
 from gudokeyi.reconcile.last_found import FoundBy, Kept
 from gudokeyi.reconcile.messages import ImportFault
-from gudokeyi.reconcile.next_book import NextBook, ToldOfAnimals, commands_of
+from gudokeyi.reconcile.next_book import NextBook, ToldOfAnimals, Values, commands_of
 from gudokeyi.reconcile.owner_day_known import owner_day_known
 from gudokeyi.reconcile.owner_days import OwnerDays
 from gudokeyi.store.journal import Filed, Step, alike
@@ -40,20 +40,34 @@ class CommandsAnew:
     """The commands of a whole book: each birth with the parents of today, then the transfers, and then the exits. They
     are made where they are asked for."""
 
-    def __init__(self, told: ToldOfAnimals, first_herds: list[int], transfers: list[Command]) -> None:
-        self.told, self.first_herds, self.transfers = told, first_herds, transfers
+    def __init__(
+        self, next_book: NextBook, told: ToldOfAnimals, first_herds: list[int], transfers: list[Command]
+    ) -> None:
+        self.next_book, self.told, self.first_herds, self.transfers = next_book, told, first_herds, transfers
 
     @property
     def by(self) -> FoundBy:
         """What they are made of."""
         return *self.told, self.first_herds, self.transfers
 
+    def births(self) -> Iterator[Values]:
+        return self.told.births(self.next_book.numbers.__getitem__, self.first_herds)
+
     @functools.cached_property
     def commands(self) -> list[Command]:
-        return commands_of(self.told.births(self.first_herds)) + self.transfers + commands_of(self.told.exits())
+        return commands_of(self.births()) + self.transfers + commands_of(self.told.exits())
 
-    def refused(self, program: Herdbook) -> list[RefusedCommand]:
-        return [(self.commands[place], refusal) for place, refusal in program.file(self.commands).items()]
+    def text(self) -> bytes:
+        """The command file, whose lines take a fraction of the time of commands."""
+        return HEADER + lines_of(self.births()) + lines_of(self.transfers) + lines_of(self.told.exits())
+
+    def refused(self, program: Herdbook, is_preview: bool) -> list[RefusedCommand]:
+        """Those that the program refuses; of a preview no others are made."""
+        text = self.text() if is_preview else text_of(self.commands)
+        count = len(self.told.ids) + len(self.transfers) + self.told.count_exits()
+        refused = program.file_text(text, count)
+        lines = text.decode().splitlines()[1:] if refused else []
+        return [(Command(*lines[place].split(",")), refusal) for place, refusal in refused.items()]
 
 
 class Filing:
@@ -109,7 +123,7 @@ class Filing:
         """The whole book, or what is refused of its commands. Those of a preview aren't kept, nor made where a look
         before asked about the same."""
         anew = self.anew()
-        refused = self.next_book.last_found.of(Kept.REFUSED_ANEW, anew.by, lambda: anew.refused(program))
+        refused = self.next_book.last_found.of(Kept.REFUSED_ANEW, anew.by, lambda: anew.refused(program, is_preview))
         self.see_refused(command for command, _ in refused)
         if refused:
             return refused
@@ -180,7 +194,7 @@ class Filing:
             of_some = dict(zip(map(NUMBER_OF, some), herds))
             in_book = map(self.book.records.get, told.numbers, itertools.repeat(NOT_IN_BOOK))
             herds = [*map(of_some.get, told.numbers, map(OWNER_CODE_OF, in_book))]
-        return CommandsAnew(told, herds, [*itertools.chain.from_iterable(one.transfers for one in owners)])
+        return CommandsAnew(next_book, told, herds, [*itertools.chain.from_iterable(one.transfers for one in owners)])
 
     def find_likely(self) -> None:
         self.others, self.likely = self.found_otherwise(), self.next_book.by_birth

@@ -4,6 +4,7 @@ from __future__ import annotations
 import collections
 import datetime
 import itertools
+import operator
 from typing import NamedTuple
 
 from gudokeyi.domain.animals import SocietyRecord
@@ -12,7 +13,7 @@ from gudokeyi.domain.findings import Entry
 from gudokeyi.domain.kinds import CommandKind, Field
 from gudokeyi.domain.provenance import GIVEN_EXIT, ExitBasis, ExitSource
 from gudokeyi.domain.refusals import Refusal
-from gudokeyi.ingest.animals import LINE_OF, SheetAnimal
+from gudokeyi.ingest.animals import DAM_OF, LEFT_OF, LINE_OF, SheetAnimal
 from gudokeyi.ingest.words import exit_word, lives, says_lives
 from gudokeyi.ingest.words_beside import words_beside
 from gudokeyi.reconcile.findings.animals import KeptByHand, KeptFromBook
@@ -78,14 +79,16 @@ def given_day(basis: ExitBasis) -> datetime.date | None:
 def leave_out_early_exits(next_book: NextBook) -> None:
     known, records, some = next_book.book.society_records, next_book.book.records, next_book.otherwise
     # where the book has the same one all offspring was born before, as of rows that say what it has
-    likely = [one for id, one in next_book.animals.items() if one.left and (id in some or not one.line)]
+    those = next_book.animals.values()
+    gone = itertools.compress(those, map(LEFT_OF, those))
+    likely = [one for one in gone if one.id in some or not one.line]
     new = {
         one.id: one for one in likely
         if not (in_book := known.get(one.id)) or records[in_book.registration_number].left != one.left
     }  # fmt: skip
     progeny = collections.defaultdict[str, list[SheetAnimal]](list)
-    for animal in next_book.animals.values() if new else ():
-        if animal.dam in new and not animal.embryo:
+    for animal in itertools.compress(those, map(new.__contains__, map(DAM_OF, those))) if new else ():
+        if not animal.embryo:
             progeny[animal.dam].append(animal)
     for dam in new.values():
         later = [offspring for offspring in progeny[dam.id] if dam.left and offspring.born > dam.left]
@@ -147,8 +150,8 @@ LOOKED_AT = ("name", "owner", "exit")
 
 def tell_withdrawn_exits(next_book: NextBook) -> None:
     animals, gone = next_book.animals, next_book.in_book.left
-    before = [animals[id] for id in animals if id in gone] if gone else []
-    withdrawn = [animal for animal in before if not has_left(animal)]
+    stay = itertools.compress(animals, map(operator.not_, map(LEFT_OF, animals.values()))) if gone else ()
+    withdrawn = [animals[id] for id in filter(gone.__contains__, stay) if not has_left(animals[id])]
     if len(withdrawn) < SEVERAL_WITHDRAWN:
         # what a cell says is told by itself
         withdrawn = [animal for animal in withdrawn if says_nothing(animal.cells.get(Field.EXIT, ""))]

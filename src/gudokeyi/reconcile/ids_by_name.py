@@ -128,8 +128,8 @@ class NamesEver:
 
 def beginning_with(form: str, names: Forms) -> list[str]:
     """Those of some names, in the order of their forms, whose form begins with one."""
-    first = bisect.bisect_left(names, (form,))
-    found = itertools.takewhile(lambda one: one[0].startswith(form), itertools.islice(names, first, None))
+    behind = range(bisect.bisect_left(names, (form,)), len(names))
+    found = itertools.takewhile(lambda one: one[0].startswith(form), map(names.__getitem__, behind))
     return [name for _, name in found]
 
 

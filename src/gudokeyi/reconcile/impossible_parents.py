@@ -236,20 +236,21 @@ Fault = tuple[SheetAnimal, Refusal]
 def is_any_refused(next_book: NextBook, program: Herdbook) -> bool:
     """Does the program refuse any birth with its parents, or an exit?"""
     told = next_book.told_of_all()
-    return next_book.last_found.of(Kept.ANY_FAULT, told, lambda: refuses_any(program, told))
+    return next_book.last_found.of(Kept.ANY_FAULT, told, lambda: refuses_any(next_book, program, told))
 
 
-def refuses_any(program: Herdbook, told: ToldOfAnimals) -> bool:
-    births = told.births(itertools.repeat(1))
-    return bool(program.file_text(HEADER + lines_of(births) + lines_of(told.exits()), len(told.ids) + told.count_exits()))
+def refuses_any(next_book: NextBook, program: Herdbook, told: ToldOfAnimals) -> bool:
+    births = told.births(next_book.numbers.__getitem__, itertools.repeat(1))
+    text, count = HEADER + lines_of(births) + lines_of(told.exits()), len(told.ids) + told.count_exits()
+    return bool(program.file_text(text, count))
 
 
 def refused_parents(next_book: NextBook, program: Herdbook, progeny: Sequence[SheetAnimal]) -> list[Fault]:
     """Which of these have parents that the program refuses, once they and all whom they name are filed without."""
     are_all = progeny is next_book.by_birth
     told = next_book.told_of_all() if are_all else ToldOfAnimals.of(with_parents(next_book, progeny))
-    what, by = Kept.FAULTS if are_all else Kept.FAULTS_OF_SOME, (*told, [*map(ID_OF, progeny)])
-    refused = next_book.last_found.of(what, by, lambda: asked_about(program, told, progeny))
+    what, asked = (Kept.FAULTS, told.ids) if are_all else (Kept.FAULTS_OF_SOME, [*map(ID_OF, progeny)])
+    refused = next_book.last_found.of(what, (*told, asked), lambda: asked_about(next_book, program, told, progeny))
     return [(next_book.animals[id], refusal) for id, refusal in refused]
 
 
@@ -259,9 +260,11 @@ def with_parents(next_book: NextBook, progeny: Sequence[SheetAnimal]) -> list[Sh
     return sorted(map(next_book.animals.__getitem__, ids), key=BORN_AND_NUMBER)
 
 
-def asked_about(program: Herdbook, told: ToldOfAnimals, progeny: Sequence[SheetAnimal]) -> list[tuple[str, Refusal]]:
+def asked_about(
+    next_book: NextBook, program: Herdbook, told: ToldOfAnimals, progeny: Sequence[SheetAnimal]
+) -> list[tuple[str, Refusal]]:
     """The ids of offspring whose parents the program refuses, where those of whom it is told are filed without."""
-    number_of = told.by_ids().__getitem__
+    number_of = next_book.numbers.__getitem__
     asked = [animal for animal in progeny if animal.sire or animal.dam]
     numbers, sires, dams = map(NUMBER_OF, asked), map(number_of, map(SIRE_OF, asked)), map(number_of, map(DAM_OF, asked))
     links = zip(itertools.repeat("parents"), numbers, NOTHING, sires, dams, NOTHING, NOTHING, NOTHING)

@@ -6,7 +6,7 @@ import collections
 import datetime
 import functools
 import itertools
-from collections.abc import Iterable, Iterator, Mapping, Sequence, Set
+from collections.abc import Callable, Iterable, Iterator, Mapping, Sequence, Set
 from typing import NamedTuple
 
 from gudokeyi.domain.animals import NO_FIELDS, SocietyRecord
@@ -186,6 +186,13 @@ class NextBook:
         return parents(animal.registration_number, self.number_of(animal.sire), self.number_of(animal.dam))
 
     @functools.cached_property
+    def numbers(self) -> dict[str, str]:
+        """The numbers of all animals by their ids, once they have them, and that of an unknown parent."""
+        numbers = dict(zip(self.animals, map(NUMBER_OF, self.animals.values())))
+        numbers[""] = UNKNOWN
+        return numbers
+
+    @functools.cached_property
     def by_birth(self) -> list[SheetAnimal]:
         """All animals, once they have their numbers: from then on neither these nor birth days change."""
         those = [*self.animals.values()]
@@ -237,15 +244,8 @@ class ToldOfAnimals(NamedTuple):
         ids, numbers, days, embryos = ([*map(of, animals)] for of in (ID_OF, NUMBER_OF, BORN_OF, EMBRYO_OF))
         return cls(ids, numbers, days, embryos, *changing(animals))
 
-    def by_ids(self) -> dict[str, str]:
-        """The numbers by the ids, and that of an unknown parent."""
-        numbers = dict(zip(self.ids, self.numbers))
-        numbers[""] = UNKNOWN
-        return numbers
-
-    def births(self, owner_codes: Iterable[int]) -> Iterator[Values]:
-        """The births with the parents of today, each in a herd."""
-        number_of = self.by_ids().__getitem__
+    def births(self, number_of: Callable[[str], str], owner_codes: Iterable[int]) -> Iterator[Values]:
+        """The births with the parents of today, by the numbers of ids, each in a herd."""
         return self.births_with(map(number_of, self.sires), map(number_of, self.dams), map(str, owner_codes))
 
     def births_alone(self) -> Iterator[Values]:
