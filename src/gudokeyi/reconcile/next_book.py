@@ -15,7 +15,7 @@ from gudokeyi.domain.commands import Command, RegisterRecord, birth, day_text, p
 from gudokeyi.domain.findings import Finding, Report
 from gudokeyi.domain.kinds import Field, Role, Standing
 from gudokeyi.ingest.animals import (
-    BORN_OF, DAM_OF, EMBRYO_OF, ID_OF, LEFT_OF, NUMBER_OF, SIRE_OF, SheetAnimal,
+    BORN_OF, DAM_OF, EMBRYO_OF, ID_OF, LEFT_OF, LINE_OF, NUMBER_OF, SIRE_OF, SheetAnimal,
 )  # fmt: skip
 from gudokeyi.ingest.day_cells import DayCell, DayCells
 from gudokeyi.ingest.texts import clean, nearly
@@ -158,6 +158,32 @@ class NextBook:
         if self.otherwise is self.animals:
             return [*self.animals.values()]
         return [row for id, row in self.otherwise.items() if self.animals.get(id) is row]
+
+    def animals_otherwise(self) -> list[SheetAnimal]:
+        """The animals of these rows, and those without a row, once all are there."""
+        rows = self.rows_otherwise()
+        return rows if self.otherwise is self.animals else rows + self.without_row
+
+    @functools.cached_property
+    def without_row(self) -> list[SheetAnimal]:
+        """The animals without a row, once all are there."""
+        return [*itertools.filterfalse(LINE_OF, self.animals.values())]
+
+    @functools.cached_property
+    def new(self) -> list[SheetAnimal]:
+        """The animals that the book hasn't, once all are there."""
+        ids = itertools.filterfalse(self.book.society_records.__contains__, self.animals)
+        return [*map(self.animals.__getitem__, ids)]
+
+    @property
+    def new_rows(self) -> int:
+        """How many of these have a row."""
+        return sum(map(bool, map(LINE_OF, self.new)))
+
+    @property
+    def rows(self) -> int:
+        """How many animals have one, once all are there."""
+        return len(self.animals) - len(self.without_row)
 
     def record(self, id: str) -> RegisterRecord | None:
         in_book = self.book.society_records.get(id)
