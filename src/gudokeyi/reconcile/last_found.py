@@ -23,10 +23,9 @@ class Kept(enum.Enum):
     NEAR_TAGS = enum.auto()
     # the offspring of each animal in each role
     PROGENY = enum.auto()
-    # commands, and what the program refuses of them
-    BIRTHS = enum.auto()
-    # the same where all have one owner
-    BIRTHS_OF_ONE = enum.auto()
+    # the places of the animals in the order of their birth
+    BY_BIRTH = enum.auto()
+    # which commands the program refuses
     REFUSED = enum.auto()
     REFUSED_ANEW = enum.auto()
     # whose parents it refuses, of all and of some of them, and whether it refuses any

@@ -4,7 +4,6 @@ from __future__ import annotations
 
 import contextlib
 import functools
-import itertools
 import pathlib
 from collections.abc import Callable
 from dataclasses import dataclass
@@ -12,7 +11,6 @@ from dataclasses import dataclass
 from gudokeyi.domain.changes import Option, Source
 from gudokeyi.domain.findings import Call, Entry, ImportRefused, Report, StrictlyRefused, What
 from gudokeyi.domain.kinds import Field, Remembered
-from gudokeyi.ingest.animals import LINE_OF
 from gudokeyi.ingest.births_beside import year_column
 from gudokeyi.ingest.castrations import castration_columns
 from gudokeyi.ingest.exits_beside import columns_beside
@@ -174,15 +172,11 @@ def refuse_unsaid_letters(next_book: NextBook, import_options: ImportOptions) ->
 
 
 def book_after(next_book: NextBook, filed: Filed, import_options: ImportOptions, about: About) -> BookAfter:
-    book, animals = next_book.book, next_book.animals
-    with_row = sum(map(bool, map(LINE_OF, animals.values())))
-    unknown = [animals[id].line for id in itertools.filterfalse(book.society_records.__contains__, animals)]
-    added = unknown.count(0)
-    new = len(unknown) - added
+    new = next_book.new_rows
     return BookAfter(
-        len(animals), new, about.invented, bool(book.records) and filed.keeps is not None,
-        numbers_begin(next_book, import_options.breed, import_options.country), import_options.drop_gone, with_row,
-        added,
+        len(next_book.animals), new, about.invented, bool(next_book.book.records) and filed.keeps is not None,
+        numbers_begin(next_book, import_options.breed, import_options.country), import_options.drop_gone,
+        next_book.rows, len(next_book.new) - new,
     )  # fmt: skip
 
 
