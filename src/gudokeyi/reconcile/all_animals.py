@@ -88,16 +88,16 @@ def add_others(next_book: NextBook, drop_gone: bool, columns: Columns | None = N
     lacking = {row.id: row for row, *_ in links_outside(animals.values(), animals)}
     have_rows, has_gone = not lacking, bool(gone)
     with_id = animals.keys() | next_book.in_book.given
+    before = Names(all_animals, report, next_book.last_found, with_id)
     if not have_rows:
         keep_parents_named(next_book, lacking, all_animals)
     if not next_book.is_pedigree:
-        mend_sexes(next_book, gone)
+        mend_sexes(next_book, gone, lacking, before)
         near = NearIds(lacking, all_animals, with_id, next_book.last_found)
         if not have_rows:
             ParentsInTexts(lacking, all_animals, with_id, next_book.last_found).find(report)
             near.find_parents(report)
         near.tell_alike(report)
-    before = Names(all_animals, report, next_book.last_found, with_id)
     if not have_rows:
         before.find_parents(lacking, next_book, with_id)
     try_parents_again(next_book, gone, all_animals)

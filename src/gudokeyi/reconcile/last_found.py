@@ -21,8 +21,6 @@ class Kept(enum.Enum):
     IDS_IN_TEXTS = enum.auto()
     # the ids by the other forms that they may have
     NEAR_TAGS = enum.auto()
-    # the offspring of each animal in each role
-    PROGENY = enum.auto()
     # commands, and what the program refuses of them
     BIRTHS = enum.auto()
     # the same where all have one owner

@@ -81,6 +81,10 @@ class Names:
         """The ids of the animals of a name; of those that stay too these are sought among all."""
         return (self.before or self).by_name.same(name)
 
+    def with_name(self, name: str) -> list[str]:
+        """The ids of the animals of a name with the same accents."""
+        return self.by_name.there(self.by_name.ever.named.get(name.casefold(), ()))
+
     def find_parents(self, lacking: dict[str, SheetAnimal], next_book: NextBook, with_id: Collection[str]) -> None:
         """A parent that is none of the ids that were given, but the name of one animal alone, or of one of its sex, is
         taken for that one where it can be it. What is the parent in the book stays it, whatever other animals have its
