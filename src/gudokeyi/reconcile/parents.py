@@ -62,20 +62,25 @@ class Names:
         return self.last.by_name([*self.animals], [*map(NAME_OF, self.animals.values())])
 
     @functools.cached_property
+    def given_ids(self) -> list[str]:
+        return [*filter(self.with_id.__contains__, self.animals)]
+
+    @functools.cached_property
     def of_given(self) -> IdsByName:
         """The same of the animals whose ids were given."""
-        are_given = [*map(self.with_id.__contains__, self.animals)]
-        ids, names = (itertools.compress(of_all, are_given) for of_all in (self.by_name.ids, self.by_name.names))
-        return IdsByName([*ids], [*names], self.by_name.ever)
+        ids, by_name = self.given_ids, self.by_name
+        if ids == by_name.ids:
+            return by_name
+        names = [self.animals[id].name for id in ids]
+        return self.last.of(Kept.GIVEN_NAMES, (ids, names, by_name.ever), lambda: IdsByName(ids, names, by_name.ever))
 
     @functools.cached_property
     def tags(self) -> NearTags:
-        ids = [*filter(self.with_id.__contains__, self.animals)]
-        return self.last.of(Kept.NEAR_TAGS, (ids,), lambda: NearTags(ids))
+        return self.last.of(Kept.NEAR_TAGS, (self.given_ids,), lambda: NearTags(self.given_ids))
 
     @functools.cached_property
     def days(self) -> DaysForIds:
-        return DaysForIds([*filter(self.with_id.__contains__, self.animals)])
+        return DaysForIds(self.given_ids)
 
     def same(self, name: str) -> list[str]:
         """The ids of the animals of a name; of those that stay too these are sought among all."""
@@ -151,8 +156,13 @@ class Names:
     @functools.cached_property
     def without_row(self) -> list[Link]:
         """The parents without a row, each with its offspring."""
-        with_row = {*itertools.compress(self.animals, map(LINE_OF, self.animals.values()))}
-        return links_outside(self.animals.values(), with_row)
+        animals, with_row = self.animals.values(), dict.fromkeys(self.ids_of_rows)
+        sires, dams = [*map(SIRE_OF, animals)], [*map(DAM_OF, animals)]
+        return self.last.parents_outside(Kept.PARENTS_WITHOUT_ROW, sires, dams, with_row).links(animals)
+
+    @functools.cached_property
+    def ids_of_rows(self) -> list[str]:
+        return [*itertools.compress(self.animals, map(LINE_OF, self.animals.values()))]
 
     @functools.cached_property
     def lacking(self) -> set[str]:
@@ -210,13 +220,12 @@ class Names:
 
     @functools.cached_property
     def have_digits(self) -> bool:
-        return have_digits([id for id, animal in self.animals.items() if animal.line])
+        return have_digits(self.ids_of_rows)
 
     @functools.cached_property
     def have_days(self) -> bool:
         """Is any id written as a day is?"""
-        ids = [id for id, animal in self.animals.items() if animal.line]
-        return any(map(DAY.fullmatch, ids)) or any(map(is_day, ids))
+        return any(map(DAY.fullmatch, self.ids_of_rows)) or any(map(is_day, self.ids_of_rows))
 
     @functools.cached_property
     def parents_have_digits(self) -> bool:

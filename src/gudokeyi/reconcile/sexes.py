@@ -25,21 +25,28 @@ from gudokeyi.reconcile.plausibility import FEW_REFUSED
 
 # Sexes of animals whose rows don't say them: as parents they are, or as in the book.
 
+PARENTS = (Role.SIRE, SIRE_OF), (Role.DAM, DAM_OF)
 
-def leave_out_unread_sexes(next_book: NextBook, are_all_there: bool) -> None:
+
+def leave_out_unread_sexes(
+    next_book: NextBook, lacking: Mapping[str, SheetAnimal], are_all_there: bool
+) -> None:
     """The row of an animal whose sex can't be read is left out, where neither the book nor any offspring says it; where
-    all parents are there, and each animal has a sex, nobody is asked for one."""
+    all parents are there, and each animal has a sex, nobody is asked for one. `lacking` are the rows that name a parent
+    without one."""
     animals, roles = next_book.animals, next_book.roles
-    unread = [*itertools.compress(animals, map(UNREAD_OF, animals.values()))]
-    if are_all_there and not unread and all(map(SEX_OF, animals.values())):
+    # rows that say what the book has are read
+    unread = [row.id for row in next_book.rows_otherwise() if row.unread]
+    without = {*itertools.compress(animals, map(operator.not_, map(SEX_OF, animals.values())))}
+    if are_all_there and not unread and not without:
         return
-    sires, dams = ([*filter(None, map(parent_of, animals.values()))] for parent_of in (SIRE_OF, DAM_OF))
-    are_sires, are_dams = dict.fromkeys(sires, Role.SIRE), dict.fromkeys(dams, Role.DAM)
-    roles |= are_sires | are_dams
-    both = are_sires.keys() & are_dams.keys()
-    of_sires, of_dams = (collections.Counter(filter(both.__contains__, parents)) for parents in (sires, dams))
-    for parent in both:
-        roles[parent] = role_of_both(next_book, parent, of_sires[parent], of_dams[parent])
+    asked = without.union(unread, *(row.parent_ids() for row in lacking.values()))
+    sires, dams = (
+        collections.Counter(filter(asked.__contains__, map(parent_of, animals.values()))) for _, parent_of in PARENTS
+    )
+    roles |= dict.fromkeys(sires, Role.SIRE) | dict.fromkeys(dams, Role.DAM)
+    for parent in sires.keys() & dams.keys():
+        roles[parent] = role_of_both(next_book, parent, sires[parent], dams[parent])
     for id in unread:
         if "sex" in animals[id].unread and not roles.get(id) and not next_book.book.society_records.get(id):
             next_book.report.add(animals[id].line, id, SexNotKnown())
@@ -52,9 +59,6 @@ def role_of_both(next_book: NextBook, id: str, sires: int, dams: int) -> Role:
     if in_book:
         return Role.SIRE if in_book.is_male else Role.DAM
     return Role.SIRE if sires >= dams else Role.DAM
-
-
-PARENTS = (Role.SIRE, SIRE_OF), (Role.DAM, DAM_OF)
 
 
 class Contradiction(NamedTuple):
