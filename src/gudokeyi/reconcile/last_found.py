@@ -30,8 +30,11 @@ class Kept(enum.Enum):
     IDS_IN_TEXTS = enum.auto()
     # the animals whose ids were given, by their names
     GIVEN_NAMES = enum.auto()
-    # the ids by the other forms that they may have
+    # the ids that were given by the days that they may be, and by the other forms that they may have
+    DAYS_FOR_IDS = enum.auto()
     NEAR_TAGS = enum.auto()
+    # whether those of rows have digits
+    HAVE_DIGITS = enum.auto()
     # commands, and what the program refuses of them
     BIRTHS = enum.auto()
     # the same where all have one owner
@@ -82,7 +85,7 @@ class LastFound:
         self, what: Kept, sires: list[str], dams: list[str], ids: Collection[str]
     ) -> ParentsOutside:
         """The parents of animals that aren't among some ids."""
-        return self.of(what, (sires, dams, [*ids]), lambda: ParentsOutside.of(sires, dams, ids))
+        return self.of(what, (sires, dams, [*ids]), lambda: ParentsOutside.of(sires, dams, {*ids}))
 
     def by_name(self, ids: Sequence[str], names: Sequence[str]) -> IdsByName:
         """The animals that are there by their names."""

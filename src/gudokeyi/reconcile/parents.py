@@ -71,8 +71,11 @@ class Names:
         ids, by_name = self.given_ids, self.by_name
         if ids == by_name.ids:
             return by_name
-        names = [self.animals[id].name for id in ids]
-        return self.last.of(Kept.GIVEN_NAMES, (ids, names, by_name.ever), lambda: IdsByName(ids, names, by_name.ever))
+        by = ids, by_name.names, by_name.ever
+        return self.last.of(Kept.GIVEN_NAMES, by, lambda: IdsByName(ids, self.names_of(ids), by_name.ever))
+
+    def names_of(self, ids: Sequence[str]) -> list[str]:
+        return [self.animals[id].name for id in ids]
 
     @functools.cached_property
     def tags(self) -> NearTags:
@@ -80,7 +83,7 @@ class Names:
 
     @functools.cached_property
     def days(self) -> DaysForIds:
-        return DaysForIds(self.given_ids)
+        return self.last.of(Kept.DAYS_FOR_IDS, (self.given_ids,), lambda: DaysForIds(self.given_ids))
 
     def same(self, name: str) -> list[str]:
         """The ids of the animals of a name; of those that stay too these are sought among all."""
@@ -156,7 +159,7 @@ class Names:
     @functools.cached_property
     def without_row(self) -> list[Link]:
         """The parents without a row, each with its offspring."""
-        animals, with_row = self.animals.values(), dict.fromkeys(self.ids_of_rows)
+        animals, with_row = self.animals.values(), self.ids_of_rows
         sires, dams = [*map(SIRE_OF, animals)], [*map(DAM_OF, animals)]
         return self.last.parents_outside(Kept.PARENTS_WITHOUT_ROW, sires, dams, with_row).links(animals)
 
@@ -220,7 +223,7 @@ class Names:
 
     @functools.cached_property
     def have_digits(self) -> bool:
-        return have_digits(self.ids_of_rows)
+        return self.last.of(Kept.HAVE_DIGITS, (self.ids_of_rows,), lambda: have_digits(self.ids_of_rows))
 
     @functools.cached_property
     def have_days(self) -> bool:
