@@ -151,14 +151,14 @@ def tell_plausibility(next_book: NextBook, limits: Limits) -> None:
 
 def tell_owners(next_book: NextBook, owners_before: set[str]) -> None:
     """What may be wrong of owners' names, beside those that the book had."""
-    tell_respelt_owners(next_book, owners_before)
-    tell_owners_alike(next_book)
-    tell_mistyped_owners(next_book, owners_before)
     rows = owners_of_rows(next_book)
+    tell_respelt_owners(next_book, owners_before, rows)
+    tell_owners_alike(next_book, rows)
+    tell_mistyped_owners(next_book, owners_before, rows)
     tell_owners_of_book_alike(next_book, owners_before, rows)
     tell_owners_with_more(next_book, owners_before, rows)
     tell_owners_of_like_words(next_book, owners_before, rows)
-    tell_doubtful_owners(next_book, owners_before)
+    tell_doubtful_owners(next_book, owners_before, rows)
 
 
 def refuse_unsaid_letters(next_book: NextBook, import_options: ImportOptions) -> None:
