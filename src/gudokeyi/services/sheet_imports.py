@@ -230,13 +230,14 @@ def import_sheet_into(
         read = read_animals(file, import_options, book, words, last)
     keep(book, read)
     read.report.entries += [Entry(0, "", found) for found in renamed]
-    are_renamed = call_as_now(read.animals, book, read.report)
+    call_as_now(read.animals, book, read.report)
     next_book = NextBook(
         book, read.animals, set(read.columns.found), read.report, read.rows.cells.days, in_book=read.in_book,
         last_found=last.found if last else None,
     )  # fmt: skip
-    are_other_rows = keep_unsaid(next_book) or are_renamed
+    are_other_rows = keep_unsaid(next_book)
     if last and book.society_records:
+        # a row that says what the book has doesn't name an animal by an id of before
         next_book.compare(last.rows_of(book), frozenset() if are_other_rows else last.same_rows(book))
     complete(next_book, read.columns, import_options)
     tell_parents_named_otherwise(read.columns, next_book.animals, next_book.report)

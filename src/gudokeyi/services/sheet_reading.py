@@ -31,7 +31,7 @@ from gudokeyi.ingest.sheets import Sheet, read_sheet
 from gudokeyi.ingest.titles import known_titles, parts_of, read_given, read_sexes
 from gudokeyi.ingest.unknown_parents import UnknownParents
 from gudokeyi.ingest.workbooks import NamedBefore
-from gudokeyi.reconcile.animals_of_book import AnimalsOfBook
+from gudokeyi.reconcile.animals_of_book import AnimalsOfBook, AnimalsWithNewTags
 from gudokeyi.reconcile.findings.obstacles import NoRowTaken
 from gudokeyi.reconcile.last_found import LastFound
 from gudokeyi.reconcile.import_options import ImportOptions, RememberedWords, worksheet_before
@@ -182,11 +182,14 @@ class LastReading:
     """What came of each step last, and beside which animals of the book."""
 
     def __init__(self) -> None:
-        self.columns: ColumnsRead | None = None
+        # of the animals by the ids with which they are stored, and by new ones
+        self.columns: list[ColumnsRead] = []
         self.notes: Notes | None = None
         self.meant: RowsMeant | None = None
         self.animals: AnimalsRead | None = None
+        # by the ids with which they are stored, and by new ones
         self.in_book: AnimalsOfBook | None = None
+        self.with_new_tags: AnimalsWithNewTags | None = None
         self.rows_of_book: RowsOfBook | None = None
         self.same: SameRows | None = None
         # what was found of the animals
@@ -197,10 +200,12 @@ class LastReading:
         ids: Collection[str],
     ) -> Columns:  # fmt: skip
         read_by = (dict(given), dict(before), unknown.more, unknown.known, ids)
-        last = self.columns
-        if last is None or last.columns.sheet is not sheet or last.read_by != read_by:
-            self.columns = last = ColumnsRead(read_by, find_columns(sheet, given, before, unknown, ids))
-        return last.columns
+        for last in self.columns:
+            if last.columns.sheet is sheet and last.read_by == read_by:
+                return last.columns
+        found = ColumnsRead(read_by, find_columns(sheet, given, before, unknown, ids))
+        self.columns = [*self.columns[-1:], found]
+        return found.columns
 
     def notes_of(self, sheet: Sheet, columns: Mapping[str, int]) -> Notes:
         if self.notes is None or not self.notes.is_of(sheet, columns):
@@ -231,18 +236,21 @@ class LastReading:
 
     def animals_of_book(self, book: Book) -> AnimalsOfBook:
         if self.in_book is None or not self.in_book.is_of(book):
-            self.in_book = AnimalsOfBook(book)
-        return self.in_book
+            self.in_book, self.with_new_tags = AnimalsOfBook.as_stored(book), None
+        if not book.new_tags:
+            return self.in_book
+        if self.with_new_tags is None or self.with_new_tags.new_tags != book.new_tags:
+            self.with_new_tags = AnimalsWithNewTags(book, self.in_book)
+        return self.with_new_tags
 
     def rows_of(self, book: Book) -> RowsOfBook:
         """What the rows of the book's animals say."""
         last, in_book = self.rows_of_book, self.animals_of_book(book)
-        if last is None or not last.is_of(book):
-            last = last if last and last.in_book is in_book else None
+        if last is None or last.in_book is not in_book or last.owners != book.owners:
+            last = last if last and last.in_book.records is in_book.records else None
             self.rows_of_book = None
             self.rows_of_book = last = RowsOfBook(book, in_book, last)
         return last
-
 
     def same_rows(self, book: Book) -> set[str]:
         """The ids of plain rows that say what the book has of their animals."""
@@ -253,7 +261,7 @@ class LastReading:
         if last is None or last.animals is not plain.animals or last.rows_of_book is not rows_of_book:
             rows, ids = plain.by_id(), set[str]()
             if last and last.animals is plain.animals and last.rows_of_book is rows_of_book.before:
-                # owners alone have other names: rows with others say what they said
+                # owners and ids alone are others: rows with none of these say what they said
                 ids = last.ids - rows_of_book.found_anew
                 rows = {id: rows[id] for id in rows_of_book.found_anew & rows.keys()}
             ids |= rows.keys() - rows_of_book.others(rows).keys()
