@@ -9,7 +9,7 @@ import pathlib
 from collections.abc import Callable
 from dataclasses import dataclass
 
-from gudokeyi.domain.changes import Option, Source
+from gudokeyi.domain.changes import Option
 from gudokeyi.domain.findings import Call, Entry, ImportRefused, StrictlyRefused, What
 from gudokeyi.domain.kinds import Field, Remembered
 from gudokeyi.ingest.animals import LINE_OF
@@ -78,7 +78,7 @@ class About:
 
 
 def finish(
-    next_book: NextBook, program: BookProgram, import_options: ImportOptions, source: Source, about: About
+    next_book: NextBook, program: BookProgram, import_options: ImportOptions, given: GivenFile, about: About
 ) -> tuple[Outcome, Prepared | None]:
     """Files the book, and prepares what is written where nothing keeps it from being taken, and no preview is
     wished."""
@@ -87,6 +87,7 @@ def finish(
     if import_options.preview:
         return outcome, None
     assert outcome.after
+    source = source_of(given.path, given.data)
     return outcome, prepared_of(next_book, filed, program, import_options, source, outcome.after.new)
 
 
@@ -219,7 +220,7 @@ def import_sheet_into(
 ) -> tuple[Outcome, Prepared | None]:  # fmt: skip
     """What a sheet makes of a book, and the change that is to be made, none for a preview. `last` is what this process
     read of a sheet before, where it looks again and again."""
-    path, source = file.path, source_of(file.path, file.data)
+    path = file.path
     check_place(book, path)
     book.read_all()
     import_options = with_settings(book, import_options)
@@ -253,7 +254,7 @@ def import_sheet_into(
         keep_as_notes(next_book, dict(read.columns.titles_found()), read.rows.remarks())
 
     about = About(import_options.call(str(path)), understood.lines(), understood, limits_of(words), take_own=take_own)
-    return finish(next_book, program, import_options, source, about)
+    return finish(next_book, program, import_options, file, about)
 
 
 def remember_places(book: Book, read: ReadSheet, worksheet: str) -> None:
