@@ -13,6 +13,7 @@ import itertools
 import operator
 from collections.abc import Callable, Collection, Iterable, Mapping
 from dataclasses import dataclass, field, fields
+from typing import Container
 
 from gudokeyi.domain.animals import NO_OWNER
 from gudokeyi.domain.findings import Entry, ImportRefused, Report
@@ -109,18 +110,23 @@ class Reading:
         return *values, [*self.no_animals], self.sure, self.born, self.owners, self.called, self.sexes_of_book, self.today
 
     def meant_by(self) -> tuple[object, ...]:
-        """By what the rows are changed into what they mean: by words for unknown parents where columns are read beside
-        those of the births, exits and parents alone, but for those that are marks for a cell above."""
+        """By what the rows are changed into what they mean, beside the ids that are animals for sure: by words for
+        unknown parents where columns are read beside those of the births, exits and parents alone, but for those that
+        are marks for a cell above."""
         sheet, columns = self.sheet, self.columns
         beside = columns_beside(sheet, columns) or year_column(sheet, columns) or names_columns(sheet, columns)
         words = (self.unknown.more, self.unknown.known) if beside or Field.STATUS in self.columns else ()
-        return dict(self.columns), self.sure, words, marks_in(self.unknown.more), self.called
+        return dict(self.columns), words, marks_in(self.unknown.more), self.called
 
-    def meant(self, report: Report, notes_of: Callable[[Sheet, Mapping[str, int]], Notes] = Notes) -> Sheet:
-        """The sheet with its rows as they are meant."""
+    def meant(
+        self, report: Report, notes_of: Callable[[Sheet, Mapping[str, int]], Notes] = Notes,
+        sure: Container[str] | None = None,
+    ) -> Sheet:  # fmt: skip
+        """The sheet with its rows as they are meant; `sure` answers which ids are animals for sure."""
         if Field.ID not in self.columns:
             return self.sheet
-        return as_meant(self.sheet, self.columns, self.unknown, self.sure, report, notes_of, self.called)
+        sure = self.sure if sure is None else sure
+        return as_meant(self.sheet, self.columns, self.unknown, sure, report, notes_of, self.called)
 
     def rows(self, meant: Sheet, report: Report, before: Rows | None = None) -> Rows:
         """The rows as they are meant; `before` are the last ones, where they may be of the same sheet."""
@@ -137,14 +143,34 @@ class Reading:
         return rows, rows.animals() if Field.ID in self.columns else {}
 
 
+class AskedIds:
+    """Answers which ids are animals for sure, and keeps the answers: few are asked for."""
+
+    def __init__(self, sure: Container[str]) -> None:
+        self.sure, self.answers = sure, dict[object, bool]()
+
+    def __contains__(self, id: object) -> bool:
+        return self.answers.setdefault(id, id in self.sure)
+
+    def are_answered_so(self, sure: Container[object]) -> bool:
+        """Would the answers be the same of other ids?"""
+        return all((id in sure) is answer for id, answer in self.answers.items())
+
+
 @dataclass
 class RowsMeant:
-    """A sheet with its rows as they are meant, what was told of that, and by what they were changed."""
+    """A sheet with its rows as they are meant, what was told of that, by what they were changed, and which ids were
+    asked for."""
 
     sheet: Sheet
     meant_by: tuple[object, ...]
+    asked: AskedIds
     meant: Sheet
     entries: list[Entry]
+
+    def is_of(self, reading: Reading) -> bool:
+        is_same = self.sheet is reading.sheet and self.meant_by == reading.meant_by()
+        return is_same and self.asked.are_answered_so(reading.sure)
 
 
 @dataclass
@@ -214,12 +240,13 @@ class LastReading:
 
     def meant_of(self, reading: Reading, report: Report) -> Sheet:
         """The rows as they are meant, of which is told before all else."""
-        last, meant_by = self.meant, reading.meant_by()
-        if last is None or last.sheet is not reading.sheet or last.meant_by != meant_by:
-            meant = reading.meant(report, self.notes_of)
+        last = self.meant
+        if last is None or not last.is_of(reading):
+            asked = AskedIds(reading.sure)
+            meant = reading.meant(report, self.notes_of, asked)
             if last and last.sheet is reading.sheet and last.meant.is_same(meant):
                 meant = last.meant
-            self.meant = last = RowsMeant(reading.sheet, meant_by, meant, [*report.entries])
+            self.meant = last = RowsMeant(reading.sheet, reading.meant_by(), asked, meant, [*report.entries])
         report.entries = [*last.entries]
         return last.meant
 
