@@ -5,6 +5,7 @@ from __future__ import annotations
 import collections
 import datetime
 import functools
+import operator
 import re
 import statistics
 from collections.abc import Iterable
@@ -78,6 +79,7 @@ OR_NUMBER = re.compile(rf"{OR}'?\d{{1,2}}\W*$", re.IGNORECASE)
 YEAR_BEFORE = re.compile(rf"\D*(?<![\w./-]){OTHER_YEAR}(?:\s*/\s*|\s{OR})", re.IGNORECASE)
 # so many years it may be before or behind that of the day
 YEARS_BESIDE = 3
+YEAR_OF = operator.attrgetter("year")
 # a longer text has more than these
 MOST_LETTERS = 60
 # a day without its month
@@ -99,6 +101,13 @@ GONE_TO = re.compile(
 )
 
 
+# a sheet that is looked at again has the same
+@functools.lru_cache(1)
+def years_of(texts: tuple[str, ...]) -> list[int]:
+    """The years that each different text has."""
+    return [int(year) for text in {*texts} for year in YEAR.findall(text)]
+
+
 class DayForms:
     """Reads such texts. `days` are texts of the sheet's own days, and `born` days of the book: they show the
     century."""
@@ -109,8 +118,7 @@ class DayForms:
     @functools.cached_property
     def usual_year(self) -> int:
         """The middle of the years that the sheet and the book have."""
-        years = [int(year) for text in set(self.days) for year in YEAR.findall(text)]
-        years += [day.year for day in self.born]
+        years = [*years_of(tuple(self.days)), *map(YEAR_OF, self.born)]
         years = [year for year in years if year <= self.today.year]
         return int(statistics.median(years)) if years else self.today.year
 

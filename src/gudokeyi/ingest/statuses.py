@@ -2,6 +2,7 @@
 from __future__ import annotations
 
 import functools
+import itertools
 import re
 from collections.abc import Mapping, Sequence
 from typing import Container, NamedTuple
@@ -13,7 +14,7 @@ from gudokeyi.ingest.days import is_span, places_within
 from gudokeyi.ingest.exits_beside import Exits, add_buyers, add_exit_days, add_sales_to
 from gudokeyi.ingest.findings.exits import NoExits, Remark
 from gudokeyi.ingest.findings.rows import StatusDisagrees, StatusRead
-from gudokeyi.ingest.sheets import Sheet, SheetRow, cell_of
+from gudokeyi.ingest.sheets import Sheet, SheetRow, cell_of, column_of
 from gudokeyi.ingest.texts import plain
 from gudokeyi.ingest.titles import (
     KNOWN_REASONS, KNOWN_STATES, KNOWN_STATUSES, OF_LIVING, names_exits_alone, names_other_exits, said_of,
@@ -90,10 +91,9 @@ class Statuses:
         self.found, self.taken = Exits(), 0
 
     def find(self, rows: list[SheetRow]) -> Exits:
-        for place, row in enumerate(rows):
-            exit, status = cell_of(row, self.exit), cell_of(row, self.status)
-            if status and (said := self.said(status)):
-                self.look(place, row, exit, said)
+        for place, row in itertools.compress(enumerate(rows), column_of(rows, self.status)):
+            if said := self.said(cell_of(row, self.status)):
+                self.look(place, row, cell_of(row, self.exit), said)
         if self.taken:
             self.report.add(0, "", StatusRead(self.titles[1], self.titles[0], self.taken))
         if self.found.remarks:

@@ -8,7 +8,7 @@ import pathlib
 from collections.abc import Callable
 from dataclasses import dataclass
 
-from gudokeyi.domain.changes import Option, Source
+from gudokeyi.domain.changes import Option
 from gudokeyi.domain.findings import Call, Entry, ImportRefused, Report, StrictlyRefused, What
 from gudokeyi.domain.kinds import Field, Remembered
 from gudokeyi.ingest.births_beside import year_column
@@ -77,7 +77,7 @@ class About:
 
 
 def finish(
-    next_book: NextBook, program: BookProgram, import_options: ImportOptions, source: Source, about: About
+    next_book: NextBook, program: BookProgram, import_options: ImportOptions, given: GivenFile, about: About
 ) -> tuple[Outcome, Prepared | None]:
     """Files the book, and prepares what is written where nothing keeps it from being taken, and no preview is
     wished."""
@@ -86,6 +86,7 @@ def finish(
     if import_options.preview:
         return outcome, None
     assert outcome.after
+    source = source_of(given.path, given.data)
     return outcome, prepared_of(next_book, filed, program, import_options, source, outcome.after.new)
 
 
@@ -215,7 +216,7 @@ def import_sheet_into(
 ) -> tuple[Outcome, Prepared | None]:  # fmt: skip
     """What a sheet makes of a book, and the change that is to be made, none for a preview. `last` is what this process
     read of a sheet before, where it looks again and again."""
-    path, source = file.path, source_of(file.path, file.data)
+    path = file.path
     check_place(book, path)
     book.read_all()
     import_options = with_settings(book, import_options)
@@ -226,13 +227,14 @@ def import_sheet_into(
         read = read_animals(file, import_options, book, words, last)
     keep(book, read)
     read.report.entries += [Entry(0, "", found) for found in renamed]
-    are_renamed = call_as_now(read.animals, book, read.report)
+    call_as_now(read.animals, book, read.report)
     next_book = NextBook(
         book, read.animals, set(read.columns.found), read.report, read.rows.cells.days, in_book=read.in_book,
         last_found=last.found if last else None,
     )  # fmt: skip
-    are_other_rows = keep_unsaid(next_book) or are_renamed
+    are_other_rows = keep_unsaid(next_book)
     if last and book.society_records:
+        # a row that says what the book has doesn't name an animal by an id of before
         next_book.compare(last.rows_of(book), frozenset() if are_other_rows else last.same_rows(book))
     complete(next_book, read.columns, import_options)
     tell_parents_named_otherwise(read.columns, next_book.animals, next_book.report)
@@ -248,7 +250,7 @@ def import_sheet_into(
         keep_as_notes(next_book, dict(read.columns.titles_found()), read.rows.remarks())
 
     about = About(import_options.call(str(path)), understood.lines(), understood, limits_of(words), take_own=take_own)
-    return finish(next_book, program, import_options, source, about)
+    return finish(next_book, program, import_options, file, about)
 
 
 def remember_places(book: Book, read: ReadSheet, worksheet: str) -> None:
