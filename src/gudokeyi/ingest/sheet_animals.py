@@ -267,7 +267,7 @@ class Rows:
         """The rows that are read together."""
         words = self.no_animals.words
         again = self.before.again(self.sheet, self.cells, words) if self.before else None
-        lines = {line for line, *_ in self.errors.found}.union(self.cells.lines_of_sales(), self.cells.inferred_sexes)
+        lines = {line for line, *_ in self.errors.found} | self.cells.lines_of_sales()
         found = again or PlainRows(self.sheet, self.columns, self.cells, words)
         found.leave_lines(lines)
         return found
