@@ -17,6 +17,7 @@ from gudokeyi.ingest.births_beside import year_column
 from gudokeyi.ingest.exits_beside import columns_beside
 from gudokeyi.ingest.files import GivenFile
 from gudokeyi.ingest.findings.columns import ColumnUntitled
+from gudokeyi.ingest.inferred_values import columns_of_marks
 from gudokeyi.ingest.names_for_ids import names_read
 from gudokeyi.ingest.parents_beside import tell_parents_named_otherwise
 from gudokeyi.ingest.statuses import reasons_beside
@@ -292,7 +293,7 @@ def understood_of(
     of_reasons = reasons_beside(sheet.titles, read.columns.found)
     kept = tuple(sheet.titles[at] for at in sorted({*own.places.values(), *of_reasons}))
     places_beside = [*columns_beside(sheet, columns.found), *year_column(sheet, columns.found)]
-    places_beside += names_read(sheet, columns.found, read.rows.unknown)
+    places_beside += [*names_read(sheet, columns.found, read.rows.unknown), *columns_of_marks(sheet, columns.found)]
     beside = [sheet.titles[at] for at in places_beside]
     titles = tuple(ColumnRead(Field(name), title) for name, title in columns.titles_found())
     return Understood(
