@@ -77,6 +77,7 @@ def test_exported(desk: Desk, new_desk: NewDesk) -> None:
     other, text = new_desk(), desk.good("export").out
     done = other.take(text)
     assert "isn't sure" not in done.told and "words for sexes" not in done.told
+    assert "'inferred_exit'" in done.out and "'inferred_sex'" not in done.out
     assert {id: sex_of(other, id) for id in OF_UNSURE} == {id: sex_of(desk, id) for id in OF_UNSURE} == OF_UNSURE
     assert " 0 new, 0 changed, " in other.take(text).last
     assert text.count("a4,,F,") == 1

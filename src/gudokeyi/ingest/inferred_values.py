@@ -14,13 +14,18 @@ OF_SEXES, OF_ALL = "inferred_sex", ("inferred", "erschlossen", "déduit")
 KNOWN_MARKS = {*map(plain, (OF_SEXES, *OF_ALL))}
 
 
+def columns_of_marks(sheet: Sheet, columns: Mapping[str, int]) -> list[int]:
+    """Such columns beside one of sexes."""
+    titles = enumerate(sheet.titles) if Field.SEX in columns else ()
+    return [at for at, title in titles if plain(title) in KNOWN_MARKS and at not in columns.values()]
+
+
 def lines_of_inferred_sexes(sheet: Sheet, columns: Mapping[str, int], sex_of: Callable[[str], str]) -> set[int]:
     """The lines of such rows. A sex that was written anew since isn't the inferred one."""
-    at, read = columns.get(Field.SEX), {*columns.values()}
-    titles = enumerate(sheet.titles) if at is not None else ()
-    marks = [place for place, title in titles if place not in read and plain(title) in KNOWN_MARKS]
-    if at is None or not marks:
+    marks = columns_of_marks(sheet, columns)
+    if not marks:
         return set()
+    at = columns[Field.SEX]
     said = [(row.line, sex_of(cell_of(row, at)), cell_of(row, place)) for place in marks for row in sheet.rows]
     return {line for line, sex, mark in said if mark and (mark == sex or names_sex(mark))}
 

@@ -22,10 +22,11 @@ BESIDE = {word.encode("ascii", "ignore") for word in AROUND | {*map(plain, MONTH
 WORDS = TELLING | KNOWN_ALONE | {plain(word) for word in [*listed(CASTRATED), *listed(FORMER)]}
 # what may stand for a death
 SIGNS = ("†", "✝", "+", "PTS", "RIP", "R.I.P")
-# the letters of Western Europe as they are compared, and a blank for any other sign
+# the letters of Western Europe as they are compared, one digit for all, and a blank for any other sign
+BLANK, DIGIT = b" ", b"0"
 SMALL = bytes(
-    ord(found[0]) if (found := plain(chr(at))) and found[0].isascii() and found[0].isalpha() else ord(" ")
-    for at in range(256)
+    ord(found[0]) if (found := plain(chr(at))) and found[0].isascii() and found[0].isalpha()
+    else ord(DIGIT if chr(at).isdigit() else BLANK) for at in range(256)
 )  # fmt: skip
 # words that stand apart have so many letters at least where they are one
 LEAST = 2
@@ -49,13 +50,13 @@ def likely_among(texts: Collection[str]) -> Collection[str]:
 def with_words(texts: Sequence[str], together: str) -> set[int]:
     """The places of those that have one of the words; `together` has all of them in lines."""
     # before each word stands a blank
-    small = b" " + together.encode("latin-1", "replace").translate(SMALL)
-    matches = [] if small.isspace() else [*expression().finditer(small)]
+    small = BLANK + together.encode("latin-1", "replace").translate(SMALL)
+    matches = [*expression().finditer(small)]
     ends = [*itertools.accumulate(len(text) + 1 for text in texts)] if matches else []
     found = set[int]()
     for match in matches:
         at = bisect.bisect(ends, match.start())
-        is_telling = match[0].replace(b" ", b"").decode() in TELLING
+        is_telling = match[0].replace(BLANK, b"").decode() in TELLING
         if at not in found and (is_telling or stands_alone(small[ends[at] - len(texts[at]) : ends[at]])):
             found.add(at)
     return found
@@ -63,7 +64,7 @@ def with_words(texts: Sequence[str], together: str) -> set[int]:
 
 def stands_alone(line: bytes) -> bool:
     """Has a text nothing but one of these words and what may stand beside it?"""
-    words = line.split()
+    words = line.replace(DIGIT, BLANK).split()
     alone = b"".join(word for word in words if word not in BESIDE) or b"".join(words)
     return alone.decode() in KNOWN_TO_BE_ALONE
 

@@ -237,7 +237,7 @@ class Rows:
         """The rows that are read together."""
         words = self.no_animals.words
         again = self.before.again(self.sheet, self.cells, words) if self.before else None
-        odd = self.cells.lines_of_sales(), self.cells.inferred_sexes, self.castrations.lines
+        odd = self.cells.lines_of_sales(), self.castrations.lines
         lines = {line for line, *_ in self.errors.found}.union(*odd)
         found = again or PlainRows(self.sheet, self.columns, self.cells, words)
         found.leave_lines(lines)
