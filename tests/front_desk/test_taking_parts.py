@@ -23,6 +23,7 @@ from gudokeyi.reconcile.findings.animals import KeptByHand, OwnerRenamed, SexInf
 from gudokeyi.reconcile.findings.by_hand import CommandRefused, ValueChanged
 from gudokeyi.reconcile.findings.rows import CommandLeftOut
 from gudokeyi.reconcile.ids import give_numbers
+from gudokeyi.reconcile.last_found import NothingKept
 from gudokeyi.reconcile.next_book import NextBook, known_after, written_parents
 from gudokeyi.reconcile.owner_days import OwnerDays
 from gudokeyi.reconcile.sexes import find_sexes
@@ -40,7 +41,7 @@ DAYS = DayCells(UnknownParents(), month_first=False)
 def numbered(book: Book, *born: tuple[str, int], breed: str = "", country: str = "") -> dict[str, str]:
     """The numbers of animals, each with its id and its birth year, beside a book."""
     animals = {id: SheetAnimal(id, 2, sex="M", born=datetime.date(year, 1, 2)) for id, year in born}
-    parts = dict(book=book, animals=animals, in_book=AnimalsOfBook(book), renumbered=set())
+    parts = dict(book=book, animals=animals, in_book=AnimalsOfBook(book), renumbered=set(), last_found=NothingKept())
     give_numbers(cast(NextBook, SimpleNamespace(**parts)), breed, country)
     return {id: animal.registration_number for id, animal in animals.items()}
 

@@ -214,10 +214,10 @@ ROLES = {
 def leave_out_faulty_parents(next_book: NextBook, program: Herdbook, is_refused: bool = False) -> bool:
     """Files all animals with their parents, the oldest first, where it isn't likely that anything is refused. Then it
     files them without, and asks for the parents of each until none is refused; answers whether any was."""
-    by_age, are_refused = next_book.by_birth, False
+    are_refused = False
     if not is_refused and not is_any_refused(next_book, program):
         return False
-    while faults := refused_parents(next_book, program, by_age):
+    while faults := all_refused_parents(next_book, program):
         # paths come last: without a parent that is refused they may be shorter
         deep = [animal for animal, refusal in faults if refusal is Refusal.PATH_TOO_LONG]
         if len(deep) == len(faults) and not take_back(next_book):
@@ -240,6 +240,7 @@ def is_any_refused(next_book: NextBook, program: Herdbook) -> bool:
 
 
 def refuses_any(next_book: NextBook, program: Herdbook, told: ToldOfAnimals) -> bool:
+    told = told.in_order(next_book.places)
     births = told.births(next_book.numbers.__getitem__, itertools.repeat(1))
     text, count = HEADER + lines_of(births) + lines_of(told.exits()), len(told.ids) + told.count_exits()
     return bool(program.file_text(text, count))
@@ -247,10 +248,18 @@ def refuses_any(next_book: NextBook, program: Herdbook, told: ToldOfAnimals) -> 
 
 def refused_parents(next_book: NextBook, program: Herdbook, progeny: Sequence[SheetAnimal]) -> list[Fault]:
     """Which of these have parents that the program refuses, once they and all whom they name are filed without."""
-    are_all = progeny is next_book.by_birth
-    told = next_book.told_of_all() if are_all else ToldOfAnimals.of(with_parents(next_book, progeny))
-    what, asked = (Kept.FAULTS, told.ids) if are_all else (Kept.FAULTS_OF_SOME, [*map(ID_OF, progeny)])
-    refused = next_book.last_found.of(what, (*told, asked), lambda: asked_about(next_book, program, told, progeny))
+    told, ids = ToldOfAnimals.of(with_parents(next_book, progeny)), [*map(ID_OF, progeny)]
+    by, last = (*told, ids), next_book.last_found
+    refused = last.of(Kept.FAULTS_OF_SOME, by, lambda: asked_about(next_book, program, told, progeny))
+    return [(next_book.animals[id], refusal) for id, refusal in refused]
+
+
+def all_refused_parents(next_book: NextBook, program: Herdbook) -> list[Fault]:
+    """The same of all animals."""
+    told, those, last = next_book.told_of_all(), next_book.by_birth, next_book.last_found
+    refused = last.of(
+        Kept.FAULTS, told, lambda: asked_about(next_book, program, told.in_order(next_book.places), those)
+    )
     return [(next_book.animals[id], refusal) for id, refusal in refused]
 
 
