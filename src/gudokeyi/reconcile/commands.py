@@ -23,7 +23,7 @@ from gudokeyi.reconcile.findings.by_hand import NewAnimal, ValueChanged
 from gudokeyi.reconcile.findings.rows import CommandLeftOut
 from gudokeyi.reconcile.last_found import FoundBy, Kept
 from gudokeyi.reconcile.messages import ImportFault
-from gudokeyi.reconcile.next_book import NextBook, ToldOfAnimals, Values, commands_of
+from gudokeyi.reconcile.next_book import NextBook, ToldOfAnimals, Values, commands_of, in_places
 from gudokeyi.reconcile.owner_day_known import owner_day_known
 from gudokeyi.reconcile.owner_days import OwnerDays
 from gudokeyi.store.journal import Filed, Step, alike
@@ -50,20 +50,18 @@ class CommandsAnew:
         """What they are made of."""
         return *self.told, self.first_herds, self.transfers
 
-    def values(self) -> tuple[Iterator[Values], Iterator[Values]]:
-        """Those of the births, and of the exits."""
-        places = self.next_book.places
-        told, first_herds = self.told.in_order(places), map(self.first_herds.__getitem__, places)
-        return told.births(self.next_book.numbers.__getitem__, first_herds), told.exits()
+    def births(self) -> Iterator[Values]:
+        """Those of the births, in the order of the sheet."""
+        return self.told.births(self.next_book.numbers.__getitem__, self.first_herds)
 
     @functools.cached_property
     def commands(self) -> list[Command]:
-        births, exits = self.values()
+        births, exits = in_places(self.births(), self.next_book.places), self.told.exits_in(self.next_book.places)
         return commands_of(births) + self.transfers + commands_of(exits)
 
     def text(self) -> bytes:
         """The command file, whose lines take a fraction of the time of commands."""
-        births, exits = self.values()
+        births, exits = in_places(self.births(), self.next_book.places), self.told.exits_in(self.next_book.places)
         return HEADER + lines_of(births) + lines_of(self.transfers) + lines_of(exits)
 
     def refused(self, program: Herdbook, is_preview: bool) -> list[RefusedCommand]:

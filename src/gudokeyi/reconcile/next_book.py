@@ -7,7 +7,7 @@ import datetime
 import functools
 import itertools
 from collections.abc import Callable, Collection, Iterable, Iterator, Mapping, Sequence, Set
-from typing import NamedTuple
+from typing import NamedTuple, TypeVar
 
 from gudokeyi.domain.animals import NO_FIELDS, SocietyRecord
 from gudokeyi.domain.collections import made
@@ -236,7 +236,7 @@ class NextBook:
         return self.at(self.places)
 
     def at(self, places: Iterable[int]) -> list[SheetAnimal]:
-        return [*map([*self.animals.values()].__getitem__, places)]
+        return [*in_places(self.animals.values(), places)]
 
     def told_of_all(self) -> ToldOfAnimals:
         """What the program is told of all animals, as they are now."""
@@ -254,6 +254,7 @@ def places_by_birth(numbers: Sequence[str], days: Sequence[datetime.date]) -> li
 UNKNOWN = "0"
 EMBRYO_TEXTS = {False: "", True: "1"}
 NOTHING = itertools.repeat("")
+Value = TypeVar("Value")
 # the values of a command
 Values = tuple[str, ...]
 Lasting = tuple[list[str], list[str], list[datetime.date], list[bool]]
@@ -274,10 +275,6 @@ class ToldOfAnimals(NamedTuple):
     def of(cls, animals: Collection[SheetAnimal]) -> ToldOfAnimals:
         return cls(*lasting(animals), *changing(animals))
 
-    def in_order(self, places: Sequence[int]) -> ToldOfAnimals:
-        """The same of the animals in another order."""
-        return ToldOfAnimals(*([*map(column.__getitem__, places)] for column in self))
-
     def births(self, number_of: Callable[[str], str], owner_codes: Iterable[int]) -> Iterator[Values]:
         """The births with the parents of today, by the numbers of ids, each in a herd."""
         return self.births_with(map(number_of, self.sires), map(number_of, self.dams), map(str, owner_codes))
@@ -293,8 +290,11 @@ class ToldOfAnimals(NamedTuple):
 
     def exits(self) -> Iterator[Values]:
         """The exits of those that have left."""
-        numbers, days = itertools.compress(self.numbers, self.left), map(day_text, filter(None, self.left))
-        return zip(itertools.repeat("exit"), numbers, days, NOTHING, NOTHING, NOTHING, NOTHING, NOTHING)
+        return exits_of(self.numbers, self.left)
+
+    def exits_in(self, places: Sequence[int]) -> Iterator[Values]:
+        """The same in another order."""
+        return exits_of([*in_places(self.numbers, places)], [*in_places(self.left, places)])
 
     def count_exits(self) -> int:
         return len(self.left) - self.left.count(None)
@@ -308,6 +308,18 @@ def lasting(animals: Collection[SheetAnimal]) -> Lasting:
 def changing(animals: Collection[SheetAnimal]) -> tuple[list[datetime.date | None], list[str], list[str]]:
     """The days when animals left, and their parents, of which some may be left out yet."""
     return [*map(LEFT_OF, animals)], [*map(SIRE_OF, animals)], [*map(DAM_OF, animals)]
+
+
+def exits_of(numbers: Sequence[str], left: Sequence[datetime.date | None]) -> Iterator[Values]:
+    days = map(day_text, filter(None, left))
+    return zip(
+        itertools.repeat("exit"), itertools.compress(numbers, left), days, NOTHING, NOTHING, NOTHING, NOTHING, NOTHING
+    )
+
+
+def in_places(values: Iterable[Value], places: Iterable[int]) -> Iterator[Value]:
+    """Values in another order."""
+    return map([*values].__getitem__, places)
 
 
 def commands_of(values: Iterable[Values]) -> list[Command]:
