@@ -69,7 +69,7 @@ class CommandsAnew:
         text = self.text() if is_preview else text_of(self.commands)
         count = len(self.told.ids) + len(self.transfers) + self.told.count_exits()
         refused = program.file_text(text, count)
-        lines = text.decode().splitlines()[1:] if refused else []
+        lines = text.decode().split("\n")[1:] if refused else []
         return [(Command(*lines[place].split(",")), refusal) for place, refusal in refused.items()]
 
 

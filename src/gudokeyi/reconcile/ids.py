@@ -201,14 +201,11 @@ def is_another(animal: SheetAnimal, in_book: SocietyRecord) -> bool:
 
 # The numbers of animals: those of the book stay, and new ones go on from them.
 
-# the letter of a number for the sex; nothing where there is none yet
-SEX_OF_NUMBER = operator.itemgetter(slice(6, 7))
-
 
 def numbers_before(ids: list[str], numbers: Mapping[str, str]) -> tuple[list[str], list[str]]:
     """The numbers that animals have or had in the book, empty for new ones, and the sexes that these say."""
-    found = [*map(numbers.get, ids, itertools.repeat(""))]
-    return found, [*map(SEX_OF_NUMBER, found)]
+    found = [numbers.get(id, "") for id in ids]
+    return found, [number[6:7] for number in found]
 
 
 def numbers_begin(next_book: NextBook, breed: str, country: str) -> str:

@@ -323,7 +323,7 @@ def in_places(values: Iterable[Value], places: Iterable[int]) -> Iterator[Value]
 
 
 def commands_of(values: Iterable[Values]) -> list[Command]:
-    return [*map(made, itertools.repeat(Command), values)]
+    return [made(Command, one) for one in values]
 
 
 # What is known of each animal after an import.
