@@ -8,21 +8,23 @@ from typing import Any, cast
 
 from front_desk.replayed import record_after
 from gudokeyi.domain.animals import SocietyRecord
-from gudokeyi.domain.commands import birth
+from gudokeyi.domain.commands import birth, text_of, transfer
 from gudokeyi.domain.findings import Report, What
 from gudokeyi.domain.kinds import CELL_FIELDS, ChangeKind, CommandKind, Field, Role, Standing
 from gudokeyi.domain.provenance import BirthBasis, BirthSource, ExitBasis, ExitSource, OwnerDay, SexSource
 from gudokeyi.domain.refusals import Refusal
+from gudokeyi.engine.program import refusals_in
 from gudokeyi.ingest.animals import SheetAnimal
 from gudokeyi.ingest.day_cells import DayCells
 from gudokeyi.ingest.days import year_of
 from gudokeyi.ingest.unknown_parents import UnknownParents
 from gudokeyi.reconcile.animals_of_book import AnimalsOfBook
-from gudokeyi.reconcile.commands import Filing, is_corrected
+from gudokeyi.reconcile.commands import CommandsAnew, Filing, is_corrected
 from gudokeyi.reconcile.findings.animals import KeptByHand, OwnerRenamed, SexInferred
 from gudokeyi.reconcile.findings.by_hand import CommandRefused, ValueChanged
 from gudokeyi.reconcile.findings.rows import CommandLeftOut
 from gudokeyi.reconcile.ids import give_numbers
+from gudokeyi.reconcile.last_found import NothingKept
 from gudokeyi.reconcile.next_book import NextBook, known_after, written_parents
 from gudokeyi.reconcile.owner_days import OwnerDays
 from gudokeyi.reconcile.sexes import find_sexes
@@ -40,7 +42,7 @@ DAYS = DayCells(UnknownParents(), month_first=False)
 def numbered(book: Book, *born: tuple[str, int], breed: str = "", country: str = "") -> dict[str, str]:
     """The numbers of animals, each with its id and its birth year, beside a book."""
     animals = {id: SheetAnimal(id, 2, sex="M", born=datetime.date(year, 1, 2)) for id, year in born}
-    parts = dict(book=book, animals=animals, in_book=AnimalsOfBook(book), renumbered=set())
+    parts = dict(book=book, animals=animals, in_book=AnimalsOfBook(book), renumbered=set(), last_found=NothingKept())
     give_numbers(cast(NextBook, SimpleNamespace(**parts)), breed, country)
     return {id: animal.registration_number for id, animal in animals.items()}
 
@@ -195,6 +197,25 @@ def filing(length: int = 0) -> Filing:
     book = SimpleNamespace(journal=journal, owner_of=str, by_number=dict, society_records={}, records={})
     owners = cast(OwnerDays, SimpleNamespace(other_days={}))
     return Filing(NextBook(cast(Book, book), {}, set(), Report(), DAYS), owners)
+
+
+def test_a_whole_book_is_asked_about_as_it_is_filed() -> None:
+    """A look asks of lines that are no commands, by birth and not in the order of the sheet, and has the same refused;
+    other replies are none."""
+    dam = SheetAnimal("b", 3, born=BORN, left=BORN.replace(year=2005), registration_number=NUMBER)
+    calf = SheetAnimal("a", 2, dam="b", born=BORN.replace(year=2004), embryo=True, registration_number=NUMBER[:-1] + "2")
+    book = cast(Book, SimpleNamespace(society_records={}, records={}, by_number=dict))
+    whole = NextBook(book, {"a": calf, "b": dam}, set(), Report(), DAYS)
+    anew = CommandsAnew(whole, whole.told_of_all(), [7, 4], [transfer(NUMBER, calf.born, 4, 7)])
+    assert [command.kind for command in anew.commands] == ["birth", "birth", "transfer", "exit"]
+    assert anew.commands[:2] == [
+        birth(NUMBER, BORN, "", "", 4, False), birth(calf.registration_number, calf.born, "", NUMBER, 7, True)
+    ]  # fmt: skip
+    assert anew.text() == text_of(anew.commands)
+    replies = b"1,accepted\n2,refused,8\n3,accepted\n4,refused,16\n"
+    program = cast(BookProgram, SimpleNamespace(file_text=lambda text, count: refusals_in(replies)))
+    wanted = [(anew.commands[1], Refusal.DAM_NOT_OLDER), (anew.commands[3], Refusal.LATER_OFFSPRING)]
+    assert anew.refused(program, is_preview=True) == anew.refused(program, is_preview=False) == wanted
 
 
 def test_refusals_behind_the_journal() -> None:

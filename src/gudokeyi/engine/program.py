@@ -5,9 +5,9 @@ import contextlib
 import fcntl
 import functools
 import io
+import itertools
 import os
 import pathlib
-import re
 import resource
 import shlex
 import signal
@@ -29,8 +29,8 @@ if TYPE_CHECKING:
 
 # so much memory and time a run may use
 MOST_BYTES, MOST_SECONDS = 4 << 30, 1200
-# the reply to a command that is refused: its number in the journal, and that of the refusal
-REFUSED = re.compile(rb"^(\d+),refused,(\d+)$", re.MULTILINE)
+# the reply to a command that is refused has its number in the journal before this, and that of the refusal behind it
+REFUSED = b",refused,"
 # so long it may take to say its version
 SECONDS_TO_ANSWER = 30
 # so much a pipe may hold, if the system allows it
@@ -71,6 +71,12 @@ def limit(process: subprocess.Popen[bytes], most_bytes: int, most_seconds: int |
         resource.prlimit(process.pid, resource.RLIMIT_AS, (most_bytes, most_bytes))
         if most_seconds is not None:
             resource.prlimit(process.pid, resource.RLIMIT_CPU, (most_seconds, most_seconds + 1))
+
+
+def refusals_in(answers: bytes) -> dict[int, Refusal]:
+    """For each command that is refused its place, from 0 on, and the refusal. Few are: no other reply is looked at."""
+    both = itertools.pairwise(answers.split(REFUSED))
+    return {int(one.rpartition(b"\n")[2]) - 1: Refusal(int(other.partition(b"\n")[0])) for one, other in both}
 
 
 class Herdbook:
@@ -208,4 +214,4 @@ class Herdbook:
         if replies != count:
             commands = Count(count, "command")
             raise ProgramFailed(ProgramFault.REPLIES_LACK.said(replies=replies, commands=commands, path=self.path))
-        return {int(serial) - 1: Refusal(int(refusal)) for serial, refusal in REFUSED.findall(answers)}
+        return refusals_in(answers)

@@ -16,14 +16,14 @@ from gudokeyi.domain.provenance import NO_DAY, ExitBasis, reason_of
 from gudokeyi.domain.refusals import Refusal
 from gudokeyi.domain.wording import SEXES
 from gudokeyi.engine.program import Herdbook
-from gudokeyi.ingest.animals import NUMBER_OF, SheetAnimal
+from gudokeyi.ingest.animals import SheetAnimal
 from gudokeyi.ingest.days import FIRST_DAY
 from gudokeyi.reconcile.exits import leave_out_exit
 from gudokeyi.reconcile.findings.by_hand import NewAnimal, ValueChanged
 from gudokeyi.reconcile.findings.rows import CommandLeftOut
 from gudokeyi.reconcile.last_found import FoundBy, Kept
 from gudokeyi.reconcile.messages import ImportFault
-from gudokeyi.reconcile.next_book import NextBook, ToldOfAnimals, Values, commands_of
+from gudokeyi.reconcile.next_book import NextBook, ToldOfAnimals, Values, commands_of, in_places
 from gudokeyi.reconcile.owner_day_known import owner_day_known
 from gudokeyi.reconcile.owner_days import OwnerDays
 from gudokeyi.store.journal import Filed, Step, alike
@@ -51,22 +51,25 @@ class CommandsAnew:
         return *self.told, self.first_herds, self.transfers
 
     def births(self) -> Iterator[Values]:
+        """Those of the births, in the order of the sheet."""
         return self.told.births(self.next_book.numbers.__getitem__, self.first_herds)
 
     @functools.cached_property
     def commands(self) -> list[Command]:
-        return commands_of(self.births()) + self.transfers + commands_of(self.told.exits())
+        births, exits = in_places(self.births(), self.next_book.places), self.told.exits_in(self.next_book.places)
+        return commands_of(births) + self.transfers + commands_of(exits)
 
     def text(self) -> bytes:
         """The command file, whose lines take a fraction of the time of commands."""
-        return HEADER + lines_of(self.births()) + lines_of(self.transfers) + lines_of(self.told.exits())
+        births, exits = in_places(self.births(), self.next_book.places), self.told.exits_in(self.next_book.places)
+        return HEADER + lines_of(births) + lines_of(self.transfers) + lines_of(exits)
 
     def refused(self, program: Herdbook, is_preview: bool) -> list[RefusedCommand]:
         """Those that the program refuses; of a preview no others are made."""
         text = self.text() if is_preview else text_of(self.commands)
         count = len(self.told.ids) + len(self.transfers) + self.told.count_exits()
         refused = program.file_text(text, count)
-        lines = text.decode().splitlines()[1:] if refused else []
+        lines = text.decode().split("\n")[1:] if refused else []
         return [(Command(*lines[place].split(",")), refusal) for place, refusal in refused.items()]
 
 
@@ -81,6 +84,8 @@ class Filing:
         self.others: set[str] | None = None
         # the animals of which the book may lack a command: of the others it has one owner, on a day that it was given
         self.likely: list[SheetAnimal] = []
+        # their places among all
+        self.places: list[int] = []
 
     def filed(self, program: Herdbook, is_preview: bool = False) -> Filed:
         """The commands, none of which is refused: an exit or a transfer that is refused is left out before, and told;
@@ -187,22 +192,31 @@ class Filing:
 
     def anew(self) -> CommandsAnew:
         """The commands of the whole book."""
-        next_book, some = self.next_book, self.likely
-        owners, told = self.owners.of_all(some), next_book.told_of_all()
-        herds = [one.first_herd for one in owners]
-        if self.others is not None:
-            of_some = dict(zip(map(NUMBER_OF, some), herds))
-            in_book = map(self.book.records.get, told.numbers, itertools.repeat(NOT_IN_BOOK))
-            herds = [*map(of_some.get, told.numbers, map(OWNER_CODE_OF, in_book))]
-        return CommandsAnew(next_book, told, herds, [*itertools.chain.from_iterable(one.transfers for one in owners)])
+        owners, told, first_herds = self.owners.of_all(self.likely), self.next_book.told_of_all(), self.herds_in_book()
+        for place, one in zip(self.places, owners):
+            first_herds[place] = one.first_herd
+        transfers = [*itertools.chain.from_iterable(one.transfers for one in owners)]
+        return CommandsAnew(self.next_book, told, first_herds, transfers)
+
+    def herds_in_book(self) -> list[int]:
+        """The herds in which the book has the animals, in their order; that of no owner for new ones."""
+        numbers, records = self.next_book.lasting[1], self.book.records
+
+        def found() -> list[int]:
+            return [*map(OWNER_CODE_OF, map(records.get, numbers, itertools.repeat(NOT_IN_BOOK)))]
+
+        return [*self.next_book.last_found.of(Kept.HERDS, (numbers, records), found)]
 
     def find_likely(self) -> None:
-        self.others, self.likely = self.found_otherwise(), self.next_book.by_birth
+        """Looks for the animals of which the book may lack a command."""
+        next_book, animals = self.next_book, self.next_book.animals
+        self.others, self.places = self.found_otherwise(), next_book.places
         if self.others is not None:
-            with_day = itertools.compress(self.next_book.animals, map(SINCE_OF, self.next_book.animals.values()))
-            likely = self.others.union(with_day, self.next_book.in_book.sold)
-            ids = self.next_book.lasting[0]
-            self.likely = [*itertools.compress(self.likely, map(likely.__contains__, ids))]
+            with_day = itertools.compress(animals, map(SINCE_OF, animals.values()))
+            likely = self.others.union(with_day, next_book.in_book.sold)
+            places = {*itertools.compress(itertools.count(), map(likely.__contains__, animals))}
+            self.places = [*filter(places.__contains__, next_book.places)]
+        self.likely = next_book.at(self.places)
 
     def found_otherwise(self) -> set[str] | None:
         """The ids of animals that may be otherwise than in the book, where it is known of others that they aren't."""

@@ -204,8 +204,11 @@ def is_another(animal: SheetAnimal, in_book: SocietyRecord) -> bool:
 
 # The numbers of animals: those of the book stay, and new ones go on from them.
 
-# the letter of a number for the sex; nothing where there is none yet
-SEX_OF_NUMBER = operator.itemgetter(slice(6, 7))
+
+def numbers_before(ids: list[str], numbers: Mapping[str, str]) -> tuple[list[str], list[str]]:
+    """The numbers that animals have or had in the book, empty for new ones, and the sexes that these say."""
+    found = [numbers.get(id, "") for id in ids]
+    return found, [number[6:7] for number in found]
 
 
 def numbers_begin(next_book: NextBook, breed: str, country: str) -> str:
@@ -233,11 +236,12 @@ def give_numbers(next_book: NextBook, breed: str, country: str) -> None:
     become those that are given; new ones have those that are set else, or those of the book."""
     book, animals = next_book.book, next_book.animals
     former = book.former_numbers() | {id: in_book.registration_number for id, in_book in book.dropped.items()}
-    numbers = former | next_book.in_book.numbers if former else next_book.in_book.numbers
-    before, new = [*map(numbers.get, animals, itertools.repeat(""))], list[SheetAnimal]()
-    for animal, number in zip(animals.values(), before):
+    ids, of_book, new = [*animals], next_book.in_book.numbers, list[SheetAnimal]()
+    by = ids, of_book, former
+    numbers, sexes = next_book.last_found.of(Kept.NUMBERS, by, lambda: numbers_before(ids, former | of_book))
+    for animal, number in zip(animals.values(), numbers):
         animal.registration_number = number
-    are_others = map(operator.ne, map(SEX_OF, animals.values()), map(SEX_OF_NUMBER, before))
+    are_others = map(operator.ne, map(SEX_OF, animals.values()), sexes)
     those = animals.values() if breed or country else itertools.compress(animals.values(), are_others)
     for animal in those:
         if number := animal.registration_number:

@@ -48,6 +48,7 @@ class NamesEver:
         return are_there
 
     def has_or_takes(self, ids: Sequence[str], names: Sequence[str]) -> bool:
+        """The same of any; the few are taken."""
         before = [*map(self.names.get, ids)]
         if before == [*names]:
             return True

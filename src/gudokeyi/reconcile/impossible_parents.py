@@ -15,19 +15,18 @@ from gudokeyi.domain.pedigree_order import in_order, longest_paths, offspring_by
 from gudokeyi.domain.refusals import Refusal
 from gudokeyi.engine.program import Herdbook
 from gudokeyi.ingest.animals import (
-    BIRTH_OF, DAM_OF, ID_OF, NUMBER_OF, SIRE_OF, SheetAnimal, ancestors_among, parents_of_all,
+    BIRTH_OF, DAM_OF, ID_OF, SIRE_OF, SheetAnimal, ancestors_among, parents_of_all,
 )  # fmt: skip
 from gudokeyi.ingest.days import Span
 from gudokeyi.ingest.messages import Where
 from gudokeyi.reconcile.findings.parents import DayFact, OwnAncestor, ParentRefused
 from gudokeyi.reconcile.last_found import Kept, LastFound, NothingKept
 from gudokeyi.reconcile.messages import ImportFault
-from gudokeyi.reconcile.next_book import NOTHING, NextBook, ToldOfAnimals
+from gudokeyi.reconcile.next_book import NextBook, ToldOfAnimals, in_places
 from gudokeyi.reconcile.parents import take_back
 from gudokeyi.store.book import Book
 
 FIRST, LAST = operator.attrgetter("first"), operator.attrgetter("last")
-BORN_AND_NUMBER = operator.attrgetter("born", "registration_number")
 
 # Animals that would be their own ancestors: of each cycle one parent is left out.
 
@@ -214,10 +213,10 @@ ROLES = {
 def leave_out_faulty_parents(next_book: NextBook, program: Herdbook, is_refused: bool = False) -> bool:
     """Files all animals with their parents, the oldest first, where it isn't likely that anything is refused. Then it
     files them without, and asks for the parents of each until none is refused; answers whether any was."""
-    by_age, are_refused = next_book.by_birth, False
+    are_refused = False
     if not is_refused and not is_any_refused(next_book, program):
         return False
-    while faults := refused_parents(next_book, program, by_age):
+    while faults := all_refused_parents(next_book, program):
         # paths come last: without a parent that is refused they may be shorter
         deep = [animal for animal, refusal in faults if refusal is Refusal.PATH_TOO_LONG]
         if len(deep) == len(faults) and not take_back(next_book):
@@ -241,38 +240,46 @@ def is_any_refused(next_book: NextBook, program: Herdbook) -> bool:
 
 def refuses_any(next_book: NextBook, program: Herdbook, told: ToldOfAnimals) -> bool:
     births = told.births(next_book.numbers.__getitem__, itertools.repeat(1))
-    text, count = HEADER + lines_of(births) + lines_of(told.exits()), len(told.ids) + told.count_exits()
-    return bool(program.file_text(text, count))
+    text = HEADER + lines_of(in_places(births, next_book.places)) + lines_of(told.exits())
+    return bool(program.file_text(text, len(told.ids) + told.count_exits()))
 
 
-def refused_parents(next_book: NextBook, program: Herdbook, progeny: Sequence[SheetAnimal]) -> list[Fault]:
-    """Which of these have parents that the program refuses, once they and all whom they name are filed without."""
-    are_all = progeny is next_book.by_birth
-    told = next_book.told_of_all() if are_all else ToldOfAnimals.of(with_parents(next_book, progeny))
-    what, asked = (Kept.FAULTS, told.ids) if are_all else (Kept.FAULTS_OF_SOME, [*map(ID_OF, progeny)])
-    refused = next_book.last_found.of(what, (*told, asked), lambda: asked_about(next_book, program, told, progeny))
+def all_refused_parents(next_book: NextBook, program: Herdbook) -> list[Fault]:
+    """Which animals have parents that the program refuses, once all are filed without."""
+    told, places = next_book.told_of_all(), next_book.places
+
+    def found() -> list[tuple[str, Refusal]]:
+        return asked_about(program, told, places, next_book.numbers.__getitem__)
+
+    refused = next_book.last_found.of(Kept.FAULTS, told, found)
     return [(next_book.animals[id], refusal) for id, refusal in refused]
 
 
-def with_parents(next_book: NextBook, progeny: Sequence[SheetAnimal]) -> list[SheetAnimal]:
-    """Some animals and their parents, by birth."""
-    ids = {id for animal in progeny for id in (animal.id, *animal.parent_ids())}
-    return sorted(map(next_book.animals.__getitem__, ids), key=BORN_AND_NUMBER)
+def refused_parents(next_book: NextBook, program: Herdbook, progeny: Sequence[SheetAnimal]) -> list[Fault]:
+    """Which of these have some, once they and all whom they name are filed without."""
+    ids = dict.fromkeys([*map(ID_OF, progeny), *map(SIRE_OF, progeny), *map(DAM_OF, progeny)])
+    told = ToldOfAnimals.of([next_book.animals[id] for id in ids if id])
+
+    def found() -> list[tuple[str, Refusal]]:
+        return asked_about(program, told, range(len(progeny)), next_book.number_of)
+
+    refused = next_book.last_found.of(Kept.FAULTS_OF_SOME, (*told, len(progeny)), found)
+    return [(next_book.animals[id], refusal) for id, refusal in refused]
 
 
 def asked_about(
-    next_book: NextBook, program: Herdbook, told: ToldOfAnimals, progeny: Sequence[SheetAnimal]
+    program: Herdbook, told: ToldOfAnimals, places: Sequence[int], number_of: Callable[[str], str]
 ) -> list[tuple[str, Refusal]]:
-    """The ids of offspring whose parents the program refuses, where those of whom it is told are filed without."""
-    number_of = next_book.numbers.__getitem__
-    asked = [animal for animal in progeny if animal.sire or animal.dam]
-    numbers, sires, dams = map(NUMBER_OF, asked), map(number_of, map(SIRE_OF, asked)), map(number_of, map(DAM_OF, asked))
-    links = zip(itertools.repeat("parents"), numbers, NOTHING, sires, dams, NOTHING, NOTHING, NOTHING)
+    """The ids of the offspring at some places whose parents the program refuses, one after the other, where all those
+    of whom it is told are filed without; these and their exits are filed in any order."""
+    ids, numbers, sires, dams = told.ids, told.numbers, told.sires, told.dams
+    asked = [at for at in places if sires[at] or dams[at]]
+    links = [("parents", numbers[at], "", number_of(sires[at]), number_of(dams[at]), "", "", "") for at in asked]
     text = HEADER + lines_of(told.births_alone()) + lines_of(told.exits()) + lines_of(links)
-    first = len(told.ids) + told.count_exits()
+    first = len(ids) + told.count_exits()
     refused = program.file_text(text, first + len(asked))
     # an exit may be refused too: that is told when the book itself is filed
-    return [(asked[place - first].id, refusal) for place, refusal in refused.items() if place >= first]
+    return [(ids[asked[place - first]], refusal) for place, refusal in refused.items() if place >= first]
 
 
 def leave_out_parents(next_book: NextBook, program: Herdbook, faults: list[Fault]) -> None:

@@ -35,6 +35,10 @@ class Kept(enum.Enum):
     NEAR_TAGS = enum.auto()
     # whether those of rows have digits
     HAVE_DIGITS = enum.auto()
+    # the animals that the book hasn't, and the numbers that others have or had there, and in which herds they are
+    NEW = enum.auto()
+    NUMBERS = enum.auto()
+    HERDS = enum.auto()
     # the places of the animals in the order of their birth
     BY_BIRTH = enum.auto()
     # which commands the program refuses

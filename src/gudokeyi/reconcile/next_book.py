@@ -6,8 +6,8 @@ import collections
 import datetime
 import functools
 import itertools
-from collections.abc import Callable, Iterable, Iterator, Mapping, Sequence, Set
-from typing import NamedTuple
+from collections.abc import Callable, Collection, Iterable, Iterator, Mapping, Sequence, Set
+from typing import NamedTuple, TypeVar
 
 from gudokeyi.domain.animals import NO_FIELDS, SocietyRecord
 from gudokeyi.domain.collections import made
@@ -172,8 +172,9 @@ class NextBook:
     @functools.cached_property
     def new(self) -> list[SheetAnimal]:
         """The animals that the book hasn't, once all are there."""
-        ids = itertools.filterfalse(self.book.society_records.__contains__, self.animals)
-        return [*map(self.animals.__getitem__, ids)]
+        ids, known = [*self.animals], self.in_book.numbers
+        new = self.last_found.of(Kept.NEW, (ids, known), lambda: [*itertools.filterfalse(known.__contains__, ids)])
+        return [*map(self.animals.__getitem__, new)]
 
     @property
     def new_rows(self) -> int:
@@ -219,27 +220,30 @@ class NextBook:
         return numbers
 
     @functools.cached_property
-    def by_birth(self) -> list[SheetAnimal]:
-        """All animals, once they have their numbers: from then on neither these nor birth days change."""
-        those = [*self.animals.values()]
-        numbers, days = [*map(NUMBER_OF, those)], [*map(BORN_OF, those)]
-        places = self.last_found.of(Kept.BY_BIRTH, (numbers, days), lambda: places_by_birth(numbers, days))
-        return [*map(those.__getitem__, places)]
+    def lasting(self) -> Lasting:
+        """What stays as it is of all animals, once they have their numbers."""
+        return lasting(self.animals.values())
 
     @functools.cached_property
-    def lasting(self) -> tuple[list[str], list[str], list[datetime.date], list[bool]]:
-        """The ids, numbers and birth days of all of them, and which are embryos."""
-        of_each = (ID_OF, NUMBER_OF, BORN_OF, EMBRYO_OF)
-        ids, numbers, days, embryos = ([*map(of, self.by_birth)] for of in of_each)
-        return ids, numbers, days, embryos
+    def places(self) -> list[int]:
+        """The places of the animals, the oldest first; those of a day by their numbers."""
+        _, numbers, days, _ = self.lasting
+        return self.last_found.of(Kept.BY_BIRTH, (numbers, days), lambda: places_by_birth(numbers, days))
+
+    @functools.cached_property
+    def by_birth(self) -> list[SheetAnimal]:
+        """The animals in this order."""
+        return self.at(self.places)
+
+    def at(self, places: Iterable[int]) -> list[SheetAnimal]:
+        return [*in_places(self.animals.values(), places)]
 
     def told_of_all(self) -> ToldOfAnimals:
         """What the program is told of all animals, as they are now."""
-        return ToldOfAnimals(*self.lasting, *changing(self.by_birth))
+        return ToldOfAnimals(*self.lasting, *changing(self.animals.values()))
 
 
 def places_by_birth(numbers: Sequence[str], days: Sequence[datetime.date]) -> list[int]:
-    """The places of the oldest first; those of a day by their numbers."""
     ordinals = [*map(datetime.date.toordinal, days)]
     return sorted(sorted(range(len(numbers)), key=numbers.__getitem__), key=ordinals.__getitem__)
 
@@ -250,8 +254,10 @@ def places_by_birth(numbers: Sequence[str], days: Sequence[datetime.date]) -> li
 UNKNOWN = "0"
 EMBRYO_TEXTS = {False: "", True: "1"}
 NOTHING = itertools.repeat("")
+Value = TypeVar("Value")
 # the values of a command
 Values = tuple[str, ...]
+Lasting = tuple[list[str], list[str], list[datetime.date], list[bool]]
 
 
 class ToldOfAnimals(NamedTuple):
@@ -266,9 +272,8 @@ class ToldOfAnimals(NamedTuple):
     dams: list[str]
 
     @classmethod
-    def of(cls, animals: Sequence[SheetAnimal]) -> ToldOfAnimals:
-        ids, numbers, days, embryos = ([*map(of, animals)] for of in (ID_OF, NUMBER_OF, BORN_OF, EMBRYO_OF))
-        return cls(ids, numbers, days, embryos, *changing(animals))
+    def of(cls, animals: Collection[SheetAnimal]) -> ToldOfAnimals:
+        return cls(*lasting(animals), *changing(animals))
 
     def births(self, number_of: Callable[[str], str], owner_codes: Iterable[int]) -> Iterator[Values]:
         """The births with the parents of today, by the numbers of ids, each in a herd."""
@@ -285,22 +290,40 @@ class ToldOfAnimals(NamedTuple):
 
     def exits(self) -> Iterator[Values]:
         """The exits of those that have left."""
-        numbers, days = itertools.compress(self.numbers, self.left), map(day_text, filter(None, self.left))
-        return zip(itertools.repeat("exit"), numbers, days, NOTHING, NOTHING, NOTHING, NOTHING, NOTHING)
+        return exits_of(self.numbers, self.left)
+
+    def exits_in(self, places: Sequence[int]) -> Iterator[Values]:
+        """The same in another order."""
+        return exits_of([*in_places(self.numbers, places)], [*in_places(self.left, places)])
 
     def count_exits(self) -> int:
         return len(self.left) - self.left.count(None)
 
 
-def changing(
-    animals: Sequence[SheetAnimal],
-) -> tuple[list[datetime.date | None], list[str], list[str]]:
-    """The days when animals left, and their parents: some may be left out yet."""
+def lasting(animals: Collection[SheetAnimal]) -> Lasting:
+    """The ids, numbers and birth days of animals, and which are embryos: once they have numbers these stay."""
+    return [*map(ID_OF, animals)], [*map(NUMBER_OF, animals)], [*map(BORN_OF, animals)], [*map(EMBRYO_OF, animals)]
+
+
+def changing(animals: Collection[SheetAnimal]) -> tuple[list[datetime.date | None], list[str], list[str]]:
+    """The days when animals left, and their parents, of which some may be left out yet."""
     return [*map(LEFT_OF, animals)], [*map(SIRE_OF, animals)], [*map(DAM_OF, animals)]
 
 
+def exits_of(numbers: Sequence[str], left: Sequence[datetime.date | None]) -> Iterator[Values]:
+    days = map(day_text, filter(None, left))
+    return zip(
+        itertools.repeat("exit"), itertools.compress(numbers, left), days, NOTHING, NOTHING, NOTHING, NOTHING, NOTHING
+    )
+
+
+def in_places(values: Iterable[Value], places: Iterable[int]) -> Iterator[Value]:
+    """Values in another order."""
+    return map([*values].__getitem__, places)
+
+
 def commands_of(values: Iterable[Values]) -> list[Command]:
-    return [*map(made, itertools.repeat(Command), values)]
+    return [made(Command, one) for one in values]
 
 
 # What is known of each animal after an import.
