@@ -60,7 +60,8 @@ def add_gone(
     filed = {id for id in gone if book.society_records[id].standing is Standing.FILED}
     of_filed = map(gone.__getitem__, filed)
     kept = filed | ancestors_among([*animals.values(), *of_filed], gone) if drop else {*gone}
-    parents = parents_among(gone.keys() - filed, [*animals.values(), *gone.values()])
+    without = {id for id in kept - filed if not book.society_records[id].standing.had_row()}
+    parents = parents_among(without, [*animals.values(), *gone.values()])
     for id, animal in gone.items():
         if id in kept:
             animals[id] = animal
@@ -104,7 +105,7 @@ def add_others(next_book: NextBook, drop_gone: bool, columns: Columns | None = N
         mend_sexes(next_book, gone, lacking, before)
         near = NearIds(lacking, all_animals, with_id, last)
         if not have_rows:
-            ParentsInTexts(lacking, all_animals, with_id, last).find(report)
+            ParentsInTexts(lacking, before).find(report)
             near.find_parents(report)
         near.tell_alike(report)
     if not have_rows:
