@@ -42,7 +42,8 @@ def told(rows: Mapping[str, int], before: set[str]) -> list[tuple[int, str, str]
     animals = {f"a{at}": SheetAnimal(f"a{at}", at, owner=owner) for at, owner in enumerate(owners, 2)}
     animals |= {f"b{at}": SheetAnimal(f"b{at}", owner="Hubber") for at in range(9)}
     report = Report()
-    tell_mistyped_owners(cast(NextBook, SimpleNamespace(animals=animals, report=report)), before)
+    next_book = SimpleNamespace(animals=animals, rows_otherwise=lambda: [*animals.values()], report=report)
+    tell_mistyped_owners(cast(NextBook, next_book), before)
     found = [(one.line, one.finding) for one in report.entries]
     return [(line, one.owner.text, one.meant.text) for line, one in found if isinstance(one, OwnerMistyped)]
 
@@ -196,7 +197,7 @@ def drawn(seed: int) -> tuple[dict[str, int], set[str]]:
 def report_of(rows: Mapping[str, int], tell: Callable[[NextBook], None]) -> list[Finding]:
     animals = {f"a{at}": SheetAnimal(f"a{at}", at, owner=owner) for at, owner in enumerate(rows, 2)}
     report = Report()
-    tell(cast(NextBook, SimpleNamespace(animals=animals, report=report)))
+    tell(cast(NextBook, SimpleNamespace(animals=animals, rows_otherwise=lambda: [*animals.values()], report=report)))
     return [entry.finding for entry in report.entries]
 
 

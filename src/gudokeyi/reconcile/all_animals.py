@@ -60,7 +60,8 @@ def add_gone(
     filed = {id for id in gone if book.society_records[id].standing is Standing.FILED}
     of_filed = map(gone.__getitem__, filed)
     kept = filed | ancestors_among([*animals.values(), *of_filed], gone) if drop else {*gone}
-    parents = parents_among(gone.keys() - filed, [*animals.values(), *gone.values()])
+    without = {id for id in kept - filed if not book.society_records[id].standing.had_row()}
+    parents = parents_among(without, [*animals.values(), *gone.values()])
     for id, animal in gone.items():
         if id in kept:
             animals[id] = animal
@@ -90,26 +91,14 @@ def add_others(next_book: NextBook, drop_gone: bool, columns: Columns | None = N
     next_book.texts = parents_written(next_book, sires, dams)
     gone = animals_of_book(next_book)
     next_book.exits_of_book |= gone.keys()
-    all_animals = animals | gone
     # in most sheets each parent has a row, and all of the book do
     outside = last.parents_outside(Kept.PARENTS_WRITTEN, sires, dams, animals)
     lacking = {row.id: row for row, *_ in outside.links(animals.values())}
     have_rows, has_gone = not lacking, bool(gone)
     given = next_book.in_book.given
     with_id = last.of(Kept.GIVEN_IDS, ([*animals], given), lambda: animals.keys() | given)
-    before = Names(all_animals, report, last, with_id)
-    if not have_rows:
-        keep_parents_named(next_book, lacking, all_animals)
-    if not next_book.is_pedigree:
-        mend_sexes(next_book, gone, lacking, before)
-        near = NearIds(lacking, all_animals, with_id, last)
-        if not have_rows:
-            ParentsInTexts(lacking, all_animals, with_id, last).find(report)
-            near.find_parents(report)
-        near.tell_alike(report)
-    if not have_rows:
-        before.find_parents(lacking, next_book, with_id)
-    try_parents_again(next_book, gone, all_animals)
+    before = Names(animals | gone, report, last, with_id)
+    find_parents(next_book, gone, lacking, before)
     if not next_book.is_pedigree:
         tell_new_tags(next_book, gone, columns)
     animals |= {id: gone.pop(id) for id in next_book.used_again}
@@ -124,6 +113,26 @@ def add_others(next_book: NextBook, drop_gone: bool, columns: Columns | None = N
         add_founders(next_book, Names(animals, report, last, with_id, before), columns)
     if len(animals) > MOST_ANIMALS:
         raise too_many(next_book)
+
+
+def find_parents(
+    next_book: NextBook, gone: dict[str, SheetAnimal], lacking: dict[str, SheetAnimal], names: Names
+) -> None:
+    """Finds who is meant by parents without a row, and mends sexes that speak against parents. `lacking` are the rows
+    that name such ones, and `names` those of the sheet's animals and of the book's."""
+    report, all_animals, with_id = next_book.report, names.animals, names.with_id
+    if lacking:
+        keep_parents_named(next_book, lacking, all_animals)
+    if not next_book.is_pedigree:
+        mend_sexes(next_book, gone, lacking, names)
+        near = NearIds(lacking, all_animals, with_id, next_book.last_found)
+        if lacking:
+            ParentsInTexts(lacking, names).find(report)
+            near.find_parents(report)
+        near.tell_alike(report)
+    if lacking:
+        names.find_parents(lacking, next_book, with_id)
+    try_parents_again(next_book, gone, all_animals)
 
 
 def give_values_of_book(next_book: NextBook) -> None:

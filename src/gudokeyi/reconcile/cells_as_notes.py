@@ -10,7 +10,7 @@ from gudokeyi.domain.animals import LETTERS
 from gudokeyi.domain.findings import Finding
 from gudokeyi.domain.kinds import CELL_FIELDS, Field
 from gudokeyi.domain.own_columns import MOST_IN_NOTE, MOST_IN_TITLE, Note
-from gudokeyi.ingest.animals import SheetAnimal
+from gudokeyi.ingest.animals import UNREAD_OF, SheetAnimal
 from gudokeyi.ingest.findings.exits import Remark
 from gudokeyi.reconcile.findings.animals import EarlyYearKept, RemarkKept
 from gudokeyi.reconcile.next_book import NextBook
@@ -57,8 +57,8 @@ def keep_as_notes(next_book: NextBook, titles: Mapping[str, str], remarks: Seque
 
 
 def cells_with_early_years(next_book: NextBook, titles: Mapping[str, str]) -> Iterator[Cell]:
-    for animal in next_book.animals.values():
-        for field in DAYS if animal.unread else ():
+    for animal in filter(UNREAD_OF, next_book.animals.values()):
+        for field in DAYS:
             cell = animal.cells.get(field, "")[:MOST_IN_CELL]
             if field in animal.unread and EARLY_YEAR.search(cell):
                 is_as_before = cell == cell_before(next_book, animal.id, field)

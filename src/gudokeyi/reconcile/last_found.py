@@ -28,7 +28,8 @@ class Kept(enum.Enum):
     PARENTS_WITHOUT_ROW = enum.auto()
     NEAR_IDS = enum.auto()
     IDS_IN_TEXTS = enum.auto()
-    # the animals whose ids were given, by their names
+    # the places of animals, and those whose ids were given by their names
+    PLACES = enum.auto()
     GIVEN_NAMES = enum.auto()
     # the ids that were given by the days that they may be, and by the other forms that they may have
     DAYS_FOR_IDS = enum.auto()
@@ -93,7 +94,7 @@ class LastFound:
     def by_name(self, ids: Sequence[str], names: Sequence[str]) -> IdsByName:
         """The animals that are there by their names."""
         found = IdsByName(ids, names, self.names)
-        self.names = found.ever
+        self.names, found.places = found.ever, self.of(Kept.PLACES, (ids,), lambda: found.places)
         return found
 
 

@@ -70,6 +70,11 @@ def owners_of_rows(
     return counts
 
 
+def first_rows(next_book: NextBook) -> dict[str, SheetAnimal]:
+    """The first row of each owner that the book doesn't have: such a row says something else than it."""
+    return {one.owner: one for one in reversed(next_book.rows_otherwise()) if one.line}
+
+
 def tell_renamed_owners(next_book: NextBook) -> None:
     """The owners that are written otherwise from now on, as was wished, each by its first name and its last one."""
     book, found = next_book.book, dict[str, str]()
@@ -262,8 +267,7 @@ def tell_doubtful_owners(
             found[owner] = OwnerOfSeveral(owner, tuple(sorted(within)[:MOST_WITHIN]), count)
         elif is_no_name(owner) or tells_of_exit(owner):
             found[owner] = OwnerIsNoName(owner, count)
-    lines = [one for one in next_book.animals.values() if one.line] if found else []
-    first = {one.owner: one for one in reversed(lines)}
+    first = first_rows(next_book) if found else {}
     for owner, told in found.items():
         next_book.report.add(first[owner].line, first[owner].id, told)
 
@@ -311,8 +315,7 @@ def tell_mistyped_owners(
         meant = many.meant(owner) if count <= FEW and len(owner) >= SHORT and owner not in owners_before else ""
         if meant:
             likely.append((owner, meant))
-    lines = [one for one in next_book.animals.values() if one.line] if likely else []
-    first = {one.owner: one for one in reversed(lines)}
+    first = first_rows(next_book) if likely else {}
     for owner, meant in likely:
         found = OwnerMistyped(Spelling(owner, rows[owner]), Spelling(meant, rows[meant]))
         next_book.report.add(first[owner].line, first[owner].id, found)

@@ -172,7 +172,7 @@ class Names:
 
     @functools.cached_property
     def lacking(self) -> set[str]:
-        return {parent for _, _, parent in self.without_row} - self.animals.keys()
+        return {*itertools.filterfalse(self.animals.__contains__, (parent for _, _, parent in self.without_row))}
 
     def advise_unknown(self, is_pedigree: bool, unknown: Container[str] = ()) -> None:
         """A parent without a row that several animals have may be a word for an unknown one: one that is both a sire
@@ -282,7 +282,7 @@ def join_spellings(lacking: Mapping[str, SheetAnimal], next_book: NextBook, with
     """Texts of parents without a row that differ in capitals alone mean one animal, as the first is written, or one
     that the book has. `lacking` are the rows that name a parent without one, and `with_id` the ids that were given."""
     animals, first = next_book.animals, dict[tuple[Role, str], str]()
-    added = {id.casefold(): id for id in animals.keys() - with_id}
+    added = {id.casefold(): id for id in itertools.filterfalse(with_id.__contains__, animals)}
     for offspring, role, text in links_outside(lacking.values(), with_id):
         of_book = added.get(text.casefold(), "")
         if of_book and (text in animals or not can_be(animals[of_book], role, offspring)):

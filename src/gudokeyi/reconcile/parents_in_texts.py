@@ -4,13 +4,13 @@ from __future__ import annotations
 
 import functools
 import re
-from collections.abc import Collection, Iterator, Mapping, Sequence, Set
+from collections.abc import Collection, Iterator, Mapping, Sequence
 
 from gudokeyi.domain.findings import Finding, Report
 from gudokeyi.domain.kinds import Role
 from gudokeyi.domain.messages import MOST_NAMED
 from gudokeyi.domain.spelling import TIMES
-from gudokeyi.ingest.animals import NAME_OF, SheetAnimal, links_outside
+from gudokeyi.ingest.animals import SheetAnimal, links_outside
 from gudokeyi.ingest.marked_ids import CROSSES
 from gudokeyi.ingest.odd_texts import OF_YEAR
 from gudokeyi.ingest.texts import nearly, nearly_all
@@ -18,9 +18,9 @@ from gudokeyi.reconcile.findings.parents import FoundWithin
 from gudokeyi.reconcile.findings.parents_in_texts import (
     BothParents, EitherParent, NamedByRelation, NamedOtherwiseBeside, NotSaidToBeParent,
 )  # fmt: skip
-from gudokeyi.reconcile.last_found import Kept, LastFound
+from gudokeyi.reconcile.last_found import Kept
 from gudokeyi.reconcile.near_names import LEAST_LETTERS
-from gudokeyi.reconcile.parents import can_be
+from gudokeyi.reconcile.parents import Names, can_be
 
 # what stands between two animals of which one is the parent, and between an id and a name
 EITHER = re.compile(
@@ -99,21 +99,20 @@ def name_key(text: str) -> str:
 
 
 class ParentsInTexts:
-    """`animals` are those of the sheet and of the book, and `lacking` the rows that name a parent without one."""
+    """`lacking` are the rows that name a parent without one, and `of_all` the names of the sheet's animals and the
+    book's."""
 
-    def __init__(
-        self, lacking: dict[str, SheetAnimal], animals: Mapping[str, SheetAnimal], with_id: Set[str], last: LastFound
-    ) -> None:
-        """`with_id` are the ids that were given."""
-        self.lacking, self.animals, self.with_id, self.last = lacking, animals, with_id, last
+    def __init__(self, lacking: dict[str, SheetAnimal], of_all: Names) -> None:
+        self.lacking, self.of_all = lacking, of_all
+        self.animals, self.with_id = of_all.animals, of_all.with_id
 
     def find(self, report: Report) -> None:
         links = links_outside(self.lacking.values(), self.with_id)
         links = [link for link in links if " " in link[2] or BETWEEN.search(link[2]) or SIGN_OF_EXIT.search(link[2])]
         if not links:
             return
-        by = ids, names = [*filter(self.with_id.__contains__, self.animals)], [*map(NAME_OF, self.animals.values())]
-        self.ids, self.names = self.last.of(Kept.IDS_IN_TEXTS, by, lambda: compared(ids, names))
+        by = ids, names = self.of_all.given_ids, self.of_all.by_name.names
+        self.ids, self.names = self.of_all.last.of(Kept.IDS_IN_TEXTS, by, lambda: compared(ids, names))
         for offspring, role, text in links:
             if nearly(text) in self.ids or name_key(text) in self.names:
                 continue

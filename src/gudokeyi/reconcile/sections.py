@@ -44,8 +44,8 @@ class Section(NamedTuple):
 def tell_sections(next_book: NextBook) -> None:
     """Those that say another sex than is inferred of animals below them, and those that may name their owners."""
     sections = sections_of(next_book)
-    lines = {section.line for section in sections}
-    rows = [one for one in next_book.animals.values() if one.line and one.line not in lines] if sections else []
+    lines, first = {section.line for section in sections}, sections[0].line if sections else 0
+    rows = [one for one in next_book.animals.values() if one.line > first and one.line not in lines] if sections else []
     tell_sexes(next_book, sections, [one for one in rows if one.sex_source.is_inferred])
     tell_owners(next_book, sections, rows)
 

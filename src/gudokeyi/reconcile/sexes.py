@@ -161,14 +161,20 @@ class ParentsMeant:
 
     def of_other_sex(self) -> set[str]:
         """Those whose rows say another sex than that of their role, or than the book. Rows that say what the book has
-        name no such parent."""
-        next_book, rows = self.next_book, self.next_book.animals
-        those = next_book.otherwise if next_book.rows_of_book else self.animals
-        found = {id for id, row in next_book.otherwise.items() if row.sex not in ("", sex_in_book(next_book, id))}
+        name those alone of whom the book says the sex of their role."""
+        rows, others = self.next_book.animals, self.next_book.otherwise
+        are_compared = self.next_book.rows_of_book is not None
+        found = {id for id, row in others.items() if self.is_of_other_sex(row)} if are_compared else set()
+        those = others if are_compared else self.animals
         for role, parent_of in PARENTS:
             parents = {*map(parent_of, those.values())}.union(one for _, of, one in self.by_other_texts if of is role)
             found.update(id for id in parents if (row := rows.get(id)) and row.sex not in ("", role.sex))
         return found
+
+    def is_of_other_sex(self, row: SheetAnimal) -> bool:
+        """Does the row of an animal of the book say another sex than this?"""
+        in_book = self.next_book.book.society_records.get(row.id)
+        return in_book is not None and row.sex not in ("", in_book.registration_number[6])
 
     def progeny(self, parents: Set[str]) -> dict[str, dict[Role, set[str]]]:
         """The offspring of some of them in each role."""
@@ -189,12 +195,6 @@ class ParentsMeant:
         """How many links to them there are."""
         cells = itertools.chain.from_iterable(map(parent_of, self.animals.values()) for _, parent_of in PARENTS)
         return len(self.by_other_texts) + sum(map(self.animals.__contains__, cells))
-
-
-def sex_in_book(next_book: NextBook, id: str) -> str:
-    """That of an animal, or nothing where the book hasn't it."""
-    in_book = next_book.book.society_records.get(id)
-    return in_book.registration_number[6] if in_book else ""
 
 
 def find_sexes(next_book: NextBook) -> None:
