@@ -142,11 +142,11 @@ def test_same_looks_with_new_tags(desk: Desk, program: str, monkeypatch: pytest.
     planted = with_planted(GOATS)
     desk.take(planted.text(), "--anyway")
     ids, dams = ([row[at] for row in planted.rows] for at in (0, 5))
-    dam, other = collections.Counter(one for one in dams if one in ids).most_common(1)[0][0], ids[-1]
+    (dam, _), (other, _) = collections.Counter(one for one in dams if one and one in ids).most_common(2)
     path = desk.room / desk.write("liste.csv", planted.text().replace(dam, "NEU 1"))
     tags = "", f"{dam}=NEU 1", "", f"{dam}=NEU 2", f"{dam}={other},{other}={dam}", f"{dam}=NEU 1,{other}=NEU 2", ""
     choices = [{"new_tag": tag} if tag else {} for tag in tags]
-    choices[3] |= {"owner": "Caduff=Kaduff"}
+    choices[3] |= {"owner": "Caduff Reto=Kaduff Reto"}
 
     def look(options: dict[str, str], anew: bool) -> Look:
         if anew:
@@ -155,7 +155,8 @@ def test_same_looks_with_new_tags(desk: Desk, program: str, monkeypatch: pytest.
         return looked_at(desk.room / "book", path, Chosen.of({}, options), (), lambda _: None)
 
     fresh = [look(options, anew=True) for options in choices]
-    assert [look(options, anew=False) for options in choices] == fresh and len({*map(str, fresh)}) == 5
+    assert [one.told for one in fresh] == [()] * len(choices) and len({*map(str, fresh)}) == 5
+    assert [look(options, anew=False) for options in choices] == fresh
 
 
 def test_same_looks_at_a_sheet_without_ids(desk: Desk, program: str, monkeypatch: pytest.MonkeyPatch) -> None:
