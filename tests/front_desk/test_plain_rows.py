@@ -6,6 +6,7 @@ import dataclasses
 import io
 import pathlib
 import random
+from typing import Any
 
 import pytest
 
@@ -21,6 +22,7 @@ from gudokeyi.ingest.sheets import Sheet, read_sheet
 from gudokeyi.ingest.texts import plain
 from gudokeyi.ingest.titles import known_titles
 from gudokeyi.ingest.unknown_parents import UnknownParents
+from gudokeyi.services.sheet_reading import copied
 
 # cells that people write instead of others
 ODD = (
@@ -120,3 +122,10 @@ def test_words_in_texts() -> None:
     texts = ["Total", "TOTAL:", " t-o-t a l", "Totale", "Tötal", "", "Summe", "_summe_", "12", "Été"]
     for words in ({"total"}, {"summe", "ete"}, {"12"}, set[str]()):
         assert with_words(texts, words) == {text for text in texts if plain(text) in words}
+
+
+def test_copied_animals() -> None:
+    """A copy has all that an animal has; what can't be read of one can be of the other."""
+    values: dict[str, Any] = {one.name: object() for one in dataclasses.fields(SheetAnimal)} | {"unread": ["sex"]}
+    [copy] = copied([SheetAnimal(**values)])
+    assert {name: getattr(copy, name) for name in values} == values and copy.unread is not values["unread"]

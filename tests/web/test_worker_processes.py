@@ -1,6 +1,7 @@
 """Processes that are kept for the next look at a sheet: which are, how long, and that nothing old is told by one."""
 from __future__ import annotations
 
+import collections
 import os
 import pathlib
 import random
@@ -132,6 +133,30 @@ def test_same_looks(
 
     fresh = [look(options, anew=True) for options in CHOICES]
     assert [look(options, anew=False) for options in CHOICES] == fresh and len({*map(str, fresh)}) > 2
+
+
+def test_same_looks_with_new_tags(desk: Desk, program: str, monkeypatch: pytest.MonkeyPatch) -> None:
+    """So it is where a dam of several gets a new tag, another one, that of another animal which gets hers, or none."""
+    monkeypatch.setenv("HERDBOOK", program)
+    monkeypatch.setattr(sheet_work, "bound_look", lambda: None)
+    planted = with_planted(GOATS)
+    desk.take(planted.text(), "--anyway")
+    ids, dams = ([row[at] for row in planted.rows] for at in (0, 5))
+    (dam, _), (other, _) = collections.Counter(one for one in dams if one and one in ids).most_common(2)
+    path = desk.room / desk.write("liste.csv", planted.text().replace(dam, "NEU 1"))
+    tags = "", f"{dam}=NEU 1", "", f"{dam}=NEU 2", f"{dam}={other},{other}={dam}", f"{dam}=NEU 1,{other}=NEU 2", ""
+    choices = [{"new_tag": tag} if tag else {} for tag in tags]
+    choices[3] |= {"owner": "Caduff Reto=Kaduff Reto"}
+
+    def look(options: dict[str, str], anew: bool) -> Look:
+        if anew:
+            monkeypatch.setattr(sheet_work, "STATE", StateKept())
+            monkeypatch.setattr(sheet_work, "READING", LastReading())
+        return looked_at(desk.room / "book", path, Chosen.of({}, options), (), lambda _: None)
+
+    fresh = [look(options, anew=True) for options in choices]
+    assert [one.told for one in fresh] == [()] * len(choices) and len({*map(str, fresh)}) == 5
+    assert [look(options, anew=False) for options in choices] == fresh
 
 
 def test_same_looks_at_a_sheet_without_ids(desk: Desk, program: str, monkeypatch: pytest.MonkeyPatch) -> None:

@@ -93,6 +93,21 @@ class SheetAnimal:
     def has_day(self) -> bool:
         return self.birth.precision is DAY
 
+    def copy(self) -> SheetAnimal:
+        """The same, of which something may be found; its cells stay as they are. All animals of a sheet are copied at
+        each look, and to make them anew takes twice as long."""
+        new = SheetAnimal.__new__(SheetAnimal)
+        new.id, new.line, new.name = self.id, self.line, self.name
+        new.sex, new.birth, new.sire = self.sex, self.birth, self.sire
+        new.dam, new.owner, new.cells = self.dam, self.owner, self.cells
+        new.since, new.left, new.embryo = self.since, self.left, self.embryo
+        new.owner_day, new.castrated, new.born = self.owner_day, self.castrated, self.born
+        new.registration_number, new.birth_basis = self.registration_number, self.birth_basis
+        new.exit_basis, new.sex_source, new.named_in = self.exit_basis, self.sex_source, self.named_in
+        new.unread, new.owner_before = self.unread, self.owner_before
+        new.is_since_sale, new.likely_sex = self.is_since_sale, self.likely_sex
+        return new
+
     def where(self) -> MessageText:
         """How a sentence about it begins."""
         return Where.LINE.said(line=self.line, id=self.id) if self.line else Where.ANIMAL.said(id=self.id)

@@ -169,9 +169,10 @@ class PlainRows:
 
     def by_id(self) -> dict[str, SheetAnimal]:
         """The animals of plain rows."""
-        if not self.odd:
-            return {animal.id: animal for animal in self.animals}
-        return {animal.id: animal for at, animal in enumerate(self.animals) if at not in self.odd}
+        found = dict(zip(self.texts[Field.ID], self.animals))
+        for id in self.odd_ids():
+            del found[id]
+        return found
 
     def odd_ids(self) -> set[str]:
         return {self.texts[Field.ID][at] for at in self.odd}

@@ -5,16 +5,39 @@ from __future__ import annotations
 import datetime
 import functools
 import itertools
+import operator
 from collections.abc import Iterable, Mapping
+from dataclasses import dataclass
 from typing import TypeVar
 
 from gudokeyi.domain.kinds import Role, Standing
 from gudokeyi.domain.provenance import GIVEN_BIRTH, GIVEN_EXIT, BirthBasis, OwnerDay, SexSource
-from gudokeyi.ingest.animals import NAME_OF
+from gudokeyi.ingest.animals import DAM_OF, ID_OF, NAME_OF, NUMBER_OF, SIRE_OF
 from gudokeyi.ingest.rows_as_meant import marks_in
 from gudokeyi.store.book import Book
 
 Value = TypeVar("Value")
+SEX_OF_NUMBER = operator.itemgetter(6)
+
+
+@dataclass(frozen=True)
+class FoldedTexts:
+    """For each sex the ids and names of the book's animals, and the parents of its role, in small letters."""
+
+    own: Mapping[str, set[str]]
+    parents: Mapping[str, set[str]]
+
+    def agree(self) -> bool:
+        """Is no parent, by its id or its name, of the other sex?"""
+        return all(self.own[role.sex].isdisjoint(self.parents[OTHER_SEX[role.sex]]) for role in Role)
+
+
+OTHER_SEX = {"M": "F", "F": "M"}
+
+
+def folded_texts(texts: Iterable[str]) -> set[str]:
+    """The texts that aren't empty, in small letters."""
+    return {*map(str.casefold, texts)} - {""}
 
 
 class AnimalsOfBook:
@@ -122,6 +145,16 @@ class AnimalsOfBook:
             id for id, in_book in self.society_records.items()
             if records[in_book.registration_number].from_owner or in_book.owner_day is not OwnerDay.GIVEN
         )  # fmt: skip
+
+    @functools.cached_property
+    def folded(self) -> FoldedTexts:
+        own, parents, animals = dict[str, set[str]](), dict[str, set[str]](), self.society_records.values()
+        sexes = [*map(SEX_OF_NUMBER, map(NUMBER_OF, animals))]
+        for role, parent_of in (Role.SIRE, SIRE_OF), (Role.DAM, DAM_OF):
+            of_sex = [*itertools.compress(animals, map(role.sex.__eq__, sexes))]
+            own[role.sex] = folded_texts(map(ID_OF, of_sex)) | folded_texts(map(NAME_OF, of_sex))
+            parents[role.sex] = folded_texts(map(self.ids.__getitem__, {*map(parent_of, self.records.values())}))
+        return FoldedTexts(own, parents)
 
 
 class AnimalsWithNewTags(AnimalsOfBook):

@@ -2,19 +2,17 @@
 and by themselves they change nothing: what changes something is looked for in the others alone."""
 from __future__ import annotations
 
-import functools
 import itertools
 import operator
 from collections.abc import Collection, Iterable, Mapping
-from dataclasses import dataclass
 
 from gudokeyi.domain.animals import NO_OWNER, SocietyRecord
 from gudokeyi.domain.commands import RegisterRecord
 from gudokeyi.domain.kinds import Role, Standing
 from gudokeyi.domain.provenance import GIVEN_BIRTH, GIVEN_EXIT, SexSource
-from gudokeyi.ingest.animals import DAM_OF, ID_OF, NAME_OF, NUMBER_OF, SIRE_OF, SheetAnimal
+from gudokeyi.ingest.animals import DAM_OF, SIRE_OF, SheetAnimal
 from gudokeyi.ingest.days import Span
-from gudokeyi.reconcile.animals_of_book import AnimalsOfBook
+from gudokeyi.reconcile.animals_of_book import OTHER_SEX, AnimalsOfBook
 from gudokeyi.store.book import Book
 
 # what a row says of its animal, and what was found in place of what it doesn't say
@@ -23,24 +21,9 @@ VALUES = operator.attrgetter(
     "birth_basis", "exit_basis", "sex_source",
 )  # fmt: skip
 SINCE_OF = operator.attrgetter("since")
-OWNER_CODE_OF, SEX_OF_NUMBER = operator.attrgetter("owner_code"), operator.itemgetter(6)
+OWNER_CODE_OF = operator.attrgetter("owner_code")
 # of a row that has all in its cells
 ALL_GIVEN: tuple[object, ...] = ("", [], GIVEN_BIRTH)
-
-
-@dataclass(frozen=True)
-class FoldedTexts:
-    """For each sex the ids and names of the book's animals, and the parents of its role, in small letters."""
-
-    own: Mapping[str, set[str]]
-    parents: Mapping[str, set[str]]
-
-    def agree(self) -> bool:
-        """Is no parent, by its id or its name, of the other sex?"""
-        return all(self.own[role.sex].isdisjoint(self.parents[OTHER_SEX[role.sex]]) for role in Role)
-
-
-OTHER_SEX = {"M": "F", "F": "M"}
 
 
 class RowsOfBook:
@@ -70,8 +53,6 @@ class RowsOfBook:
             self.values.pop(id, None)
         self.find_values(those)
         self.found_anew = frozenset(one.id for one in those).union(gone)
-        if not gone and "folded" in vars(before):
-            self.folded = before.folded
 
     def other_ids(self, before: RowsOfBook) -> set[str]:
         """The ids that animals had before, and haven't now."""
@@ -112,22 +93,13 @@ class RowsOfBook:
     def has_since(self, since: Span, id: str) -> bool:
         return since.has(self.records[self.society_records[id].registration_number].since)
 
-    @functools.cached_property
-    def folded(self) -> FoldedTexts:
-        own, parents, animals = dict[str, set[str]](), dict[str, set[str]](), self.society_records.values()
-        sexes = [*map(SEX_OF_NUMBER, map(NUMBER_OF, animals))]
-        for role, parent_of in (Role.SIRE, SIRE_OF), (Role.DAM, DAM_OF):
-            of_sex = [*itertools.compress(animals, map(role.sex.__eq__, sexes))]
-            own[role.sex] = folded_texts(map(ID_OF, of_sex)) | folded_texts(map(NAME_OF, of_sex))
-            parents[role.sex] = folded_texts(map(self.ids.__getitem__, {*map(parent_of, self.records.values())}))
-        return FoldedTexts(own, parents)
-
     def may_disagree(self, others: Iterable[SheetAnimal]) -> bool:
         """May any animal be a parent of the other sex, or of another one in the book, where all other rows say what the
         book has?"""
-        own, parents, rows = self.folded.own, self.folded.parents, [*others]
+        folded, rows = self.in_book.folded, [*others]
+        own, parents = folded.own, folded.parents
         texts = {role.sex: {row.parent(role).casefold() for row in rows} for role in Role}
-        if not self.folded.agree() or any(not own[sex].isdisjoint(texts[OTHER_SEX[sex]]) for sex in own):
+        if not folded.agree() or any(not own[sex].isdisjoint(texts[OTHER_SEX[sex]]) for sex in own):
             return True
         for row in rows:
             if row.sex and (in_book := self.society_records.get(row.id)) and in_book.registration_number[6] != row.sex:
@@ -137,11 +109,6 @@ class RowsOfBook:
             if other and not (named.isdisjoint(parents[other]) and named.isdisjoint(texts[other])):
                 return True
         return False
-
-
-def folded_texts(texts: Iterable[str]) -> set[str]:
-    """The texts that aren't empty, in small letters."""
-    return {*map(str.casefold, texts)} - {""}
 
 
 def is_given(in_book: SocietyRecord) -> bool:

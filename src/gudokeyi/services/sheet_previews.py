@@ -140,7 +140,9 @@ def changes_something(kind: type[Finding], drops_gone: bool) -> bool:
 def values_told(kind: type[Finding]) -> Callable[[Finding], object]:
     """What gets the values of a finding of a kind: that is a fraction of what its text takes."""
     names = [] if issubclass(kind, NewAnimal) else [one.name for one in fields(kind)]
-    return operator.attrgetter(*names) if names else lambda _: ""
+    if not names:
+        return lambda _: ""
+    return operator.attrgetter(*names)
 
 
 def animals_otherwise(before: Mapping[str, bytes], now: Mapping[str, bytes]) -> tuple[str, ...]:

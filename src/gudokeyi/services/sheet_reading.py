@@ -10,9 +10,8 @@ from __future__ import annotations
 
 import datetime
 import itertools
-import operator
 from collections.abc import Callable, Collection, Iterable, Mapping
-from dataclasses import dataclass, field, fields
+from dataclasses import dataclass, field
 from typing import Container
 
 from gudokeyi.domain.animals import NO_OWNER
@@ -185,12 +184,9 @@ class AnimalsRead:
     entries: list[Entry]
 
 
-VALUES_OF = operator.attrgetter(*(one.name for one in fields(SheetAnimal)))
-
-
 def copied(animals: Iterable[SheetAnimal]) -> list[SheetAnimal]:
     """The same, of which something may be found; their cells stay as they are."""
-    copies = [*itertools.starmap(SheetAnimal, map(VALUES_OF, animals))]
+    copies = [*map(SheetAnimal.copy, animals)]
     for animal in itertools.compress(copies, map(UNREAD_OF, copies)):
         animal.unread = [*animal.unread]
     return copies

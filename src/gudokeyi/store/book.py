@@ -42,6 +42,9 @@ class BookState(NamedTuple):
     names: Mapping[str, SocietyRecord]
     records: Mapping[str, RegisterRecord]
     cells: dict[Values, Values]
+    # those that aren't in the book any more, and the numbers of those that were once
+    dropped: dict[str, SocietyRecord]
+    former_numbers: dict[str, str]
 
 
 class Book:
@@ -62,6 +65,8 @@ class Book:
         self.notes: list[str] = []
         # the journal, where it is read beside other work
         self.beside: Pieces | None = None
+        # the numbers of animals that were in it once, where they were read before
+        self.former_numbers_read: dict[str, str] | None = None
         # by an animal's id
         self.society_records: Mapping[str, SocietyRecord] = Lazy(self.read_society_record, self.read_society_records)
         # by its number
@@ -81,11 +86,15 @@ class Book:
     def state(self) -> BookState:
         """All animals, before anything is called otherwise."""
         self.read_all()
-        return BookState(self.every_row, self.society_records, self.names, self.records, self.cells)
+        return BookState(
+            self.every_row, self.society_records, self.names, self.records, self.cells, self.dropped,
+            self.former_numbers(),
+        )  # fmt: skip
 
     def begin_with(self, state: BookState) -> None:
         """The animals are those that were read of the book in this state."""
-        self.every_row, self.cells = state.rows, state.cells
+        self.every_row, self.cells, self.dropped = state.rows, state.cells, state.dropped
+        self.former_numbers_read = state.former_numbers
         self.society_records, self.names, self.records = state.society_records, state.names, state.records
 
     @property
@@ -97,7 +106,7 @@ class Book:
         """All animals, which were read at once, have their new ids from here on."""
         tags, before, cells, names = self.new_tags, self.society_records, self.cells, {**self.names}
         keys: dict[Values, Values] = {(id,): (now,) for id, now in tags.items()}
-        animals = dict(zip(map(tags.get, before, before), before.values()))
+        animals: dict[str, SocietyRecord] = dict(zip(map(tags.get, before, before), before.values()))
         self.cells = dict(zip(map(keys.get, cells, cells), cells.values()))
         for id, now in tags.items():
             animals[now] = names[before[id].registration_number] = before[id]._replace(id=now)
@@ -227,6 +236,8 @@ class Book:
 
     def former_numbers(self) -> dict[str, str]:
         """The last number of each animal that was in the book once, as before an undo, and isn't named there now."""
+        if self.former_numbers_read is not None:
+            return self.former_numbers_read
         former = f"""
             SELECT id, number FROM animal AS one WHERE until IS NOT NULL
             AND NOT EXISTS (SELECT 1 FROM animal WHERE id = one.id AND until IS NULL) AND NOT {HAS_OTHER_ID} ORDER BY since
