@@ -81,9 +81,13 @@ TITLES = {
     "Lebensstatus, Lebenszustand, " + REASONS + ", situation, lebt, "
     "lebend, lebendig, aktiv, im Bestand, alive, living, active, vivant, en vie, actif",
 }  # fmt: skip
-# the sire and the dam of a sheet that has one column for each of a pair, and none of the titles above
-PAIRS = {Field.SIRE: "dog, stallion, ram, buck, bull, Rüde, Hengst, Bock, Bulle, étalon, bélier, chien",
-         Field.DAM: "bitch, mare, ewe, doe, cow, Hündin, Stute, Aue, Ziege, Kuh, jument, brebis, chienne"}  # fmt: skip
+# words for sexes that stand for the sire and the dam where a sheet has none of the titles above, or beside these
+PAIRS = {
+    Field.SIRE: "dog, stallion, ram, tup, buck, billy, bull, boar, Rüde, Hengst, Bock, Ziegenbock, Schafbock, Widder, "
+    "Bulle, Stier, Muni, Eber, Kater, Rammler, étalon, bélier, bouc, taureau, verrat, chien",
+    Field.DAM: "bitch, mare, ewe, doe, nanny, cow, sow, Hündin, Stute, Aue, Ziege, Geiß, Kuh, Sau, Kätzin, Häsin, "
+    "jument, brebis, chèvre, vache, truie, chienne",
+}  # fmt: skip
 # titles whose columns may have something else than exits
 DOUBTFUL_EXITS = (
     "Verbleib, fate, whereabouts, disposal, devenir, status, Tierstatus, statut, état, Zustand, Lebensstatus, "
@@ -119,18 +123,6 @@ def usual_titles(field: Field) -> list[str]:
 
 
 BETWEEN_WORDS = re.compile(r"[^\w♂♀]+")
-# words for parents that titles have with others
-PARENT_WORDS = {
-    Field.SIRE: {plain(word) for word in listed("sire, sires, father, fathers, Vater, Vaters, Vatertier, père")},
-    Field.DAM: {plain(word) for word in listed("dam, dams, mother, mothers, Mutter, Muttertier, mère")},
-}
-
-
-def names_parent(title: str, parent: Field) -> bool:
-    """Does a title name this parent among other words, and no other one, as `N° de travail du père`?"""
-    words = [plain(word) for word in BETWEEN_WORDS.split(title)]
-    named = [word for word in words if any(word in known for known in PARENT_WORDS.values())]
-    return len(named) == 1 < len(words) and named[0] in PARENT_WORDS[parent]
 
 
 KNOWN_TITLES: dict[str, list[str]] = {field: usual_titles(field) for field in TITLES}
