@@ -81,7 +81,8 @@ PARENTS = [
 def test_parents_by_words_for_sexes(desk: Desk, titles: str) -> None:
     """They are read, and told where a name stands beside, as where a parent's word is the title; so are they later."""
     rows = "A1;Pat;M;2015-03-03;;;;\nA2;Lady;F;2015-03-04;;;;\nA3;Ruby;F;2017-03-03;Pat;A1;Lady;A2\n"
-    rows += "A4;Daisy;F;2018-03-03;Pat;A1;Lady;A2\nA5;Mab;F;2018-03-05;Rex;;Lady;\nA6;Glo;F;2019-03-03;Ruby;A1;Lady;A2\n"
+    rows += "A4;Daisy;F;2018-03-03;Pat;A1;Lady;A2\nA5;Mab;F;2018-03-05;Rex;;Lady;\n"
+    rows += "A6;Glo;F;2019-03-03;Ruby;A1;Lady;A2\n"
     sire, of_sire, dam, of_dam = titles.split(";")
     for _ in range(2):
         done = desk.take(f"Id;Name;Sex;Birth;{titles}\n{rows}")

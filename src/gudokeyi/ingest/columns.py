@@ -23,6 +23,7 @@ from gudokeyi.ingest.findings.columns import (
 from gudokeyi.ingest.findings.rows import CastratedInRemarks, ExitsInRemarks, FieldUnread, StatusUnread
 from gudokeyi.ingest.findings.sheets import MOST_SHOWN
 from gudokeyi.ingest.names_for_ids import names_for_ids
+from gudokeyi.ingest.owners_beside import owners_beside
 from gudokeyi.ingest.parent_titles import MOST_ALIKE, PARENTS, columns_of_pair, columns_of_parent
 from gudokeyi.ingest.remarks import telling_castrations, telling_exits
 from gudokeyi.ingest.sheets import Sheet
@@ -124,6 +125,7 @@ def find_columns(
     if Field.STATUS in columns.found and Field.EXIT not in columns.found and named.get(Field.EXIT) != "":
         columns.found[Field.EXIT] = columns.found.pop(Field.STATUS)
     tell_parents_beside(columns, unknown)
+    columns.notes += owners_beside(sheet, columns.found)
     tell_untitled(columns)
     tell_unread_statuses(columns, named)
     tell_unread_fields(columns, named)

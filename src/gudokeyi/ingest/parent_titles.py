@@ -1,5 +1,5 @@
-"""Which columns have a parent, as their titles say: by a word for a sire or a dam, as `Sire Tag`, or by one for a sex, as
-`Ram Tag`, where it is a parent's."""
+"""Which columns have a parent, as their titles say: by a word for a sire or a dam, as `Sire Tag`, or by one for a sex,
+as `Ram Tag`, where it is a parent's."""
 from __future__ import annotations
 
 import enum

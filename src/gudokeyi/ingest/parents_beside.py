@@ -24,7 +24,7 @@ class NamedOtherwise(NamedTuple):
 
 
 def tell_parents_named_otherwise(columns: Columns, animals: Mapping[str, SheetAnimal], report: Report) -> None:
-    beside = [(role, at) for role in Role if role in columns.found for at in columns.of_parent(role)]
+    beside = [(role, at) for role in Role if role in columns.found for at in columns.of_parent(Field(role))]
     if not beside or Field.NAME not in columns.found:
         return
     names = {id: animal.name for id, animal in animals.items() if animal.name}

@@ -55,13 +55,18 @@ TITLES = {
     Field.DAM: "dam, of dam, mother, Mutter, der Mutter, Muttertier, mère, de la mère, mère SIRE, "
     "dam name, name of dam, dam's name, mother name, Name Mutter, Muttername, Name der Mutter, nom de la mère, "
     "nom mère, dam registered name, Name d. Mutter, Rufname Mutter, M-Name",
-    Field.OWNER: "owner, current owner, present owner, owner name, name of owner, owner's name, aktueller Besitzer, "
+    Field.OWNER: "owner, current owner, present owner, owner name, name of owner, owner's name, owner surname, "
+    "owner's surname, surname of owner, owner last name, owner's last name, owner family name, keeper surname, "
+    "Nachname Besitzer, Besitzer Nachname, Nachname des Besitzers, Familienname Besitzer, Nachname Eigentümer, "
+    "Eigentümer Nachname, Nachname Halter, Halter Nachname, nom de famille du propriétaire, "
+    "nom de famille propriétaire, aktueller Besitzer, "
     "propriétaire actuel, herd, flock, farm, holding, keeper, Besitzer, Besitzerin, "
     "Eigentümer, Eigentümerin, Halter, Tierhalter, Betrieb, propriétaire, détenteur, élevage, exploitation, "
     "herd name, flock name, farm name, name of farm, keeper name, name of keeper, Name Besitzer, Name des Besitzers, "
     "Besitzername, Name Eigentümer, Name des Eigentümers, Eigentümername, Name Halter, Name des Halters, Haltername, "
     "Name Tierhalter, Name des Tierhalters, Betriebsname, Name des Betriebs, nom du propriétaire, nom propriétaire, "
-    "nom du détenteur, nom détenteur, nom de l'élevage, nom élevage, nom de l'exploitation, nom exploitation",
+    "nom du détenteur, nom détenteur, nom de l'élevage, nom élevage, nom de l'exploitation, nom exploitation, "
+    "surname, last name, family name, Nachname, Familienname, nom de famille",
     Field.SINCE: "owner since, owned since, since, date of transfer, transfer date, transferred, date of purchase, "
     "purchase date, bought, acquired, Besitzer seit, im Besitz seit, seit, Besitzwechsel, Besitzerwechsel, "
     "Besitzwechsel am, Besitzerwechsel am, Wechseldatum, Halter seit, Eigentümer seit, gekauft am, Kaufdatum, "

@@ -18,6 +18,7 @@ from gudokeyi.ingest.exits_beside import columns_beside
 from gudokeyi.ingest.files import GivenFile
 from gudokeyi.ingest.findings.columns import ColumnUntitled
 from gudokeyi.ingest.names_for_ids import names_read
+from gudokeyi.ingest.owners_beside import first_names_column
 from gudokeyi.ingest.parents_beside import tell_parents_named_otherwise
 from gudokeyi.ingest.statuses import reasons_beside
 from gudokeyi.ingest.texts import plain
@@ -294,8 +295,13 @@ def understood_of(
     kept = tuple(sheet.titles[at] for at in sorted({*own.places.values(), *of_reasons}))
     places_beside = [*columns_beside(sheet, columns.found), *year_column(sheet, columns.found)]
     places_beside += names_read(sheet, columns.found, read.rows.unknown)
-    beside = [sheet.titles[at] for at in places_beside]
-    titles = tuple(ColumnRead(Field(name), title) for name, title in columns.titles_found())
+    first_names = first_names_column(sheet, columns.found)
+    with_owners = "" if first_names is None else sheet.titles[first_names]
+    beside = [*(sheet.titles[at] for at in places_beside), with_owners]
+    titles = tuple(
+        ColumnRead(Field(name), title, with_owners if name == Field.OWNER else "")
+        for name, title in columns.titles_found()
+    )
     return Understood(
         str(path),
         len(sheet.rows),
