@@ -57,10 +57,11 @@ class OfSex(NamedTuple):
 # endings of such a word, and what stands between it and another one, without blanks and signs
 ENDINGS = "", "s", "es", "n"
 LINKS = "", "du", "de", "dela", "del", "des", "der", "d", "of", "ofthe", "vom"
+IDS = {*KNOWN_TITLES[Field.ID], "hb"}
 KNOWN_NAMES = {"name", "rufname", "nom", "registeredname"}
 
 
-@functools.lru_cache(10_000)
+@functools.lru_cache(100_000)
 def of_sex(title: str) -> OfSex | None:
     """What a title says that has such a word alone, or beside one for an id or a name."""
     compared = plain(title)
@@ -81,9 +82,6 @@ def beside_word(title: str, word: str) -> Tells | None:
     if any(other in KNOWN_NAMES for other in others):
         return Tells.NAME
     return Tells.ID if any(other in IDS for other in others) else None
-
-
-IDS = {*KNOWN_TITLES[Field.ID], "hb"}
 
 
 def columns_of_sex(sheet: Sheet, parent: Field) -> list[tuple[Tells, int]]:
