@@ -37,6 +37,14 @@ def test_first_names_stand_before(desk: Desk) -> None:
     assert "owner from 'Owner' and 'Owner forename'" in done.out
 
 
+@pytest.mark.parametrize("other, owner", [("Ort", "Meier Hans"), ("Betrieb", "Ulm")])
+def test_name_of_a_person(desk: Desk, other: str, owner: str) -> None:
+    """Beside a first name it isn't the animal's, where another column has that; it is the owner's where no other is."""
+    for _ in range(2):
+        desk.take(f"Id;Tiername;Birth;Sire;Dam;Name;Vorname;{other}\nA1;Balz;2010;;;Meier;Hans;Ulm\n")
+        assert [[*row.values()] for row in desk.listed("list", "--columns", "name,owner")] == [["Balz", owner]]
+
+
 def test_first_names_of_others(desk: Desk) -> None:
     """They aren't read where they may be another's; an owner beside several of them is told before all else."""
     rows = "A1;Meier;Hans;{0};2010;;\nA2;Egli;Leo;{0};2010;;\nA3;Egli;Rita;Huber;2010;;\n"

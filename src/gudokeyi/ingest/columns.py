@@ -23,7 +23,7 @@ from gudokeyi.ingest.findings.columns import (
 from gudokeyi.ingest.findings.rows import CastratedInRemarks, ExitsInRemarks, FieldUnread, StatusUnread
 from gudokeyi.ingest.findings.sheets import MOST_SHOWN
 from gudokeyi.ingest.names_for_ids import names_for_ids
-from gudokeyi.ingest.owners_beside import owners_beside
+from gudokeyi.ingest.owners_beside import owners_beside, persons_name
 from gudokeyi.ingest.parent_titles import MOST_ALIKE, PARENTS, columns_of_pair, columns_of_parent
 from gudokeyi.ingest.remarks import telling_castrations, telling_exits
 from gudokeyi.ingest.sheets import Sheet
@@ -50,9 +50,9 @@ class Columns:
     # the title of the book's ids, where no column has these
     lacks_ids: str = ""
     notes: list[SheetFinding] = field(default_factory=list)
-    # the columns that have parts of days, and those that can only have parents
+    # the columns that have parts of days, and those that can only have parents or persons
     parts: Collection[int] = ()
-    of_pair: Collection[int] = ()
+    apart: Collection[int] = ()
 
     def cells(self, at: int) -> list[str]:
         return self.sheet.column(at)
@@ -77,7 +77,7 @@ class Columns:
         return found
 
     def is_free(self, at: int) -> bool:
-        return at not in self.found.values() and at not in self.parts and at not in self.of_pair
+        return at not in self.found.values() and at not in self.parts and at not in self.apart
 
     def in_order(self) -> dict[str, int]:
         return {name: self.found[name] for name in TITLES if name in self.found}
@@ -105,7 +105,8 @@ def find_columns(
         if named.get(name) and (name != Field.ID or name in given):
             name_column(columns, name, named)
     # a dog and a bitch may be the animals themselves, but for where both have a column
-    columns.of_pair = [at for at in columns_of_pair(sheet) if columns.is_free(at)]
+    columns.apart = [at for at in columns_of_pair(sheet) if columns.is_free(at)]
+    find_person(columns, named)
     for name in TITLES:
         if name not in named and name not in (Field.ID, *PARENTS):
             usual_column(columns, name)
@@ -116,7 +117,7 @@ def find_columns(
         if name not in named and name not in columns.found:
             column_below(columns, name)
     find_births_in_parts(columns, given, only_ids(columns, before.get(Field.ID, "")))
-    columns.of_pair = ()
+    columns.apart = ()
     parents = [name for name in PARENTS if name not in named and name not in columns.found]
     IdColumn(columns, parents, unknown, ids, before.get(Field.ID, "")).find()
     tell_parents_from_others(columns, parents)
@@ -377,6 +378,17 @@ def looks_like_exit_days(title: str, cells: collections.Counter[str]) -> bool:
     if plain(title) in KNOWN_BUYERS:
         return any(map(LETTER.search, cells))
     return has_word(title, TELLING_EXITS) and 2 * sum(cells[cell] for cell in cells if is_span(cell)) > cells.total()
+
+
+def find_person(columns: Columns, named: Mapping[str, str]) -> None:
+    """A column `Name` beside one of first names is the owner's where no other is, and not the animals'."""
+    at = persons_name(columns.sheet)
+    if at is None or not columns.is_free(at):
+        return
+    if Field.OWNER in named or columns.titled(KNOWN_TITLES[Field.OWNER]):
+        columns.apart = [*columns.apart, at]
+    else:
+        columns.found[Field.OWNER] = at
 
 
 def tell_doubles(columns: Columns) -> None:

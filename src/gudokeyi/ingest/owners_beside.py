@@ -58,6 +58,18 @@ def first_names_column(sheet: Sheet, columns: Mapping[str, int]) -> int | None:
     return likely[0] if likely and titles[at] not in FARMS else None
 
 
+# a title that animals' names have too
+NAMES = {"name", "nom"}
+
+
+def persons_name(sheet: Sheet) -> int | None:
+    """The only column `Name` of whoever has a first name in the next one, where another has the animals' names."""
+    titles = [plain(title) for title in sheet.titles]
+    found = [at for at, title in enumerate(titles[:-1]) if title in NAMES and titles[at + 1] in FIRST_NAMES]
+    of_animals = {*titles} & {*KNOWN_TITLES[Field.NAME]} - NAMES
+    return found[0] if len(found) == 1 and of_animals else None
+
+
 def is_first_name(title: str) -> bool:
     return title in OF_OWNERS or title in FIRST_NAMES
 
