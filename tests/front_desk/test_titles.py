@@ -71,6 +71,39 @@ def test_names_of_parents_beside(desk: Desk, title: str) -> None:
     )
 
 
+PARENTS = [
+    "Boar;Boar Tag;Sow;Sow Tag", "Boar Name;Boar No;Sow Name;Sow No", "Eber;Eber-Nr.;Sau;Sau-Nr.",
+    "Bockname;Bock;Ziegenname;Ziege", "Nom du bouc;N° bouc;Chèvre;N° de la chèvre", "Ram;Ram Tag;Dam;Dam Tag",
+]  # fmt: skip
+
+
+@pytest.mark.parametrize("titles", PARENTS)
+def test_parents_by_words_for_sexes(desk: Desk, titles: str) -> None:
+    """They are read, and told where a name stands beside, as where a parent's word is the title; so are they later."""
+    rows = "A1;Pat;M;2015-03-03;;;;\nA2;Lady;F;2015-03-04;;;;\nA3;Ruby;F;2017-03-03;Pat;A1;Lady;A2\n"
+    rows += "A4;Daisy;F;2018-03-03;Pat;A1;Lady;A2\nA5;Mab;F;2018-03-05;Rex;;Lady;\n"
+    rows += "A6;Glo;F;2019-03-03;Ruby;A1;Lady;A2\n"
+    sire, of_sire, dam, of_dam = titles.split(";")
+    for _ in range(2):
+        done = desk.take(f"Id;Name;Sex;Birth;{titles}\n{rows}")
+        told = [f"nothing in '{of_sire}', and 'Rex' in '{sire}'", f"nothing in '{of_dam}', and 'Lady' in '{dam}'"]
+        assert all(one in done.told for one in told) and "as at the last time, and" not in done.told
+        told = [line for line in done.report if f"its sire A1 is 'Pat', and '{sire}' has 'Ruby', which is A3" in line]
+        assert len(told) == 1 and desk.parents()["A4"] == desk.parents()["A6"] == ("A1", "A2")
+
+
+@pytest.mark.parametrize(
+    "sheet",
+    [
+        "Matricule;Chèvre;Né le;Père;Mère\nA1;Pat;2015;;\nA2;Lady;2015;;\nA3;Ruby;2017;A1;A2\nA4;Mab;2018;A1;A2\n",
+        "Id;Widder;Aue;Birth;Vater;Mutter\nA1;x;;2015;;\nA2;;x;2015;;\nA3;;x;2017;A1;A2\nA4;;x;2018;A1;A2\n",
+    ],
+)
+def test_words_for_sexes_that_are_no_parents(desk: Desk, sheet: str) -> None:
+    """The animals themselves, and marks of their sexes, are none, nor is anything told of them."""
+    assert "nothing in '" not in desk.take(sheet).told and desk.parents()["A4"] == ("A1", "A2")
+
+
 def test_name_of_an_owner(desk: Desk) -> None:
     """A title that says whose name a column has is one of owners, beside that of the animals' names."""
     desk.take("id;Name;Name des Besitzers;birth;sire;dam\na;Alma;Huber;2001;;\nb;;Meier;2002;;\n")

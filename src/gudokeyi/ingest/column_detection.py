@@ -10,7 +10,8 @@ from gudokeyi.domain.kinds import Field
 from gudokeyi.domain.spelling import closest
 from gudokeyi.ingest.days import DayFault, Unreadable, read_span
 from gudokeyi.ingest.findings.columns import IdsCountRows, IdsFromOther, IdsMoved, LikelyColumn
-from gudokeyi.ingest.titles import KNOWN_TITLES, names_parent
+from gudokeyi.ingest.parent_titles import PARENTS, names_parent
+from gudokeyi.ingest.titles import KNOWN_TITLES
 from gudokeyi.ingest.texts import nearly, plain
 from gudokeyi.ingest.words import KNOWN_EXITS, KNOWN_SEXES, KNOWN_STAYS, has_word, sex_word
 
@@ -79,7 +80,7 @@ class IdColumn:
             self.take(fit.at, fit.parents)
         else:
             for name in self.wanted:
-                self.columns.found |= {name: at for at in self.columns.titled(KNOWN_TITLES[name])[:1]}
+                self.columns.found |= {name: at for at in self.columns.of_parent(name)[:1]}
 
     def take(self, at: int, parents: dict[str, int]) -> None:
         self.columns.found[Field.ID] = at
@@ -91,7 +92,7 @@ class IdColumn:
         """The column that has the most ids of the book, where these are most of its cells; else the one with the
         title that the book's has."""
         columns = self.columns
-        parents = {at for role in (Field.SIRE, Field.DAM) for at in columns.titled(KNOWN_TITLES[role])}
+        parents = {at for role in PARENTS for at in columns.of_parent(role)}
         # the number that French horses have is called `SIRE`
         parents = {at for at in parents if plain(columns.title(at)) != plain(self.before)}
         free = [at for at, title in enumerate(columns.sheet.titles) if title and columns.is_free(at)]
@@ -139,7 +140,7 @@ class IdColumn:
 
     def fit(self, at: int, likely: int) -> Fit:
         ids, parents = Ids(self.columns.cells(at)), self.parents(at)
-        named = [self.columns.found.get(name) for name in (Field.SIRE, Field.DAM) if name not in self.wanted]
+        named = [self.columns.found.get(name) for name in PARENTS if name not in self.wanted]
         places = [*parents.values(), *(one for one in named if one is not None)]
         return Fit(sum(self.count(one, ids) for one in places), not self.are_row_numbers(at), likely, at, parents)
 
@@ -160,7 +161,7 @@ class IdColumn:
 
     def links(self, fit: Fit) -> int:
         """How many cells name a parent."""
-        places = {name: at for name, at in self.columns.found.items() if name in (Field.SIRE, Field.DAM)} | fit.parents
+        places = {name: at for name, at in self.columns.found.items() if name in PARENTS} | fit.parents
         return sum(cell not in self.unknown for at in places.values() for cell in self.columns.cells(at))
 
     def are_different(self, at: int) -> bool:
@@ -172,7 +173,7 @@ class IdColumn:
 
 def parent_columns(columns: Columns, parent: Field) -> list[int]:
     """Those with a usual title, and beside them others that name the parent alone, as `Sire IAR no.`."""
-    usual = columns.titled(KNOWN_TITLES[parent])
+    usual = columns.of_parent(parent)
     titles = enumerate(columns.sheet.titles) if usual else ()
     return usual + [at for at, title in titles if at not in usual and columns.is_free(at) and names_parent(title, parent)]
 
@@ -212,7 +213,7 @@ class LikelyColumns:
     def of_needed(self, missing: list[Field]) -> tuple[LikelyColumn, ...]:
         """A column for each field that is missing, or none."""
         found: dict[Field, int | None] = {Field.BIRTH: self.of_days()} if Field.BIRTH in missing else {}
-        parents = [field for field in (Field.SIRE, Field.DAM) if field in missing]
+        parents = [field for field in PARENTS if field in missing]
         left = [at for at in self.free if at not in found.values()]
         id = self.columns.found.get(Field.ID)
         ids: list[int] = left if id is None else [id]

@@ -25,11 +25,13 @@ from gudokeyi.ingest.findings.rows import CastratedInRemarks, ExitsInRemarks, Fi
 from gudokeyi.ingest.findings.sheets import MOST_SHOWN
 from gudokeyi.ingest.many_texts import likely_among
 from gudokeyi.ingest.names_for_ids import names_for_ids
+from gudokeyi.ingest.owners_beside import owners_beside, persons_name
+from gudokeyi.ingest.parent_titles import MOST_ALIKE, PARENTS, columns_of_pair, columns_of_parent
 from gudokeyi.ingest.remarks import telling_castrations, telling_exits
 from gudokeyi.ingest.sheets import Sheet
 from gudokeyi.ingest.titles import (
-    KNOWN_DOUBTFUL, KNOWN_PAIRS, KNOWN_REASONS, KNOWN_TITLES, NEEDED, TITLES, known_titles, names_both_sexes,
-    names_exits_alone, said_of,
+    KNOWN_DOUBTFUL, KNOWN_REASONS, KNOWN_TITLES, NEEDED, TITLES, known_titles, names_both_sexes, names_exits_alone,
+    said_of,
 )  # fmt: skip
 from gudokeyi.ingest.texts import plain
 from gudokeyi.ingest.words import (
@@ -37,10 +39,7 @@ from gudokeyi.ingest.words import (
     LETTER, TELLING_EXITS, has_word, lives, sex_word,
 )  # fmt: skip
 
-PARENTS = Field.SIRE, Field.DAM
 KNOWN_SAID_CASTRATED = KNOWN_CASTRATED | KNOWN_NEUTERED
-# so many columns of one title are looked at
-MOST_ALIKE = 20
 
 
 @dataclass
@@ -53,8 +52,9 @@ class Columns:
     # the title of the book's ids, where no column has these
     lacks_ids: str = ""
     notes: list[SheetFinding] = field(default_factory=list)
-    # the columns that have parts of days
+    # the columns that have parts of days, and those that can only have parents or persons
     parts: Collection[int] = ()
+    apart: Collection[int] = ()
 
     def cells(self, at: int) -> list[str]:
         return self.sheet.column(at)
@@ -72,6 +72,10 @@ class Columns:
         """The columns that have one of these titles and no other field, the likeliest title first."""
         return [at for title in usual for at in self.by_title.get(title, [])[:MOST_ALIKE] if self.is_free(at)]
 
+    def of_parent(self, parent: Field) -> list[int]:
+        """The columns with a usual title for a parent and no other field, the likeliest first."""
+        return [at for at in columns_of_parent(self.sheet, parent) if self.is_free(at)]
+
     @functools.cached_property
     def by_title(self) -> dict[str, list[int]]:
         """The columns of each title: a sheet may have very many."""
@@ -81,7 +85,7 @@ class Columns:
         return found
 
     def is_free(self, at: int) -> bool:
-        return at not in self.found.values() and at not in self.parts
+        return at not in self.found.values() and at not in self.parts and at not in self.apart
 
     def in_order(self) -> dict[str, int]:
         return {name: self.found[name] for name in TITLES if name in self.found}
@@ -108,7 +112,9 @@ def find_columns(
         # which column has the ids of a book is seen in its cells
         if named.get(name) and (name != Field.ID or name in given):
             name_column(columns, name, named)
-    find_pair(columns, [name for name in PARENTS if name not in named])
+    # a dog and a bitch may be the animals themselves, but for where both have a column
+    columns.apart = [at for at in columns_of_pair(sheet) if columns.is_free(at)]
+    find_person(columns, named)
     for name in TITLES:
         if name not in named and name not in (Field.ID, *PARENTS):
             usual_column(columns, name)
@@ -119,6 +125,7 @@ def find_columns(
         if name not in named and name not in columns.found:
             column_below(columns, name)
     find_births_in_parts(columns, given, only_ids(columns, before.get(Field.ID, "")))
+    columns.apart = ()
     parents = [name for name in PARENTS if name not in named and name not in columns.found]
     IdColumn(columns, parents, unknown, ids, before.get(Field.ID, "")).find()
     tell_parents_from_others(columns, parents)
@@ -127,6 +134,7 @@ def find_columns(
     if Field.STATUS in columns.found and Field.EXIT not in columns.found and named.get(Field.EXIT) != "":
         columns.found[Field.EXIT] = columns.found.pop(Field.STATUS)
     tell_parents_beside(columns, unknown)
+    columns.notes += owners_beside(sheet, columns.found)
     tell_untitled(columns)
     tell_unread_statuses(columns, named)
     tell_unread_fields(columns, named)
@@ -332,9 +340,10 @@ def tell_untitled(columns: Columns) -> None:
 def tell_parents_from_others(columns: Columns, parents: list[Field]) -> None:
     """Parents whose ids stand in a column with another title than the usual ones."""
     for name in (one for one in parents if one in columns.found):
-        title, usual = columns.title(columns.found[name]), columns.titled(KNOWN_TITLES[name])
-        if usual and plain(title) not in KNOWN_TITLES[name]:
-            columns.notes.append(ParentsFromOther(name, title, columns.title(usual[0])))
+        at, usual = columns.found[name], columns_of_parent(columns.sheet, name)
+        others = [one for one in usual if columns.is_free(one)]
+        if others and at not in usual:
+            columns.notes.append(ParentsFromOther(name, columns.title(at), columns.title(others[0])))
 
 
 def tell_parents_beside(columns: Columns, unknown: Container[str]) -> None:
@@ -342,7 +351,7 @@ def tell_parents_beside(columns: Columns, unknown: Container[str]) -> None:
     sheet, found = columns.sheet, columns.found
     for name in (one for one in PARENTS if one in columns.found):
         read = {sheet.rows[place].line for place in names_for_ids(sheet.rows, sheet, found, name, unknown)}
-        for at in columns.titled(KNOWN_TITLES[name]):
+        for at in columns.of_parent(name):
             both = zip(columns.sheet.rows, columns.cells(columns.found[name]), columns.cells(at))
             lacking = [(row.line, beside) for row, id, beside in both if id in unknown and beside not in unknown]
             lacking = [one for one in lacking if one[0] not in read] if lacking else []
@@ -383,12 +392,15 @@ def looks_like_exit_days(title: str, cells: collections.Counter[str]) -> bool:
     return has_word(title, TELLING_EXITS) and 2 * sum(cells[cell] for cell in cells if is_span(cell)) > cells.total()
 
 
-def find_pair(columns: Columns, wanted: list[Field]) -> None:
-    """The parents are in columns such as `Dog` and `Bitch` where none has a title for a sire or a dam."""
-    usual = [one for name in wanted for one in KNOWN_TITLES[name] if one not in KNOWN_PAIRS[name]]
-    pair = [columns.titled(KNOWN_PAIRS[name]) for name in wanted]
-    if len(pair) == len(PARENTS) and all(pair) and not columns.titled(usual):
-        columns.found |= {name: places[0] for name, places in zip(wanted, pair)}
+def find_person(columns: Columns, named: Mapping[str, str]) -> None:
+    """A column `Name` beside one of first names is the owner's where no other is, and not the animals'."""
+    at = persons_name(columns.sheet)
+    if at is None or not columns.is_free(at):
+        return
+    if Field.OWNER in named or columns.titled(KNOWN_TITLES[Field.OWNER]):
+        columns.apart = [*columns.apart, at]
+    else:
+        columns.found[Field.OWNER] = at
 
 
 def tell_doubles(columns: Columns) -> None:
@@ -402,15 +414,21 @@ def tell_doubles(columns: Columns) -> None:
 def tell_likelier(columns: Columns, given: Mapping[str, str], before: Mapping[str, str]) -> None:
     """A column that is read as at the last time, where the sheet has one besides whose title is likelier."""
     for name in (one for one in before if one in columns.found and one not in given and one != Field.ID):
-        usual = KNOWN_TITLES[name]
-        title = plain(columns.title(columns.found[name]))
-        if title in KNOWN_REASONS:
-            # what others with states say is told by itself
-            continue
-        likelier = columns.titled(usual[: usual.index(title)] if title in usual else usual)
+        title = columns.title(columns.found[name])
+        # what others with states say is told by itself
+        likelier = likelier_columns(columns, Field(name)) if plain(title) not in KNOWN_REASONS else []
         if likelier:
-            title = columns.title(columns.found[name])
             columns.notes.append(LikelierColumn(Field(name), title, columns.title(likelier[0])))
+
+
+def likelier_columns(columns: Columns, name: Field) -> list[int]:
+    """Those with likelier titles than the one that is read."""
+    at = columns.found[name]
+    if name in PARENTS:
+        places = columns_of_parent(columns.sheet, name)
+        return [one for one in places[: places.index(at) if at in places else None] if columns.is_free(one)]
+    usual, title = KNOWN_TITLES[name], plain(columns.title(at))
+    return columns.titled(usual[: usual.index(title)] if title in usual else usual)
 
 
 def tell_missing(columns: Columns, named: Mapping[str, str], likely: LikelyColumns) -> None:

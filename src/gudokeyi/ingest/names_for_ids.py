@@ -5,30 +5,27 @@ from collections.abc import Mapping, Sequence
 from typing import Container
 
 from gudokeyi.domain.kinds import Field
+from gudokeyi.ingest.parent_titles import PARENTS, columns_of_parent, names_parent
 from gudokeyi.ingest.sheets import Sheet, SheetRow, cell_of
-from gudokeyi.ingest.texts import plain
-from gudokeyi.ingest.titles import KNOWN_TITLES, names_parent
 
 
 def names_column(sheet: Sheet, columns: Mapping[str, int], parent: Field) -> list[int]:
     """The column with the likeliest title for a parent, which isn't read, beside one that names that parent and has the
     ids."""
     at = columns.get(parent)
-    if at is None or not names_parent(sheet.titles[at], parent) or plain(sheet.titles[at]) in KNOWN_TITLES[parent]:
+    if at is None or not names_parent(sheet.titles[at], parent):
         return []
-    usual = {title: likely for likely, title in enumerate(KNOWN_TITLES[parent])}
-    titles = ((at, plain(title)) for at, title in enumerate(sheet.titles) if at not in columns.values())
-    found = [(usual[title], at) for at, title in titles if title in usual]
-    return [at for _, at in sorted(found)[:1]]
+    usual = columns_of_parent(sheet, parent)
+    return [] if at in usual else [one for one in usual if one not in columns.values()][:1]
 
 
 def names_columns(sheet: Sheet, columns: Mapping[str, int]) -> list[int]:
-    return [at for parent in (Field.SIRE, Field.DAM) for at in names_column(sheet, columns, parent)]
+    return [at for parent in PARENTS for at in names_column(sheet, columns, parent)]
 
 
 def names_read(sheet: Sheet, columns: Mapping[str, int], unknown: Container[str]) -> list[int]:
     """Those of which a name is read."""
-    parents = [one for one in (Field.SIRE, Field.DAM) if names_for_ids(sheet.rows, sheet, columns, one, unknown)]
+    parents = [one for one in PARENTS if names_for_ids(sheet.rows, sheet, columns, one, unknown)]
     return [at for parent in parents for at in names_column(sheet, columns, parent)]
 
 
@@ -55,6 +52,6 @@ def names_for_ids(
 
 def with_names_for_ids(sheet: Sheet, columns: Mapping[str, int], unknown: Container[str]) -> dict[int, dict[int, str]]:
     """The names of both, by the places of their columns."""
-    parents = [parent for parent in (Field.SIRE, Field.DAM) if parent in columns]
+    parents = [parent for parent in PARENTS if parent in columns]
     found = {columns[parent]: names_for_ids(sheet.rows, sheet, columns, parent, unknown) for parent in parents}
     return {at: names for at, names in found.items() if names}

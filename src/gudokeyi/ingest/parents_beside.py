@@ -12,7 +12,6 @@ from gudokeyi.domain.messages import MOST_NAMED
 from gudokeyi.ingest.animals import SheetAnimal
 from gudokeyi.ingest.columns import Columns
 from gudokeyi.ingest.findings.rows import ParentNamedOtherwise
-from gudokeyi.ingest.titles import KNOWN_TITLES
 
 
 class NamedOtherwise(NamedTuple):
@@ -25,7 +24,7 @@ class NamedOtherwise(NamedTuple):
 
 
 def tell_parents_named_otherwise(columns: Columns, animals: Mapping[str, SheetAnimal], report: Report) -> None:
-    beside = [(role, at) for role in Role if role in columns.found for at in columns.titled(KNOWN_TITLES[role])]
+    beside = [(role, at) for role in Role if role in columns.found for at in columns.of_parent(Field(role))]
     if not beside or Field.NAME not in columns.found:
         return
     names = {id: animal.name for id, animal in animals.items() if animal.name}

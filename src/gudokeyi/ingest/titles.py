@@ -57,13 +57,18 @@ TITLES = {
     Field.DAM: "dam, of dam, mother, Mutter, der Mutter, Muttertier, mère, de la mère, mère SIRE, "
     "dam name, name of dam, dam's name, mother name, Name Mutter, Muttername, Name der Mutter, nom de la mère, "
     "nom mère, dam registered name, Name d. Mutter, Rufname Mutter, M-Name",
-    Field.OWNER: "owner, current owner, present owner, owner name, name of owner, owner's name, aktueller Besitzer, "
+    Field.OWNER: "owner, current owner, present owner, owner name, name of owner, owner's name, owner surname, "
+    "owner's surname, surname of owner, owner last name, owner's last name, owner family name, keeper surname, "
+    "Nachname Besitzer, Besitzer Nachname, Nachname des Besitzers, Familienname Besitzer, Nachname Eigentümer, "
+    "Eigentümer Nachname, Nachname Halter, Halter Nachname, nom de famille du propriétaire, "
+    "nom de famille propriétaire, aktueller Besitzer, "
     "propriétaire actuel, herd, flock, farm, holding, keeper, Besitzer, Besitzerin, "
     "Eigentümer, Eigentümerin, Halter, Tierhalter, Betrieb, propriétaire, détenteur, élevage, exploitation, "
     "herd name, flock name, farm name, name of farm, keeper name, name of keeper, Name Besitzer, Name des Besitzers, "
     "Besitzername, Name Eigentümer, Name des Eigentümers, Eigentümername, Name Halter, Name des Halters, Haltername, "
     "Name Tierhalter, Name des Tierhalters, Betriebsname, Name des Betriebs, nom du propriétaire, nom propriétaire, "
-    "nom du détenteur, nom détenteur, nom de l'élevage, nom élevage, nom de l'exploitation, nom exploitation",
+    "nom du détenteur, nom détenteur, nom de l'élevage, nom élevage, nom de l'exploitation, nom exploitation, "
+    "surname, last name, family name, Nachname, Familienname, nom de famille",
     Field.SINCE: "owner since, owned since, since, date of transfer, transfer date, transferred, date of purchase, "
     "purchase date, bought, acquired, Besitzer seit, im Besitz seit, seit, Besitzwechsel, Besitzerwechsel, "
     "Besitzwechsel am, Besitzerwechsel am, Wechseldatum, Halter seit, Eigentümer seit, gekauft am, Kaufdatum, "
@@ -83,9 +88,13 @@ TITLES = {
     "Lebensstatus, Lebenszustand, " + REASONS + ", situation, lebt, "
     "lebend, lebendig, aktiv, im Bestand, alive, living, active, vivant, en vie, actif",
 }  # fmt: skip
-# the sire and the dam of a sheet that has one column for each of a pair, and none of the titles above
-PAIRS = {Field.SIRE: "dog, stallion, ram, buck, bull, Rüde, Hengst, Bock, Bulle, étalon, bélier, chien",
-         Field.DAM: "bitch, mare, ewe, doe, cow, Hündin, Stute, Aue, Ziege, Kuh, jument, brebis, chienne"}  # fmt: skip
+# words for sexes that stand for the sire and the dam where a sheet has none of the titles above, or beside these
+PAIRS = {
+    Field.SIRE: "dog, stallion, ram, tup, buck, billy, bull, boar, Rüde, Hengst, Bock, Ziegenbock, Schafbock, Widder, "
+    "Bulle, Stier, Muni, Eber, Kater, Rammler, étalon, bélier, bouc, taureau, verrat, chien",
+    Field.DAM: "bitch, mare, ewe, doe, nanny, cow, sow, Hündin, Stute, Aue, Ziege, Geiß, Kuh, Sau, Kätzin, Häsin, "
+    "jument, brebis, chèvre, vache, truie, chienne",
+}  # fmt: skip
 # titles whose columns may have something else than exits
 DOUBTFUL_EXITS = (
     "Verbleib, fate, whereabouts, disposal, devenir, status, Tierstatus, statut, état, Zustand, Lebensstatus, "
@@ -121,18 +130,6 @@ def usual_titles(field: Field) -> list[str]:
 
 
 BETWEEN_WORDS = re.compile(r"[^\w♂♀]+")
-# words for parents that titles have with others
-PARENT_WORDS = {
-    Field.SIRE: {plain(word) for word in listed("sire, sires, father, fathers, Vater, Vaters, Vatertier, père")},
-    Field.DAM: {plain(word) for word in listed("dam, dams, mother, mothers, Mutter, Muttertier, mère")},
-}
-
-
-def names_parent(title: str, parent: Field) -> bool:
-    """Does a title name this parent among other words, and no other one, as `N° de travail du père`?"""
-    words = [plain(word) for word in BETWEEN_WORDS.split(title)]
-    named = [word for word in words if any(word in known for known in PARENT_WORDS.values())]
-    return len(named) == 1 < len(words) and named[0] in PARENT_WORDS[parent]
 
 
 KNOWN_TITLES: dict[str, list[str]] = {field: usual_titles(field) for field in TITLES}

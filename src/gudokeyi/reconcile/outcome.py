@@ -25,8 +25,14 @@ MOST_TITLES = 12
 
 @dataclass(frozen=True, slots=True)
 class ColumnRead:
+    """A field with the title of its column, and with that of one that is read with it."""
+
     field: Field
     title: str
+    beside: str = ""
+
+    def words(self) -> str:
+        return f"{self.field} from '{self.title}'" + (f" and '{self.beside}'" if self.beside else "")
 
 
 @dataclass(frozen=True, slots=True)
@@ -49,7 +55,7 @@ class Understood:
     untitled: tuple[str, ...] = ()
 
     def lines(self) -> list[str]:
-        read = ", ".join(f"{one.field} from '{one.title}'" for one in self.columns)
+        read = ", ".join(one.words() for one in self.columns)
         columns = "columns as at the last time" if self.as_before else f"columns: {read}"
         kept = some_of([f"'{title}'" for title in self.kept], MOST_TITLES)
         untitled = [f"column {letters} (without a title)" for letters in self.untitled]

@@ -18,6 +18,7 @@ from gudokeyi.ingest.files import GivenFile
 from gudokeyi.ingest.findings.columns import ColumnUntitled, TitleBelow
 from gudokeyi.ingest.inferred_values import columns_of_marks
 from gudokeyi.ingest.names_for_ids import names_read
+from gudokeyi.ingest.owners_beside import first_names_column
 from gudokeyi.ingest.parents_beside import tell_parents_named_otherwise
 from gudokeyi.ingest.statuses import reasons_beside
 from gudokeyi.ingest.texts import plain
@@ -314,8 +315,13 @@ def understood_of(
     sheet, columns = read.sheet, read.columns
     of_reasons = reasons_beside(sheet.titles, read.columns.found)
     kept = tuple(sheet.titles[at] for at in sorted({*own.places.values(), *of_reasons}))
-    beside = [sheet.titles[at] for at in places_beside(read)]
-    titles = tuple(ColumnRead(Field(name), title) for name, title in columns.titles_found())
+    first_names = first_names_column(sheet, columns.found)
+    with_owners = "" if first_names is None else sheet.titles[first_names]
+    beside = [*(sheet.titles[at] for at in places_beside(read)), with_owners]
+    titles = tuple(
+        ColumnRead(Field(name), title, with_owners if name == Field.OWNER else "")
+        for name, title in columns.titles_found()
+    )
     return Understood(
         str(path),
         len(sheet.rows),

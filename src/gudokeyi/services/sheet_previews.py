@@ -16,6 +16,7 @@ from gudokeyi.ingest.columns import Columns
 from gudokeyi.ingest.files import read_file
 from gudokeyi.ingest.findings.cells import OddRow
 from gudokeyi.ingest.messages import SheetFault
+from gudokeyi.ingest.owners_beside import first_names_column
 from gudokeyi.ingest.sheets import Sheet as Sheet, SheetRow
 from gudokeyi.ingest.texts import plain
 from gudokeyi.reconcile.findings.animals import KeptByHand, KeptFromBook, OwnValueWritten
@@ -43,6 +44,8 @@ class ColumnsView:
     fields: tuple[str, ...]
     rows: tuple[tuple[int, tuple[str, ...]], ...]
     count: int
+    # the columns that are read with that of a field, by their places
+    beside: Mapping[int, str]
     # the titles that the book doesn't know, with what is kept of each: nothing where nobody was asked
     others: tuple[tuple[str, str], ...] = ()
 
@@ -69,12 +72,14 @@ def columns_shown(
         raise Mistake(SheetFault.MANY_COLUMNS.said(
             path=path, columns=len(sheet.titles), letters=letters, most=MOST_COLUMNS, most_letters=MOST_TITLE_LETTERS
         ))  # fmt: skip
+    first_names = first_names_column(sheet, columns.found)
     view = ColumnsView(
         tuple(sheet.titles),
         tuple(names.get(at, "") for at in range(len(sheet.titles))),
         tuple((row.line, cells_shown(sheet, row, names)) for row in sheet.rows[:ROWS]),
         len(sheet.rows),
-        others_of(book, columns, import_options.own),
+        {} if first_names is None else {first_names: Field.OWNER},
+        others_of(book, columns, import_options.own, first_names),
     )
     return view, sheet
 
@@ -95,11 +100,16 @@ def cells_of(sheet: Sheet, lines: Collection[int]) -> dict[int, tuple[tuple[str,
     }
 
 
-def others_of(book: Book, columns: Columns, said: Sequence[str]) -> tuple[tuple[str, str], ...]:
-    """The columns that have none of a book's fields, with what is kept of each by what is said now, or was once."""
+def others_of(
+    book: Book, columns: Columns, said: Sequence[str], first_names: int | None
+) -> tuple[tuple[str, str], ...]:
+    """The columns that have none of a book's fields, with what is kept of each by what is said now, or was once; but
+    for that of the owners' first names, which are read with them."""
     kinds = {plain(one.title): one.kind.value for one in columns_now(book.connection)}
     kinds |= {plain(title): kind.value for title, kind in map(kind_said, said)}
     titles = dict.fromkeys(columns.titles_not_read())
+    if first_names is not None:
+        titles.pop(columns.title(first_names), None)
     return tuple((title, kinds.get(plain(title), "")) for title in [*titles][:MOST_OTHERS])
 
 
