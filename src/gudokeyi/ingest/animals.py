@@ -6,6 +6,7 @@ import itertools
 import operator
 from collections.abc import Collection, Iterable, Mapping
 from dataclasses import dataclass, field
+from typing import NamedTuple
 
 from gudokeyi.domain.animals import SocietyRecord
 from gudokeyi.domain.commands import RegisterRecord
@@ -17,6 +18,15 @@ from gudokeyi.ingest.messages import Where
 
 SIRE, DAM, DAY = Role.SIRE, Role.DAM, Precision.DAY
 ROLES = {role: role.sex for role in Role}
+
+
+class Castration(NamedTuple):
+    """What a column beside that of the sexes says of it: the column's title, the text, and the last day on which it may
+    have been, where the text has any."""
+
+    title: str
+    text: str
+    last: datetime.date | None
 
 
 @dataclass(slots=True)
@@ -38,7 +48,7 @@ class SheetAnimal:
     left: datetime.date | None = None
     embryo: bool = False
     owner_day: OwnerDay = OwnerDay.GIVEN
-    # a male that is castrated, as the sheet's word for its sex says
+    # a male that is castrated, as the sheet's word for its sex says, or another column
     castrated: bool = False
     # what is found for it later: its birth day, its number, and what was inferred and from what
     born: datetime.date = ANY_DAY.first
@@ -56,6 +66,8 @@ class SheetAnimal:
     is_since_sale: bool = False
     # the sex of a cell that isn't sure, where nothing else says one
     likely_sex: str = ""
+    # by which a male is castrated
+    castration: Castration | None = None
 
     def parents(self) -> list[tuple[Role, str]]:
         """The known parents, each with its role."""

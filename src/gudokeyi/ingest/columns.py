@@ -12,10 +12,11 @@ from typing import Container
 from gudokeyi.domain.kinds import Field
 from gudokeyi.domain.spelling import closest
 from gudokeyi.ingest.births_beside import TAG, parts_of_births
+from gudokeyi.ingest.castrations import castrated_places
 from gudokeyi.ingest.column_detection import MOST_COMPARED, IdColumn, LikelyColumns, are_different, are_row_numbers
 from gudokeyi.ingest.days import is_span
 from gudokeyi.ingest.encodings import Letters, decoded_twice
-from gudokeyi.ingest.exits_beside import KNOWN_BUYERS
+from gudokeyi.ingest.exits_beside import KNOWN_BUYERS, says_day
 from gudokeyi.ingest.findings.columns import (
     ColumnLost, ColumnsLack, ColumnUntitled, LikelierColumn, NamedColumnLacks, ParentsBeside, ParentsFromOther,
     SheetFinding, TellsNoExits, TitleTwice,
@@ -25,10 +26,9 @@ from gudokeyi.ingest.findings.sheets import MOST_SHOWN
 from gudokeyi.ingest.names_for_ids import names_for_ids
 from gudokeyi.ingest.remarks import telling_castrations, telling_exits
 from gudokeyi.ingest.sheets import Sheet
-from gudokeyi.ingest.statuses import said_of
 from gudokeyi.ingest.titles import (
     KNOWN_DOUBTFUL, KNOWN_PAIRS, KNOWN_REASONS, KNOWN_TITLES, NEEDED, TITLES, known_titles, names_both_sexes,
-    names_exits_alone,
+    names_exits_alone, said_of,
 )  # fmt: skip
 from gudokeyi.ingest.texts import plain
 from gudokeyi.ingest.words import (
@@ -189,7 +189,7 @@ def days_of_exits(columns: Columns) -> list[int]:
     """The columns such as `verkauft am`, most of whose cells are days."""
     titled = [at for at, title in enumerate(columns.sheet.titles) if columns.is_free(at) and names_exits_alone(title)]
     said = {at: [*filter(None, columns.cells(at))] for at in titled[:MOST_ALIKE]}
-    return [at for at, cells in said.items() if 2 * sum(map(is_span, cells)) > len(cells)]
+    return [at for at, cells in said.items() if 2 * sum(map(says_day, cells)) > len(cells)]
 
 
 def column_of_words(columns: Columns, name: Field, tells: Callable[[str], bool]) -> None:
@@ -260,9 +260,11 @@ def tell_unread_statuses(columns: Columns, named: Mapping[str, str]) -> None:
 
 def tell_castrated(columns: Columns, at: int, texts: set[str]) -> None:
     """Some cells of a column that isn't read tell that an animal is castrated; it isn't told of females, nor of those
-    whose sex says so too."""
+    whose sex says so too, or another column."""
     cells = columns.cells(at)
     telling = [place for place, cell in enumerate(cells) if cell in texts] if texts else []
+    said = castrated_places(columns.sheet, columns.found) if telling else set[int]()
+    telling = [place for place in telling if place not in said]
     if Field.SEX in columns.found:
         sexes = columns.cells(columns.found[Field.SEX])
         others = {sex for sex in {*sexes} if KNOWN_SEXES.get(sex_word(sex)) == "F" or has_word(sex, KNOWN_SAID_CASTRATED)}

@@ -9,7 +9,6 @@ import re
 import statistics
 from collections.abc import Iterable
 
-from gudokeyi.domain.kinds import Field
 from gudokeyi.ingest.days import (
     FIRST_DAY, FIRST_YEAR, LAST_YEAR, MONTHS, NAME, NOT_THAT_YEAR, DayFault, Precision, Span, Unreadable, compared,
     is_span, month_of, places_within, read_span, span_said, span_within,
@@ -383,16 +382,15 @@ def is_only_number(found: re.Match[str]) -> bool:
 class Readings:
     """Which cells of which columns were read so."""
 
-    def __init__(self, titles: dict[str, str]) -> None:
-        self.titles = titles
+    def __init__(self) -> None:
         # a month, and a season or a year, are told beside days
-        self.counts: collections.Counter[tuple[Field, DayReading, Precision]] = collections.Counter()
-        self.first: dict[tuple[Field, DayReading, Precision], tuple[int, str, str, str]] = {}
+        self.counts: collections.Counter[tuple[str, DayReading, Precision]] = collections.Counter()
+        self.first: dict[tuple[str, DayReading, Precision], tuple[int, str, str, str]] = {}
 
-    def add(self, field: Field, reading: DayReading, line: int, text: str, span: Span) -> None:
+    def add(self, title: str, reading: DayReading, line: int, text: str, span: Span) -> None:
         if reading is DayReading.WITHIN and not span.is_day:
             reading = DayReading.PERIOD_WITHIN
-        of = field, reading, span.precision
+        of = title, reading, span.precision
         self.counts[of] += 1
         is_part = span.precision is Precision.YEAR and (span.first.month, span.last.month) != (1, 12)
         are_days = reading is DayReading.ONE_OF or is_part and reading is DayReading.PERIOD_WITHIN
@@ -401,6 +399,6 @@ class Readings:
 
     def told(self) -> list[SheetFinding]:
         return [
-            DaysReadSo(self.titles[field], reading, count, *self.first[field, reading, precision])
-            for (field, reading, precision), count in self.counts.items()
+            DaysReadSo(title, reading, count, *self.first[title, reading, precision])
+            for (title, reading, precision), count in self.counts.items()
         ]

@@ -259,7 +259,7 @@ def as_meant(
     if rows is sheet.rows and not (exits.remarks or exits.reasons):
         return sheet
     return replace(
-        sheet, rows=rows, kept={}, remarks=exits.remarks, of_status=exits.of_status, reasons=exits.reasons
+        sheet, rows=rows, kept={}, remarks=exits.remarks, exit_titles=exits.titles, reasons=exits.reasons
     )
 
 

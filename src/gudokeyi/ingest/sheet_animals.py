@@ -14,6 +14,7 @@ from gudokeyi.domain.kinds import Field
 from gudokeyi.domain.requests import MOST_IN_ID
 from gudokeyi.ingest.animal_cells import AnimalCells, ErrorValues, Unread
 from gudokeyi.ingest.animals import DAM_OF, ID_OF, LINE_OF, NAME_OF, ROLES, SIRE_OF, SheetAnimal
+from gudokeyi.ingest.castrations import Castrations
 from gudokeyi.ingest.day_cells import Order
 from gudokeyi.ingest.day_forms import DayForms
 from gudokeyi.ingest.days import NAME
@@ -214,10 +215,12 @@ class Rows:
         self.errors = ErrorValues(sheet, columns)
         self.sexes = self.sexes_read(sexes, sexes_of_book or {})
         self.unread = Unread({name: sheet.titles[at] for name, at in columns.items()})
-        self.unread.of_status = sheet.of_status
+        self.unread.exit_titles = sheet.exit_titles
         self.forms = DayForms(self.texts(Field.BIRTH), (born or {}).values(), month_first)
         self.cells = AnimalCells(unknown, self.sexes, self.unread, report, month_first, self.forms)
         self.cells.reasons = sheet.reasons
+        self.castrations = Castrations(sheet, columns, unknown)
+        self.cells.castrations = self.castrations.lines
         self.cells.days.of_states = plain(self.unread.titles.get(Field.EXIT, "")) in KNOWN_STATES
         self.cells.takers = Takers({one: one for one in self.texts(Field.OWNER)} | dict(owners or {}))
         self.same_ids = SameIds(unknown, month_first, born or {})
@@ -264,7 +267,7 @@ class Rows:
         """The rows that are read together."""
         words = self.no_animals.words
         again = self.before.again(self.sheet, self.cells, words) if self.before else None
-        lines = {line for line, *_ in self.errors.found} | self.cells.lines_of_sales()
+        lines = {line for line, *_ in self.errors.found} | self.cells.lines_of_sales() | {*self.castrations.lines}
         found = again or PlainRows(self.sheet, self.columns, self.cells, words)
         found.leave_lines(lines)
         return found
@@ -291,7 +294,8 @@ class Rows:
             elif self.unknown.is_one(id):
                 self.report.add(line, id, NoId(id, "" if id else text_of(cells)))
             elif id == id_title and are_titles(cells, self.sheet.titles):
-                self.report.add(line, "", TitlesAgain(line in self.sheet.other_orders or None))
+                moved = self.sheet.other_orders
+                self.report.add(line, "", TitlesAgain(line in moved or None, moved.get(line, ())))
             elif may_be_none and (word := self.no_animal(id, cells, said)):
                 self.report.add(line, id, NoAnimal(word))
             elif id not in found:
@@ -355,6 +359,7 @@ class Rows:
             title = self.sheet.titles[self.columns[Field.SEX]]
             self.notes += self.sexes.told(title)
             self.notes += one_sex_alone(title, self.texts(Field.SEX), self.sexes, animals.values())
+        self.notes += self.castrations.told(animals.values(), self.sexes)
         self.notes += first_days(animals, self.plain.different.get(Field.BIRTH, ()))
         self.notes += [] if self.month_first else self.exchanged_days()
 

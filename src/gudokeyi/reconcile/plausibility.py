@@ -14,7 +14,8 @@ from typing import TYPE_CHECKING
 from gudokeyi.domain.findings import Entry, Finding, Report
 from gudokeyi.domain.kinds import Field, Role
 from gudokeyi.ingest.animals import (
-    BORN_OF, CASTRATED_OF, DAM, DAM_OF, ID_OF, LEFT_OF, LINE_OF, NAME_OF, SIRE, SIRE_OF, YEARS_LATER, SheetAnimal,
+    BORN_OF, CASTRATED_OF, DAM, DAM_OF, ID_OF, LEFT_OF, LINE_OF, NAME_OF, SIRE, SIRE_OF, YEARS_LATER, Castration,
+    SheetAnimal,
 )  # fmt: skip
 from gudokeyi.ingest.days import Precision
 from gudokeyi.reconcile.findings.by_hand import YoungParent
@@ -38,6 +39,8 @@ LITTER = 3
 # as is usual, and not more than one of so many is less than half as far
 FEW_BIRTHS, NEARLY_ALL, RARE = 20, 20, 50
 YEAR = 365
+# no animal is carried for so many days
+LONGEST_CARRIED = datetime.timedelta(400)
 # the day of birth of a parent that isn't known is long before all others
 NEVER = -(10**9)
 # an animal that is so many years older than half of the living ones has probably left
@@ -52,6 +55,13 @@ def values_of(animals: Sequence[SheetAnimal], *values: Callable[[SheetAnimal], o
     """Some values of animals, beside those by which all of them are told of."""
     all_values: Iterable[Callable[[SheetAnimal], object]] = (ID_OF, LINE_OF, BORN_OF, *values)
     return tuple([*map(value, animals)] for value in all_values)
+
+
+def may_be_begotten_before(animal: SheetAnimal, castration: Castration | None) -> bool:
+    """Leaves its day of birth open that it was begotten before its sire was castrated?"""
+    if castration is None or castration.last is None:
+        return False
+    return animal.birth.first <= castration.last + LONGEST_CARRIED
 
 
 class PlausibilityChecks:
@@ -198,15 +208,16 @@ class PlausibilityChecks:
                     self.report.add(offspring.line, offspring.id, likely)
 
     def look_at_castrated(self) -> None:
+        """Castrated males that have offspring, but for such as may have been begotten before."""
         castrated = {*itertools.compress(self.animals, map(CASTRATED_OF, self.animals.values()))}
         progeny = collections.defaultdict(list)
         for animal in self.animals.values() if castrated else ():
-            if animal.sire in castrated:
+            if animal.sire in castrated and not may_be_begotten_before(animal, self.animals[animal.sire].castration):
                 progeny[animal.sire].append(animal)
         for sire, its in progeny.items():
             animal = self.animals[sire]
-            found = CastratedSire(animal.cells.get(Field.SEX, ""), len(its), its[0].id, its[0].line)
-            self.report.add(animal.line, sire, found)
+            title, word = animal.castration[:2] if animal.castration else ("", animal.cells.get(Field.SEX, ""))
+            self.report.add(animal.line, sire, CastratedSire(word, len(its), its[0].id, its[0].line, title))
 
     def tell_twice(self, book: Book) -> None:
         """Animals with one name and birth day, which may be one, but for those of which that is told already."""

@@ -10,13 +10,14 @@ from collections.abc import Callable
 from dataclasses import dataclass
 
 from gudokeyi.domain.changes import Option, Source
-from gudokeyi.domain.findings import Call, Entry, ImportRefused, StrictlyRefused, What
+from gudokeyi.domain.findings import Call, Entry, ImportRefused, Report, StrictlyRefused, What
 from gudokeyi.domain.kinds import Field, Remembered
 from gudokeyi.ingest.animals import LINE_OF
 from gudokeyi.ingest.births_beside import year_column
+from gudokeyi.ingest.castrations import castration_columns
 from gudokeyi.ingest.exits_beside import columns_beside
 from gudokeyi.ingest.files import GivenFile
-from gudokeyi.ingest.findings.columns import ColumnUntitled
+from gudokeyi.ingest.findings.columns import ColumnUntitled, TitleBelow
 from gudokeyi.ingest.names_for_ids import names_read
 from gudokeyi.ingest.parents_beside import tell_parents_named_otherwise
 from gudokeyi.ingest.statuses import reasons_beside
@@ -243,7 +244,7 @@ def import_sheet_into(
     tell_parents_named_otherwise(read.columns, next_book.animals, next_book.report)
     own = find_own_columns(book, read.columns, import_options.own)
     used = again(words, import_options) + [Option("--worksheet", read.sheet.as_before)] * bool(read.sheet.as_before)
-    tell_breeders(read, own, next_book)
+    tell_columns_not_kept(read, own, next_book)
     lacks_own = tell_lost_own_columns(book, own, read.columns, next_book.report)
     understood = understood_of(path, read, used, {} if lacks_own else titles_before(book), own)
     remember_places(book, read, import_options.worksheet)
@@ -262,6 +263,11 @@ def remember_places(book: Book, read: ReadSheet, worksheet: str) -> None:
     remember_worksheet(book, worksheet, read.sheet.worksheets)
 
 
+def tell_columns_not_kept(read: ReadSheet, own: OwnSheetColumns, next_book: NextBook) -> None:
+    tell_breeders(read, own, next_book)
+    tell_titles_below(read, own, next_book.report)
+
+
 def tell_breeders(read: ReadSheet, own: OwnSheetColumns, next_book: NextBook) -> None:
     """A column of breeders isn't kept, which has others than the owners by whom they are found, and nobody said that it
     shan't be."""
@@ -276,6 +282,17 @@ def tell_breeders(read: ReadSheet, own: OwnSheetColumns, next_book: NextBook) ->
             next_book.report.add(0, "", BreedersNotKept(read.sheet.titles[at], len(others), line, text))
 
 
+def tell_titles_below(read: ReadSheet, own: OwnSheetColumns, report: Report) -> None:
+    """Titles that the first row of titles lacks, and whose columns aren't read."""
+    sheet = read.sheet
+    others = {*read.columns.found.values(), *own.places.values(), *places_beside(read)} if sheet.added else set[int]()
+    for at, line in sheet.added.items():
+        rows = zip(sheet.rows, sheet.column(at))
+        said = [(row.line, text) for row, text in rows if text not in ("", sheet.titles[at])]
+        if said and at not in others:
+            report.add(line, "", TitleBelow(sheet.titles[at], sheet.line, len(said), *said[0]))
+
+
 def other_breeders(said: dict[int, str], next_book: NextBook) -> list[tuple[int, str]]:
     """Those of some lines who aren't the owner of the dam, or of a founder its own one, as the sheet has these."""
     animals, respelt = next_book.animals, next_book.book.respelt
@@ -286,15 +303,20 @@ def other_breeders(said: dict[int, str], next_book: NextBook) -> list[tuple[int,
     return sorted((line, said[line]) for line, owner in of_lines.items() if compared(said[line]) != owner)
 
 
+def places_beside(read: ReadSheet) -> list[int]:
+    """The columns that are read beside those of fields."""
+    sheet, found = read.sheet, read.columns.found
+    beside = [*columns_beside(sheet, found), *year_column(sheet, found), *castration_columns(sheet, found)]
+    return [*beside, *reasons_beside(sheet.titles, found), *names_read(sheet, found, read.rows.unknown)]
+
+
 def understood_of(
     path: pathlib.Path, read: ReadSheet, remembered: list[Option], before: dict[str, str], own: OwnSheetColumns
 ) -> Understood:
     sheet, columns = read.sheet, read.columns
     of_reasons = reasons_beside(sheet.titles, read.columns.found)
     kept = tuple(sheet.titles[at] for at in sorted({*own.places.values(), *of_reasons}))
-    places_beside = [*columns_beside(sheet, columns.found), *year_column(sheet, columns.found)]
-    places_beside += names_read(sheet, columns.found, read.rows.unknown)
-    beside = [sheet.titles[at] for at in places_beside]
+    beside = [sheet.titles[at] for at in places_beside(read)]
     titles = tuple(ColumnRead(Field(name), title) for name, title in columns.titles_found())
     return Understood(
         str(path),

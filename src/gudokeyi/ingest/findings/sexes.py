@@ -136,3 +136,68 @@ class FemaleLetter(SheetFinding):
 
     def suggestions(self) -> tuple[Suggestion, ...]:
         return sexes_of(self.letter.text, "mc", "m")
+
+
+@dataclass(frozen=True, slots=True)
+class CastrationsRead(SheetFinding):
+    """A column such as `Kastriert am`, by which so many males are castrated whose sexes don't say it; how many other
+    cells of it say neither yes nor no, and the first of them."""
+
+    title: str
+    count: int
+    others: int
+    line: int
+    text: str
+
+    code = "castrations read"
+    message = Counted(
+        "the column '{title}' says that {count} male is castrated whose sex doesn't: it counts as castrated, without "
+        "the day{maybe_others}",
+        "the column '{title}' says that {count} males are castrated whose sexes don't: they count as castrated, "
+        "without the days{maybe_others}",
+        "count",
+    )
+    parts = {
+        "maybe_others": OptionalPart(
+            "; {others} other cells of it tell of no castration, the first is '{text}' in line {line}",
+            one="; another cell of it tells of no castration: '{text}' in line {line}", value="others",
+        ),
+    }
+
+
+@dataclass(frozen=True, slots=True)
+class CastratedFemales(SheetFinding):
+    """Cells of such a column that tell of females: how many, and the first."""
+
+    title: str
+    count: int
+    line: int
+    text: str
+
+    code = "castrated females"
+    message = Counted(
+        "the column '{title}' says that {count} female is castrated, '{text}' in line {line}: it stays a female; if it "
+        "is a castrated male, write that as its sex, as male castrated",
+        "the column '{title}' says that {count} females are castrated, the first '{text}' in line {line}: they stay "
+        "females; if one is a castrated male, write that as its sex, as male castrated",
+        "count",
+    )
+
+
+@dataclass(frozen=True, slots=True)
+class CastratedWithoutSex(SheetFinding):
+    """The same of animals whose sex no cell says."""
+
+    title: str
+    count: int
+    line: int
+    text: str
+
+    code = "castrated without sex"
+    message = Counted(
+        "the column '{title}' says that {count} animal is castrated whose sex no cell says, '{text}' in line {line}: "
+        "it counts as not castrated; write its sex, as male castrated",
+        "the column '{title}' says that {count} animals are castrated whose sexes no cell says, the first '{text}' in "
+        "line {line}: they count as not castrated; write their sexes, as male castrated",
+        "count",
+    )
