@@ -11,7 +11,7 @@ from gudokeyi.ingest.animals import DAM_OF, SIRE_OF, SheetAnimal, ancestors_amon
 from gudokeyi.ingest.columns import Columns
 from gudokeyi.reconcile.birth_days import find_days
 from gudokeyi.reconcile.exchanged_ids import tell_exchanged_ids
-from gudokeyi.reconcile.exits import exit_in_book
+from gudokeyi.reconcile.exits import exit_in_book, tell_exits_unread
 from gudokeyi.reconcile.findings.animals import RowIsGone
 from gudokeyi.reconcile.guards import Guards
 from gudokeyi.reconcile.ids import NearIds, leave_out_used_tags
@@ -173,3 +173,4 @@ def complete(next_book: NextBook, columns: Columns, import_options: ImportOption
     tell_sections(next_book)
     find_days(next_book)
     tell_births(next_book)
+    tell_exits_unread(next_book, columns.exits_unread)

@@ -4,6 +4,7 @@ from __future__ import annotations
 import collections
 import datetime
 import itertools
+from collections.abc import Collection
 from typing import NamedTuple
 
 from gudokeyi.domain.animals import SocietyRecord
@@ -13,6 +14,7 @@ from gudokeyi.domain.kinds import CommandKind, Field
 from gudokeyi.domain.provenance import GIVEN_EXIT, ExitBasis, ExitSource
 from gudokeyi.domain.refusals import Refusal
 from gudokeyi.ingest.animals import LINE_OF, SheetAnimal
+from gudokeyi.ingest.exits_unread import ExitsUnread
 from gudokeyi.ingest.words import exit_word, lives, says_lives
 from gudokeyi.ingest.words_beside import words_beside
 from gudokeyi.reconcile.findings.animals import KeptByHand, KeptFromBook
@@ -157,6 +159,15 @@ def tell_withdrawn_exits(next_book: NextBook) -> None:
         others = [animal.id for animal in animals.values() if animal.line and has_left(animal)]
         other = others[0] if len(others) >= len(withdrawn) else ""
         next_book.report.add(0, "", ExitsWithdrawn(len(withdrawn), first, other))
+
+
+def tell_exits_unread(next_book: NextBook, unread: Collection[ExitsUnread]) -> None:
+    """Cells that may tell of exits, of the animals that count as living."""
+    lines = {line for one in unread for line in one.cells}
+    rows = [animal for animal in next_book.animals.values() if animal.line in lines] if lines else []
+    living = {animal.line for animal in rows if not has_left(animal)}
+    for found in filter(None, (one.of(living) for one in unread)):
+        next_book.report.add(0, "", found)
 
 
 def has_left(animal: SheetAnimal) -> bool:
