@@ -21,10 +21,11 @@ def test_no_days_in_such_a_column(desk: Desk) -> None:
     assert told in done.out and "not read" not in done.out and "if no column tells of exits" not in done.out
     assert {*exits(desk)} == {"2", "3", "4", "9"} and reason(desk, "9") == ("2020-02-02", "Verkauft")
     done.tells(
+        "to look at: the column 'Verkauft am' has exits in 4 rows where 'Gestorben am' has none: they are taken from there",
         "line 8: 7: to look at: 'Gestorben am' says '1.6.2023', and 'Verkauft am' says '£350': the animal counts as gone, "
         "on the day of the first",
-        "to look at: 1 cell of the column 'Verkauft am' tells of something else than an exit, in line 9: ausgeliehen "
-        "2020: the animal stays, and what the cell says is kept as a note; if it has left, write a day, or a word such "
+        "to look at: 1 cell of the column 'Verkauft am' tells of something else than an exit, in line 9: 'ausgeliehen "
+        "2020': the animal stays, and what the cell says is kept as a note; if it has left, write a day, or a word such "
         "as sold, verkauft or vendu",
     )
 

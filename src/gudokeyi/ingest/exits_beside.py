@@ -117,7 +117,7 @@ class ExitDays:
             text = self.of_yes(exits, place, row, word) if is_yes else self.taken(exits, place, row, at)
             if text:
                 exits.texts[place], exits.titles[row.line] = text, title
-                count += 1
+                count += not is_still_there(text)
             if text == cell and word:
                 exits.reasons.setdefault(row.line, word)
         if count:

@@ -22,6 +22,7 @@ from gudokeyi.ingest.findings.rows import CellsRepeated, MarksAreNames, NoteRow,
 from gudokeyi.ingest.findings.sheets import UnseenDropped
 from gudokeyi.ingest.marked_ids import without_signs_of_exits
 from gudokeyi.ingest.names_for_ids import with_names_for_ids
+from gudokeyi.ingest.no_days import without_no_days
 from gudokeyi.ingest.sheets import Sheet, SheetRow, cell_of, with_cell
 from gudokeyi.ingest.statuses import SOLD, TAKER, exits_said, taker_of_owner
 from gudokeyi.ingest.texts import nearly, plain, shape, shapes_of
@@ -248,6 +249,7 @@ def as_meant(
         report.add(line, "", NoteRow(text))
     rows = [row for row in sheet.rows if row.line not in notes] if notes else sheet.rows
     rows = Marks(sheet, columns, called, unknown.more).repeat(rows, report)
+    rows = without_no_days(rows, sheet, columns, report)
     births = births_said(rows, sheet, columns, unknown, report)
     if births:
         birth = columns[Field.BIRTH]
