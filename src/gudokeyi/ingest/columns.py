@@ -59,6 +59,8 @@ class Columns:
     parts: Collection[int] = ()
     # what is told of cells that may tell of exits, where their animals count as living
     exits_unread: list[ExitsUnread] = field(default_factory=list)
+    # the title of the last sheet's column of exits, where this one lacks it and exits are read from another
+    lost_exits: str = ""
 
     def cells(self, at: int) -> list[str]:
         return self.sheet.column(at)
@@ -434,6 +436,9 @@ def letters_of_titles(sheet: Sheet) -> list[SheetFinding]:
 
 def tell_lost(columns: Columns, before: Mapping[str, str], likely: LikelyColumns) -> None:
     """The last sheet had a column that this one lacks, as where it has another title now."""
+    exits = before.get(Field.EXIT, "")
+    if Field.EXIT in columns.found and plain(exits) not in columns.by_title:
+        columns.lost_exits = exits
     for name, title in before.items():
         if title and name not in columns.found and name not in NEEDED:
             columns.notes.append(ColumnLost(Field(name), title, likely.of_lost(Field(name), title)))

@@ -5,13 +5,13 @@ from __future__ import annotations
 import itertools
 
 from gudokeyi.domain.findings import ImportRefused, Report
-from gudokeyi.domain.kinds import Role, Standing
+from gudokeyi.domain.kinds import Field, Role, Standing
 from gudokeyi.domain.messages import Mistake
 from gudokeyi.ingest.animals import DAM_OF, SIRE_OF, SheetAnimal, ancestors_among, birth_in_book, links_outside
 from gudokeyi.ingest.columns import Columns
 from gudokeyi.reconcile.birth_days import find_days
 from gudokeyi.reconcile.exchanged_ids import tell_exchanged_ids
-from gudokeyi.reconcile.exits import exit_in_book, tell_exits_unread
+from gudokeyi.reconcile.exits import exit_in_book, tell_exits_unread, tell_lost_exits
 from gudokeyi.reconcile.findings.animals import RowIsGone
 from gudokeyi.reconcile.guards import Guards
 from gudokeyi.reconcile.ids import NearIds, leave_out_used_tags
@@ -79,7 +79,7 @@ MOST_ANIMALS = 60_000
 def add_others(next_book: NextBook, drop_gone: bool, columns: Columns | None = None) -> None:
     """Adds the animals of the book that have no row, and the parents that have none."""
     book, animals, report = next_book.book, next_book.animals, next_book.report
-    give_values_of_book(next_book)
+    give_values_of_book(next_book, columns)
     next_book.texts = parents_written(next_book)
     gone = animals_of_book(next_book)
     next_book.exits_of_book |= gone.keys()
@@ -117,9 +117,11 @@ def add_others(next_book: NextBook, drop_gone: bool, columns: Columns | None = N
         raise too_many(next_book)
 
 
-def give_values_of_book(next_book: NextBook) -> None:
+def give_values_of_book(next_book: NextBook, columns: Columns | None) -> None:
     """Rows that lack something have it of the book from here on."""
     keep_values(next_book)
+    if columns and next_book.lost_exits:
+        tell_lost_exits(next_book, columns.title(columns.found[Field.EXIT]))
     if next_book.rows_of_book:
         next_book.compare(next_book.rows_of_book)
 
@@ -152,7 +154,7 @@ def complete(next_book: NextBook, columns: Columns, import_options: ImportOption
     """Adds what the book and the parents' cells have besides, and finds sexes and days; a mistake where the sheet
     looks like another one, and it isn't wished anyway."""
     guards = Guards(next_book.book, dict(next_book.animals), columns, next_book.otherwise, next_book.in_book)
-    next_book.appends = import_options.append
+    next_book.appends, next_book.lost_exits = import_options.append, columns.lost_exits
     found = guards.of_rows(import_options.append)
     if not import_options.anyway:
         next_book.used_again = leave_out_used_tags(

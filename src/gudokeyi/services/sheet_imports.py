@@ -247,7 +247,7 @@ def import_sheet_into(
     tell_columns_not_kept(read, own, next_book)
     lacks_own = tell_lost_own_columns(book, own, read.columns, next_book.report)
     understood = understood_of(path, read, used, {} if lacks_own else titles_before(book), own)
-    remember_places(book, read, import_options.worksheet)
+    remember_places(book, read, import_options.worksheet, next_book.lost_exits if next_book.kept_exits else "")
 
     def take_own() -> None:
         take_own_values(next_book, own, read.sheet, bool(words[Remembered.MONTH_FIRST]))
@@ -257,9 +257,11 @@ def import_sheet_into(
     return finish(next_book, program, import_options, source, about)
 
 
-def remember_places(book: Book, read: ReadSheet, worksheet: str) -> None:
-    """From which worksheet and columns the next sheet is read."""
-    remember_columns(book, read.columns.titles_found())
+def remember_places(book: Book, read: ReadSheet, worksheet: str, lost_exits: str) -> None:
+    """From which worksheet and columns the next sheet is read; `lost_exits` is the title of a column that it may have
+    again."""
+    titles = dict(read.columns.titles_found())
+    remember_columns(book, [*(titles | {Field.EXIT: lost_exits} if lost_exits else titles).items()])
     remember_worksheet(book, worksheet, read.sheet.worksheets)
 
 
