@@ -44,6 +44,27 @@ def test_first_column_of_exits_lost(desk: Desk) -> None:
     assert days(desk)[0] == ("", "") and "is found" not in desk.take(SOLD).told
 
 
+def test_other_columns_of_exits_lost(desk: Desk) -> None:
+    """A second column of exits may lack too, or both."""
+    desk.take(BOTH)
+    before = days(desk)
+    died = BEGIN + "Gestorben am\n" + rows(("1.1.2020", ""), "3.3.2021", "tot", "4.4.2021 (Wolf)", "")
+    for _ in range(2):
+        desk.take(died).shows(
+            "to look at: no column 'Verkauft am' is found, from which exits were read at the last time, and 'Gestorben am' "
+            "tells of no exit of 2 animals that had left, the first are 2 (line 3), 6 (line 7): what the book has stays"
+        )
+        assert days(desk) == before
+    neither = BEGIN + "Geschlachtet am\n" + rows(("", ""), "", "", "", "7.7.2022")
+    for _ in range(2):
+        assert "'Geschlachtet am' tells of no exit of 5 animals that had left" in desk.take(neither).told
+        assert [day for day, _ in days(desk)] == [*(day for day, _ in before[:5]), "2022-07-07"]
+    assert "is found" not in desk.take(BOTH).told and days(desk) == before
+    assert "columns as at the last time" in desk.take(BOTH).out
+    done = desk.take(died, "--columns", "exit=Gestorben am")
+    assert "2 animals that had left count as living again" in done.told and "is found" not in desk.take(died).told
+
+
 def test_column_of_exits_with_another_title(desk: Desk) -> None:
     """Where it tells of all exits nothing is told."""
     desk.take(BOTH)

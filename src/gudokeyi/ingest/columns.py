@@ -59,8 +59,8 @@ class Columns:
     parts: Collection[int] = ()
     # what is told of cells that may tell of exits, where their animals count as living
     exits_unread: list[ExitsUnread] = field(default_factory=list)
-    # the title of the last sheet's column of exits, where this one lacks it and exits are read from another
-    lost_exits: str = ""
+    # the titles of the last sheet's columns of exits that this one lacks, where exits are read from another
+    lost_exits: tuple[str, ...] = ()
 
     def cells(self, at: int) -> list[str]:
         return self.sheet.column(at)
@@ -436,9 +436,9 @@ def letters_of_titles(sheet: Sheet) -> list[SheetFinding]:
 
 def tell_lost(columns: Columns, before: Mapping[str, str], likely: LikelyColumns) -> None:
     """The last sheet had a column that this one lacks, as where it has another title now."""
-    exits = before.get(Field.EXIT, "")
-    if Field.EXIT in columns.found and plain(exits) not in columns.by_title:
-        columns.lost_exits = exits
+    exits = [title for name, title in before.items() if title and name.split()[0] == Field.EXIT]
+    if Field.EXIT in columns.found:
+        columns.lost_exits = tuple(title for title in exits if plain(title) not in columns.by_title)
     for name, title in before.items():
-        if title and name not in columns.found and name not in NEEDED:
+        if title and name in TITLES and name not in columns.found and name not in NEEDED:
             columns.notes.append(ColumnLost(Field(name), title, likely.of_lost(Field(name), title)))

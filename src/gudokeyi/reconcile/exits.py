@@ -165,10 +165,10 @@ def tell_withdrawn_exits(next_book: NextBook) -> None:
 
 
 def tell_lost_exits(next_book: NextBook, title: str) -> None:
-    """The exits that stay, since the column of the last time lacks; `title` is that of the one that is read."""
+    """The exits that stay, since a column of the last time lacks; `title` is that of the one that is read."""
     if kept := next_book.kept_exits:
         first = tuple(RowOf(animal.id, animal.line) for animal in kept[:FIRST])
-        next_book.report.add(0, "", ExitsOfLostColumn(next_book.lost_exits, title, len(kept), first))
+        next_book.report.add(0, "", ExitsOfLostColumn(next_book.lost_exits[0], title, len(kept), first))
 
 
 def tell_exits_unread(next_book: NextBook, unread: Collection[ExitsUnread]) -> None:

@@ -130,7 +130,7 @@ class Keeping:
         self.next_book.exits_of_book.add(animal.id)
 
     def keep_lost_exit(self, animal: SheetAnimal, in_book: SocietyRecord, record: RegisterRecord) -> None:
-        """The row of an animal that had left says nothing of that, and the column of exits of the last time lacks."""
+        """The row of an animal that had left says nothing of that, and a column of exits of the last time lacks."""
         if animal.id in self.next_book.in_book.left and not has_left(animal):
             if says_nothing(animal.cells.get(Field.EXIT, "")):
                 self.keep_exit(animal, exit_in_book(in_book, record, animal.birth.first))

@@ -28,7 +28,7 @@ class OwnColumnLost(SheetFinding):
 
 @dataclass(frozen=True, slots=True)
 class ExitsOfLostColumn(SheetFinding):
-    """A sheet lacks the column of exits of the last one, and `other`, from which they are read, tells of none of some
+    """A sheet lacks a column of exits of the last one, and `other`, from which they are read, tells of none of some
     animals that had left: how many, and the first of them."""
 
     title: str
