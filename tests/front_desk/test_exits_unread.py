@@ -1,5 +1,5 @@
-"""Columns of exits beside the first one that have something else than days, and columns that aren't read, or say nothing
-of some animals, and may tell of exits."""
+"""Columns of exits beside the first one that have something else than days, and columns that aren't read, or say
+nothing of some animals, and may tell of exits."""
 from __future__ import annotations
 
 import pytest

@@ -21,8 +21,8 @@ def days(desk: Desk) -> list[tuple[str, str]]:
 
 
 def test_first_column_of_exits_lost(desk: Desk) -> None:
-    """The exits that the sheet doesn't tell any more stay, at each taking, until somebody says that the other column has
-    all; an exit that it tells is taken, and once the column is back one that it lacks is taken back."""
+    """The exits that the sheet doesn't tell any more stay, at each taking, until somebody says that the other column
+    has all; an exit that it tells is taken, and once the column is back one that it lacks is taken back."""
     desk.take(BOTH)
     before, of_days = exits(desk), days(desk)
     for _ in range(2):

@@ -1,5 +1,5 @@
-"""Columns that aren't read for exits, or say nothing of some animals, and may tell that these left: each is told of those
-that count as living in the book that comes of the sheet."""
+"""Columns that aren't read for exits, or say nothing of some animals, and may tell that these left: each is told of
+those that count as living in the book that comes of the sheet."""
 from __future__ import annotations
 
 import collections

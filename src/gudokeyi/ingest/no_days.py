@@ -1,5 +1,5 @@
-"""What programs write where there is no day: zeros, and the first and the last day that they have. Such a cell is empty,
-and told."""
+"""What programs write where there is no day: zeros, and the first and the last day that they have. Such a cell is
+empty, and told."""
 from __future__ import annotations
 
 import re

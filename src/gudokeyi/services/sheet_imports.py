@@ -261,8 +261,8 @@ def remember_places(book: Book, read: ReadSheet, worksheet: str, lost_exits: tup
     """From which worksheet and columns the next sheet is read; `lost_exits` are the titles of columns that it may have
     again."""
     sheet, found = read.sheet, read.columns.found
-    exits = [sheet.titles[at] for at in (found[Field.EXIT], *exit_day_columns(sheet, found))] if Field.EXIT in found else []
-    is_first = titles_before(book).get(Field.EXIT) in lost_exits
+    places = [found[Field.EXIT], *exit_day_columns(sheet, found)] if Field.EXIT in found else []
+    exits, is_first = [sheet.titles[at] for at in places], titles_before(book).get(Field.EXIT) in lost_exits
     exits = [*lost_exits, *exits] if is_first else [*exits, *lost_exits]
     remember_columns(book, dict(read.columns.titles_found()), exits)
     remember_worksheet(book, worksheet, read.sheet.worksheets)
