@@ -30,6 +30,14 @@ def test_no_days_in_such_a_column(desk: Desk) -> None:
     )
 
 
+def test_titles_again_in_such_a_column(desk: Desk) -> None:
+    """They tell of no exit; a word that is the title does."""
+    titles = BEGIN + "Gestorben;Verkauft\n"
+    done = desk.take(titles + rows(("1.1.2020;", ";2.2.2020"), ";Verkauft") + titles)
+    assert "'Verkauft' says 'Verkauft'" not in done.told and "'Verkauft' has exits in 2 rows" in done.told
+    assert exits(desk) == {"2": "'Verkauft'", "3": "day unknown: 'Verkauft'"}
+
+
 def test_words_beside_a_day_of_the_same_exit(desk: Desk) -> None:
     desk.take(BEGIN + "Abgang;Verkauft am\n" + rows(("1.1.2020;Zoo, Basel", ";2.2.2020"), "3.3.2021;350"))
     assert (reason(desk, "1"), reason(desk, "3")) == (("2020-01-01", "Zoo, Basel"), ("2021-03-03", ""))

@@ -106,12 +106,14 @@ class ExitDays:
     def __init__(self, sheet: Sheet, columns: Mapping[str, int], unknown: Container[str], report: Report) -> None:
         self.sheet, self.columns, self.unknown, self.report = sheet, columns, unknown, report
         self.exit = columns[Field.EXIT]
+        # the same texts stand in many cells
+        self.tells_none = functools.cache(lambda cell: lives(cell) or cell in unknown and not exit_word(cell))
 
     def add(self, exits: Exits, rows: Sequence[SheetRow], at: int) -> None:
         title, word, count = self.sheet.titles[at], word_of(self.sheet.titles[at]), 0
         for place, row in enumerate(rows):
             cell = cell_of(row, at)
-            if not cell or lives(cell) or cell in self.unknown and not exit_word(cell):
+            if not cell or self.tells_none(cell) or cell == title and self.are_titles(row):
                 continue
             is_yes = cell.casefold() in KNOWN_YES and has_word(word, PLAIN_EXITS)
             text = self.of_yes(exits, place, row, word) if is_yes else self.taken(exits, place, row, at)
@@ -122,6 +124,10 @@ class ExitDays:
                 exits.reasons.setdefault(row.line, word)
         if count:
             self.report.add(0, "", ExitDaysRead(title, self.sheet.titles[self.exit], count))
+
+    def are_titles(self, row: SheetRow) -> bool:
+        """Does the row repeat them?"""
+        return cell_of(row, self.columns[Field.ID]) == self.sheet.titles[self.columns[Field.ID]]
 
     def taken(self, exits: Exits, place: int, row: SheetRow, at: int) -> str:
         """The text for the exit that has what the other column says, empty where another is taken."""
