@@ -399,5 +399,7 @@ def test_exits_that_the_next_list_lacks(desk: Desk) -> None:
     """The first line says how many animals would live again."""
     rows = "".join(f"{100 + at};;w;1.2.2019;001;002;Huber;1.3.2021\n" for at in range(9))
     desk.take(TITLES + PAIR + rows)
+    done = desk.take(TITLES + PAIR + rows.replace("1.3.2021", "", 8), "--preview")
+    assert done.out.startswith("to look at: 8 animals that had left count as living again, the first are 100 (line 4)")
     done = desk.take(TITLES + PAIR + rows.replace("1.3.2021", ""), "--preview")
-    assert done.out.startswith("to look at: 9 animals that had left count as living again, the first are 100 (line 4)")
+    assert done.out.startswith("the column 'Abgang' tells of no exit, and 9 animals that had left would count as living again")

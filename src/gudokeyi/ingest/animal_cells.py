@@ -67,17 +67,16 @@ class Unread:
         cells.append((text, line))
 
     def found(self) -> list[SheetFinding]:
-        told: list[SheetFinding] = [
-            self.told(one) for field, cells in self.cells.items() for one in self.of_each(field, cells)
-        ]
+        of_each = [its for field, cells in self.cells.items() for its in self.of_each(field, cells)]
+        told: list[SheetFinding] = [*map(self.told, of_each)]
         told += map(ExitsWithoutDay, self.of_each(Field.EXIT, self.exits))
-        told += [NoExits.of(self.remarks())] if self.no_exits else []
+        told += map(NoExits.of, by_title(self.remarks()))
         told += [SexesUnsure(self.titles[Field.SEX], len(self.unsure), *self.unsure[0])] if self.unsure else []
         return [*told, *map(ExitsInOtherWords, self.of_each(Field.EXIT, self.other_words))]
 
     def remarks(self) -> list[Remark]:
         """The texts that tell of no exit, to be kept."""
-        return [Remark(line, self.titles[Field.EXIT], text) for text, line in self.no_exits]
+        return [Remark(line, self.title(Field.EXIT, line), text) for text, line in self.no_exits]
 
     def of_each(self, field: str, cells: list[Cell]) -> list[Cells]:
         """The cells of the column, and those of others that are taken for an exit."""
@@ -103,19 +102,25 @@ class Unread:
 
     def mostly(self) -> list[SheetFinding]:
         """A column is a mistake where more than half of its cells that say something, and at least three, can't be
-        read: hardly anything of it would be taken."""
-        columns = self.cells.items()
-        return [
-            self.told(self.of(field, cells)) for field, cells in columns if len(cells) > max(2, self.read[field] // 2)
-        ]
+        read: hardly anything of it would be taken. One beside that of the exits is only told."""
+        found = [its for field, cells in self.cells.items() for its in self.of_each(field, cells)]
+        found = [its for its in found if its.title == self.titles[its.field] and its.count > max(2, its.said // 2)]
+        return [*map(self.told, found)]
 
     def told(self, cells: Cells) -> CellsUnread:
         """What is told of cells that can't be read; of sexes of which none can what the animals' offspring say too."""
         if cells.field is not Field.SEX or cells.count < cells.said or cells.more or len(cells.texts) < 2:
-            return CellsUnread(cells)
+            return CellsUnread(cells, cells.title != self.titles[cells.field])
         parents = self.parents()
         sexes = (UnknownSex(one.text, one.count, *parents.get(one.text, (0, 0))) for one in cells.texts)
-        return SexesUnknown(cells, (*sexes,))
+        return SexesUnknown(cells, sexes=(*sexes,))
+
+
+def by_title(remarks: list[Remark]) -> list[list[Remark]]:
+    found = collections.defaultdict[str, list[Remark]](list)
+    for remark in remarks:
+        found[remark.title].append(remark)
+    return [*found.values()]
 
 
 # Cells that show a spreadsheet's error value, as `#REF!`: they are empty, and told.

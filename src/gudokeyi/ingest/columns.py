@@ -16,12 +16,15 @@ from gudokeyi.ingest.castrations import castrated_places
 from gudokeyi.ingest.column_detection import MOST_COMPARED, IdColumn, LikelyColumns, are_different, are_row_numbers
 from gudokeyi.ingest.days import is_span
 from gudokeyi.ingest.encodings import Letters, decoded_twice
-from gudokeyi.ingest.exits_beside import KNOWN_BUYERS, says_day
+from gudokeyi.ingest.exits_beside import KNOWN_BUYERS, exit_columns, exit_day_columns, says_day
+from gudokeyi.ingest.exits_unread import (
+    ExitsUnread, codes_of_status, column_unread, living_unmarked, remarks_unread,
+)  # fmt: skip
 from gudokeyi.ingest.findings.columns import (
     ColumnLost, ColumnsLack, ColumnUntitled, LikelierColumn, NamedColumnLacks, ParentsBeside, ParentsFromOther,
     SheetFinding, TellsNoExits, TitleTwice,
 )  # fmt: skip
-from gudokeyi.ingest.findings.rows import CastratedInRemarks, ExitsInRemarks, FieldUnread, StatusUnread
+from gudokeyi.ingest.findings.rows import CastratedInRemarks, FieldUnread, StatusUnread
 from gudokeyi.ingest.findings.sheets import MOST_SHOWN
 from gudokeyi.ingest.many_texts import likely_among
 from gudokeyi.ingest.names_for_ids import names_for_ids
@@ -30,13 +33,13 @@ from gudokeyi.ingest.parent_titles import MOST_ALIKE, PARENTS, columns_of_pair, 
 from gudokeyi.ingest.remarks import telling_castrations, telling_exits
 from gudokeyi.ingest.sheets import Sheet
 from gudokeyi.ingest.titles import (
-    KNOWN_DOUBTFUL, KNOWN_REASONS, KNOWN_TITLES, NEEDED, TITLES, known_titles, names_both_sexes, names_exits_alone,
-    said_of,
+    KNOWN_DOUBTFUL, KNOWN_REASONS, KNOWN_STATES, KNOWN_TITLES, NEEDED, TITLES, known_titles, names_both_sexes,
+    names_exits_alone, said_of,
 )  # fmt: skip
 from gudokeyi.ingest.texts import plain
 from gudokeyi.ingest.words import (
     DEAD, KNOWN_CASTRATED, KNOWN_EXITS, KNOWN_NEUTERED, KNOWN_NOTHING, KNOWN_SEXES, KNOWN_STAYS, KNOWN_STILL_THERE,
-    LETTER, TELLING_EXITS, has_word, lives, sex_word,
+    LETTER, TELLING_EXITS, has_word, sex_word,
 )  # fmt: skip
 
 KNOWN_SAID_CASTRATED = KNOWN_CASTRATED | KNOWN_NEUTERED
@@ -55,6 +58,10 @@ class Columns:
     # the columns that have parts of days, and those that can only have parents or persons
     parts: Collection[int] = ()
     apart: Collection[int] = ()
+    # what is told of cells that may tell of exits, where their animals count as living
+    exits_unread: list[ExitsUnread] = field(default_factory=list)
+    # the titles of the last sheet's columns of exits that this one lacks, where exits are read from another
+    lost_exits: tuple[str, ...] = ()
 
     def cells(self, at: int) -> list[str]:
         return self.sheet.column(at)
@@ -136,7 +143,9 @@ def find_columns(
     tell_parents_beside(columns, unknown)
     columns.notes += owners_beside(sheet, columns.found)
     tell_untitled(columns)
-    tell_unread_statuses(columns, named)
+    tell_unread_statuses(columns, named, unknown)
+    tell_codes(columns, named, unknown)
+    columns.exits_unread += living_unmarked(sheet) if Field.EXIT in columns.found else ()
     tell_unread_fields(columns, named)
     tell_likelier(columns, given, before)
     tell_lacking(columns, named, before, LikelyColumns(columns, unknown))
@@ -251,12 +260,14 @@ def is_cross(cell: str) -> bool:
 SOME = 3
 
 
-def tell_unread_statuses(columns: Columns, named: Mapping[str, str]) -> None:
+def tell_unread_statuses(columns: Columns, named: Mapping[str, str], unknown: Container[str]) -> None:
     """Columns that aren't read, and whose cells tell that animals live or left, or are castrated."""
     of = Field.EXIT if Field.EXIT not in columns.found else Field.STATUS
     usual = columns.titled(KNOWN_TITLES[Field.STATUS]) if of in columns.found else []
     tell_other_statuses(columns, usual)
-    free = [at for at, title in enumerate(columns.sheet.titles) if title and columns.is_free(at) and at not in usual]
+    of_exits = {*exit_columns(columns.sheet, columns.found)}
+    others = {*usual, *exit_day_columns(columns.sheet, columns.found)}
+    free = [at for at, title in enumerate(columns.sheet.titles) if title and columns.is_free(at) and at not in others]
     may_be_read = of not in columns.found and named.get(of) != ""
     for at in free[:MOST_COMPARED]:
         cells = columns.counts(at)
@@ -268,8 +279,10 @@ def tell_unread_statuses(columns: Columns, named: Mapping[str, str]) -> None:
         count = sum(cells[cell] for cell in telling)
         if may_be_read and 2 * count > cells.total() and cells.total() >= SOME:
             columns.notes.append(StatusUnread(columns.title(at), count, tuple(telling[:MOST_SHOWN]), of))
+        elif at in of_exits:
+            columns.exits_unread.append(column_unread(columns.sheet, columns.found, at, unknown))
         elif named.get(Field.EXIT) != "":
-            tell_remarks(columns, at, telling_exits(texts))
+            columns.exits_unread.append(remarks_unread(columns.sheet, columns.found, at, telling_exits(texts)))
 
 
 def tell_castrated(columns: Columns, at: int, texts: set[str]) -> None:
@@ -296,22 +309,16 @@ def tell_other_statuses(columns: Columns, usual: list[int]) -> None:
         title = columns.title(at)
         said = {text: said_of(text, title) for text in likely_among({*columns.cells(at)})}
         telling = {text for text, meant in said.items() if has_word(meant, TELLING_EXITS) or DEAD.search(meant)}
-        tell_remarks(columns, at, telling)
+        columns.exits_unread.append(remarks_unread(columns.sheet, columns.found, at, telling))
 
 
-def tell_remarks(columns: Columns, at: int, texts: set[str]) -> None:
-    """Some cells of a column that isn't read tell that animals left; those that have an exit aren't told."""
-    if not texts:
-        return
-    cells = columns.cells(at)
-    telling = [place for place, cell in enumerate(cells) if cell in texts]
-    for of in [columns.found[name] for name in (Field.EXIT, Field.STATUS) if name in columns.found]:
-        exits, title = columns.cells(of), columns.title(of)
-        none = {one for one in {*exits} if lives(said_of(one, title))}
-        telling = [place for place in telling if exits[place] in none]
-    if telling:
-        line, text = columns.sheet.rows[telling[0]].line, cells[telling[0]]
-        columns.notes.append(ExitsInRemarks(columns.title(at), len(telling), line, text))
+def tell_codes(columns: Columns, named: Mapping[str, str], unknown: Container[str]) -> None:
+    """Columns of states that aren't read, unless that is told already, or somebody says that they tell of none."""
+    told = {one.title for one in columns.notes if isinstance(one, TellsNoExits | StatusUnread)}
+    for at in columns.titled(KNOWN_STATES) if named.get(Field.STATUS) != "" else ():
+        codes = codes_of_status(columns.sheet, at, unknown)
+        if codes and codes.title not in told:
+            columns.notes.append(codes)
 
 
 # so many columns without a title are told
@@ -454,6 +461,9 @@ def letters_of_titles(sheet: Sheet) -> list[SheetFinding]:
 
 def tell_lost(columns: Columns, before: Mapping[str, str], likely: LikelyColumns) -> None:
     """The last sheet had a column that this one lacks, as where it has another title now."""
+    exits = [title for name, title in before.items() if title and name.split()[0] == Field.EXIT]
+    if Field.EXIT in columns.found:
+        columns.lost_exits = tuple(title for title in exits if plain(title) not in columns.by_title)
     for name, title in before.items():
-        if title and name not in columns.found and name not in NEEDED:
+        if title and name in TITLES and name not in columns.found and name not in NEEDED:
             columns.notes.append(ColumnLost(Field(name), title, likely.of_lost(Field(name), title)))

@@ -7,7 +7,7 @@ import datetime
 import enum
 import functools
 import re
-from collections.abc import Iterable, Iterator, Mapping, Sequence
+from collections.abc import Iterator, Mapping, Sequence
 from typing import NamedTuple
 
 from gudokeyi.ingest.day_forms import EPOCH

@@ -10,7 +10,7 @@ from typing import Container
 from gudokeyi.domain.findings import Report
 from gudokeyi.domain.kinds import Field
 from gudokeyi.ingest.day_forms import SERIAL, TWO
-from gudokeyi.ingest.days import Unreadable, is_span, places_within, read_span
+from gudokeyi.ingest.days import DIGITS, Unreadable, is_span, places_within, read_span
 from gudokeyi.ingest.findings.exits import BuyerDisagrees, BuyersRead, ExitDaysRead, Remark
 from gudokeyi.ingest.findings.rows import StatusDisagrees
 from gudokeyi.ingest.sheets import Sheet, SheetRow, cell_of
@@ -45,13 +45,18 @@ class Exits:
     remarks: list[Remark] = field(default_factory=list)
 
 
-def exit_day_columns(sheet: Sheet, columns: Mapping[str, int]) -> list[int]:
-    """The columns that aren't read, name exits and have days, or a yes."""
+def exit_columns(sheet: Sheet, columns: Mapping[str, int]) -> list[int]:
+    """The columns that name exits beside that of these."""
     if Field.EXIT not in columns:
         return []
     usual = {*KNOWN_TITLES[Field.EXIT]} - KNOWN_DOUBTFUL
     free = [at for at, title in enumerate(sheet.titles) if title and at not in columns.values()]
-    named = [at for at in free if names_exits_alone(sheet.titles[at]) or plain(sheet.titles[at]) in usual]
+    return [at for at in free if names_exits_alone(sheet.titles[at]) or plain(sheet.titles[at]) in usual]
+
+
+def exit_day_columns(sheet: Sheet, columns: Mapping[str, int]) -> list[int]:
+    """Those of them that have a day, or a yes: they are read as that of the exits is."""
+    named = exit_columns(sheet, columns)
     return [at for at in named if tells_exits(sheet.column(at), word_of(sheet.titles[at]))]
 
 
@@ -69,14 +74,22 @@ def columns_beside(sheet: Sheet, columns: Mapping[str, int]) -> list[int]:
 
 
 def tells_exits(texts: list[str], word: str) -> bool:
-    """Are most of the different texts days, or a yes or a no?"""
+    """Is any of the texts a day or a month, or are most of the different ones years or numbers, or a yes or a no?"""
     said = {*texts} - {""}
     known = KNOWN_YES | KNOWN_NO if has_word(word, PLAIN_EXITS) else set[str]()
+    if any(map(says_day_or_month, said)):
+        return True
     return 2 * sum(text.casefold() in known or says_day(text) for text in said) > len(said)
 
 
 def says_day(text: str) -> bool:
     return is_span(text) or any(form.fullmatch(text) for form in (TWO, SERIAL)) or bool(places_within(text))
+
+
+def says_day_or_month(text: str) -> bool:
+    """Does it say more than a year, which may be a price?"""
+    is_whole = any(form.fullmatch(text) for form in (TWO, DIGITS))
+    return is_whole or any(len(place.groupdict()) > 1 for place in places_within(text))
 
 
 def word_of(title: str) -> str:
@@ -88,43 +101,59 @@ def word_of(title: str) -> str:
 
 
 class ExitDays:
-    """Takes the days of such columns where that of the exits has none, and tells where they disagree."""
+    """Takes what such columns say where that of the exits says nothing, and tells where they disagree."""
 
     def __init__(self, sheet: Sheet, columns: Mapping[str, int], unknown: Container[str], report: Report) -> None:
         self.sheet, self.columns, self.unknown, self.report = sheet, columns, unknown, report
         self.exit = columns[Field.EXIT]
+        # the same texts stand in many cells
+        self.tells_none = functools.cache(lambda cell: lives(cell) or cell in unknown and not exit_word(cell))
 
     def add(self, exits: Exits, rows: Sequence[SheetRow], at: int) -> None:
         title, word, count = self.sheet.titles[at], word_of(self.sheet.titles[at]), 0
         for place, row in enumerate(rows):
             cell = cell_of(row, at)
-            is_yes = cell.casefold() in KNOWN_YES and has_word(word, PLAIN_EXITS)
-            if not is_yes and (not cell or cell in self.unknown or not says_day(cell)):
+            if not cell or self.tells_none(cell) or cell == title and self.are_titles(row):
                 continue
+            is_yes = cell.casefold() in KNOWN_YES and has_word(word, PLAIN_EXITS)
             text = self.of_yes(exits, place, row, word) if is_yes else self.taken(exits, place, row, at)
             if text:
                 exits.texts[place], exits.titles[row.line] = text, title
-                count += 1
+                count += not is_still_there(text)
             if text == cell and word:
                 exits.reasons.setdefault(row.line, word)
         if count:
             self.report.add(0, "", ExitDaysRead(title, self.sheet.titles[self.exit], count))
 
+    def are_titles(self, row: SheetRow) -> bool:
+        """Does the row repeat them?"""
+        return cell_of(row, self.columns[Field.ID]) == self.sheet.titles[self.columns[Field.ID]]
+
     def taken(self, exits: Exits, place: int, row: SheetRow, at: int) -> str:
-        """The text for the exit that has the day of the other column, empty where another is taken."""
-        day, exit = cell_of(row, at), exits.texts.get(place) or cell_of(row, self.exit)
+        """The text for the exit that has what the other column says, empty where another is taken."""
+        said, exit = cell_of(row, at), exits.texts.get(place) or cell_of(row, self.exit)
         if not exit or exit in self.unknown:
             self.look_at_status(row, at)
-            return day
+            return said
         if lives(exit):
             self.tell(row, self.title(exits, row), exit, at, False)
-            return day
+            return said
         title, has_digits = self.sheet.titles[at], any(map(str.isdigit, exit))
-        if not has_digits and names_other_exits(exit) == names_other_exits(title):
-            return f"{exit} {day}"
-        if not has_digits or not is_same_day(exit, day):
+        if not says_day(said):
+            self.add_words(exits, row, exit, at)
+        elif not has_digits and names_other_exits(exit) == names_other_exits(title):
+            return f"{exit} {said}"
+        elif not has_digits or not is_same_day(exit, said):
             self.tell(row, self.title(exits, row), exit, at, has_digits)
         return ""
+
+    def add_words(self, exits: Exits, row: SheetRow, exit: str, at: int) -> None:
+        """What is no day, beside an exit that another column tells: of the same one it may say why."""
+        title, said = self.title(exits, row), cell_of(row, at)
+        if names_other_exits(title) != names_other_exits(self.sheet.titles[at]):
+            self.tell(row, title, exit, at, any(map(str.isdigit, exit)))
+        elif LETTER.search(said) and said.casefold() not in KNOWN_YES:
+            exits.reasons.setdefault(row.line, said)
 
     def of_yes(self, exits: Exits, place: int, row: SheetRow, word: str) -> str:
         """The word of a column such as `verkauft` that says yes where nothing tells of another exit."""

@@ -22,6 +22,7 @@ from gudokeyi.ingest.findings.rows import CellsRepeated, MarksAreNames, NoteRow,
 from gudokeyi.ingest.findings.sheets import UnseenDropped
 from gudokeyi.ingest.marked_ids import without_signs_of_exits
 from gudokeyi.ingest.names_for_ids import with_names_for_ids
+from gudokeyi.ingest.no_days import without_no_days
 from gudokeyi.ingest.owners_beside import owners_named
 from gudokeyi.ingest.sheets import Sheet, SheetRow, cell_of, with_cell
 from gudokeyi.ingest.statuses import SOLD, TAKER, exits_said, taker_of_owner
@@ -251,8 +252,8 @@ def as_meant(
     rows = Marks(sheet, columns, called, unknown.more).repeat(rows, report)
     owners = owners_named(rows, sheet, columns, DITTO_OF_OWNER)
     if owners:
-        owner = columns[Field.OWNER]
-        rows = [with_cell(row, owner, owners[at]) if at in owners else row for at, row in enumerate(rows)]
+        rows = with_cells(rows, columns[Field.OWNER], owners)
+    rows = without_no_days(rows, sheet, columns, report)
     births = births_said(rows, sheet, columns, unknown, report)
     if births:
         rows = with_cells(rows, columns[Field.BIRTH], births)

@@ -6,13 +6,13 @@ import itertools
 from collections.abc import Sequence, Set
 
 from gudokeyi.domain.findings import ImportRefused, Report
-from gudokeyi.domain.kinds import Role, Standing
+from gudokeyi.domain.kinds import Field, Role, Standing
 from gudokeyi.domain.messages import Mistake
 from gudokeyi.ingest.animals import DAM_OF, SIRE_OF, SheetAnimal, ancestors_among, birth_in_book
 from gudokeyi.ingest.columns import Columns
 from gudokeyi.reconcile.birth_days import find_days
 from gudokeyi.reconcile.exchanged_ids import tell_exchanged_ids
-from gudokeyi.reconcile.exits import exit_in_book
+from gudokeyi.reconcile.exits import exit_in_book, tell_exits_unread, tell_lost_exits
 from gudokeyi.reconcile.findings.animals import RowIsGone
 from gudokeyi.reconcile.guards import Guards, without_row
 from gudokeyi.reconcile.ids import NearIds, leave_out_used_tags
@@ -86,7 +86,7 @@ MOST_ANIMALS = 60_000
 def add_others(next_book: NextBook, drop_gone: bool, columns: Columns | None = None) -> None:
     """Adds the animals of the book that have no row, and the parents that have none."""
     book, animals, report, last = next_book.book, next_book.animals, next_book.report, next_book.last_found
-    give_values_of_book(next_book)
+    give_values_of_book(next_book, columns)
     sires, dams = [*map(SIRE_OF, animals.values())], [*map(DAM_OF, animals.values())]
     next_book.texts = parents_written(next_book, sires, dams)
     gone = animals_of_book(next_book)
@@ -135,9 +135,11 @@ def find_parents(
     try_parents_again(next_book, gone, all_animals)
 
 
-def give_values_of_book(next_book: NextBook) -> None:
+def give_values_of_book(next_book: NextBook, columns: Columns | None) -> None:
     """Rows that lack something have it of the book from here on."""
     keep_values(next_book)
+    if columns and next_book.lost_exits:
+        tell_lost_exits(next_book, columns.title(columns.found[Field.EXIT]))
     if next_book.rows_of_book:
         next_book.compare(next_book.rows_of_book)
 
@@ -171,7 +173,7 @@ def complete(next_book: NextBook, columns: Columns, import_options: ImportOption
     guards = Guards(
         next_book.book, dict(next_book.animals), columns, next_book.otherwise, next_book.in_book, next_book.last_found
     )
-    next_book.appends = import_options.append
+    next_book.appends, next_book.lost_exits = import_options.append, columns.lost_exits
     found = guards.of_rows(import_options.append)
     if not import_options.anyway:
         next_book.used_again = leave_out_used_tags(
@@ -192,3 +194,4 @@ def complete(next_book: NextBook, columns: Columns, import_options: ImportOption
     tell_sections(next_book)
     find_days(next_book)
     tell_births(next_book)
+    tell_exits_unread(next_book, columns.exits_unread)

@@ -5,6 +5,7 @@ import collections
 import datetime
 import itertools
 import operator
+from collections.abc import Collection
 from typing import NamedTuple
 
 from gudokeyi.domain.animals import SocietyRecord
@@ -14,11 +15,14 @@ from gudokeyi.domain.kinds import CommandKind, Field
 from gudokeyi.domain.provenance import GIVEN_EXIT, ExitBasis, ExitSource
 from gudokeyi.domain.refusals import Refusal
 from gudokeyi.ingest.animals import DAM_OF, LEFT_OF, SheetAnimal
+from gudokeyi.ingest.exits_unread import ExitsUnread
 from gudokeyi.ingest.words import exit_word, lives, says_lives
 from gudokeyi.ingest.words_beside import words_beside
 from gudokeyi.reconcile.findings.animals import KeptByHand, KeptFromBook
 from gudokeyi.reconcile.findings.by_hand import ValueChanged
+from gudokeyi.reconcile.findings.lost_columns import ExitsOfLostColumn
 from gudokeyi.reconcile.findings.plausibility import ExitsWithdrawn, MostChanged, RowOf
+from gudokeyi.reconcile.findings.obstacles import ExitsEmptied
 from gudokeyi.reconcile.findings.rows import CommandLeftOut
 from gudokeyi.reconcile.next_book import NextBook
 
@@ -152,11 +156,28 @@ def tell_withdrawn_exits(next_book: NextBook) -> None:
     if len(withdrawn) < SEVERAL_WITHDRAWN:
         # what a cell says is told by itself
         withdrawn = [animal for animal in withdrawn if says_nothing(animal.cells.get(Field.EXIT, ""))]
-    if withdrawn:
+    # what keeps the sheet from being taken is told
+    if withdrawn and not any(isinstance(one, ExitsEmptied) for one in next_book.obstacles):
         first = tuple(RowOf(animal.id, animal.line) for animal in withdrawn[:FIRST])
         others = [animal.id for animal in animals.values() if animal.line and has_left(animal)]
         other = others[0] if len(others) >= len(withdrawn) else ""
         next_book.report.add(0, "", ExitsWithdrawn(len(withdrawn), first, other))
+
+
+def tell_lost_exits(next_book: NextBook, title: str) -> None:
+    """The exits that stay, since a column of the last time lacks; `title` is that of the one that is read."""
+    if kept := next_book.kept_exits:
+        first = tuple(RowOf(animal.id, animal.line) for animal in kept[:FIRST])
+        next_book.report.add(0, "", ExitsOfLostColumn(next_book.lost_exits[0], title, len(kept), first))
+
+
+def tell_exits_unread(next_book: NextBook, unread: Collection[ExitsUnread]) -> None:
+    """Cells that may tell of exits, of the animals that count as living."""
+    lines = {line for one in unread for line in one.cells}
+    rows = [animal for animal in next_book.animals.values() if animal.line in lines] if lines else []
+    living = {animal.line for animal in rows if not has_left(animal)}
+    for found in filter(None, (one.of(living) for one in unread)):
+        next_book.report.add(0, "", found)
 
 
 def has_left(animal: SheetAnimal) -> bool:

@@ -9,13 +9,14 @@ from collections.abc import Collection, Mapping, Sized
 
 from gudokeyi.domain.animals import SocietyRecord
 from gudokeyi.domain.commands import RegisterRecord
-from gudokeyi.domain.kinds import Role
+from gudokeyi.domain.kinds import Field, Role
 from gudokeyi.ingest.animals import DAM_OF, SIRE_OF, SheetAnimal
 from gudokeyi.ingest.columns import Columns
 from gudokeyi.ingest.texts import nearly
 from gudokeyi.reconcile.animals_of_book import AnimalsOfBook
+from gudokeyi.reconcile.exits import has_left
 from gudokeyi.reconcile.findings.obstacles import (
-    Changed, Guard, IdsLack, LooksLike, ManyDropped, ManyGone, ManyOthers, ParentsLack,
+    Changed, ExitsEmptied, Guard, IdsLack, LooksLike, ManyDropped, ManyGone, ManyOthers, ParentsLack,
 )  # fmt: skip
 from gudokeyi.reconcile.findings.plausibility import RowOf
 from gudokeyi.reconcile.last_found import Kept, LastFound, NothingKept
@@ -147,12 +148,22 @@ class Guards(OtherAnimals):
 
     def of_rows(self, appends: bool = False) -> list[Guard]:
         """The ids, and what animals are as the rows have them; of a sheet that has new rows alone none is gone."""
-        found = [self.missing_column(), None if appends else self.gone()]
+        found = [self.missing_column(), None if appends else self.gone(), self.exits_emptied()]
         return [guard for guard in found if guard] + self.of_both()
 
     def missing_column(self) -> Guard | None:
         lacks = self.columns.lacks_ids
         return IdsLack(lacks, self.like()) if lacks else None
+
+    def exits_emptied(self) -> Guard | None:
+        """No row tells of an exit, and many of their animals have left in the book, where nobody filed that by hand."""
+        left, known = self.in_book.left if Field.EXIT in self.given else frozenset(), self.book.society_records
+        if not left or self.columns.lost_exits or any(map(has_left, self.rows.values())):
+            return None
+        gone = [row for id, row in self.rows.items() if id in left and Field.EXIT not in known[id].by_hand]
+        first = tuple(RowOf(row.id, row.line) for row in gone[:3])
+        title = self.columns.title(self.columns.found[Field.EXIT])
+        return ExitsEmptied(title, len(gone), first) if self.are_many(gone) else None
 
     def lacking(self) -> list[str]:
         """The animals that had a row in the last sheet, and have none."""

@@ -4,7 +4,7 @@ from __future__ import annotations
 
 import datetime
 import pathlib
-from collections.abc import Mapping
+from collections.abc import Mapping, Sequence
 from dataclasses import dataclass, field, replace
 from typing import Any
 
@@ -15,7 +15,7 @@ from gudokeyi.domain.messages import Mistake
 from gudokeyi.domain.options import AS_STORED, IMPORT, Described, Kind
 from gudokeyi.domain.requests import refuse_text
 from gudokeyi.domain.settings import Setting
-from gudokeyi.ingest.titles import parts_of
+from gudokeyi.ingest.titles import TITLES, parts_of
 from gudokeyi.ingest.texts import clean, listed, plain
 from gudokeyi.ingest.workbooks import NamedBefore
 from gudokeyi.reconcile.limits import APART, YOUNGEST, Limits
@@ -132,10 +132,14 @@ def remember(book: Book, import_options: ImportOptions) -> RememberedWords:
     return both
 
 
-def remember_columns(book: Book, titles: list[tuple[str, str]]) -> None:
-    """The titles of the sheet's columns, by field; those of other fields stay, and so does what is as it was."""
-    columns = {one.word: one for one in book.remembered if one.what is Remembered.COLUMN}
-    columns |= {field: Meaning(Remembered.COLUMN, field, title) for field, title in titles}
+def remember_columns(book: Book, titles: Mapping[str, str], exits: Sequence[str]) -> None:
+    """The titles of the sheet's columns, by field, and those of all its columns of exits; those of other fields stay,
+    and so does what is as it was."""
+    numbered = {f"{Field.EXIT} {at}" if at > 1 else Field.EXIT.value: title for at, title in enumerate(exits, 1)}
+    before = {one.word: one for one in book.remembered if one.what is Remembered.COLUMN}
+    columns = {word: one for word, one in before.items() if not exits or word in TITLES}
+    titles = {**titles, **numbered}
+    columns |= {field: Meaning(Remembered.COLUMN, field, title) for field, title in titles.items()}
     book.remembered = [one for one in book.remembered if one.what is not Remembered.COLUMN] + [*columns.values()]
 
 

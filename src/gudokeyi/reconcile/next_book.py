@@ -142,6 +142,8 @@ class NextBook:
         self.kept_owners: set[str] = set()
         # the ids of animals whose exits are those of the book, or were left out there
         self.exits_of_book: set[str] = set()
+        # the titles of the last sheet's columns of exits that this one lacks, and those whose exits stay therefore
+        self.lost_exits, self.kept_exits = tuple[str, ...](), list[SheetAnimal]()
         # the ids of animals that have another number than before
         self.renumbered: set[str] = set()
         # the sheet has new rows alone: the others of the book stay what they are in it

@@ -18,7 +18,6 @@ from gudokeyi.reconcile.findings.animals import (
 )  # fmt: skip
 from gudokeyi.reconcile.findings.plausibility import BornDead, OwnerIsNoName, OwnerOfSeveral, OwnerWithMore
 from gudokeyi.reconcile.next_book import NextBook
-from gudokeyi.store.book import Book
 
 # Owners that seem to be written otherwise: than before, where all animals of the one are of another who is much alike,
 # and in one sheet, also by a wrong letter.

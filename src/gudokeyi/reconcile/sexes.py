@@ -13,7 +13,7 @@ from gudokeyi.domain.findings import Finding, Report
 from gudokeyi.domain.kinds import Field, Role
 from gudokeyi.domain.provenance import SexSource
 from gudokeyi.ingest.animals import (
-    DAM_OF, ID_OF, NAME_OF, SEX_OF, SIRE_OF, UNREAD_OF, Link, SheetAnimal, links_outside,
+    DAM_OF, ID_OF, NAME_OF, SEX_OF, SIRE_OF, Link, SheetAnimal, links_outside,
 )  # fmt: skip
 from gudokeyi.ingest.sexes import is_unsure
 from gudokeyi.reconcile.findings.animals import SexInferred, SexNotKnown, SexUnsure

@@ -2,7 +2,6 @@
 hand."""
 from __future__ import annotations
 
-import datetime
 from dataclasses import replace
 
 from gudokeyi.domain.animals import SocietyRecord
@@ -16,7 +15,7 @@ from gudokeyi.ingest.findings.cells import DayLeftOut
 from gudokeyi.ingest.findings.exits import ExitInferred
 from gudokeyi.ingest.sexes import is_unsure
 from gudokeyi.ingest.words_beside import words_beside
-from gudokeyi.reconcile.exits import Exit, exit_in_book, given_day
+from gudokeyi.reconcile.exits import Exit, exit_in_book, given_day, has_left, says_nothing
 from gudokeyi.reconcile.findings.animals import KeptByHand, KeptFromBook, SexUnsure
 from gudokeyi.reconcile.impossible_parents import tried_again
 from gudokeyi.reconcile.next_book import NextBook
@@ -87,6 +86,8 @@ class Keeping:
         for role in [*Role] if unread else self.roles_not_given:
             if role not in self.given or role in unread:
                 animal.set_parent(role, self.next_book.id_of(record.parent(role)))
+        if self.has_exits and self.next_book.lost_exits:
+            self.keep_lost_exit(animal, in_book, record)
         is_asked = not self.has_exits or "exit" in unread
         exit = exit_in_book(in_book, record, animal.birth.first) if is_asked else None
         if exit and (not self.has_exits or self.may_keep_exit(animal, exit)):
@@ -127,6 +128,13 @@ class Keeping:
     def keep_exit(self, animal: SheetAnimal, exit: Exit) -> None:
         animal.left, animal.exit_basis = exit
         self.next_book.exits_of_book.add(animal.id)
+
+    def keep_lost_exit(self, animal: SheetAnimal, in_book: SocietyRecord, record: RegisterRecord) -> None:
+        """The row of an animal that had left says nothing of that, and a column of exits of the last time lacks."""
+        if animal.id in self.next_book.in_book.left and not has_left(animal):
+            if says_nothing(animal.cells.get(Field.EXIT, "")):
+                self.keep_exit(animal, exit_in_book(in_book, record, animal.birth.first))
+                self.next_book.kept_exits.append(animal)
 
     def keep_reason(self, animal: SheetAnimal, reason: str, in_book: ExitBasis) -> None:
         """What the sheet says beside the day of an exit, or what the book has beside that day where no column says

@@ -13,7 +13,7 @@ from gudokeyi.domain.findings import Call, Entry, ImportRefused, Report, Strictl
 from gudokeyi.domain.kinds import Field, Remembered
 from gudokeyi.ingest.births_beside import year_column
 from gudokeyi.ingest.castrations import castration_columns
-from gudokeyi.ingest.exits_beside import columns_beside
+from gudokeyi.ingest.exits_beside import columns_beside, exit_day_columns
 from gudokeyi.ingest.files import GivenFile
 from gudokeyi.ingest.findings.columns import ColumnUntitled, TitleBelow
 from gudokeyi.ingest.inferred_values import columns_of_marks
@@ -245,7 +245,7 @@ def import_sheet_into(
     tell_columns_not_kept(read, own, next_book)
     lacks_own = tell_lost_own_columns(book, own, read.columns, next_book.report)
     understood = understood_of(path, read, used, {} if lacks_own else titles_before(book), own)
-    remember_places(book, read, import_options.worksheet)
+    remember_places(book, read, import_options.worksheet, next_book.lost_exits if next_book.kept_exits else ())
 
     def take_own() -> None:
         take_own_values(next_book, own, read.sheet, bool(words[Remembered.MONTH_FIRST]))
@@ -255,9 +255,14 @@ def import_sheet_into(
     return finish(next_book, program, import_options, file, about)
 
 
-def remember_places(book: Book, read: ReadSheet, worksheet: str) -> None:
-    """From which worksheet and columns the next sheet is read."""
-    remember_columns(book, read.columns.titles_found())
+def remember_places(book: Book, read: ReadSheet, worksheet: str, lost_exits: tuple[str, ...]) -> None:
+    """From which worksheet and columns the next sheet is read; `lost_exits` are the titles of columns that it may have
+    again."""
+    sheet, found = read.sheet, read.columns.found
+    places = [found[Field.EXIT], *exit_day_columns(sheet, found)] if Field.EXIT in found else []
+    exits, is_first = [sheet.titles[at] for at in places], titles_before(book).get(Field.EXIT) in lost_exits
+    exits = [*lost_exits, *exits] if is_first else [*exits, *lost_exits]
+    remember_columns(book, dict(read.columns.titles_found()), exits)
     remember_worksheet(book, worksheet, read.sheet.worksheets)
 
 

@@ -28,7 +28,7 @@ from gudokeyi.ingest.rows_as_meant import Notes, as_meant, marks_in, member_numb
 from gudokeyi.ingest.sexes import has_letter_beside_females
 from gudokeyi.ingest.sheet_animals import Rows
 from gudokeyi.ingest.sheets import Sheet, read_sheet
-from gudokeyi.ingest.titles import known_titles, parts_of, read_given, read_sexes
+from gudokeyi.ingest.titles import TITLES, known_titles, parts_of, read_given, read_sexes
 from gudokeyi.ingest.unknown_parents import UnknownParents
 from gudokeyi.ingest.workbooks import NamedBefore
 from gudokeyi.reconcile.animals_of_book import AnimalsOfBook, AnimalsWithNewTags
@@ -70,6 +70,11 @@ LAST_SHEET = LastSheet()
 
 def titles_before(book: Book) -> dict[str, str]:
     """The titles of all columns of the last sheet, by field."""
+    return {word: title for word, title in titles_remembered(book).items() if word in TITLES}
+
+
+def titles_remembered(book: Book) -> dict[str, str]:
+    """The same, with those of further columns of exits, by the field and a number."""
     return {one.word: one.meaning for one in book.remembered if one.what is Remembered.COLUMN}
 
 
@@ -313,12 +318,12 @@ def read_columns(
 ) -> Columns:
     """The columns of a sheet, which has its rows."""
     now = read_given(import_options.columns)
-    before = titles_before(book) | read_given(words[Remembered.COLUMNS])
+    before = titles_remembered(book) | read_given(words[Remembered.COLUMNS])
     titles, worksheet = frozenset({*before.values(), *now.values()}), worksheet_before(book)
     sheet = LAST_SHEET.of(file, titles, import_options.worksheet, worksheet)
     unknown = UnknownParents(words[Remembered.UNKNOWN], words[Remembered.KNOWN])
     ids = (last.animals_of_book(book) if last else AnimalsOfBook(book)).had_row
-    before = {name: title for name, title in before.items() if name not in now}
+    before = {name: title for name, title in before.items() if name.split()[0] not in now}
     if last:
         return last.columns_of(sheet, now, before, unknown, ids)
     return find_columns(sheet, now, before, unknown, ids)

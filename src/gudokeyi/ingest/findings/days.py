@@ -70,6 +70,26 @@ class DaysReadSo(SheetFinding):
 
 
 @dataclass(frozen=True, slots=True)
+class NoDays(SheetFinding):
+    """Cells such as `00/00/0000` and `31.12.9999`, which programs write where there is no day."""
+
+    title: str
+    count: int
+    line: int
+    text: str
+
+    severity = Severity.FACTS
+    code = "no days"
+    message = Counted(
+        "{count} cell of the column '{title}' has what programs write for no day, '{text}' in line {line}: it counts as "
+        "empty",
+        "{count} cells of the column '{title}' have what programs write for no day, the first '{text}' in line {line}: "
+        "they count as empty",
+        "count",
+    )
+
+
+@dataclass(frozen=True, slots=True)
 class DaysExchanged(SheetFinding):
     """Days of a column that a spreadsheet seems to have read with the month first, since each is a twelfth at most and
     those that it kept as texts aren't: how many, and the first of both."""

@@ -230,6 +230,67 @@ class ExitsInRemarks(SheetFinding):
 
 
 @dataclass(frozen=True, slots=True)
+class ExitColumnUnread(ExitsInRemarks):
+    """A column whose title names exits isn't read, and has cells of animals that have no exit."""
+
+    code = "exit column unread"
+    message = Counted(
+        "the column '{title}' isn't read for exits, since none of its cells has a day, and {count} cell of it says "
+        "something of an animal that has no exit: '{text}' in line {line}; the animal counts as living: if it left, "
+        "write the day there",
+        "the column '{title}' isn't read for exits, since none of its cells has a day, and {count} cells of it say "
+        "something of animals that have no exit, the first is '{text}' in line {line}; these animals count as living: if "
+        "one left, write the day there",
+        "count",
+    )
+
+
+@dataclass(frozen=True, slots=True)
+class LivingUnmarked(ExitsInRemarks):
+    """A column such as `lebend` has a text that says yes of some animals, and nothing of others without an exit."""
+
+    decides_much = True
+    severity = Severity.ANIMALS
+    code = "living unmarked"
+    message = Counted(
+        "the column '{title}' says '{text}' of some animals, and nothing of {count} that has no exit, in line {line}: it "
+        "counts as living too; if it has left, write no, nein or non there, or the day of its exit",
+        "the column '{title}' says '{text}' of some animals, and nothing of {count} that have no exit, the first in line "
+        "{line}: they count as living too; if one has left, write no, nein or non there, or the day of its exit",
+        "count",
+    )
+
+
+@dataclass(frozen=True, slots=True)
+class StatusOfCodes(SheetFinding):
+    """A column such as `Status` isn't read, and has letters or numbers of which nothing says what they mean; `more`
+    aren't here."""
+
+    title: str
+    count: int
+    texts: tuple[str, ...]
+    more: int
+
+    decides_much = True
+    severity = Severity.ANIMALS
+    code = "status of codes"
+    message = Counted(
+        "the column '{title}' isn't read, since nothing says which animals left by its {count} cell: {said}{maybe_more}; "
+        "if it does, write words in place of these, as alive, dead and sold, or lebt, tot and verkauft",
+        "the column '{title}' isn't read, since nothing says which animals left by its {count} cells: {said}{maybe_more}; "
+        "if they do, write words in place of these, as alive, dead and sold, or lebt, tot and verkauft",
+        "count",
+    )
+    parts = {"maybe_more": OptionalPart(" and {more} more")}
+
+    def values(self) -> Mapping[str, object]:
+        return {"said": self.texts}
+
+    def suggestions(self) -> tuple[Suggestion, ...]:
+        return (Suggestion("if it tells of no exits", (column(Field.STATUS, ""),)),)
+
+
+@dataclass(frozen=True, slots=True)
 class CastratedInRemarks(SheetFinding):
     """Some cells of a column that isn't read tell that males are castrated, whose sexes don't say so."""
 

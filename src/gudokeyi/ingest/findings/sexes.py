@@ -62,7 +62,7 @@ class UnknownSex(Told):
 class SexesUnknown(CellsUnread):
     """None of the words for sexes of a column can be read."""
 
-    sexes: tuple[UnknownSex, ...]
+    sexes: tuple[UnknownSex, ...] = ()
 
     code = "sexes unknown"
     message = Text("no word for a sex of the column '{cells_title}' is known: {sexes}: {advice}")

@@ -149,6 +149,29 @@ class ManyOthers(Guard):
 
 
 @dataclass(frozen=True, slots=True)
+class ExitsEmptied(Guard):
+    """The column of exits tells of none, and many of the animals have left in the book: how many, and the first."""
+
+    title: str
+    animals: int
+    first: tuple[RowOf, ...]
+
+    code = "exits emptied"
+    message = Counted(
+        "the column '{title}' tells of no exit, and {animals} animal that had left would count as living again, {first}: "
+        "was it emptied?",
+        "the column '{title}' tells of no exit, and {animals} animals that had left would count as living again, the "
+        "first are {first}: was it emptied?",
+        "animals",
+    )
+    page_message = message
+
+    def suggestions(self) -> tuple[Suggestion, ...]:
+        of_none = Suggestion("if the sheet doesn't tell of exits", (columns({Field.EXIT: ""}),))
+        return (of_none, *Guard.suggestions(self))
+
+
+@dataclass(frozen=True, slots=True)
 class ParentsLack(Guard):
     """Most parents have neither a row nor a place in the book; `title` is that of a column in which they are found."""
 

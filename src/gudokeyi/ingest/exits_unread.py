@@ -1,0 +1,78 @@
+"""Columns that aren't read for exits, or say nothing of some animals, and may tell that these left: each is told of
+those that count as living in the book that comes of the sheet."""
+from __future__ import annotations
+
+import collections
+from collections.abc import Collection, Iterator, Mapping
+from dataclasses import dataclass
+from typing import Container
+
+from gudokeyi.domain.kinds import Field
+from gudokeyi.ingest.findings.rows import ExitColumnUnread, ExitsInRemarks, LivingUnmarked, StatusOfCodes
+from gudokeyi.ingest.findings.sheets import MOST_SHOWN
+from gudokeyi.ingest.sheets import Sheet
+from gudokeyi.ingest.texts import plain
+from gudokeyi.ingest.titles import KNOWN_STATES, OF_LIVING, said_of
+from gudokeyi.ingest.words import KNOWN_YES, lives
+
+# so many letters a code has, and so many different ones a column; in so many cells they tell something
+LONGEST, MOST_CODES, LEAST = 2, 9, 3
+
+
+@dataclass(frozen=True)
+class ExitsUnread:
+    """Cells of a column by the lines of their rows, and what is told of them."""
+
+    kind: type[ExitsInRemarks]
+    title: str
+    cells: Mapping[int, str]
+
+    def of(self, living: Container[int]) -> ExitsInRemarks | None:
+        """What is told where the animals of some lines live."""
+        lines = [line for line in self.cells if line in living]
+        return self.kind(self.title, len(lines), lines[0], self.cells[lines[0]]) if lines else None
+
+
+def remarks_unread(sheet: Sheet, columns: Mapping[str, int], at: int, texts: Collection[str]) -> ExitsUnread:
+    """Cells of a column that isn't read which tell that animals left."""
+    return beside_exits(sheet, columns, at, texts, ExitsInRemarks)
+
+
+def column_unread(sheet: Sheet, columns: Mapping[str, int], at: int, unknown: Container[str]) -> ExitsUnread:
+    """A column whose title names exits, and that isn't read, since none of its cells has a day."""
+    texts = {text for text in {*sheet.column(at)} if text not in unknown and not lives(text)}
+    return beside_exits(sheet, columns, at, texts, ExitColumnUnread)
+
+
+def beside_exits(
+    sheet: Sheet, columns: Mapping[str, int], at: int, texts: Collection[str], kind: type[ExitsInRemarks]
+) -> ExitsUnread:
+    """The cells with these texts of rows of which no column that is read for exits says something."""
+    cells = sheet.column(at)
+    telling = [place for place, cell in enumerate(cells) if cell in texts] if texts else []
+    for of in [columns[name] for name in (Field.EXIT, Field.STATUS) if name in columns]:
+        exits, title = sheet.column(of), sheet.titles[of]
+        none = {one for one in {*exits} if lives(said_of(one, title))}
+        telling = [place for place in telling if exits[place] in none]
+    return ExitsUnread(kind, sheet.titles[at], {sheet.rows[place].line: cells[place] for place in telling})
+
+
+def living_unmarked(sheet: Sheet) -> Iterator[ExitsUnread]:
+    """Columns such as `lebend` that say yes of some animals, and nothing of others."""
+    for at in [at for at, title in enumerate(sheet.titles) if plain(title) in OF_LIVING]:
+        cells = sheet.column(at)
+        texts = {*cells} - {""}
+        if texts and all(text.casefold() in KNOWN_YES for text in texts):
+            empty = {row.line: min(texts) for row, cell in zip(sheet.rows, cells) if not cell}
+            yield ExitsUnread(LivingUnmarked, sheet.titles[at], empty)
+
+
+def codes_of_status(sheet: Sheet, at: int, unknown: Container[str]) -> StatusOfCodes | None:
+    """A column that has a title such as `Status`, isn't read, and has letters or numbers for states."""
+    if plain(sheet.titles[at]) not in KNOWN_STATES:
+        return None
+    counts = collections.Counter(cell for cell in sheet.column(at) if cell not in unknown)
+    are_codes = 0 < len(counts) <= MOST_CODES and all(len(text) <= LONGEST and text.isalnum() for text in counts)
+    if not are_codes or counts.total() < LEAST:
+        return None
+    return StatusOfCodes(sheet.titles[at], counts.total(), tuple([*counts][:MOST_SHOWN]), len([*counts][MOST_SHOWN:]))
