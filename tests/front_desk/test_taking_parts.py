@@ -203,14 +203,14 @@ def test_a_whole_book_is_asked_about_as_it_is_filed() -> None:
     """A look asks of lines that are no commands, by birth and not in the order of the sheet, and has the same refused;
     other replies are none."""
     dam = SheetAnimal("b", 3, born=BORN, left=BORN.replace(year=2005), registration_number=NUMBER)
-    calf = SheetAnimal("a", 2, dam="b", born=BORN.replace(year=2004), embryo=True, registration_number=NUMBER[:-1] + "2")
+    later, number = BORN.replace(year=2004), NUMBER[:-1] + "2"
+    calf = SheetAnimal("a", 2, dam="b", born=later, embryo=True, registration_number=number)
     book = cast(Book, SimpleNamespace(society_records={}, records={}, by_number=dict))
     whole = NextBook(book, {"a": calf, "b": dam}, set(), Report(), DAYS)
-    anew = CommandsAnew(whole, whole.told_of_all(), [7, 4], [transfer(NUMBER, calf.born, 4, 7)])
+    anew = CommandsAnew(whole, whole.told_of_all(), [7, 4], [transfer(NUMBER, later, 4, 7)])
     assert [command.kind for command in anew.commands] == ["birth", "birth", "transfer", "exit"]
-    assert anew.commands[:2] == [
-        birth(NUMBER, BORN, "", "", 4, False), birth(calf.registration_number, calf.born, "", NUMBER, 7, True)
-    ]  # fmt: skip
+    births = [birth(NUMBER, BORN, "", "", 4, False), birth(number, later, "", NUMBER, 7, True)]
+    assert anew.commands[:2] == births
     assert anew.text() == text_of(anew.commands)
     replies = b"1,accepted\n2,refused,8\n3,accepted\n4,refused,16\n"
     program = cast(BookProgram, SimpleNamespace(file_text=lambda text, count: refusals_in(replies)))

@@ -223,7 +223,7 @@ class NextBook:
 
     @functools.cached_property
     def lasting(self) -> Lasting:
-        """What stays as it is of all animals, once they have their numbers."""
+        """What stays as it is of all animals, once they have their numbers: neither these nor birth days change."""
         return lasting(self.animals.values())
 
     @functools.cached_property
@@ -231,11 +231,6 @@ class NextBook:
         """The places of the animals, the oldest first; those of a day by their numbers."""
         _, numbers, days, _ = self.lasting
         return self.last_found.of(Kept.BY_BIRTH, (numbers, days), lambda: places_by_birth(numbers, days))
-
-    @functools.cached_property
-    def by_birth(self) -> list[SheetAnimal]:
-        """The animals in this order."""
-        return self.at(self.places)
 
     def at(self, places: Iterable[int]) -> list[SheetAnimal]:
         return [*in_places(self.animals.values(), places)]
