@@ -109,7 +109,7 @@ def test_struck_within(desk: Desk, written: Callable[[bytes], bytes]) -> None:
 
 
 def test_several_and_all_of_a_text(desk: Desk) -> None:
-    """A text that is struck through as a whole stays, as where the cell itself is so, and its row is told."""
+    """A text that is struck through as a whole stays, as where the cell itself is so, and is told."""
     rows: list[Row] = [*ROWS, ["104", "@name", "F", "01/02/2020", "@sire", "102", "@owner"]]
     name, sire = STRUCK.format("Lola"), STRUCK.format("103") + PLAIN.format("101")
     told = take(desk, workbook(rows, owner=OWNER, name=name, sire=sire))
@@ -119,8 +119,8 @@ def test_several_and_all_of_a_text(desk: Desk) -> None:
     assert {
         "to look at: a part of the text is struck through in 3 cells: 'Moreau frères Mlle Garnier Anaïs' at G3 is read "
         "as 'Mlle Garnier Anaïs', and the others alike",
-        "to look at: text is struck through in 1 row, line 5, which is taken like all others: if its animal has left, "
-        "write an exit",
+        "to look at: the text of 1 cell is struck through, 'Lola' in line 5 of the column 'Nom', and is read like all "
+        "others: if it isn't right any more, write what is, or nothing; if the animal has left, write an exit",
     } <= {*told.splitlines()}
 
 

@@ -36,6 +36,22 @@ def test_days_of_several_columns(desk: Desk) -> None:
     assert " 0 changed" in desk.take(sheet).last
 
 
+def test_days_under_their_titles(desk: Desk) -> None:
+    """A day with two digits of the year is told under the title of the column in which it stands, and so is one that
+    can't be read, and a word without a day."""
+    cells = "1.2.20;;", "3.2.20;;", ";4.3.21;", ";5.3.21;", ";;x", ";31.31.21;", ";;6.4.22"
+    done = desk.take(BEGIN + "Died on;Slaughtered;Sold\n" + rows(cells[:2], *cells[2:]))
+    told = "two digits of the year in {} of the column '{}': '{}' in line {} is read as {}"
+    done.tells(
+        "to look at: " + told.format("2 cells", "Died on", "1.2.20", 2, "2020-02-01") + ", and the others alike",
+        "to look at: " + told.format("2 cells", "Slaughtered", "4.3.21", 4, "2021-03-04") + ", and the others alike",
+        "to look at: " + told.format("1 cell", "Sold", "6.4.22", 8, "2022-04-06"),
+    )
+    unread = "1 of 3 cells that tell of an exit in the column 'Slaughtered' can't be read, the first in line 7"
+    assert unread in done.told
+    assert "1 of 2 cells that tell of an exit in the column 'Sold', the first in line 6: 'Sold'" in done.told
+
+
 @pytest.mark.parametrize("titles", ["Date of death;Date sold", "Date sold;Slaughtered", "Todesdatum;Verkaufsdatum"])
 def test_titles_of_such_columns(desk: Desk, titles: str) -> None:
     desk.take(BEGIN + titles + "\n" + rows(("1.1.2020;", ";3.3.2021")))
@@ -50,7 +66,7 @@ def test_days_beside_words(desk: Desk) -> None:
     assert reason(desk, "3") == ("2022-04-04", "verkauft") and reason(desk, "4")[0] == ""
     assert reason(desk, "5")[0] == reason(desk, "6")[0] == "2022-04-04"
     done.tells(
-        "line 5: 4: to look at: 'Gestorben am' says 'gestorben', and 'Verkauft am' says '4.4.2022': the animal counts as "
+        "line 5: 4: to look at: 'Status' says 'gestorben', and 'Verkauft am' says '4.4.2022': the animal counts as "
         "gone",
         "line 6: 5: to look at: 'Verkauft am' says '4.4.2022', and 'Status' says 'lebt': the animal counts as gone, on "
         "the day of the first",
@@ -122,3 +138,40 @@ def test_buyers_alone(desk: Desk) -> None:
         "5": "day unknown: 'verkauft an Schulze'", "6": "'verkauft an Schulze'",
     }  # fmt: skip
     assert " 0 new, 0 changed" in desk.take(sheet).last
+
+
+@pytest.mark.parametrize("titles", ["Status;{}", "Exit date;Status;{}"])
+@pytest.mark.parametrize(
+    "title, status",
+    [
+        ("Buyer", "Active"), ("Sold to", "On loan"), ("Käufer", "aktiv"), ("Verkauft an", "ausgeliehen"),
+        ("Acheteur", "lebt"),
+    ],
+)  # fmt: skip
+def test_buyers_of_living(desk: Desk, title: str, titles: str, status: str) -> None:
+    """One who isn't the owner is told beside a status that says that the animal is there, and nothing is changed by
+    it."""
+    cells = "{};{}" if titles.startswith("Status") else ";{};{}"
+    sold = (status, "Schulze"), (status, "Huber"), (status, "Meier"), ("verkauft", "Zoo")
+    of_sold = [cells.format(*one) for one in sold]
+    sheet = f"{BEGIN}{titles.format(title)}\n" + rows((cells.format("", ""),) * 2, *of_sold)
+    done = desk.take(sheet)
+    for at, buyer in ((3, "Schulze"), (4, "Huber")):
+        done.tells(
+            f"line {at + 1}: {at}: to look at: '{title}' says '{buyer}', and 'Status' says '{status}': the animal "
+            f"counts as living, with its owner; if it was sold, write sold, verkauft or vendu in place of '{status}'"
+        )
+    assert len([one for one in done.report if "with its owner" in one]) == 2 and "not read" not in done.out
+    assert [owner_of(desk, id) for id in "345"] == ["Meier"] * 3
+    assert {row["id"] for row in desk.table("book/ids.csv") if row["exit"]} == {"6"}
+    assert " 0 new, 0 changed" in desk.take(sheet).last
+
+
+def test_buyers_and_days(desk: Desk) -> None:
+    """Where the animal has the day of an exit too, that is told as before, and the buyer is read."""
+    sold = "5.5.2020;aktiv;Schulze", "nein;;Schulze", "nein;verkauft;Schulze", "-;-;Schulze"
+    done = desk.take(BEGIN + "Abgang am;Status;Käufer\n" + rows((";;", ";;"), *sold))
+    assert "'Abgang am' says '5.5.2020', and 'Status' says 'aktiv': the animal counts as gone" in done.told
+    [told] = [one for one in done.report if "with its owner" in one]
+    assert told.startswith("line 5: 4: to look at: 'Käufer' says 'Schulze', and 'Abgang am' says 'nein'")
+    assert {row["id"] for row in desk.table("book/ids.csv") if row["exit"]} == {"3", "5", "6"}

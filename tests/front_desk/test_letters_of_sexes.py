@@ -4,8 +4,9 @@ from __future__ import annotations
 
 import pytest
 
+from gudokeyi.ingest.findings.sexes import UnknownSex
 from gudokeyi.ingest.sexes import Sexes
-from front_desk.desk import Desk
+from front_desk.desk import Desk, Done
 
 TITLES = "Tag,Name,Sex,DOB,Sire,Dam\n"
 # a ewe, a ram, and two offspring of theirs
@@ -147,12 +148,56 @@ def test_letter_of_german_titles(desk: Desk, titles: str, female: str, wanted: s
     assert any(one.endswith("w=mc" if wanted == "female" else "w=f") for one in done.commands())
 
 
+NONE_KNOWN = "no word for a sex of the column 'Sex' is known: "
+OTHER_LETTERS = "1,Ada,C,2015-03-01,,\n2,,B,2015-03-02,,\n3,,C,2017-03-02,2,Ada\n4,,S,2018-03-02,2,3\n5,,B,2018-03-02,2,3\n"
+
+
+def said_by(done: Done) -> list[str]:
+    """What each command says of sexes."""
+    return [one.rsplit(" ", 1)[1] for one in done.commands()]
+
+
+def test_letters_known_by_offspring(desk: Desk) -> None:
+    """Of letters of which none is known it is told what the animals' offspring say, and all that these say is said at
+    once; a letter of no parent is asked by itself."""
+    done = desk.run("import", desk.write("sheet.csv", TITLES + OTHER_LETTERS))
+    told = "'C' (2 animals, 2 of them dams), 'B' (2 animals, 1 of them a sire), 'S' (1 animal): write M or F, or say which "
+    assert done.status == 1 and f"{NONE_KNOWN}{told}sex each word is by --sexes" in done.err
+    assert said_by(done) == ["C=f,B=m", "C=f", "B=m", "S=m", "S=f"]
+    done = desk.typed(done.commands()[0])
+    assert said_by(done) == ["S=m", "S=f"] and NONE_KNOWN not in done.out
+    assert sexes_of(desk, "1", "2", "3", "5") == ["female", "male", "female", "male"]
+
+
+@pytest.mark.parametrize(
+    "rows, said",
+    [
+        # one letter of two has offspring; both are sires; a dam by mistake; a number; one letter alone
+        ("1,,B,2015-03-01,,\n2,,K,2015-03-02,,\n3,,K,2017-03-02,1,\n", ["B=m", "K=m", "K=f", "K=mc"]),
+        ("1,,B,2015-03-01,,\n2,,R,2015-03-02,,\n3,,R,2017-03-02,1,\n4,,R,2017-03-02,2,\n", ["R=m,B=m", "R=m", "B=m"]),
+        ("1,,B,2015-03-01,,\n2,,Q,2015-03-02,,\n3,,Q,2017-03-02,1,\n4,,Q,2017-03-02,,1\n", ["Q=m,B=f", "Q=f,B=m"]),
+        ("1,,7,2015-03-01,,\n2,,8,2015-03-02,,\n3,,9,2017-03-02,1,2\n", ["7=m,8=f", "7=m", "8=f"]),
+        ("1,,B,2015-03-01,,\n2,,B,2015-03-02,,\n3,,B,2017-03-02,1,2\n", ["B=m", "B=f"]),
+    ],
+)  # fmt: skip
+def test_what_offspring_leave_open(desk: Desk, rows: str, said: list[str]) -> None:
+    assert said_by(desk.run("import", desk.write("sheet.csv", TITLES + rows))) == said
+
+
+@pytest.mark.parametrize(
+    "sires, dams, sex", [(1, 0, "m"), (0, 1, "f"), (41, 2, "m"), (2, 41, "f"), (40, 2, ""), (1, 1, ""), (0, 0, "")]
+)
+def test_sex_by_offspring(sires: int, dams: int, sex: str) -> None:
+    """A few may be named by mistake."""
+    assert UnknownSex("B", 100, sires, dams).sex() == sex
+
+
 def test_two_letters_asked_at_once(desk: Desk) -> None:
     """`W` and `A` are asked together, and nothing is taken before."""
     sheet = TITLES + "1,,A,2015-03-01,,\n2,,W,2015-03-02,,\n3,,A,2017-03-02,,\n4,,W,2018-03-02,,\n"
     done = desk.run("import", desk.write("sheet.csv", sheet))
-    assert done.status == 1 and "can't be read, the first in line 2: 'A' (2 times), 'W' (2 times)" in done.err
-    assert [one.rsplit(" ", 1)[1] for one in done.commands()] == ["A=m,W=f", "A=f,W=m"]
+    assert done.status == 1 and f"{NONE_KNOWN}'A' (2 animals), 'W' (2 animals): write M or F" in done.err
+    assert said_by(done) == ["A=m,W=f", "A=f,W=m"]
     desk.typed(done.commands()[1])
     assert sexes_of(desk, "1", "2") == ["female", "male"]
 

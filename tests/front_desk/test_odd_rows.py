@@ -102,10 +102,73 @@ def test_titles_in_another_order_with_one_twice(desk: Desk) -> None:
 
 
 def test_rows_like_titles(desk: Desk) -> None:
-    """Some titles in a row, or one that none has, are no other order; a cell for which there is no title isn't lost."""
+    """Some titles in a row, or words that titles are too, are no row of titles; a cell for which there is no title
+    isn't lost."""
     rows = "a;Anna;w;1.3.2015;;;Meier;\nb;Bert;m;2.3.2015;;;Meier;\n"
-    for row in "Ohrmarke;Besitzer;w;3.3.2019;b;a;Name;", "Ohrmarke;Halter;Geschlecht;Geburt;Mutter;Vater;Name;Bemerkung":
-        assert IN_OTHER_ORDER not in desk.take(f"{FIRST_TITLES}{rows}{row}\n", "--preview").out
+    likely = "Ohrmarke;Besitzer;w;3.3.2019;b;a;Name;", "Chip;Vater;Stute;;;;Besitzer;verkauft"
+    for row in (*likely, "c;Geburt;w;;b;a;Tier;Halter"):
+        done = desk.take(f"{FIRST_TITLES}{rows}{row}\n", "--preview")
+        assert "repeats" not in done.out and " 3 animals" in done.last
     titles = "Ohrmarke;Besitzer;Geschlecht;Geburt;Vater;Mutter;Name"
     done = desk.take(f"{FIRST_TITLES}{rows}{titles}\nc;Huber;w;3.3.2019;b;a;Cora;tot\n")
     done.shows("line 5: c: the row is left out: it has 9 cells, and there are 8 titles: is there a separator too many?")
+
+
+NOT_AMONG = (
+    "line 4: to look at: 'Farbe' stands among these titles, and not among those in line 1: its column isn't read, with "
+    "1 cell, 'rot' in line 5; to keep 'Farbe', say --own Farbe=text"
+)
+
+
+@pytest.mark.parametrize(
+    "titles, row",
+    [
+        ("Ohrmarke;Besitzer;Farbe;Geschlecht;Geburt;Mutter;Vater;Name", "c;Huber;rot;w;3.3.2019;a;b;Cora"),
+        # it stands first, at the end, or where the first ones have another title
+        ("Farbe;Ohrmarke;Name;Geschlecht;Geburt;Vater;Mutter;Besitzer", "rot;c;Cora;w;3.3.2019;b;a;Huber"),
+        ("Ohrmarke;Name;Geschlecht;Geburt;Vater;Mutter;Besitzer;Bemerkung;Farbe", "c;Cora;w;3.3.2019;b;a;Huber;;rot"),
+        ("Ohrmarke;Name;Geschlecht;Geburt;Vater;Mutter;Besitzer;Farbe", "c;Cora;w;3.3.2019;b;a;Huber;rot"),
+    ],
+)  # fmt: skip
+def test_another_title_below(desk: Desk, titles: str, row: str) -> None:
+    """The rows below are read by their own titles, and the one that the first titles lack is told."""
+    rows = "a;Anna;w;1.3.2015;;;Meier;\nb;Bert;m;2.3.2015;;;Meier;alt\n"
+    sheet = f"{FIRST_TITLES}{rows}{titles}\n{row}\n{FIRST_TITLES}d;Dora;w;4.3.2019;b;a;Huber;neu\n"
+    done = desk.take(sheet)
+    assert done.report.count(NOT_AMONG) == 1 and "not read: 'Bemerkung', 'Farbe'" in done.out
+    assert ", 2 left out (2 rows), 0 added" in done.last
+    kept = [line.split(",")[:7] for line in desk.good("export").out.splitlines()[3:]]
+    assert kept == [
+        ["c", "Cora", "F", "2019-03-03", "b", "a", "Huber"], ["d", "Dora", "F", "2019-03-04", "b", "a", "Huber"]
+    ]  # fmt: skip
+    done = desk.take(sheet, "--own", "Farbe=text", "--own", "Bemerkung=text")
+    assert "'Farbe' stands" not in done.told and "'Farbe' (1 new)" in done.out
+
+
+def test_titles_for_others(desk: Desk) -> None:
+    """A title for what another one of the first titles has is read as that one; a field that these lack is read too."""
+    rows = "a;Anna;w;1.3.2015;;;Meier;\nb;Bert;m;2.3.2015;;;Meier;\n"
+    titles = "Halter;Abgang;Ohrmarke;Rufname;Geburt;Mutter;Vater;Geschlecht"
+    done = desk.take(f"{FIRST_TITLES}{rows}{titles}\nHuber;1.5.2021;c;Cora;3.3.2019;a;b;w\n")
+    done.shows(f"line 4: {IN_OTHER_ORDER}, 'Halter' as 'Besitzer', 'Rufname' as 'Name'")
+    assert "exit from 'Abgang'" in done.out and "stands among these titles" not in done.told
+    assert desk.good("export").out.splitlines()[3].startswith("c,Cora,F,2019-03-03,b,a,Huber,")
+    assert "exit          2021-05-01" in desk.good("show", "c").out
+
+
+def test_cells_above_titles_below(desk: Desk) -> None:
+    """A row above with a cell too many is left out as before."""
+    titles, rows = "Ohrmarke;Geburt;Vater;Mutter", "a;1.3.2015;;\nb;2.3.2015;;;x\n"
+    done = desk.take(f"{titles}\n{rows}{titles};Farbe\nc;3.3.2019;;a;rot\n")
+    done.tells(
+        "line 3: b: the row is left out: it has 6 cells, and there are 5 titles: is there a separator too many?",
+        NOT_AMONG,
+    )
+    assert desk.parents() == {"a": ("", ""), "c": ("", "a")}
+
+
+def test_more_titles_below(desk: Desk) -> None:
+    """The first row of titles is that above the animals, though a later one has more titles."""
+    titles = "Ohrmarke;Geburt;Vater;Mutter"
+    done = desk.take(f"{titles}\na;1.3.2015;;\nb;2.3.2015;;\n{titles};Name;Besitzer\nc;3.3.2019;;a;Cora;Huber\n")
+    assert desk.parents().keys() == {"a", "b", "c"} and "name from 'Name'" in done.out

@@ -41,7 +41,7 @@ FOUR = "DE101;Anna;f;2015-03-01;;;X;\nDE102;Bert;m;2015-03-02;;;X;\n{};Cora;f;20
 @pytest.mark.parametrize(
     "id",
     ["†DE103", "DE103 †", "DE103†", "DE103 (tot)", "DE103 (verk. 2022)", "DE103 tot", "† DE103", "DE103 † 3.4.2022",
-     "DE103 +", "DE103 (+)", "DE103 geschl.", "DE103 (eingeschläfert)"],
+     "+DE103", "+ DE103", "DE103 +", "DE103 (+)", "DE103 geschl.", "DE103 (eingeschläfert)"],
 )  # fmt: skip
 def test_exit_in_an_id(desk: Desk, id: str) -> None:
     """It is read without, also as a parent, and told; so it is the animal that the book has."""
@@ -58,10 +58,40 @@ def test_exit_in_an_id(desk: Desk, id: str) -> None:
     assert desk.parents()["DE104"] == ("DE102", "DE103")
 
 
-@pytest.mark.parametrize("id", ["Rex tot", "DE103 (rot)", "DE-103+1", "DE103 gold", "3 Mort 4"])
+def test_plus_before_ids(desk: Desk) -> None:
+    """In a first list, where others name one of them without it; so it is before all that are written so."""
+    rows = FOUR.format("+DE103", "") + "+DE105;Eva;f;2018-03-03;;;X;\n+9;Ina;f;2018-03-04;;;X;\n"
+    done = desk.take(TITLES + rows + "DE104;Dora;f;2022-03-03;DE102;DE103;X;\nDE106;Ute;f;2022-03-03;;+DE103;X;\n")
+    told = "its id '+{0}' seems to tell of an exit, and is taken as {0}, which counts as living"
+    assert told.format("DE103") in done.out and told.format("DE105") in done.out
+    assert sum("seems to tell" in one for one in done.report) == 2
+    assert desk.parents()["DE104"] == ("DE102", "DE103") and desk.parents()["DE106"] == ("", "DE103")
+    assert {"DE105", "+9"} <= desk.numbers().keys()
+
+
+@pytest.mark.parametrize("sign", ["+", "+ ", "†"])
+def test_sign_of_an_exit_in_a_parent(desk: Desk, sign: str) -> None:
+    """Beside an id that has a row without it, it is told with what is read."""
+    rows = FOUR.format("DE103", "") + f"DE104;Dora;f;2022-03-03;{sign}DE102;{sign}DE103;X;\n"
+    desk.take(TITLES + rows).tells(
+        f"line 5: DE104: inferred: its dam '{sign}DE103' is DE103, whose id stands there: if another is meant, write that "
+        "id alone"
+    )
+    assert desk.parents()["DE104"] == ("DE102", "DE103")
+
+
+def test_ids_with_a_plus(desk: Desk) -> None:
+    """Ids that have it by themselves keep it, also where some parents are written without."""
+    rows = "".join(f"+4917{at};A;{'mf'[at % 2]};2019-03-0{at};;;X;\n" for at in range(1, 8))
+    done = desk.take(f"{TITLES}{rows}+49179;B;f;2022-03-03;+49172;49171;X;\n")
+    assert "seems to tell" not in done.told and {"+49171", "+49179"} <= desk.numbers().keys()
+    assert desk.parents()["+49179"][0] == "+49172"
+
+
+@pytest.mark.parametrize("id", ["Rex tot", "DE103 (rot)", "DE-103+1", "DE103 gold", "3 Mort 4", "+DE103", "+103"])
 def test_id_without_an_exit(desk: Desk, id: str) -> None:
     assert "seems to tell" not in desk.take(TITLES + FOUR.format(id, "")).told
-    assert id in desk.numbers()
+    assert id in {one.removeprefix("'") for one in desk.numbers()}
 
 
 def test_marked_id_of_the_book(desk: Desk) -> None:

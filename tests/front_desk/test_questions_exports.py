@@ -45,8 +45,8 @@ def test_export_of_what_is_inferred(desk: Desk) -> None:
     }  # fmt: skip
     assert {id: row["inferred_exit"] for id, row in found.items() if row["inferred_exit"]} == {"B": "2010-05-31"}
     assert {id: tuple(row[one] for one in sex) for id, row in found.items()} == {
-        "A": ("F", ""), "B": ("male castrated", ""), "C": ("M", ""), "D": ("", "F"), "E": ("", "F"), "F": ("", "F"),
-        "G": ("", "M"),
+        "A": ("F", ""), "B": ("male castrated", ""), "C": ("M", ""), "D": ("F", "F"), "E": ("F", "F"), "F": ("F", "F"),
+        "G": ("M", "M"),
     }  # fmt: skip
     assert desk.good("import", "all.csv").last.startswith("book: 7 animals, 0 new, 0 changed")
     desk.good("import", "all.csv", "--book", "new")

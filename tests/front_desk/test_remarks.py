@@ -3,6 +3,7 @@ from __future__ import annotations
 
 import pytest
 
+from gudokeyi.ingest.many_texts import likely_among
 from gudokeyi.ingest.remarks import tells_castration, tells_exit
 from front_desk.desk import Desk
 
@@ -13,15 +14,15 @@ OF_EXITS = "the column 'Bemerkung' isn't read for exits, and "
 OF_SEXES = "the column 'Bemerkung' isn't read for sexes, and "
 
 
-@pytest.mark.parametrize(
-    "text",
-    [
-        "† 3/2020", "eingeschl. 3/2020", "totgeboren", "totgeboren 3.4.2020", "5/2020 tot geboren", "mort-né le 3/9/19",
-        "1 Lamm totgeboren; verkauft 2022", "stillborn", "PTS Jan 2022", "put to sleep", "Schlachter 3/20",
-        "zum Metzger 3.4.20", "boucherie 2020", "réformée 2020", "vom Wolf gerissen", "gerissen", "R.I.P.", "+ 12.3.20",
-        "+ 3/2020", "left 2020", "geschl. 3/20", "mort-né",
-    ],
-)  # fmt: skip
+EXITS = [
+    "† 3/2020", "eingeschl. 3/2020", "totgeboren", "totgeboren 3.4.2020", "5/2020 tot geboren", "mort-né le 3/9/19",
+    "1 Lamm totgeboren; verkauft 2022", "stillborn", "PTS Jan 2022", "put to sleep", "Schlachter 3/20",
+    "zum Metzger 3.4.20", "boucherie 2020", "réformée 2020", "vom Wolf gerissen", "gerissen", "R.I.P.", "+ 12.3.20",
+    "+ 3/2020", "left 2020", "geschl. 3/20", "mort-né",
+]  # fmt: skip
+
+
+@pytest.mark.parametrize("text", EXITS)
 def test_exits(desk: Desk, text: str) -> None:
     """They are told with the first, but not of an animal whose exit another column has."""
     rows = f"a3,Cal,m,2018-03-13,a2,a1,,{text}\na4,Dan,m,2018-03-13,a2,a1,2020-01-01,{text}\n"
@@ -65,7 +66,29 @@ def test_exits_beside_a_status(desk: Desk) -> None:
     assert "status from 'Status'" in done.out and OF_EXITS + "1 cell of it tells" in done.told
 
 
-@pytest.mark.parametrize("text", ["kastriert 5/2019", "castrated", "castré le 3/9/19", "gelded", "Wallach seit 2019", "wether"])
+def test_many_remarks(desk: Desk) -> None:
+    """They are told also among more different ones than anybody reads, whatever their letters."""
+    many = "".join(f"b{at},,m,2015-03-01,,,,{text}\n" for at, text in enumerate(MANY))
+    rows = "a3,Cal,m,2018-03-13,a2,a1,,eingeschläfert 3/2020\na4,Dan,m,2018-03-13,a2,a1,,kastriert 5/2019\n"
+    done = desk.take(TITLES + PAIR + many + rows, "--preview")
+    assert f"{OF_EXITS}1 cell of it tells that an animal left which has no exit: 'eingeschläfert 3/2020' in line" in done.out
+    assert OF_SEXES + "1 cell of it tells" in done.out
+
+
+CASTRATED = ["kastriert 5/2019", "castrated", "castré le 3/9/19", "gelded", "Wallach seit 2019", "wether"]
+MANY = [f"Größe {at} cm; gute Wolle" for at in range(2_001)]
+OTHERS_WITH_WORDS = ["left ear", "war Sieger", "Schlachter Müller", "ex Herde Huber", "gesterntot", "4.5+", "2 +"]
+
+
+def test_likely_among_many() -> None:
+    """Of very many texts those stay that tell something, as of few, and hardly any others."""
+    telling = [*EXITS, *CASTRATED, "ver-kauft 2020", "VERKAUFT!", "mort–né", "DÉCÉDÉ", "ex Hengst 2019", "tot2020", "†"]
+    assert all(tells_exit(text) or tells_castration(text) for text in telling)
+    assert likely_among([*MANY, *telling, *OTHERS_WITH_WORDS]) == telling and likely_among(MANY) == []
+    assert likely_among([*map(str, range(3_000))]) == [] and likely_among(few := ["left ear"]) is few
+
+
+@pytest.mark.parametrize("text", CASTRATED)
 def test_castrated(desk: Desk, text: str) -> None:
     """Told of males whose sexes don't say it, with the first."""
     rows = f"a3,Cal,m,2018-03-13,a2,a1,,{text}\na4,Dan,m,2018-03-13,a2,a1,,{text}\na5,Eva,f,2018-03-13,a2,a1,,{text}\n"

@@ -18,6 +18,8 @@ def sex_of(desk: Desk, id: str) -> str:
     [
         ("w?", "female"), ("m?", "male"), ("F?", "female"), ("Male?", "male"), ("w (?)", "female"), ("m ?", "male"),
         ("? w", "female"), ("prob. female", "female"), ("vermutlich m", "male"), ("M castré?", "male, castrated"),
+        # as `list` writes them
+        ("F (inferred)", "female"), ("M (invented)", "male"),
     ],
 )  # fmt: skip
 def test_inferred(desk: Desk, text: str, wanted: str) -> None:
@@ -57,10 +59,36 @@ def test_sure_later(desk: Desk) -> None:
     assert sex_of(desk, "a3") == "female" and sex_of(desk, "a4").startswith("male")
 
 
+UNSURE = "a3,m?,2017-03-13,a2,a1\na4,w?,2017-03-13,a2,a1\na5,m castré?,2017-03-13,a2,a1\na6,,2017-03-13,a7,a1\n"
+OF_UNSURE = {
+    "a1": "female", "a3": "male (inferred)", "a4": "female (inferred)", "a5": "male (inferred), castrated",
+    "a6": "female (inferred)", "a7": "male (inferred)",
+}  # fmt: skip
+
+
 def test_exported(desk: Desk, new_desk: NewDesk) -> None:
-    """In a sheet that can be taken again they aren't sure either."""
-    desk.take(TITLES + PAIR + "a3,m?,2017-03-13,a2,a1\na4,w?,2017-03-13,a2,a1\na5,m castré?,2017-03-13,a2,a1\n")
-    other = new_desk()
-    other.take(desk.good("export").out)
-    for id, sex in ("a3", "male (inferred)"), ("a4", "female (inferred)"), ("a5", "male (inferred), castrated"):
-        assert sex_of(other, id) == sex_of(desk, id) == sex
+    """A sheet that can be taken again has the sexes of the book, and in a column of its own those that are inferred:
+    they aren't given there either, unless they were written anew."""
+    desk.take(TITLES + PAIR + UNSURE)
+    rows = {row["id"]: (row["sex"], row["inferred_sex"]) for row in desk.listed("export")}
+    assert [rows[id] for id in OF_UNSURE] == [
+        ("F", ""), ("M", "M"), ("F", "F"), ("male castrated", "M"), ("F", "F"), ("M", "M"),
+    ]  # fmt: skip
+    other, text = new_desk(), desk.good("export").out
+    done = other.take(text)
+    assert "isn't sure" not in done.told and "words for sexes" not in done.told
+    assert "'inferred_exit'" in done.out and "'inferred_sex'" not in done.out
+    assert {id: sex_of(other, id) for id in OF_UNSURE} == {id: sex_of(desk, id) for id in OF_UNSURE} == OF_UNSURE
+    assert " 0 new, 0 changed, " in other.take(text).last
+    assert text.count("a4,,F,") == 1
+    other.take(text.replace("a4,,F,", "a4,,M,"))
+    assert sex_of(other, "a4") == "male"
+
+
+@pytest.mark.parametrize("titles", ["Geschlecht: erschlossen; Geburtstag: erschlossen", "Sexe\u00a0: déduit", "Sex: inferred"])
+def test_marked_in_a_list(desk: Desk, titles: str) -> None:
+    """The same of a list in a page's language, with one column for all marks."""
+    name = titles.rpartition(" ")[2]
+    rows = f"a3,M,2017-03-13,a2,a1,{titles}\na4,F,2017-03-13,a2,a1,{titles}\na5,M,2017-03-13,a2,a1,Geburtstag: {name}\n"
+    desk.take(f"id,Geschlecht,born,sire,dam,{name}\na1,w,2015-03-01,,,\na2,m,2015-03-02,,,\n{rows}")
+    assert [sex_of(desk, id) for id in ("a3", "a4", "a5")] == ["male (inferred)", "female (inferred)", "male"]

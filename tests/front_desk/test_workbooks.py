@@ -60,7 +60,9 @@ def test_two_worksheets_fit(desk: Desk, workbook: openpyxl.Workbook) -> None:
     done = desk.good("import", "sheet.xlsx", "--worksheet", "Tiere")
     assert "--worksheet" not in done.out and " 1 new" in done.last
     assert "as at the last time: --worksheet Tiere" in desk.good("import", "sheet.xlsx").out
-    workbook.copy_worksheet(workbook["Tiere"]).title = "Stand 2020"
+    another = workbook.create_sheet("Stand 2020")
+    for row in workbook["Tiere"].values:
+        another.append(row)
     save(desk, workbook)
     desk.wrong("3 worksheets have titles that fit ('Tiere', 'Stand 2019', 'Stand 2020')", "import", "sheet.xlsx")
     workbook.remove(workbook["Stand 2020"])
@@ -144,10 +146,36 @@ def test_what_cells_show_besides(desk: Desk, workbook: openpyxl.Workbook) -> Non
     lines = ", ".join(map(str, [*range(3, 19, 2), *range(19, 30)]))
     told = f"to look at: text is struck through in 19 rows, in the lines {lines}, which are taken like all others: "
     desk.good("import", "sheet.xlsx").tells(f"{told}if their animals have left, write exits")
-    sheet["A4"].font = sheet["A6"].font = openpyxl.styles.Font(strike=True)
+    for cell in (*sheet[4][1:], *sheet[6]):
+        cell.font = openpyxl.styles.Font(strike=True)
     save(desk, workbook)
     assert "in 21 rows, in the lines 3, 4, 5, 6, 7, 9," in (last := desk.good("import", "sheet.xlsx").told)
     assert ", 27, 28 and 1 more, which are taken like all others" in last
+
+
+def test_struck_cells(desk: Desk, workbook: openpyxl.Workbook) -> None:
+    """A cell that is struck through is told as that, where most of its row isn't; one of a title too."""
+    sheet = workbook["Tiere"]
+    sheet["F1"], sheet["F3"], sheet["G3"], sheet["H3"] = "Besitzer", "Huber", "Meier", datetime.date(2020, 5, 1)
+    sheet["F3"].font = openpyxl.styles.Font(strike=True)
+    save(desk, workbook)
+    advice = "right any more, write what is, or nothing; if"
+    done = desk.good("import", "sheet.xlsx")
+    done.shows(
+        "to look at: the text of 1 cell is struck through, 'Huber' in line 3 of the column 'Besitzer', and is read like "
+        f"all others: if it isn't {advice} the animal has left, write an exit"
+    )
+    assert "in 1 row" not in done.told
+    assert {"id": "C2", "owner": "Huber"} in desk.listed("list", "--columns", "id,owner")
+    for place in ("D1", "F2", "H3", "A4", "A7"):
+        sheet[place].font = openpyxl.styles.Font(strike=True)
+    sheet["A4"], sheet["B4"], sheet["C4"], sheet["A7"] = "D3", "w", "2005", "--- Bestand 2019 ---"
+    save(desk, workbook)
+    desk.good("import", "sheet.xlsx").shows(
+        "to look at: the texts of 4 cells are struck through, 'Vater' in line 1 of the column 'Vater', 'Huber' in line "
+        "3 of the column 'Besitzer', '2020-05-01' in line 3 of the column 'H' and 1 more, and are read like all others: "
+        f"if one isn't {advice} an animal has left, write an exit"
+    )
 
 
 GREYS = (

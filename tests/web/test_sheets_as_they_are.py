@@ -6,7 +6,7 @@ import io
 
 import openpyxl
 import pytest
-from openpyxl.styles import PatternFill
+from openpyxl.styles import Font, PatternFill
 
 from web.looks import Says, buttons_of, look_at, part, press
 from web.site import Site, shown
@@ -142,6 +142,28 @@ def test_two_words_for_one_sex(empty_site: Site, language: str) -> None:
     assert says("'{}' means: {}", "Aue", says("male")) not in buttons_of(page)
 
 
+OF_LETTERS = "7;Max;B;1.3.2017;;\n9;Alma;C;1.3.2018;;\n3;Kim;S;2.3.2019;Max;Alma\n4;Ida;C;3.3.2022;Max;Alma\n"
+SAID_OF_LETTERS = {
+    "en": "'C' (2 animals, 1 of them a dam), 'B' (1 animal, 1 of them a sire), 'S' (1 animal): write M or F",
+    "de": "„C“ (2 Tiere, davon 1 Mutter), „B“ (1 Tier, davon 1 Vater), „S“ (1 Tier): schreiben Sie M oder W",
+    "fr": "« C » (2 animaux, dont 1 mère), « B » (1 animal, dont 1 père), « S » (1 animal) : écrivez M ou F",
+}  # fmt: skip
+
+
+@pytest.mark.parametrize("language", LANGUAGES)
+def test_letters_known_by_offspring(empty_site: Site, language: str) -> None:
+    """What offspring say is one click; a letter of no parent has buttons of its own."""
+    site, says = empty_site, Says(language)
+    site.get(f"/language/{language}")
+    address, page = look_at(site, SHEEP.splitlines()[0] + "\n" + OF_LETTERS)
+    assert SAID_OF_LETTERS[language] in shown(page).replace("\u00a0", " ").replace("\u202f", " ")
+    dams, sires = (says("'{}' means: {}", *one) for one in (("C", says("female")), ("B", says("male"))))
+    others = [says("'{}' means: {}", "S", says(sex)) for sex in ("male", "female")]
+    assert buttons_of(page) == [f"{dams}; {sires}", dams, sires, *others]
+    page = press(site, address, page, f"{dams}; {sires}")
+    assert buttons_of(page) == others
+
+
 KIDS = "041;E;w;1.2.2012;001;002;Huber Hans;;lebt\n042;Kid;w;1.2.2019;001;041;Huber Hans;;lebt\n"
 FAMILY = LIST + KIDS + "043;Kit;w;1.2.2021;001;042;Huber Hans;;lebt\n"
 
@@ -186,11 +208,14 @@ def test_new_tags_of_a_family(empty_site: Site, language: str) -> None:
         ("en", "2 rows are hidden, the first is line 5: they are taken like all others"),
         ("de", "2 Zeilen, zuerst 5, sind ausgeblendet: sie werden wie alle übernommen"),
         ("fr", "2 lignes, d'abord la 5, sont masquées : elles sont prises comme toutes"),
+        ("en", "the text of 1 cell is struck through, 'w' in line 8 of the column 'Geschlecht', and is read like all others"),
+        ("de", "der Text von 1 Zelle ist durchgestrichen, „w“ in Zeile 8 der Spalte „Geschlecht“; er wird wie alle gelesen"),
+        ("fr", "le texte de 1 cellule est barré, « w » en ligne 8 de la colonne « Geschlecht » ; il est lu comme tous"),
     ],
 )
 def test_grey_rows(empty_site: Site, language: str, told: str) -> None:
-    """That some rows are filled grey is told, with the first of them, and that some are hidden. Nobody knows what it
-    means, so there is no button for it, and their animals are taken as living ones."""
+    """That some rows are filled grey is told, with the first of them, and that some are hidden, or a cell is struck
+    through. Nobody knows what it means, so there is no button for it, and their animals are taken as living ones."""
     site = empty_site
     site.get(f"/language/{language}")
     workbook, file = openpyxl.Workbook(), io.BytesIO()
@@ -201,6 +226,7 @@ def test_grey_rows(empty_site: Site, language: str, told: str) -> None:
     for cell in [*sheet[4], *sheet[6]]:
         cell.fill = PatternFill("solid", fgColor="FFBFBFBF")
     sheet.row_dimensions.group(5, 6, hidden=True)
+    sheet["B8"].font = Font(strike=True)
     workbook.save(file)
     address = site.drop("liste.xlsx", file.getvalue())
     page = site.page(address)

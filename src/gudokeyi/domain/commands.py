@@ -5,7 +5,7 @@ import csv
 import datetime
 import functools
 import pathlib
-from collections.abc import Iterable
+from collections.abc import Iterable, Sequence
 from typing import NamedTuple
 
 from gudokeyi.domain.collections import made
@@ -85,8 +85,8 @@ def first_owner_codes(commands: Iterable[Command]) -> dict[str, int]:
     return {command.animal: int(command.to_owner) for command in commands if command.kind == "birth"}
 
 
-def lines_of(commands: Iterable[Command]) -> bytes:
-    """The records of a command file."""
+def lines_of(commands: Iterable[Sequence[str]]) -> bytes:
+    """The records of a command file, of commands or of their values alone."""
     return "\n".join([*map(",".join, commands), ""]).encode()
 
 

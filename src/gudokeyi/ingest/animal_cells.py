@@ -11,7 +11,7 @@ from gudokeyi.domain.kinds import CELL_FIELDS, Field
 from gudokeyi.domain.messages import MOST_NAMED
 from gudokeyi.domain.provenance import ExitBasis, ExitSource
 from gudokeyi.domain.requests import MOST_IN_NAME, MOST_IN_OWNER
-from gudokeyi.ingest.animals import SheetAnimal
+from gudokeyi.ingest.animals import Castration, SheetAnimal
 from gudokeyi.ingest.day_cells import DayCell, DayCells, ExitCell, usual_cell
 from gudokeyi.ingest.day_forms import DayForms, Readings
 from gudokeyi.ingest.days import ANY_DAY, DayFault, Span, is_span
@@ -22,7 +22,7 @@ from gudokeyi.ingest.findings.cells import (
 from gudokeyi.ingest.findings.columns import SheetFinding
 from gudokeyi.ingest.findings.exits import ExitInDoubt, ExitInferred, ExitsInOtherWords, ExitsWithoutDay, NoExits, Remark
 from gudokeyi.ingest.findings.rows import OwnerInExit, OwnerSold, SoldWithin, StatusDisagrees, TakerUnclear
-from gudokeyi.ingest.findings.sexes import SexesUnsure
+from gudokeyi.ingest.findings.sexes import SexesUnknown, SexesUnsure, UnknownSex
 from gudokeyi.ingest.findings.sheets import (
     MOST_TEXTS, Cells, CellsUnread, ErrorCells, ErrorColumn, NarrowCells, NarrowColumn, TextCount,
 )  # fmt: skip
@@ -57,8 +57,10 @@ class Unread:
         # those of sexes that aren't sure
         self.unsure: list[Cell] = []
         self.read: collections.Counter[str] = collections.Counter()
-        # the title of a status, by the lines whose exits are its words
-        self.of_status: Mapping[int, str] = {}
+        # those of other columns, by the lines whose exits are their days or words
+        self.exit_titles: Mapping[int, str] = {}
+        # how many animals with each text for a sex are sires, and how many dams
+        self.parents: Callable[[], Mapping[str, tuple[int, int]]] = dict
 
     def add(self, field: str, text: str, line: int) -> None:
         cells = self.exits if field == "exit" and exit_word(text) else self.cells[field]
@@ -66,7 +68,7 @@ class Unread:
 
     def found(self) -> list[SheetFinding]:
         told: list[SheetFinding] = [
-            CellsUnread(one) for field, cells in self.cells.items() for one in self.of_each(field, cells)
+            self.told(one) for field, cells in self.cells.items() for one in self.of_each(field, cells)
         ]
         told += map(ExitsWithoutDay, self.of_each(Field.EXIT, self.exits))
         told += [NoExits.of(self.remarks())] if self.no_exits else []
@@ -78,23 +80,25 @@ class Unread:
         return [Remark(line, self.titles[Field.EXIT], text) for text, line in self.no_exits]
 
     def of_each(self, field: str, cells: list[Cell]) -> list[Cells]:
-        """The cells of the column, and those of the status that are taken for an exit."""
-        if field != Field.EXIT or not self.of_status:
+        """The cells of the column, and those of others that are taken for an exit."""
+        if field != Field.EXIT or not self.exit_titles:
             return [self.of(field, cells)] if cells else []
-        in_status = [one for one in cells if one[1] in self.of_status]
-        others = [one for one in cells if one[1] not in self.of_status]
-        said = self.read[field] - len(self.of_status)
-        found = [replace(self.of(field, others), said=max(said, len(others)))] if others else []
-        if in_status:
-            found.append(replace(self.of(field, in_status), said=len(self.of_status)))
-        return found
+        by_title = collections.defaultdict[str, list[Cell]](list)
+        for cell in sorted(cells, key=lambda one: one[1] in self.exit_titles):
+            by_title[self.title(field, cell[1])].append(cell)
+        said = collections.Counter(self.exit_titles.values())
+        said[self.titles[field]] += self.read[field] - len(self.exit_titles)
+        return [replace(self.of(field, its), said=max(said[title], len(its))) for title, its in by_title.items()]
+
+    def title(self, field: str, line: int) -> str:
+        """That of the column in which a cell stands."""
+        return self.exit_titles.get(line, self.titles[field]) if field == Field.EXIT else self.titles[field]
 
     def of(self, field: str, cells: list[Cell]) -> Cells:
         counts = collections.Counter(text for text, _ in cells).most_common()
         texts = tuple(TextCount(text, count) for text, count in counts[:MOST_TEXTS])
-        line, title = cells[0][1], self.titles[field]
-        if field == Field.EXIT and 2 * sum(one[1] in self.of_status for one in cells) > len(cells):
-            title = next(iter(self.of_status.values()))
+        line = cells[0][1]
+        [(title, _)] = collections.Counter(self.title(field, line) for _, line in cells).most_common(1)
         return Cells(Field(field), title, len(cells), self.read[field], line, texts, len(counts) - len(texts))
 
     def mostly(self) -> list[SheetFinding]:
@@ -102,8 +106,16 @@ class Unread:
         read: hardly anything of it would be taken."""
         columns = self.cells.items()
         return [
-            CellsUnread(self.of(field, cells)) for field, cells in columns if len(cells) > max(2, self.read[field] // 2)
+            self.told(self.of(field, cells)) for field, cells in columns if len(cells) > max(2, self.read[field] // 2)
         ]
+
+    def told(self, cells: Cells) -> CellsUnread:
+        """What is told of cells that can't be read; of sexes of which none can what the animals' offspring say too."""
+        if cells.field is not Field.SEX or cells.count < cells.said or cells.more or len(cells.texts) < 2:
+            return CellsUnread(cells)
+        parents = self.parents()
+        sexes = (UnknownSex(one.text, one.count, *parents.get(one.text, (0, 0))) for one in cells.texts)
+        return SexesUnknown(cells, (*sexes,))
 
 
 # Cells that show a spreadsheet's error value, as `#REF!`: they are empty, and told.
@@ -193,9 +205,13 @@ class AnimalCells:
     ) -> None:  # fmt: skip
         self.unknown, self.sexes, self.unread, self.report = unknown, sexes, unread, report
         self.days, self.letters = DayCells(unknown, month_first, forms), Letters()
-        self.readings, self.takers = Readings(unread.titles), Takers({})
+        self.readings, self.takers = Readings(), Takers({})
         # what stands beside the days of exits, by lines
         self.reasons: Mapping[int, str] = {}
+        # the titles and texts of other columns that tell of castrations, by lines
+        self.castrations: Mapping[int, tuple[str, str]] = {}
+        # the lines of rows whose sex a list of the book marks as inferred
+        self.inferred_sexes: Collection[int] = ()
         # the animals that an owner took on the day of their exit
         self.sold: set[str] = set()
 
@@ -267,8 +283,12 @@ class AnimalCells:
         if animal.sex:
             self.unread.read[Field.SEX] += 1
             if is_unsure(text):
-                animal.sex, animal.likely_sex = "", animal.sex
                 self.unread.unsure.append((text, animal.line))
+            if is_unsure(text) or animal.line in self.inferred_sexes:
+                animal.sex, animal.likely_sex = "", animal.sex
+            if "M" in (animal.sex, animal.likely_sex) and (said := self.castrations.get(animal.line)):
+                span = self.days.day(Field.EXIT, said[1]).span
+                animal.castrated, animal.castration = True, Castration(*said, span.last if span else None)
         elif text not in self.unknown:
             self.unread.read[Field.SEX] += 1
             self.leave_out(animal, Field.SEX, text, SexUnread(text))
@@ -281,7 +301,7 @@ class AnimalCells:
         elif day.fault:
             self.not_taken(animal, field, day.fault)
         if day.reading and day.span:
-            self.readings.add(field, day.reading, animal.line, text, day.span)
+            self.readings.add(self.unread.title(field, animal.line), day.reading, animal.line, text, day.span)
         return day.span
 
     def read_exit(self, animal: SheetAnimal, text: str) -> None:
@@ -387,7 +407,7 @@ class AnimalCells:
         if day.span:
             animal.since, animal.is_since_sale = day.span, True
         if day.reading and day.span:
-            self.readings.add(Field.OWNER, day.reading, animal.line, text, day.span)
+            self.readings.add(self.unread.titles[Field.OWNER], day.reading, animal.line, text, day.span)
         self.report.add(animal.line, animal.id, OwnerSold(text, animal.owner))
 
     def is_embryo(self, animal: SheetAnimal, text: str) -> bool:

@@ -4,8 +4,9 @@ from __future__ import annotations
 import datetime
 import itertools
 import operator
-from collections.abc import Collection, Iterable, Mapping
+from collections.abc import Collection, Iterable, Mapping, Sequence
 from dataclasses import dataclass, field
+from typing import NamedTuple
 
 from gudokeyi.domain.animals import SocietyRecord
 from gudokeyi.domain.commands import RegisterRecord
@@ -17,6 +18,15 @@ from gudokeyi.ingest.messages import Where
 
 SIRE, DAM, DAY = Role.SIRE, Role.DAM, Precision.DAY
 ROLES = {role: role.sex for role in Role}
+
+
+class Castration(NamedTuple):
+    """What a column beside that of the sexes says of it: the column's title, the text, and the last day on which it may
+    have been, where the text has any."""
+
+    title: str
+    text: str
+    last: datetime.date | None
 
 
 @dataclass(slots=True)
@@ -38,7 +48,7 @@ class SheetAnimal:
     left: datetime.date | None = None
     embryo: bool = False
     owner_day: OwnerDay = OwnerDay.GIVEN
-    # a male that is castrated, as the sheet's word for its sex says
+    # a male that is castrated, as the sheet's word for its sex says, or another column
     castrated: bool = False
     # what is found for it later: its birth day, its number, and what was inferred and from what
     born: datetime.date = ANY_DAY.first
@@ -56,6 +66,8 @@ class SheetAnimal:
     is_since_sale: bool = False
     # the sex of a cell that isn't sure, where nothing else says one
     likely_sex: str = ""
+    # by which a male is castrated
+    castration: Castration | None = None
 
     def parents(self) -> list[tuple[Role, str]]:
         """The known parents, each with its role."""
@@ -106,18 +118,37 @@ def by_age(animals: Iterable[SheetAnimal]) -> list[SheetAnimal]:
 Link = tuple[SheetAnimal, Role, str]
 
 
+@dataclass(frozen=True)
+class ParentsOutside:
+    """The parents of some animals that aren't among some ids, whether each animal has one, and how many parents are
+    known at all."""
+
+    parents: set[str]
+    have_one: Sequence[bool]
+    known: int
+
+    @classmethod
+    def of(cls, sires: list[str], dams: list[str], ids: Collection[str]) -> ParentsOutside:
+        """The sires and the dams of animals in their order; few are outside of most sheets."""
+        outside = {*itertools.filterfalse(ids.__contains__, {*sires, *dams} - {""})}
+        have_one = map(operator.or_, map(outside.__contains__, sires), map(outside.__contains__, dams))
+        known = len(sires) + len(dams) - sires.count("") - dams.count("")
+        return cls(outside, [*have_one] if outside else (), known)
+
+    def links(self, progeny: Iterable[SheetAnimal]) -> list[Link]:
+        """Those of the animals, which are in the same order."""
+        found: list[Link] = []
+        for offspring in itertools.compress(progeny, self.have_one):
+            if offspring.sire in self.parents:
+                found.append((offspring, SIRE, offspring.sire))
+            if offspring.dam in self.parents:
+                found.append((offspring, DAM, offspring.dam))
+        return found
+
+
 def links_outside(progeny: Collection[SheetAnimal], ids: Collection[str]) -> list[Link]:
-    """The known parents that aren't among some ids. Few are outside of most sheets."""
-    sires, dams = [*map(SIRE_OF, progeny)], [*map(DAM_OF, progeny)]
-    outside = {*itertools.filterfalse(ids.__contains__, {*sires, *dams} - {""})}
-    have_one = map(operator.or_, map(outside.__contains__, sires), map(outside.__contains__, dams))
-    found: list[Link] = []
-    for offspring in itertools.compress(progeny, have_one) if outside else ():
-        if offspring.sire in outside:
-            found.append((offspring, SIRE, offspring.sire))
-        if offspring.dam in outside:
-            found.append((offspring, DAM, offspring.dam))
-    return found
+    """The known parents that aren't among some ids."""
+    return ParentsOutside.of([*map(SIRE_OF, progeny)], [*map(DAM_OF, progeny)], ids).links(progeny)
 
 
 def ancestors_among(progeny: Iterable[SheetAnimal], animals: Mapping[str, SheetAnimal]) -> set[str]:

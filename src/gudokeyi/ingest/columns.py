@@ -12,24 +12,25 @@ from typing import Container
 from gudokeyi.domain.kinds import Field
 from gudokeyi.domain.spelling import closest
 from gudokeyi.ingest.births_beside import TAG, parts_of_births
+from gudokeyi.ingest.castrations import castrated_places
 from gudokeyi.ingest.column_detection import MOST_COMPARED, IdColumn, LikelyColumns, are_different, are_row_numbers
 from gudokeyi.ingest.days import is_span
 from gudokeyi.ingest.encodings import Letters, decoded_twice
-from gudokeyi.ingest.exits_beside import KNOWN_BUYERS
+from gudokeyi.ingest.exits_beside import KNOWN_BUYERS, says_day
 from gudokeyi.ingest.findings.columns import (
-    ColumnLost, ColumnsLack, ColumnUntitled, LikelierColumn, NamedColumnLacks, ParentsBeside, ParentsFromOther,
-    SheetFinding, TellsNoExits, TitleTwice,
+    ColumnLost, ColumnsLack, ColumnUntitled, LikelierColumn, NamedColumnLacks, SheetFinding, TellsNoExits, TitleTwice,
 )  # fmt: skip
 from gudokeyi.ingest.findings.rows import CastratedInRemarks, ExitsInRemarks, FieldUnread, StatusUnread
 from gudokeyi.ingest.findings.sheets import MOST_SHOWN
-from gudokeyi.ingest.names_for_ids import names_for_ids
+from gudokeyi.ingest.many_texts import likely_among
 from gudokeyi.ingest.owners_beside import owners_beside, persons_name
 from gudokeyi.ingest.parent_titles import MOST_ALIKE, PARENTS, columns_of_pair, columns_of_parent
+from gudokeyi.ingest.parents_beside import tell_parents_beside, tell_parents_from_others
 from gudokeyi.ingest.remarks import telling_castrations, telling_exits
 from gudokeyi.ingest.sheets import Sheet
-from gudokeyi.ingest.statuses import said_of
 from gudokeyi.ingest.titles import (
     KNOWN_DOUBTFUL, KNOWN_REASONS, KNOWN_TITLES, NEEDED, TITLES, known_titles, names_both_sexes, names_exits_alone,
+    said_of,
 )  # fmt: skip
 from gudokeyi.ingest.texts import plain
 from gudokeyi.ingest.words import (
@@ -56,6 +57,12 @@ class Columns:
 
     def cells(self, at: int) -> list[str]:
         return self.sheet.column(at)
+
+    def counts(self, at: int) -> collections.Counter[str]:
+        """How many cells of a column have each text, but for empty ones."""
+        found = collections.Counter(self.cells(at))
+        del found[""]
+        return found
 
     def title(self, at: int) -> str:
         return self.sheet.titles[at]
@@ -196,7 +203,7 @@ def days_of_exits(columns: Columns) -> list[int]:
     """The columns such as `verkauft am`, most of whose cells are days."""
     titled = [at for at, title in enumerate(columns.sheet.titles) if columns.is_free(at) and names_exits_alone(title)]
     said = {at: [*filter(None, columns.cells(at))] for at in titled[:MOST_ALIKE]}
-    return [at for at, cells in said.items() if 2 * sum(map(is_span, cells)) > len(cells)]
+    return [at for at, cells in said.items() if 2 * sum(map(says_day, cells)) > len(cells)]
 
 
 def column_of_words(columns: Columns, name: Field, tells: Callable[[str], bool]) -> None:
@@ -225,7 +232,7 @@ def column_below(columns: Columns, name: Field) -> None:
 
 def tells_exits(columns: Columns, at: int, is_told: bool = True) -> bool:
     """Do most cells of the column tell that an animal left, or that it lives?"""
-    counts, title = collections.Counter(cell for cell in columns.cells(at) if cell), columns.title(at)
+    counts, title = columns.counts(at), columns.title(at)
     words = KNOWN_EXITS | KNOWN_STAYS | KNOWN_STILL_THERE | KNOWN_NOTHING
     said = {cell: said_of(cell, title) for cell in counts}
     known = sum(counts[cell] for cell, text in said.items() if is_span(text) or has_word(text, words) or is_cross(text))
@@ -239,8 +246,8 @@ def is_cross(cell: str) -> bool:
     return not LETTER.search(cell) and DEAD.search(cell) is not None
 
 
-# so many cells show what a column tells, and so many columns and different cells are looked at
-SOME, MOST_DIFFERENT = 3, 2000
+# so many cells show what a column tells
+SOME = 3
 
 
 def tell_unread_statuses(columns: Columns, named: Mapping[str, str]) -> None:
@@ -251,25 +258,28 @@ def tell_unread_statuses(columns: Columns, named: Mapping[str, str]) -> None:
     free = [at for at, title in enumerate(columns.sheet.titles) if title and columns.is_free(at) and at not in usual]
     may_be_read = of not in columns.found and named.get(of) != ""
     for at in free[:MOST_COMPARED]:
-        cells = collections.Counter(cell for cell in columns.cells(at) if cell)
-        if len(cells) > MOST_DIFFERENT:
-            continue
-        tell_castrated(columns, at, telling_castrations(cells))
+        cells = columns.counts(at)
+        texts = likely_among(cells)
+        tell_castrated(columns, at, telling_castrations(texts))
         # a plus alone may be the result of a test
-        crosses = {cell for cell in cells if is_cross(cell) and "+" not in (cell, cell.strip("()"))}
-        telling = [cell for cell in cells if has_word(cell, TELLING_EXITS | KNOWN_STAYS) or cell in crosses]
+        crosses = {cell for cell in texts if is_cross(cell) and "+" not in (cell, cell.strip("()"))}
+        telling = [cell for cell in texts if has_word(cell, TELLING_EXITS | KNOWN_STAYS) or cell in crosses]
         count = sum(cells[cell] for cell in telling)
         if may_be_read and 2 * count > cells.total() and cells.total() >= SOME:
             columns.notes.append(StatusUnread(columns.title(at), count, tuple(telling[:MOST_SHOWN]), of))
         elif named.get(Field.EXIT) != "":
-            tell_remarks(columns, at, telling_exits(cells))
+            tell_remarks(columns, at, telling_exits(texts))
 
 
 def tell_castrated(columns: Columns, at: int, texts: set[str]) -> None:
     """Some cells of a column that isn't read tell that an animal is castrated; it isn't told of females, nor of those
-    whose sex says so too."""
+    whose sex says so too, or another column."""
+    if not texts:
+        return
     cells = columns.cells(at)
-    telling = [place for place, cell in enumerate(cells) if cell in texts] if texts else []
+    telling = [place for place, cell in enumerate(cells) if cell in texts]
+    said = castrated_places(columns.sheet, columns.found) if telling else set[int]()
+    telling = [place for place in telling if place not in said]
     if Field.SEX in columns.found:
         sexes = columns.cells(columns.found[Field.SEX])
         others = {sex for sex in {*sexes} if KNOWN_SEXES.get(sex_word(sex)) == "F" or has_word(sex, KNOWN_SAID_CASTRATED)}
@@ -282,16 +292,18 @@ def tell_castrated(columns: Columns, at: int, texts: set[str]) -> None:
 def tell_other_statuses(columns: Columns, usual: list[int]) -> None:
     """Columns with a usual title for a status, where another one is read as that."""
     for at in usual:
-        title, texts = columns.title(at), {*columns.cells(at)}
-        said = {text: said_of(text, title) for text in texts} if len(texts) <= MOST_DIFFERENT else {}
+        title = columns.title(at)
+        said = {text: said_of(text, title) for text in likely_among({*columns.cells(at)})}
         telling = {text for text, meant in said.items() if has_word(meant, TELLING_EXITS) or DEAD.search(meant)}
         tell_remarks(columns, at, telling)
 
 
 def tell_remarks(columns: Columns, at: int, texts: set[str]) -> None:
     """Some cells of a column that isn't read tell that animals left; those that have an exit aren't told."""
+    if not texts:
+        return
     cells = columns.cells(at)
-    telling = [place for place, cell in enumerate(cells) if cell in texts] if texts else []
+    telling = [place for place, cell in enumerate(cells) if cell in texts]
     for of in [columns.found[name] for name in (Field.EXIT, Field.STATUS) if name in columns.found]:
         exits, title = columns.cells(of), columns.title(of)
         none = {one for one in {*exits} if lives(said_of(one, title))}
@@ -318,39 +330,14 @@ def tell_untitled(columns: Columns) -> None:
     untitled = (at for at, title in enumerate(titles) if not title and any(columns.cells(at)))
     untitled = (at for at in untitled if not are_row_numbers(columns.cells(at)))
     for at in itertools.islice(untitled, MOST_UNTITLED):
-        cells = collections.Counter(filter(None, columns.cells(at)))
-        some = itertools.islice(cells, MOST_DIFFERENT)
-        exits = sum(cells[cell] for cell in some if has_word(cell, TELLING_EXITS) or is_cross(cell))
+        cells = columns.counts(at)
+        exits = sum(cells[one] for one in likely_among(cells) if has_word(one, TELLING_EXITS) or is_cross(one))
         line, text = next((line, texts[at]) for line, texts in columns.sheet.rows if at < len(texts) and texts[at])
         columns.notes.append(ColumnUntitled(letters_of(at), cells.total(), line, text, exits))
 
 
-def tell_parents_from_others(columns: Columns, parents: list[Field]) -> None:
-    """Parents whose ids stand in a column with another title than the usual ones."""
-    for name in (one for one in parents if one in columns.found):
-        at, usual = columns.found[name], columns_of_parent(columns.sheet, name)
-        others = [one for one in usual if columns.is_free(one)]
-        if others and at not in usual:
-            columns.notes.append(ParentsFromOther(name, columns.title(at), columns.title(others[0])))
-
-
-def tell_parents_beside(columns: Columns, unknown: Container[str]) -> None:
-    """Parents whose names stand in a column of their own, where those of others have their ids, and aren't read."""
-    sheet, found = columns.sheet, columns.found
-    for name in (one for one in PARENTS if one in columns.found):
-        read = {sheet.rows[place].line for place in names_for_ids(sheet.rows, sheet, found, name, unknown)}
-        for at in columns.of_parent(name):
-            both = zip(columns.sheet.rows, columns.cells(columns.found[name]), columns.cells(at))
-            lacking = [(row.line, beside) for row, id, beside in both if id in unknown and beside not in unknown]
-            lacking = [one for one in lacking if one[0] not in read] if lacking else []
-            if lacking and 2 * len(lacking) <= len(columns.sheet.rows):
-                title, beside = columns.title(columns.found[name]), columns.title(at)
-                others = tuple(line for line, _ in lacking[1:MOST_ALIKE])
-                columns.notes.append(ParentsBeside(title, beside, len(lacking), *lacking[0], others))
-
-
-# the different words that a column of sexes may have
-MOST_SEXES = 40
+# the different words that a column of sexes may have, and the different days that one of exits may
+MOST_SEXES, MOST_DIFFERENT = 40, 2000
 
 
 def tell_unread_fields(columns: Columns, named: Mapping[str, str]) -> None:
@@ -360,7 +347,7 @@ def tell_unread_fields(columns: Columns, named: Mapping[str, str]) -> None:
         if name in columns.found or named.get(name) == "":
             continue
         for at in [at for at, title in enumerate(columns.sheet.titles) if title and columns.is_free(at)][:MOST_COMPARED]:
-            cells = collections.Counter(cell for cell in columns.cells(at) if cell)
+            cells = columns.counts(at)
             least = 1 if plain(columns.title(at)) in KNOWN_BUYERS else SOME
             if cells.total() >= least and len(cells) <= MOST_DIFFERENT and look(columns.title(at), cells):
                 said = tuple([*cells][:MOST_SHOWN])

@@ -5,11 +5,11 @@ from __future__ import annotations
 import collections
 import datetime
 import functools
+import operator
 import re
 import statistics
 from collections.abc import Iterable
 
-from gudokeyi.domain.kinds import Field
 from gudokeyi.ingest.days import (
     FIRST_DAY, FIRST_YEAR, LAST_YEAR, MONTHS, NAME, NOT_THAT_YEAR, DayFault, Precision, Span, Unreadable, compared,
     is_span, month_of, places_within, read_span, span_said, span_within,
@@ -79,6 +79,7 @@ OR_NUMBER = re.compile(rf"{OR}'?\d{{1,2}}\W*$", re.IGNORECASE)
 YEAR_BEFORE = re.compile(rf"\D*(?<![\w./-]){OTHER_YEAR}(?:\s*/\s*|\s{OR})", re.IGNORECASE)
 # so many years it may be before or behind that of the day
 YEARS_BESIDE = 3
+YEAR_OF = operator.attrgetter("year")
 # a longer text has more than these
 MOST_LETTERS = 60
 # a day without its month
@@ -100,6 +101,13 @@ GONE_TO = re.compile(
 )
 
 
+# a sheet that is looked at again has the same
+@functools.lru_cache(1)
+def years_of(texts: tuple[str, ...]) -> list[int]:
+    """The years that each different text has."""
+    return [int(year) for text in {*texts} for year in YEAR.findall(text)]
+
+
 class DayForms:
     """Reads such texts. `days` are texts of the sheet's own days, and `born` days of the book: they show the
     century."""
@@ -110,8 +118,7 @@ class DayForms:
     @functools.cached_property
     def usual_year(self) -> int:
         """The middle of the years that the sheet and the book have."""
-        years = [int(year) for text in set(self.days) for year in YEAR.findall(text)]
-        years += [day.year for day in self.born]
+        years = [*years_of(tuple(self.days)), *map(YEAR_OF, self.born)]
         years = [year for year in years if year <= self.today.year]
         return int(statistics.median(years)) if years else self.today.year
 
@@ -383,16 +390,15 @@ def is_only_number(found: re.Match[str]) -> bool:
 class Readings:
     """Which cells of which columns were read so."""
 
-    def __init__(self, titles: dict[str, str]) -> None:
-        self.titles = titles
+    def __init__(self) -> None:
         # a month, and a season or a year, are told beside days
-        self.counts: collections.Counter[tuple[Field, DayReading, Precision]] = collections.Counter()
-        self.first: dict[tuple[Field, DayReading, Precision], tuple[int, str, str, str]] = {}
+        self.counts: collections.Counter[tuple[str, DayReading, Precision]] = collections.Counter()
+        self.first: dict[tuple[str, DayReading, Precision], tuple[int, str, str, str]] = {}
 
-    def add(self, field: Field, reading: DayReading, line: int, text: str, span: Span) -> None:
+    def add(self, title: str, reading: DayReading, line: int, text: str, span: Span) -> None:
         if reading is DayReading.WITHIN and not span.is_day:
             reading = DayReading.PERIOD_WITHIN
-        of = field, reading, span.precision
+        of = title, reading, span.precision
         self.counts[of] += 1
         is_part = span.precision is Precision.YEAR and (span.first.month, span.last.month) != (1, 12)
         are_days = reading is DayReading.ONE_OF or is_part and reading is DayReading.PERIOD_WITHIN
@@ -401,6 +407,6 @@ class Readings:
 
     def told(self) -> list[SheetFinding]:
         return [
-            DaysReadSo(self.titles[field], reading, count, *self.first[field, reading, precision])
-            for (field, reading, precision), count in self.counts.items()
+            DaysReadSo(title, reading, count, *self.first[title, reading, precision])
+            for (title, reading, precision), count in self.counts.items()
         ]

@@ -119,7 +119,9 @@ MAY_BE_DAYS = re.compile(
 )
 
 
-def days_among(ids: Iterable[str]) -> set[str]:
+# a sheet that is looked at again has the same
+@functools.lru_cache(1)
+def days_among(ids: tuple[str, ...]) -> set[str]:
     """The ids that are written as days, where at least as many are two numbers, of which spreadsheets make days."""
     together = "\n".join(["", *ids, ""])
     days = {id for found in MAY_BE_DAYS.finditer(together) if is_day(id := found["id"])}

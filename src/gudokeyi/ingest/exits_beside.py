@@ -2,6 +2,7 @@
 to whom an animal was sold."""
 from __future__ import annotations
 
+import functools
 from collections.abc import Mapping, Sequence
 from dataclasses import dataclass, field
 from typing import Container
@@ -10,15 +11,16 @@ from gudokeyi.domain.findings import Report
 from gudokeyi.domain.kinds import Field
 from gudokeyi.ingest.day_forms import SERIAL, TWO
 from gudokeyi.ingest.days import Unreadable, is_span, places_within, read_span
-from gudokeyi.ingest.findings.exits import BuyersRead, ExitDaysRead, Remark
+from gudokeyi.ingest.findings.exits import BuyerDisagrees, BuyersRead, ExitDaysRead, Remark
 from gudokeyi.ingest.findings.rows import StatusDisagrees
 from gudokeyi.ingest.sheets import Sheet, SheetRow, cell_of
 from gudokeyi.ingest.texts import listed, plain
 from gudokeyi.ingest.titles import (
-    BETWEEN_WORDS, DEATHS, KNOWN_DOUBTFUL, KNOWN_TITLES, SALE_DAYS, names_exits_alone, names_other_exits,
+    BETWEEN_WORDS, DEATHS, KNOWN_DOUBTFUL, KNOWN_TITLES, SALE_DAYS, names_exits_alone, names_other_exits, said_of,
 )  # fmt: skip
 from gudokeyi.ingest.words import (
-    KNOWN_EXITS, KNOWN_NO, KNOWN_SALES, KNOWN_YES, LETTER, PLAIN_EXITS, exit_word, has_word, lives, says_lives,
+    KNOWN_EXITS, KNOWN_NO, KNOWN_SALES, KNOWN_YES, LETTER, PLAIN_EXITS, exit_word, has_word, is_still_there, lives,
+    says_lives,
 )  # fmt: skip
 
 # titles of columns that say to whom animals were sold, by how the cell of an exit says so
@@ -33,14 +35,13 @@ KNOWN_BUYERS = {plain(title): said for said, titles in BUYERS.items() for title 
 
 @dataclass
 class Exits:
-    """What is found beside the exits: the texts for exits, by the places of rows, and the lines of those that are a
-    word of the status alone; the reasons beside days of exits, by their lines; the titles of the columns whose days are
-    taken, by the places of rows; and what is to be kept as notes."""
+    """What is found beside the exits: the texts for exits, by the places of rows; the titles of the columns whose days
+    or words are taken, by the lines of rows; the reasons beside days of exits, by their lines; and what is to be kept
+    as notes."""
 
     texts: dict[int, str] = field(default_factory=dict)
-    of_status: dict[int, str] = field(default_factory=dict)
-    reasons: dict[int, str] = field(default_factory=dict)
     titles: dict[int, str] = field(default_factory=dict)
+    reasons: dict[int, str] = field(default_factory=dict)
     remarks: list[Remark] = field(default_factory=list)
 
 
@@ -102,7 +103,7 @@ class ExitDays:
                 continue
             text = self.of_yes(exits, place, row, word) if is_yes else self.taken(exits, place, row, at)
             if text:
-                exits.texts[place], exits.titles[place] = text, title
+                exits.texts[place], exits.titles[row.line] = text, title
                 count += 1
             if text == cell and word:
                 exits.reasons.setdefault(row.line, word)
@@ -116,13 +117,13 @@ class ExitDays:
             self.look_at_status(row, at)
             return day
         if lives(exit):
-            self.tell(row, self.title(exits, place), exit, at, False)
+            self.tell(row, self.title(exits, row), exit, at, False)
             return day
         title, has_digits = self.sheet.titles[at], any(map(str.isdigit, exit))
         if not has_digits and names_other_exits(exit) == names_other_exits(title):
             return f"{exit} {day}"
         if not has_digits or not is_same_day(exit, day):
-            self.tell(row, self.title(exits, place), exit, at, has_digits)
+            self.tell(row, self.title(exits, row), exit, at, has_digits)
         return ""
 
     def of_yes(self, exits: Exits, place: int, row: SheetRow, word: str) -> str:
@@ -130,8 +131,8 @@ class ExitDays:
         exit = exits.texts.get(place) or cell_of(row, self.exit)
         return word if not exit or exit in self.unknown else ""
 
-    def title(self, exits: Exits, place: int) -> str:
-        return exits.titles.get(place) or self.sheet.titles[self.exit]
+    def title(self, exits: Exits, row: SheetRow) -> str:
+        return exits.titles.get(row.line) or self.sheet.titles[self.exit]
 
     def look_at_status(self, row: SheetRow, at: int) -> None:
         """A status may say that the animal lives."""
@@ -170,11 +171,15 @@ def add_sales_to(exits: Exits, rows: Sequence[SheetRow], sheet: Sheet, at: int, 
 
 
 class Buyers:
-    """Says in the text for an exit to whom the animal was sold, as another column has it."""
+    """Says in the text for an exit to whom the animal was sold, as another column has it, unless one says that it is
+    there."""
 
     def __init__(self, sheet: Sheet, columns: Mapping[str, int], unknown: Container[str], at: int) -> None:
-        self.titles, self.exit, self.unknown, self.at = sheet.titles, columns[Field.EXIT], unknown, at
+        self.titles, self.columns, self.unknown, self.at = sheet.titles, columns, unknown, at
+        self.exit, self.owner = columns[Field.EXIT], columns.get(Field.OWNER, at)
         self.said = KNOWN_BUYERS[plain(sheet.titles[at])]
+        # the same texts stand in many cells
+        self.is_there = functools.cache(is_there)
 
     def add(self, exits: Exits, rows: Sequence[SheetRow], report: Report) -> None:
         count = 0
@@ -185,17 +190,34 @@ class Buyers:
             exit = exits.texts.get(place) or cell_of(row, self.exit)
             exit = "" if exit in self.unknown else exit
             reason = exits.reasons.get(row.line, "")
-            if self.may_be_sale(exit, reason):
+            if (at := self.column_of_living(row, exit)) is not None:
+                self.tell(row, at, report)
+            elif self.may_be_sale(exit, reason):
                 exits.texts[place] = self.text(exit, buyer)
                 exits.reasons.pop(row.line, None)
                 count += 1
         if count:
             report.add(0, "", BuyersRead(self.titles[self.at], count))
 
+    def column_of_living(self, row: SheetRow, exit: str) -> int | None:
+        """The column that says that the animal is there where no exit is told: that of a status, or of the exits."""
+        if exit and not (lives(exit) or self.is_there(exit, self.titles[self.exit])):
+            return None
+        at = self.columns.get(Field.STATUS)
+        status = "" if at is None else cell_of(row, at)
+        if at is not None and status not in self.unknown and self.is_there(status, self.titles[at]):
+            return at
+        return self.exit if exit else None
+
+    def tell(self, row: SheetRow, at: int, report: Report) -> None:
+        """A buyer who is the owner has the animal."""
+        buyer = cell_of(row, self.at)
+        if self.owner == self.at or plain(cell_of(row, self.owner)) != plain(buyer):
+            found = BuyerDisagrees(self.titles[self.at], buyer, self.titles[at], cell_of(row, at))
+            report.add(row.line, cell_of(row, self.columns[Field.ID]), found)
+
     def may_be_sale(self, exit: str, reason: str) -> bool:
         """Is it no other exit, and says it not itself to whom?"""
-        if lives(exit) and exit:
-            return False
         if reason:
             return plain(reason) in KNOWN_SALES
         if exit and names_other_exits(self.titles[self.exit]):
@@ -207,6 +229,12 @@ class Buyers:
         word = exit_word(exit)
         said = f"{word} {self.said.rpartition(' ')[2]}" if word else self.said
         return f"{said} {buyer} {exit.replace(word, '', 1).strip()}".strip()
+
+
+def is_there(text: str, title: str) -> bool:
+    """Does a text of a column with this title say in words that the animal hasn't left?"""
+    said = said_of(text, title)
+    return says_lives(said) or is_still_there(said)
 
 
 def has_more(exit: str, word: str) -> bool:

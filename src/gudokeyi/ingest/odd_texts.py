@@ -3,6 +3,7 @@ from __future__ import annotations
 
 import collections
 import datetime
+import functools
 import re
 from collections.abc import Collection, Iterable, Iterator, Mapping
 
@@ -38,7 +39,9 @@ EXIT = re.compile(
 )
 
 
-def names_with_exits(names: Iterable[str]) -> set[str]:
+# a sheet that is looked at again has the same
+@functools.lru_cache(1)
+def names_with_exits(names: tuple[str, ...]) -> set[str]:
     """Those of many names that tell of an exit. Those alone are looked at that have one of the words within."""
     in_small = {name: name.lower() for name in names}
     together = "\n".join(in_small.values())
@@ -54,7 +57,7 @@ def stands_in(text: str, word: str) -> bool:
 
 def tell_exits_in_names(animals: Mapping[str, SheetAnimal], names: Iterable[str], report: Report) -> None:
     """Of animals that count as living."""
-    telling = names_with_exits(names)
+    telling = names_with_exits(tuple(names))
     for animal in animals.values() if telling else ():
         if animal.name in telling and counts_as_living(animal):
             report.add(animal.line, animal.id, NameTellsOfExit(animal.name))
@@ -147,10 +150,14 @@ def ids_with_another(ids: Collection[str]) -> dict[str, tuple[str, ...]]:
     return {id: its for id, its in both.items() if shape(its[0]) in shapes}
 
 
+@functools.lru_cache(1)
+def all_several_ids(ids: tuple[str, ...]) -> dict[str, tuple[str, ...]]:
+    return ids_with_another(ids) | several_ids(ids)
+
+
 def tell_several_ids(animals: Mapping[str, SheetAnimal], known: Collection[str], report: Report) -> set[str]:
     """Answers the ids of those that are told; the book hasn't these."""
-    several = ids_with_another(animals.keys()) | several_ids(animals.keys())
-    found = {id: its for id, its in several.items() if id not in known}
+    found = {id: its for id, its in all_several_ids(tuple(animals)).items() if id not in known}
     for id, its in found.items():
         report.add(animals[id].line, id, TwoIds(its))
     return {*found}

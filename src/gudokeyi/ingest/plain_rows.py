@@ -118,6 +118,7 @@ class PlainRows:
             lefts,
         )]  # fmt: skip
         self.give_reasons(animals)
+        self.leave_sexes_open(animals)
         return animals
 
     def give_reasons(self, animals: list[SheetAnimal]) -> None:
@@ -127,6 +128,13 @@ class PlainRows:
         for animal in animals if reasons else ():
             if animal.left and (text := reasons.get(animal.line)):
                 animal.exit_basis = bases[text]
+
+    def leave_sexes_open(self, animals: list[SheetAnimal]) -> None:
+        """Those that are marked as inferred are likely ones."""
+        lines = self.cells.inferred_sexes
+        for animal in animals if lines else ():
+            if animal.line in lines:
+                animal.sex, animal.likely_sex = "", animal.sex
 
     def again(self, sheet: Sheet, cells: AnimalCells, words: Collection[str]) -> PlainRows | None:
         """The same rows, some of whose texts mean something else now, and others come or go: the rows that have these,

@@ -255,17 +255,23 @@ def as_meant(
         rows = [with_cell(row, owner, owners[at]) if at in owners else row for at, row in enumerate(rows)]
     births = births_said(rows, sheet, columns, unknown, report)
     if births:
-        birth = columns[Field.BIRTH]
-        rows = [with_cell(row, birth, births[at]) if at in births else row for at, row in enumerate(rows)]
+        rows = with_cells(rows, columns[Field.BIRTH], births)
     exits = exits_said(rows, sheet, columns, unknown, report) if Field.EXIT in columns else Exits()
     if exits.texts:
-        exit, texts = columns[Field.EXIT], exits.texts
-        rows = [with_cell(row, exit, texts[at]) if at in texts else row for at, row in enumerate(rows)]
+        rows = with_cells(rows, columns[Field.EXIT], exits.texts)
     if rows is sheet.rows and not (exits.remarks or exits.reasons):
         return sheet
     return replace(
-        sheet, rows=rows, kept={}, remarks=exits.remarks, of_status=exits.of_status, reasons=exits.reasons
+        sheet, rows=rows, kept={}, remarks=exits.remarks, exit_titles=exits.titles, reasons=exits.reasons
     )
+
+
+def with_cells(rows: Sequence[SheetRow], at: int, texts: Mapping[int, str]) -> list[SheetRow]:
+    """The rows, some of which have another text in a column, by the places of these rows."""
+    found = [*rows]
+    for place, text in texts.items():
+        found[place] = with_cell(found[place], at, text)
+    return found
 
 
 # Owners to whom animals are sold within the society.

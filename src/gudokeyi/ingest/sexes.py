@@ -11,7 +11,7 @@ from gudokeyi.domain.kinds import Field
 from gudokeyi.ingest.animals import DAM_OF, SIRE_OF, SheetAnimal
 from gudokeyi.ingest.findings.columns import SheetFinding
 from gudokeyi.ingest.findings.sexes import (
-    CastratedLetter, FemaleLetter, OneSexAlone, SexCount, SexWord, SexWordsShort,
+    MANY_MORE, CastratedLetter, FemaleLetter, OneSexAlone, SexCount, SexWord, SexWordsShort,
 )  # fmt: skip
 from gudokeyi.ingest.findings.sheets import TextCount
 from gudokeyi.ingest.texts import plain
@@ -40,8 +40,8 @@ THREE_LETTERS = (
 LETTER, WETHER = "w", "wether"
 # the letter of a female beside which it isn't one
 OF_AUE = "a"
-# so many animals may be named as dams by mistake, or one for so many others; with so many others for each they are
-FEW_MISTAKEN, MANY_MORE, FEW_MORE = 2, 20, 5
+# so many animals may be named as dams by mistake, or one for many others; with so many others for each they are
+FEW_MISTAKEN, FEW_MORE = 2, 5
 
 
 class LetterRead(NamedTuple):
@@ -266,6 +266,16 @@ def may_be_male(words: Collection[str], given: Mapping[str, str]) -> bool:
     """Is a letter for females named that is none elsewhere, and stands another one for these too?"""
     letters = [word for word, sex in given.items() if sex == "F" and len(word) == 1 and KNOWN_SEXES.get(word) != sex]
     return LETTER in words and LETTER not in given and not {*letters}.isdisjoint(words)
+
+
+def parents_by_text(animals: Collection[SheetAnimal]) -> dict[str, tuple[int, int]]:
+    """How many animals with each text for a sex are sires, and how many dams, by their ids or their names."""
+    sires, dams = ({*map(str.casefold, map(of, animals))} - {""} for of in (SIRE_OF, DAM_OF))
+    found = collections.defaultdict[str, collections.Counter[str]](collections.Counter)
+    for one in animals:
+        called = {one.id.casefold(), one.name.casefold()}
+        found[one.cells.get(Field.SEX, "")].update(sires=not called.isdisjoint(sires), dams=not called.isdisjoint(dams))
+    return {text: (counts["sires"], counts["dams"]) for text, counts in found.items()}
 
 
 def are_both_parents(sex: str, animals: Collection[SheetAnimal]) -> bool:

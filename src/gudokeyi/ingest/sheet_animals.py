@@ -5,6 +5,8 @@ from __future__ import annotations
 import collections
 import datetime
 import functools
+import itertools
+import operator
 import re
 from collections.abc import Callable, Collection, Iterable, Iterator, Mapping, Sequence
 from typing import Container
@@ -13,32 +15,38 @@ from gudokeyi.domain.findings import Report
 from gudokeyi.domain.kinds import Field
 from gudokeyi.domain.requests import MOST_IN_ID
 from gudokeyi.ingest.animal_cells import AnimalCells, ErrorValues, Unread
-from gudokeyi.ingest.animals import DAM_OF, ID_OF, LINE_OF, NAME_OF, ROLES, SIRE_OF, SheetAnimal
+from gudokeyi.ingest.animals import CELLS_OF as CELLS_OF_ANIMAL
+from gudokeyi.ingest.animals import DAM_OF, LINE_OF, ROLES, SIRE_OF, SheetAnimal
+from gudokeyi.ingest.castrations import Castrations
 from gudokeyi.ingest.day_cells import Order
 from gudokeyi.ingest.day_forms import DayForms
-from gudokeyi.ingest.days import NAME
 from gudokeyi.ingest.days_for_ids import days_among
 from gudokeyi.ingest.exchanged_days import exchanged
 from gudokeyi.ingest.findings.cells import (
-    BETWEEN_CELLS, DAYS, DayForText, DittoForText, IdAlone, IdOfOtherAlphabet, IdToCome, IdTooLong, IdUnlikeOthers,
-    IdWithFewerDigits, LikeASum, NoAnimal, NoId, TitlesAgain, TooManyCells, TruthValue,
+    BETWEEN_CELLS, DAYS, IdAlone, IdOfOtherAlphabet, IdTooLong, IdUnlikeOthers, IdWithFewerDigits, LikeASum, NoAnimal,
+    NoId, TitlesAgain, TooManyCells,
 )  # fmt: skip
 from gudokeyi.ingest.findings.columns import SheetFinding
 from gudokeyi.ingest.findings.exits import Remark
 from gudokeyi.ingest.findings.files import GreyRows, HiddenRows
 from gudokeyi.ingest.findings.sheets import CutNumber, FormulaCell, Place
+from gudokeyi.ingest.inferred_values import lines_of_inferred_sexes
 from gudokeyi.ingest.odd_ids import Oddity, odd_ids
 from gudokeyi.ingest.odd_texts import first_days, tell_exits_in_ids, tell_exits_in_names, tell_several_ids
-from gudokeyi.ingest.plain_rows import CELLS_OF, SIGNS, PlainRows, chooser, first_sum
-from gudokeyi.ingest.rows_as_meant import DITTO, Takers
+from gudokeyi.ingest.placeholders import (
+    TRUTHS, tell_days_for_texts, tell_dittos, tell_ids_to_come, tell_truths,
+)  # fmt: skip
+from gudokeyi.ingest.plain_rows import CELLS_OF, SIGNS, PlainRows, chooser, first_sum, may_be_sum
+from gudokeyi.ingest.rows_as_meant import Takers
 from gudokeyi.ingest.same_ids import SameIds, tell_used_again
-from gudokeyi.ingest.sexes import Sexes, one_sex_alone, sexes_in_book, sexes_of_dams
+from gudokeyi.ingest.sexes import Sexes, one_sex_alone, parents_by_text, sexes_in_book, sexes_of_dams
 from gudokeyi.ingest.sheets import Sheet, SheetRow
 from gudokeyi.ingest.spellings import CUT
+from gudokeyi.ingest.struck_cells import struck_told
 from gudokeyi.ingest.titles import KNOWN_STATES, is_german, parts_of, words_of_sexes
 from gudokeyi.ingest.unknown_parents import UnknownParents
 from gudokeyi.ingest.texts import nearly, plain
-from gudokeyi.ingest.words import KNOWN_SUMS, KNOWN_TO_COME, is_error_value
+from gudokeyi.ingest.words import KNOWN_SUMS, is_error_value
 
 # Rows that may be no animals: those that count or sum up, and those that have an id alone. They are taken, and told,
 # unless somebody says by a word of theirs that they are none.
@@ -71,12 +79,20 @@ class NoAnimals:
         return next((cell for cell in cells if plain(cell) in self.words), "")
 
 
+# a sheet that is looked at again has the same ids
+@functools.lru_cache(1)
+def likely_sums(ids: tuple[str, ...]) -> set[str]:
+    return {*filter(may_be_sum, ids)}
+
+
 def tell_odd_rows(animals: dict[str, SheetAnimal], rows: list[SheetRow], report: Report) -> set[str]:
     """Answers the ids of those that are told."""
-    birth = Field.BIRTH
-    without_day = {animal.line: animal for animal in animals.values() if not animal.cells.get(birth)}
-    cells = {row.line: row.cells for row in rows if row.line in without_day} if without_day else {}
-    likely = [one for id, one in animals.items() if not id[-1].isdigit() or " " in id or one.line in cells]
+    births = map(dict.get, map(CELLS_OF_ANIMAL, animals.values()), itertools.repeat(Field.BIRTH))
+    without_day = {animal.line: animal for animal in itertools.compress(animals.values(), map(operator.not_, births))}
+    are_without = map(without_day.__contains__, map(LINE_OF, rows)) if without_day else ()
+    cells = {row.line: row.cells for row in itertools.compress(rows, are_without)}
+    ids = likely_sums(tuple(animals)).union(animal.id for animal in without_day.values())
+    likely = [animals[id] for id in filter(ids.__contains__, animals)]
     sums = {one.id: word for one in likely if (word := sum_of(one, cells.get(one.line, [])))}
     for id, word in sums.items():
         report.add(animals[id].line, id, LikeASum(word))
@@ -101,59 +117,6 @@ def tell_odd_ids(animals: dict[str, SheetAnimal], known: Container[str], report:
         else:
             found = IdWithFewerDigits if oddity is Oddity.FEWER_DIGITS else IdOfOtherAlphabet
             report.add(animals[id].line, id, found(usual))
-
-
-# a text without any digit, which few ids are, and one that may be a day as spreadsheets show it that they made of a
-# text, each in a line of its own; and such a day
-NO_NUMBER, AROUND = re.compile(r"\n([^\d\n]+)(?=\n)"), " .:…?!-–()"
-LIKE_DAY = re.compile(r"\n(\d{1,2}(?:-|\. ?)[^\W\d_]{3,9}\.?|[^\W\d_]{3,9}\.?-\d\d)(?=\n)")
-DAY_SHOWN = re.compile(rf"\d{{1,2}}(?:-|\. ?){NAME}|{NAME}-\d\d", re.IGNORECASE)
-
-
-def tell_ids_to_come(animals: dict[str, SheetAnimal], report: Report) -> set[str]:
-    """Ids such as `in Arbeit`, of animals that have none yet. Answers them."""
-    likely = NO_NUMBER.findall("\n".join(["", *animals, ""]))
-    found = [id for id in likely if id.strip(AROUND).casefold() in KNOWN_TO_COME and id in animals]
-    for id in found:
-        report.add(animals[id].line, id, IdToCome(id))
-    return {*found}
-
-
-def tell_dittos(animals: dict[str, SheetAnimal], field: Field, texts: Iterable[str], report: Report) -> set[str]:
-    """Ids or names that are marks for the cell above, among these texts. Answers the ids of those that are told."""
-    # few sheets have any
-    is_any = not DITTO.isdisjoint(map(str.casefold, texts))
-    marks = {text for text in texts if text.casefold() in DITTO} if is_any else set[str]()
-    of = ID_OF if field is Field.ID else NAME_OF
-    found = [animal for animal in animals.values() if of(animal) in marks] if marks else []
-    for animal in found:
-        report.add(animal.line, animal.id, DittoForText(field, of(animal)))
-    return {animal.id for animal in found}
-
-
-def tell_days_for_texts(
-    animals: dict[str, SheetAnimal], field: Field, lines: Collection[int], texts: Iterable[str], report: Report
-) -> set[str]:
-    """Ids or names that a spreadsheet has as days, in these lines, or among these texts as it shows them. Answers the
-    ids of those that are told."""
-    shown, told = {*filter(DAY_SHOWN.fullmatch, LIKE_DAY.findall("\n".join(["", *texts, ""])))}, set[str]()
-    for animal in animals.values() if shown or lines else ():
-        text = animal.id if field is Field.ID else animal.name
-        if text and (animal.line in lines or text in shown):
-            report.add(animal.line, animal.id, DayForText(field, text))
-            told.add(animal.id)
-    return told
-
-
-# how spreadsheets show truth values
-TRUTHS = {"TRUE", "FALSE", "WAHR", "FALSCH", "VRAI", "FAUX"}
-
-
-def tell_truths(animals: dict[str, SheetAnimal], field: Field, report: Report) -> None:
-    """Names that a spreadsheet may have taken for truth values."""
-    for animal in animals.values():
-        if (text := animal.cells.get(field, "")) in TRUTHS:
-            report.add(animal.line, animal.id, TruthValue(field, text))
 
 
 def sum_of(animal: SheetAnimal, cells: list[str]) -> str:
@@ -185,6 +148,13 @@ def are_titles(cells: list[str], titles: list[str]) -> bool:
     return 4 * again >= 3 * len(named)
 
 
+# of all columns of days
+@functools.lru_cache(len(DAYS))
+def slashed_among(texts: tuple[str, ...]) -> set[str]:
+    """The texts that may show the order of days."""
+    return {*filter(Order.may_show, texts)}
+
+
 class Rows:
     """Reads the rows of a sheet. `born` are the birth days that animals of the book have by their ids, `no_animals` the
     words of rows that are none."""
@@ -214,10 +184,13 @@ class Rows:
         self.errors = ErrorValues(sheet, columns)
         self.sexes = self.sexes_read(sexes, sexes_of_book or {})
         self.unread = Unread({name: sheet.titles[at] for name, at in columns.items()})
-        self.unread.of_status = sheet.of_status
+        self.unread.exit_titles = sheet.exit_titles
         self.forms = DayForms(self.texts(Field.BIRTH), (born or {}).values(), month_first)
         self.cells = AnimalCells(unknown, self.sexes, self.unread, report, month_first, self.forms)
         self.cells.reasons = sheet.reasons
+        self.castrations = Castrations(sheet, columns, unknown)
+        self.cells.castrations = self.castrations.lines
+        self.cells.inferred_sexes = lines_of_inferred_sexes(sheet, columns, lambda text: self.sexes.meaning(text).sex)
         self.cells.days.of_states = plain(self.unread.titles.get(Field.EXIT, "")) in KNOWN_STATES
         self.cells.takers = Takers({one: one for one in self.texts(Field.OWNER)} | dict(owners or {}))
         self.same_ids = SameIds(unknown, month_first, born or {})
@@ -264,7 +237,8 @@ class Rows:
         """The rows that are read together."""
         words = self.no_animals.words
         again = self.before.again(self.sheet, self.cells, words) if self.before else None
-        lines = {line for line, *_ in self.errors.found} | self.cells.lines_of_sales()
+        odd = self.cells.lines_of_sales(), self.castrations.lines
+        lines = {line for line, *_ in self.errors.found}.union(*odd)
         found = again or PlainRows(self.sheet, self.columns, self.cells, words)
         found.leave_lines(lines)
         return found
@@ -275,23 +249,22 @@ class Rows:
         found: dict[str, SheetAnimal] = {}
         # animals that have the id of another one
         others: list[SheetAnimal] = []
-        titles, usual = len(self.sheet.titles), self.usual_length()
-        plain, odd, may_be_none = self.plain.animals, self.plain.odd, bool(self.no_animals)
-        id_title = self.sheet.titles[self.columns[Field.ID]]
-        for at, (line, cells) in enumerate(self.sheet.rows):
-            if at not in odd:
-                found[plain[at].id] = plain[at]
-                continue
+        ids, plain, may_be_none, begin = self.plain.texts[Field.ID], self.plain.animals, bool(self.no_animals), 0
+        titles, id_title = len(self.sheet.titles), self.sheet.titles[self.columns[Field.ID]]
+        for at in sorted(self.plain.odd):
+            found.update(zip(ids[begin:at], plain[begin:at]))
+            (line, cells), begin = self.sheet.rows[at], at + 1
             said = self.said(cells)
             id = said.pop(Field.ID)
             if len(id) > MOST_IN_ID:
                 self.report.add(line, "", IdTooLong(len(id), MOST_IN_ID))
-            elif len(cells) > titles and (len(cells) > usual or any(cells[titles:])):
+            elif len(cells) > titles and (len(cells) > self.usual_length or any(cells[titles:])):
                 self.report.add(line, id, TooManyCells(len(cells), titles))
             elif self.unknown.is_one(id):
                 self.report.add(line, id, NoId(id, "" if id else text_of(cells)))
             elif id == id_title and are_titles(cells, self.sheet.titles):
-                self.report.add(line, "", TitlesAgain(line in self.sheet.other_orders or None))
+                moved = self.sheet.other_orders
+                self.report.add(line, "", TitlesAgain(line in moved or None, moved.get(line, ())))
             elif may_be_none and (word := self.no_animal(id, cells, said)):
                 self.report.add(line, id, NoAnimal(word))
             elif id not in found:
@@ -300,6 +273,7 @@ class Rows:
                 others.append(self.of_two(found, self.cells.animal(line, id, said)))
             else:
                 self.take_one(found, line, id, said)
+        found.update(zip(ids[begin:], plain[begin:]))
         tell_used_again(found, others, self.report, self.same_ids.born)
         self.look_at_all(found)
         return found
@@ -312,6 +286,7 @@ class Rows:
         says_day = said.get(Field.BIRTH) and self.same_ids.birth(said)
         return "" if says_day or self.sexes.meaning(said.get(Field.SEX, "")).sex else in_cell
 
+    @functools.cached_property
     def usual_length(self) -> int:
         """How many cells a row may have. Many sheets have empty ones at the end of all rows."""
         lengths = collections.Counter(map(len, map(CELLS_OF, self.sheet.rows)))
@@ -345,6 +320,7 @@ class Rows:
         for field in (Field.NAME, Field.OWNER):
             if not TRUTHS.isdisjoint(self.plain.different.get(field, ())):
                 tell_truths(animals, field, self.report)
+        self.unread.parents = functools.partial(parents_by_text, animals.values())
         order = Order(self.slashed_days())
         fault, note = order.fault(self.month_first), order.note(self.month_first)
         self.faults += [*([fault] if fault else []), *self.cut_numbers(), *self.unread.mostly(), *self.errors.mostly()]
@@ -355,6 +331,7 @@ class Rows:
             title = self.sheet.titles[self.columns[Field.SEX]]
             self.notes += self.sexes.told(title)
             self.notes += one_sex_alone(title, self.texts(Field.SEX), self.sexes, animals.values())
+        self.notes += self.castrations.told(animals.values(), self.sexes)
         self.notes += first_days(animals, self.plain.different.get(Field.BIRTH, ()))
         self.notes += [] if self.month_first else self.exchanged_days()
 
@@ -372,24 +349,26 @@ class Rows:
             # of a workbook's cells it is known which are days
             texts = () if self.sheet.worksheets else self.plain.different.get(field, ())
             lines = {*self.sheet.days.get(self.columns.get(field, NOWHERE), ())}
-            lines |= {animals[id].line for id in days_among(animals)} if field is Field.ID else set()
+            lines |= {animals[id].line for id in days_among(tuple(animals))} if field is Field.ID else set()
             told |= tell_days_for_texts(animals, field, lines, texts, self.report)
         told |= self.same_ids.born.keys()
         tell_odd_ids(animals, told | tell_several_ids(animals, told, self.report), self.report)
 
     def marked_rows(self, animals: dict[str, SheetAnimal]) -> Iterator[SheetFinding]:
-        """The animals' rows that are filled grey, and those that are hidden."""
+        """The animals' rows that are filled grey, those that are hidden, and what is struck through."""
         marked = {GreyRows: self.sheet.grey, HiddenRows: self.sheet.hidden}
-        lines = {*map(LINE_OF, animals.values())} if any(marked.values()) else set[int]()
+        are_marked = any(marked.values()) or any(self.sheet.struck)
+        lines = {*map(LINE_OF, animals.values())} if are_marked else set[int]()
         for kind, marks in marked.items():
             if of_animals := [line for line in marks if line in lines]:
                 yield kind(len(of_animals), of_animals[0])
+        yield from struck_told(self.sheet, lines)
 
     def slashed_days(self) -> Iterator[Place]:
         """The cells of days that may show their order, each with its place."""
         for name, what in DAYS.items():
             texts = self.texts(name)
-            slashed = {text for text in {*texts} if Order.may_show(text)}
+            slashed = slashed_among(tuple(self.plain.different.get(name, ())))
             places = zip(self.sheet.rows, texts) if slashed else ()
             for (line, cells), text in places:
                 if text in slashed:

@@ -18,21 +18,23 @@ from gudokeyi.domain.messages import Mistake
 from gudokeyi.domain.requests import seen_of
 from gudokeyi.ingest.encodings import decoding
 from gudokeyi.ingest.files import MOST_LETTERS, GivenFile, check_bounds
+from gudokeyi.ingest.findings.cells import TitleFor
 from gudokeyi.ingest.findings.columns import SheetFinding
 from gudokeyi.ingest.findings.exits import Remark
 from gudokeyi.ingest.findings.files import Apostrophes, MarksAlone
 from gudokeyi.ingest.messages import SheetFault
 from gudokeyi.ingest.shown_cells import Shown
 from gudokeyi.ingest.stray_quotes import with_marks_doubled
+from gudokeyi.ingest.struck_texts import NOTHING_STRUCK, Struck
 from gudokeyi.ingest.texts import clean
-from gudokeyi.ingest.titles_within import in_order
+from gudokeyi.ingest.titles_within import in_order, needed_in
 from gudokeyi.ingest.workbooks import Formulas, NamedBefore, best_of, read_workbook
 
 SEPARATORS = ";\t,"
 # blanks that cells are read without
 BLANKS = ("  ", " \n", "\n ", " \r", "\r ")
-# the titles stand in one of so many rows
-BEGINNING = 5
+# the titles stand in one of so many rows, and at least so many of them are known where it isn't the first
+BEGINNING, LEAST = 5, 3
 # an apostrophe by which a spreadsheet knows a text; names such as `'t Hof`, and quoted ones, have one of their own
 APOSTROPHE = re.compile(rf"{TEXT}(?=\w)(?!(?i:[stnk])[ -][^\W\d])(?!.*{TEXT}$)")
 # so great a part of the rows at most is marked by grey
@@ -101,8 +103,8 @@ class Sheet:
     above: list[str] = field(default_factory=list)
     # cells of a column that is read beside another one
     remarks: list[Remark] = field(default_factory=list)
-    # the title of that column, by the lines whose cell for an exit is its word
-    of_status: Mapping[int, str] = field(default_factory=dict)
+    # the titles of such columns, by the lines whose cell for an exit is their day or word
+    exit_titles: Mapping[int, str] = field(default_factory=dict)
     # what that column says beside the day of an exit, by lines
     reasons: Mapping[int, str] = field(default_factory=dict)
     decision: Decision | None = None
@@ -113,19 +115,23 @@ class Sheet:
     grey: list[int] = field(default_factory=list)
     # and of those that a workbook hides
     hidden: list[int] = field(default_factory=list)
+    # what is struck through in a workbook
+    struck: Struck = NOTHING_STRUCK
     # the cells of a workbook of which it shows another text, by their lines and places
     shown: Shown = field(default_factory=dict)
     # the lines of cells of a workbook that are days, by the places of their columns
     days: Mapping[int, list[int]] = field(default_factory=dict)
-    # the lines of rows with the titles in another order, in which the cells of those below stood
-    other_orders: frozenset[int] = frozenset()
+    # the lines of rows with the titles in another order, in which the cells of those below stood, and those of these
+    # titles that stand for others; and the lines of such rows that add titles, by the places of these
+    other_orders: Mapping[int, tuple[TitleFor, ...]] = field(default_factory=dict)
+    added: Mapping[int, int] = field(default_factory=dict)
     # the ids that are read without a sign by which animals leave, as they are written, by their lines
     marked: Mapping[int, str] = field(default_factory=dict)
 
     def is_same(self, meant: Sheet) -> bool:
         """Has another sheet that was made of the same one the same rows?"""
-        return (meant.rows, meant.unseen, meant.remarks, meant.of_status, meant.reasons, meant.marked) == (
-            self.rows, self.unseen, self.remarks, self.of_status, self.reasons, self.marked
+        return (meant.rows, meant.unseen, meant.remarks, meant.exit_titles, meant.reasons, meant.marked) == (
+            self.rows, self.unseen, self.remarks, self.exit_titles, self.reasons, self.marked
         )  # fmt: skip
 
     def column(self, at: int) -> list[str]:
@@ -169,6 +175,7 @@ class FileRead:
     formulas: Formulas | None = None
     grey: list[int] = field(default_factory=list)
     hidden: list[int] = field(default_factory=list)
+    struck: Struck = NOTHING_STRUCK
     shown: Shown = field(default_factory=dict)
     days: Mapping[int, list[int]] = field(default_factory=dict)
     worksheets: tuple[str, ...] = ()
@@ -180,7 +187,7 @@ def read_file_of_workbook(file: GivenFile, score: Score, worksheet: str, before:
     rows = [SheetRow(*one) for one in found.rows]
     return FileRead(
         rows, found.how, found.faults, found.unread, found.tops, best_worksheet, found.title, found.formulas,
-        found.grey, found.hidden, found.shown, found.days, found.titles, found.title * found.as_before,
+        found.grey, found.hidden, found.struck, found.shown, found.days, found.titles, found.title * found.as_before,
     )  # fmt: skip
 
 
@@ -219,15 +226,17 @@ def read_sheet(file: GivenFile, score: Score, worksheet: str = "", before: Named
     check_bounds(file.path, rows, at + 1)
     below, above = rows[at + 1 :], rows[at - 1].cells if at else []
     ordered = in_order(below, titles, together)
-    if ordered.orders:
-        below = [row._replace(cells=ordered.cells(*row, titles)) if row.line in ordered.orders else row for row in below]
+    if ordered.again:
+        others = ordered.orders.keys() | ordered.again
+        below = [row._replace(cells=ordered.cells(*row)) if row.line in others else row for row in below]
     texts = [one for one in apostrophes if one > line]
     unread = read.unread + ([Apostrophes(len(texts), texts[0])] if texts else [])
     return Sheet(
-        line, titles, below, read.how, read.faults, {}, ordered.places(unseen), read.formulas, unread, above,
+        line, ordered.titles, below, read.how, read.faults, {}, ordered.places(unseen), read.formulas, unread, above,
         decision=Decision(read.tops, read.best, read.taken, first, at), worksheets=read.worksheets,
         as_before=read.as_before, grey=marked_by_grey(read.grey, line, len(below)), hidden=read.hidden,
-        shown=ordered.places(read.shown), days=ordered.columns(read.days), other_orders=ordered.titles,
+        struck=read.struck._replace(cells=ordered.places(read.struck.cells)), shown=ordered.places(read.shown),
+        days=ordered.columns(read.days), other_orders=ordered.moved, added=ordered.added,
     )  # fmt: skip
 
 
@@ -266,9 +275,19 @@ def without_apostrophe(cell: str) -> str:
 
 
 def title_row(rows: list[list[str]], score: Score) -> int:
-    """The first row, or a later one that has the titles where the first has less of them, as below a heading."""
-    best = max(range(len(rows)), key=lambda at: score(rows[at]))
-    return best if score(rows[best]) >= 3 and score(rows[best]) > score(rows[0]) else 0
+    """The first row, or a later one that has the titles where the first has less of them, as below a heading; one that
+    has them again below animals isn't the first."""
+    scores = [*map(score, rows)]
+    best = scores.index(max(scores))
+    if scores[best] < LEAST or scores[best] <= scores[0]:
+        return 0
+    likely = next(at for at, row in enumerate(rows) if at == best or scores[at] >= LEAST and needed_in(row) >= LEAST)
+    return likely if any(map(may_be_animal, rows[likely + 1 : best])) else best
+
+
+def may_be_animal(cells: list[str]) -> bool:
+    """Has a row an id and something beside it?"""
+    return sum(map(bool, cells)) > 1 and any(map(str.isdigit, "".join(cells)))
 
 
 def is_named(text: str) -> bool:

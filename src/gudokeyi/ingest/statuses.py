@@ -2,6 +2,7 @@
 from __future__ import annotations
 
 import functools
+import itertools
 import re
 from collections.abc import Mapping, Sequence
 from typing import Container, NamedTuple
@@ -13,15 +14,13 @@ from gudokeyi.ingest.days import is_span, places_within
 from gudokeyi.ingest.exits_beside import Exits, add_buyers, add_exit_days, add_sales_to
 from gudokeyi.ingest.findings.exits import NoExits, Remark
 from gudokeyi.ingest.findings.rows import StatusDisagrees, StatusRead
-from gudokeyi.ingest.sheets import Sheet, SheetRow, cell_of
+from gudokeyi.ingest.sheets import Sheet, SheetRow, cell_of, column_of
 from gudokeyi.ingest.texts import plain
 from gudokeyi.ingest.titles import (
-    KNOWN_REASONS, KNOWN_STATES, KNOWN_STATUSES, OF_LIVING, names_exits_alone, names_other_exits,
+    KNOWN_REASONS, KNOWN_STATES, KNOWN_STATUSES, OF_LIVING, names_exits_alone, names_other_exits, said_of,
 )  # fmt: skip
-from gudokeyi.ingest.words import DEAD, KNOWN_YES, SIGN, exit_word, is_still_there, lives, lives_besides, says_lives
+from gudokeyi.ingest.words import DEAD, KNOWN_YES, exit_word, is_still_there, lives, lives_besides, says_lives
 
-# what says no in a column of living animals
-NO_WORDS = {"nein", "n", "no", "non", "false", "falsch", "faux", "0"}
 # an owner who takes an animal
 TAKER = re.compile(
     r"\b(?:verkauft|verkauf|verk|abgegeben|weggegeben|verschenkt|umgestellt|gewechselt|geht|ging|sold|sale|transferred|"
@@ -51,19 +50,6 @@ def taker_of_owner(text: str) -> str:
     """Who has an animal whose owner is written as `verkauft an Meier`; empty where the text tells of no sale."""
     found = TAKER.search(text) or WITH_NOW.match(text)
     return found["taker"] if found else ""
-
-
-def said_of(status: str, title: str) -> str:
-    """What a status says, as a cell of exits says it; more may stand behind a yes or a no, as in `nein, Wolf`."""
-    if negation := OF_LIVING.get(plain(title)):
-        begin = SIGN.split(status, maxsplit=1)[0].rstrip()
-        word = begin if len(begin) > 1 else status
-        rest = status[len(word) :]
-        if word.casefold() in KNOWN_YES or word == "+":
-            return title + rest
-        if word.casefold() in NO_WORDS:
-            return f"{negation} {title}{rest}"
-    return status
 
 
 def exits_of_living(rows: list[SheetRow], title: str, at: int) -> dict[int, str]:
@@ -105,10 +91,9 @@ class Statuses:
         self.found, self.taken = Exits(), 0
 
     def find(self, rows: list[SheetRow]) -> Exits:
-        for place, row in enumerate(rows):
-            exit, status = cell_of(row, self.exit), cell_of(row, self.status)
-            if status and (said := self.said(status)):
-                self.look(place, row, exit, said)
+        for place, row in itertools.compress(enumerate(rows), column_of(rows, self.status)):
+            if said := self.said(cell_of(row, self.status)):
+                self.look(place, row, cell_of(row, self.exit), said)
         if self.taken:
             self.report.add(0, "", StatusRead(self.titles[1], self.titles[0], self.taken))
         if self.found.remarks:
@@ -158,7 +143,7 @@ class Statuses:
 
     def take(self, place: int, row: SheetRow, exit: str, said: str) -> None:
         """The word of the status stands for an exit of which its column says nothing, or that there is none."""
-        self.found.texts[place], self.found.of_status[row.line] = said, self.titles[1]
+        self.found.texts[place], self.found.titles[row.line] = said, self.titles[1]
         if not exit or self.is_unknown(exit):
             self.taken += 1
         else:

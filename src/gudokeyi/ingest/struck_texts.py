@@ -1,4 +1,5 @@
-"""Texts of a workbook's cells of which a part is struck through: what stands there besides is what they say now."""
+"""Texts of a workbook's cells of which a part is struck through: what stands there besides is what they say now. Of
+those that are so whole it is told."""
 from __future__ import annotations
 
 import io
@@ -24,6 +25,17 @@ class StruckText(NamedTuple):
 
     whole: str
     kept: str
+
+
+class Struck(NamedTuple):
+    """What is struck through whole of a worksheet: rows, of which nearly all cells are, by their numbers, and cells of
+    other rows with their texts, by the rows and the places of their columns, from 0 on."""
+
+    rows: list[int]
+    cells: dict[Place, str]
+
+
+NOTHING_STRUCK = Struck([], {})
 
 
 class Runs:

@@ -10,7 +10,9 @@ from gudokeyi.domain.kinds import Field
 from gudokeyi.domain.messages import Mistake, some_of
 from gudokeyi.ingest.messages import SheetFault
 from gudokeyi.ingest.texts import composed, listed, plain
-from gudokeyi.ingest.words import CASTRATED_MALE, KNOWN_CASTRATED, KNOWN_EXITS, KNOWN_SALES, KNOWN_SEXES, sex_word
+from gudokeyi.ingest.words import (
+    CASTRATED_MALE, KNOWN_CASTRATED, KNOWN_EXITS, KNOWN_SALES, KNOWN_SEXES, KNOWN_YES, SIGN, sex_word,
+)  # fmt: skip
 
 # What a column of a sheet may have, and the usual titles in English, German and French.
 
@@ -145,10 +147,25 @@ OF_LIVING = {
     )
     for title in listed(titles)
 }  # fmt: skip
+# what says no in such a column
+NO_WORDS = {"nein", "n", "no", "non", "false", "falsch", "faux", "0"}
 # columns of states, of which many are no exits
 KNOWN_STATES = {*OF_LIVING} | {
     plain(title) for title in listed("status, Tierstatus, statut, état, Zustand, Lebensstatus, Lebenszustand, situation")
 }  # fmt: skip
+
+
+def said_of(status: str, title: str) -> str:
+    """What a status says, as a cell of exits says it; more may stand behind a yes or a no, as in `nein, Wolf`."""
+    if negation := OF_LIVING.get(plain(title)):
+        begin = SIGN.split(status, maxsplit=1)[0].rstrip()
+        word = begin if len(begin) > 1 else status
+        rest = status[len(word) :]
+        if word.casefold() in KNOWN_YES or word == "+":
+            return title + rest
+        if word.casefold() in NO_WORDS:
+            return f"{negation} {title}{rest}"
+    return status
 
 
 ALL_KNOWN_TITLES = {title for usual in KNOWN_TITLES.values() for title in usual}

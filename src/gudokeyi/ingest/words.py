@@ -63,7 +63,7 @@ FEMALES = "f, female, fem"
 # words with which a sex isn't sure
 DOUBTS = (
     "verm, vermutl, vermutlich, wohl, evtl, eventuell, wahrsch, wahrscheinlich, unsicher, prob, probably, maybe, perhaps, "
-    "possibly, uncertain, unsure, not sure, peut-être, probable, probablement, incertain, pas sûr"
+    "possibly, uncertain, unsure, not sure, peut-être, probable, probablement, incertain, pas sûr, inferred, invented"
 )
 # how breeders of small animals count males and females
 COUNTED_SEXES = {"1,0": "M", "0,1": "F", "1.0": "M", "0.1": "F"}

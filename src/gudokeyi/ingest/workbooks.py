@@ -23,12 +23,12 @@ from gudokeyi.ingest.files import MOST_CELLS, MOST_ROWS
 from gudokeyi.ingest.fills import grey_lines
 from gudokeyi.ingest.findings.columns import SheetFinding
 from gudokeyi.ingest.findings.files import (
-    DigitsLost, FormulasWithoutValue, NotesAtCells, StruckThrough, StruckWithin, WorksheetLacks, WorksheetUnclear,
+    DigitsLost, FormulasWithoutValue, NotesAtCells, StruckWithin, WorksheetLacks, WorksheetUnclear,
 )  # fmt: skip
 from gudokeyi.ingest.messages import SheetFault
 from gudokeyi.ingest.number_formats import number_text
 from gudokeyi.ingest.shown_cells import Shown, shown_cells
-from gudokeyi.ingest.struck_texts import Place, StruckText, number_of, struck_texts
+from gudokeyi.ingest.struck_texts import Place, Struck, StruckText, number_of, struck_texts
 from gudokeyi.ingest.texts import clean
 
 # What the parts of a workbook would become: their cells are counted before they are made, since a file of few bytes may
@@ -154,8 +154,8 @@ def cells_of(ref: str) -> int | None:
 
 # a number with more digits than a spreadsheet keeps
 TOO_LONG = 10**15
-# so many lines of rows with text that is struck through are told
-MOST_STRUCK = 20
+# so great a part of a row's cells is struck through where the row is, but for empty ones
+NEARLY_ALL = 0.75
 # what stands between quotation marks, brackets or behind a backslash in a format isn't part of a date
 QUOTED = re.compile(r'"[^"]*"|\[[^\]]*\]|\\.')
 Score = Callable[[list[str]], int]
@@ -188,6 +188,8 @@ class Worksheet(NamedTuple):
     grey: list[int]
     # and of those that it hides
     hidden: list[int]
+    # and what is struck through
+    struck: Struck
     # the cells of which it shows another text than is read
     shown: Shown
     # the rows of cells with days, by the places of their columns, from 0 on
@@ -226,7 +228,7 @@ def read_workbook(
     how = f"the worksheet '{titles[at]}' of an .xlsx file" + (f"; not read: {', '.join(others)}" if others else "")
     how = how if others else "an .xlsx file"
     found = faults(texts), formulas(values, texts), unread(values, struck), grey_lines(values), hidden_lines(values)
-    besides = shown_cells(values), days_of(values)
+    besides = struck_through(values, struck), shown_cells(values), days_of(values)
     return Worksheet(rows, how, *found, *besides, titles[at], tops, tuple(titles), as_before)
 
 
@@ -355,21 +357,32 @@ def leave_out_struck(sheet: Any, struck: Mapping[Place, StruckText]) -> None:
 
 
 def unread(sheet: Any, struck: Mapping[Place, StruckText]) -> list[SheetFinding]:
-    """Notes at cells, and texts that are struck through: neither says anything of an animal here."""
+    """Notes at cells, and parts of texts that are struck through: neither says anything of an animal here."""
     cells = [cell for _, cell in sorted(sheet._cells.items())]
     noted = [cell for cell in cells if cell.comment]
     found: list[SheetFinding] = []
     if noted:
         found.append(NotesAtCells(len(noted), noted[0].coordinate, clean(noted[0].comment.text or "")))
-    lines = {row for (row, _), text in struck.items() if not text.kept.strip()}
-    if any(font.strike for font in sheet.parent._fonts):
-        lines |= {cell.row for cell in cells if cell.value is not None and cell.font.strike}
-    found += [StruckThrough(len(lines), min(lines), tuple(sorted(lines)[:MOST_STRUCK]))] if lines else []
     parts = [(place, text) for place, text in struck.items() if text.kept.strip()]
     for place, text in parts[:1]:
         cell = sheet._cells[place].coordinate
         found.append(StruckWithin(len(parts), cell, clean(text.whole), clean(text.kept)))
     return found
+
+
+def struck_through(sheet: Any, struck: Mapping[Place, StruckText]) -> Struck:
+    """What is struck through whole, a cell or all of its text."""
+    there = {place for place, text in struck.items() if not text.kept.strip() and place in sheet._cells}
+    fonts = {at for at, font in enumerate(sheet.parent._fonts) if font.strike}
+    # few workbooks have such a font
+    if any(style.fontId in fonts for style in sheet.parent._cell_styles):
+        there |= {place for place, cell in sheet._cells.items() if cell._style.fontId in fonts}
+    texts = {place: text for place in sorted(there) if (text := cell_text(sheet._cells[place]))}
+    in_row = Counter(row for row, _ in texts)
+    beside = ((row, cell) for (row, _), cell in sheet._cells.items() if row in in_row) if texts else ()
+    with_text = Counter(row for row, cell in beside if cell_text(cell))
+    rows = {row: None for row, count in in_row.items() if count >= NEARLY_ALL * with_text[row]}
+    return Struck([*rows], {(row, at - 1): text for (row, at), text in texts.items() if row not in rows})
 
 
 def hidden_lines(sheet: Any) -> list[int]:

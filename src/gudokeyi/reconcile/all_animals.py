@@ -3,20 +3,22 @@ parents without one."""
 from __future__ import annotations
 
 import itertools
+from collections.abc import Sequence, Set
 
 from gudokeyi.domain.findings import ImportRefused, Report
 from gudokeyi.domain.kinds import Role, Standing
 from gudokeyi.domain.messages import Mistake
-from gudokeyi.ingest.animals import DAM_OF, SIRE_OF, SheetAnimal, ancestors_among, birth_in_book, links_outside
+from gudokeyi.ingest.animals import DAM_OF, SIRE_OF, SheetAnimal, ancestors_among, birth_in_book
 from gudokeyi.ingest.columns import Columns
 from gudokeyi.reconcile.birth_days import find_days
 from gudokeyi.reconcile.exchanged_ids import tell_exchanged_ids
 from gudokeyi.reconcile.exits import exit_in_book
 from gudokeyi.reconcile.findings.animals import RowIsGone
-from gudokeyi.reconcile.guards import Guards
+from gudokeyi.reconcile.guards import Guards, without_row
 from gudokeyi.reconcile.ids import NearIds, leave_out_used_tags
 from gudokeyi.reconcile.ids_elsewhere import ids_elsewhere
 from gudokeyi.reconcile.import_options import ImportOptions
+from gudokeyi.reconcile.last_found import Kept
 from gudokeyi.reconcile.messages import ImportFault
 from gudokeyi.reconcile.new_tags import tell_ids_with_signs, tell_new_tags
 from gudokeyi.reconcile.next_book import NextBook
@@ -33,10 +35,9 @@ from gudokeyi.store.book import Book
 
 def animals_of_book(next_book: NextBook) -> dict[str, SheetAnimal]:
     """The animals of the book that have no row, each as the book has it."""
-    book, animals = next_book.book, next_book.animals
-    known, ids = book.society_records, next_book.in_book.ids
+    book, known, ids = next_book.book, next_book.book.society_records, next_book.in_book.ids
     gone = {}
-    for id in itertools.filterfalse(animals.__contains__, known):
+    for id in without_row(next_book.animals, next_book.in_book, next_book.last_found):
         in_book = known[id]
         record = book.records[in_book.registration_number]
         animal = SheetAnimal(id, 0, in_book.name, "" if in_book.sex.is_inferred else in_book.registration_number[6])
@@ -59,8 +60,7 @@ def add_gone(
     filed = {id for id in gone if book.society_records[id].standing is Standing.FILED}
     of_filed = map(gone.__getitem__, filed)
     kept = filed | ancestors_among([*animals.values(), *of_filed], gone) if drop else {*gone}
-    those = [*animals.values(), *gone.values()]
-    parents = {*map(SIRE_OF, those), *map(DAM_OF, those)}
+    parents = parents_among(gone.keys() - filed, [*animals.values(), *gone.values()])
     for id, animal in gone.items():
         if id in kept:
             animals[id] = animal
@@ -71,6 +71,12 @@ def add_gone(
             report.add(0, id, RowIsGone(had_row, is_dropped=id not in kept))
 
 
+def parents_among(ids: Set[str], progeny: Sequence[SheetAnimal]) -> set[str]:
+    """Those of some ids that are parents of some animals."""
+    parents = itertools.chain(map(SIRE_OF, progeny), map(DAM_OF, progeny))
+    return {*filter(ids.__contains__, parents)} if ids else set()
+
+
 # The animals that are to stand in the book beside those of the rows: those of the book, and parents without a row.
 
 MOST_ANIMALS = 60_000
@@ -78,26 +84,29 @@ MOST_ANIMALS = 60_000
 
 def add_others(next_book: NextBook, drop_gone: bool, columns: Columns | None = None) -> None:
     """Adds the animals of the book that have no row, and the parents that have none."""
-    book, animals, report = next_book.book, next_book.animals, next_book.report
+    book, animals, report, last = next_book.book, next_book.animals, next_book.report, next_book.last_found
     give_values_of_book(next_book)
-    next_book.texts = parents_written(next_book)
+    sires, dams = [*map(SIRE_OF, animals.values())], [*map(DAM_OF, animals.values())]
+    next_book.texts = parents_written(next_book, sires, dams)
     gone = animals_of_book(next_book)
     next_book.exits_of_book |= gone.keys()
     all_animals = animals | gone
     # in most sheets each parent has a row, and all of the book do
-    lacking = {row.id: row for row, *_ in links_outside(animals.values(), animals)}
+    outside = last.parents_outside(Kept.PARENTS_WRITTEN, sires, dams, animals)
+    lacking = {row.id: row for row, *_ in outside.links(animals.values())}
     have_rows, has_gone = not lacking, bool(gone)
-    with_id = animals.keys() | next_book.in_book.given
+    given = next_book.in_book.given
+    with_id = last.of(Kept.GIVEN_IDS, ([*animals], given), lambda: animals.keys() | given)
+    before = Names(all_animals, report, last, with_id)
     if not have_rows:
         keep_parents_named(next_book, lacking, all_animals)
     if not next_book.is_pedigree:
-        mend_sexes(next_book, gone)
-        near = NearIds(lacking, all_animals, with_id, next_book.last_found)
+        mend_sexes(next_book, gone, lacking, before)
+        near = NearIds(lacking, all_animals, with_id, last)
         if not have_rows:
-            ParentsInTexts(lacking, all_animals, with_id, next_book.last_found).find(report)
+            ParentsInTexts(lacking, all_animals, with_id, last).find(report)
             near.find_parents(report)
         near.tell_alike(report)
-    before = Names(all_animals, report, next_book.last_found, with_id)
     if not have_rows:
         before.find_parents(lacking, next_book, with_id)
     try_parents_again(next_book, gone, all_animals)
@@ -108,11 +117,11 @@ def add_others(next_book: NextBook, drop_gone: bool, columns: Columns | None = N
         animals |= gone
     else:
         add_gone(animals, gone, book, drop_gone, report)
-    leave_out_unread_sexes(next_book, are_all_there=have_rows and not has_gone)
+    leave_out_unread_sexes(next_book, lacking, are_all_there=have_rows and not has_gone)
     if not have_rows and not next_book.is_pedigree:
         join_spellings(lacking, next_book, with_id)
     if has_gone or not have_rows:
-        add_founders(next_book, Names(animals, report, next_book.last_found, with_id, before), columns)
+        add_founders(next_book, Names(animals, report, last, with_id, before), columns)
     if len(animals) > MOST_ANIMALS:
         raise too_many(next_book)
 
@@ -124,12 +133,11 @@ def give_values_of_book(next_book: NextBook) -> None:
         next_book.compare(next_book.rows_of_book)
 
 
-def parents_written(next_book: NextBook) -> dict[str, tuple[str, str]]:
+def parents_written(next_book: NextBook, sires: list[str], dams: list[str]) -> dict[str, tuple[str, str]]:
     """The sire and the dam of each row as the sheet writes them; empty where it has no such column."""
-    animals = next_book.animals
-    of_each = ((Role.SIRE, SIRE_OF), (Role.DAM, DAM_OF))
-    sires, dams = (map(of, animals.values()) if role in next_book.given else itertools.repeat("") for role, of in of_each)
-    return dict(zip(animals, zip(sires, dams)))
+    of_each, nobody = ((Role.SIRE, sires), (Role.DAM, dams)), itertools.repeat("")
+    given_sires, given_dams = (parents if role in next_book.given else nobody for role, parents in of_each)
+    return dict(zip(next_book.animals, zip(given_sires, given_dams)))
 
 
 def add_founders(next_book: NextBook, names: Names, columns: Columns | None) -> None:
@@ -151,7 +159,9 @@ def too_many(next_book: NextBook) -> Mistake:
 def complete(next_book: NextBook, columns: Columns, import_options: ImportOptions) -> None:
     """Adds what the book and the parents' cells have besides, and finds sexes and days; a mistake where the sheet
     looks like another one, and it isn't wished anyway."""
-    guards = Guards(next_book.book, dict(next_book.animals), columns, next_book.otherwise, next_book.in_book)
+    guards = Guards(
+        next_book.book, dict(next_book.animals), columns, next_book.otherwise, next_book.in_book, next_book.last_found
+    )
     next_book.appends = import_options.append
     found = guards.of_rows(import_options.append)
     if not import_options.anyway:

@@ -5,6 +5,8 @@ from __future__ import annotations
 import datetime
 import functools
 import itertools
+from collections.abc import Iterable, Mapping
+from typing import TypeVar
 
 from gudokeyi.domain.kinds import Role, Standing
 from gudokeyi.domain.provenance import GIVEN_BIRTH, GIVEN_EXIT, BirthBasis, OwnerDay, SexSource
@@ -12,16 +14,28 @@ from gudokeyi.ingest.animals import NAME_OF
 from gudokeyi.ingest.rows_as_meant import marks_in
 from gudokeyi.store.book import Book
 
+Value = TypeVar("Value")
+
 
 class AnimalsOfBook:
     """The animals of a book by what is asked of them."""
 
+    # the ids of now, by those with which they are stored
+    new_tags: Mapping[str, str] = {}
+
     def __init__(self, book: Book) -> None:
         self.society_records, self.records = book.society_records, book.records
 
+    @classmethod
+    def as_stored(cls, book: Book) -> AnimalsOfBook:
+        """Those by the ids with which they are stored."""
+        found = cls(book)
+        found.society_records = book.as_stored
+        return found
+
     def is_of(self, book: Book) -> bool:
-        """Are these still the animals of a book, which were read once for both?"""
-        return self.society_records is book.society_records and self.records is book.records
+        """Are these still the animals of a book as they are stored, which were read once for both?"""
+        return self.society_records is book.as_stored and self.records is book.records
 
     @functools.cached_property
     def numbers(self) -> dict[str, str]:
@@ -108,3 +122,76 @@ class AnimalsOfBook:
             id for id, in_book in self.society_records.items()
             if records[in_book.registration_number].from_owner or in_book.owner_day is not OwnerDay.GIVEN
         )  # fmt: skip
+
+
+class AnimalsWithNewTags(AnimalsOfBook):
+    """The animals of a book of which some have other ids than those with which they are stored: what is asked of them
+    was found of the stored ones."""
+
+    def __init__(self, book: Book, stored: AnimalsOfBook) -> None:
+        super().__init__(book)
+        self.stored, self.new_tags = stored, {**book.new_tags}
+
+    def by_new_ids(self, values: Mapping[str, Value]) -> dict[str, Value]:
+        """Values by the ids of now, in their order."""
+        return dict(zip(self.new_ids(values), values.values()))
+
+    def new_ids(self, ids: Iterable[str]) -> Iterable[str]:
+        those = [*ids]
+        return map(self.new_tags.get, those, those)
+
+    def with_new_ids(self, ids: Mapping[str, str]) -> dict[str, str]:
+        """The ids of now by something else."""
+        return dict(zip(ids, self.new_ids(ids.values())))
+
+    @functools.cached_property
+    def numbers(self) -> dict[str, str]:
+        return self.by_new_ids(self.stored.numbers)
+
+    @functools.cached_property
+    def ids(self) -> dict[str, str]:
+        return self.with_new_ids(self.stored.ids)
+
+    @functools.cached_property
+    def by_name(self) -> dict[str, str]:
+        return self.with_new_ids(self.stored.by_name)
+
+    @functools.cached_property
+    def called_as_marks(self) -> frozenset[tuple[str, str]]:
+        return self.stored.called_as_marks
+
+    @functools.cached_property
+    def had_row(self) -> dict[str, None]:
+        return self.by_new_ids(self.stored.had_row)
+
+    @functools.cached_property
+    def had_row_by_number(self) -> dict[str, str]:
+        return self.with_new_ids(self.stored.had_row_by_number)
+
+    @functools.cached_property
+    def with_row(self) -> dict[str, None]:
+        return self.by_new_ids(self.stored.with_row)
+
+    @functools.cached_property
+    def given(self) -> frozenset[str]:
+        return frozenset(self.new_ids(self.stored.given))
+
+    @functools.cached_property
+    def born(self) -> dict[str, datetime.date]:
+        return self.by_new_ids(self.stored.born)
+
+    @functools.cached_property
+    def given_sexes(self) -> dict[str, str]:
+        return self.by_new_ids(self.stored.given_sexes)
+
+    @functools.cached_property
+    def inferred(self) -> dict[str, tuple[int, BirthBasis]]:
+        return self.by_new_ids(self.stored.inferred)
+
+    @functools.cached_property
+    def left(self) -> frozenset[str]:
+        return frozenset(self.new_ids(self.stored.left))
+
+    @functools.cached_property
+    def sold(self) -> frozenset[str]:
+        return frozenset(self.new_ids(self.stored.sold))

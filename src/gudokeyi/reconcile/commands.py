@@ -2,30 +2,72 @@
 from __future__ import annotations
 
 import datetime
+import functools
 import itertools
-from collections.abc import Collection
+import operator
+from collections.abc import Iterable, Iterator
 
-from gudokeyi.domain.animals import SocietyRecord
+from gudokeyi.domain.animals import NO_OWNER, SocietyRecord
 from gudokeyi.domain.collections import made
-from gudokeyi.domain.commands import Command, RegisterRecord, leave, lines_of, text_of
+from gudokeyi.domain.commands import HEADER, Command, RegisterRecord, leave, lines_of, text_of
 from gudokeyi.domain.kinds import CommandKind
 from gudokeyi.domain.messages import Mistake, why
 from gudokeyi.domain.provenance import NO_DAY, ExitBasis, reason_of
 from gudokeyi.domain.refusals import Refusal
 from gudokeyi.domain.wording import SEXES
 from gudokeyi.engine.program import Herdbook
-from gudokeyi.ingest.animals import SheetAnimal
+from gudokeyi.ingest.animals import NUMBER_OF, SheetAnimal
+from gudokeyi.ingest.days import FIRST_DAY
 from gudokeyi.reconcile.exits import leave_out_exit
 from gudokeyi.reconcile.findings.by_hand import NewAnimal, ValueChanged
 from gudokeyi.reconcile.findings.rows import CommandLeftOut
-from gudokeyi.reconcile.last_found import Kept
+from gudokeyi.reconcile.last_found import FoundBy, Kept
 from gudokeyi.reconcile.messages import ImportFault
-from gudokeyi.reconcile.next_book import NextBook, exits_of
+from gudokeyi.reconcile.next_book import NextBook, ToldOfAnimals, Values, commands_of
 from gudokeyi.reconcile.owner_day_known import owner_day_known
 from gudokeyi.reconcile.owner_days import OwnerDays
 from gudokeyi.store.journal import Filed, Step, alike
 
 YES = {True: "yes", False: ""}
+OWNER_CODE_OF, SINCE_OF = operator.attrgetter("owner_code"), operator.attrgetter("since")
+# stands for the record of an animal that the book hasn't
+NOT_IN_BOOK = RegisterRecord("", FIRST_DAY, "", "", False, NO_OWNER, FIRST_DAY)
+# a command that the program refuses, and why
+RefusedCommand = tuple[Command, Refusal]
+
+
+class CommandsAnew:
+    """The commands of a whole book: each birth with the parents of today, then the transfers, and then the exits. They
+    are made where they are asked for."""
+
+    def __init__(
+        self, next_book: NextBook, told: ToldOfAnimals, first_herds: list[int], transfers: list[Command]
+    ) -> None:
+        self.next_book, self.told, self.first_herds, self.transfers = next_book, told, first_herds, transfers
+
+    @property
+    def by(self) -> FoundBy:
+        """What they are made of."""
+        return *self.told, self.first_herds, self.transfers
+
+    def births(self) -> Iterator[Values]:
+        return self.told.births(self.next_book.numbers.__getitem__, self.first_herds)
+
+    @functools.cached_property
+    def commands(self) -> list[Command]:
+        return commands_of(self.births()) + self.transfers + commands_of(self.told.exits())
+
+    def text(self) -> bytes:
+        """The command file, whose lines take a fraction of the time of commands."""
+        return HEADER + lines_of(self.births()) + lines_of(self.transfers) + lines_of(self.told.exits())
+
+    def refused(self, program: Herdbook, is_preview: bool) -> list[RefusedCommand]:
+        """Those that the program refuses; of a preview no others are made."""
+        text = self.text() if is_preview else text_of(self.commands)
+        count = len(self.told.ids) + len(self.transfers) + self.told.count_exits()
+        refused = program.file_text(text, count)
+        lines = text.decode().splitlines()[1:] if refused else []
+        return [(Command(*lines[place].split(",")), refusal) for place, refusal in refused.items()]
 
 
 class Filing:
@@ -37,6 +79,8 @@ class Filing:
         self.is_refused = self.refuses_births = False
         # the ids of animals that may be otherwise than in the book, where it is known of others that they aren't
         self.others: set[str] | None = None
+        # the animals of which the book may lack a command: of the others it has one owner, on a day that it was given
+        self.likely: list[SheetAnimal] = []
 
     def filed(self, program: Herdbook, is_preview: bool = False) -> Filed:
         """The commands, none of which is refused: an exit or a transfer that is refused is left out before, and told;
@@ -47,7 +91,7 @@ class Filing:
             found = self.written_anew(program, is_preview)
             if isinstance(found, Filed):
                 return found
-            self.leave_out(*found)
+            self.leave_out(found)
 
     def filed_at_once(self, program: Herdbook, is_preview: bool) -> Filed | None:
         """The same where nothing is refused: then no animal has a parent that can't be."""
@@ -60,6 +104,7 @@ class Filing:
         """The commands that the book lacks, where that is enough and none is refused. Those of a preview aren't
         kept."""
         self.is_refused = self.refuses_births = False
+        self.find_likely()
         more = self.more()
         if more is None:
             return None
@@ -69,31 +114,31 @@ class Filing:
         text = b"" if is_preview else self.text_behind(more)
         by = self.book.command_file() if self.book.journal.length else b"", more
         refused = self.next_book.last_found.of(Kept.REFUSED, by, lambda: self.refused_behind(program, more, text))
-        self.see_refused(more, refused)
+        self.see_refused(more[place] for place in refused)
         if refused:
             return None
         return Filed([]) if is_preview else Filed(accepted(more), text=text)
 
-    def written_anew(self, program: Herdbook, is_preview: bool) -> Filed | tuple[list[Command], dict[int, Refusal]]:
-        """The whole book, or what is refused of its commands. Those of a preview aren't kept."""
-        commands = self.anew()
-        refused = self.next_book.last_found.of(Kept.REFUSED_ANEW, (commands,), lambda: program.file(commands))
-        self.see_refused(commands, refused)
+    def written_anew(self, program: Herdbook, is_preview: bool) -> Filed | list[RefusedCommand]:
+        """The whole book, or what is refused of its commands. Those of a preview aren't kept, nor made where a look
+        before asked about the same."""
+        anew = self.anew()
+        refused = self.next_book.last_found.of(Kept.REFUSED_ANEW, anew.by, lambda: anew.refused(program, is_preview))
+        self.see_refused(command for command, _ in refused)
         if refused:
-            return commands, refused
-        steps = [] if is_preview else accepted(commands)
+            return refused
+        steps = [] if is_preview else accepted(anew.commands)
         keeps = alike(self.book.steps, steps) if steps else 0
         return Filed(steps[keeps:], keeps)
 
-    def see_refused(self, commands: list[Command], refused: Collection[int]) -> None:
-        self.is_refused = bool(refused)
-        self.refuses_births = any(commands[place].kind == "birth" for place in refused)
+    def see_refused(self, refused: Iterable[Command]) -> None:
+        kinds = {command.kind for command in refused}
+        self.is_refused, self.refuses_births = bool(kinds), "birth" in kinds
 
-    def leave_out(self, commands: list[Command], refused: dict[int, Refusal]) -> None:
+    def leave_out(self, refused: list[RefusedCommand]) -> None:
         by_number = {animal.registration_number: animal for animal in self.next_book.animals.values()}
         sentences = []
-        for place, refusal in refused.items():
-            kind, number, day = commands[place][:3]
+        for (kind, number, day, *_), refusal in refused:
             animal = by_number[number]
             if kind == "exit":
                 leave_out_exit(self.next_book, animal, refusal, [])
@@ -119,43 +164,56 @@ class Filing:
     def more(self) -> list[Command] | None:
         """The commands that the book lacks, or none where what stands in it has to be corrected."""
         if not self.book.society_records:
-            return self.anew()
+            return self.anew().commands
         if self.book.society_records.keys() - self.next_book.animals.keys():
             return None
-        new, first_herds = list[SheetAnimal](), list[int]()
-        corrections, transfers, exits = list[Command](), list[Command](), list[Command]()
-        numbers = self.next_book.numbers
-        for animal in self.may_be_filed():
+        births, corrections, transfers, exits = list[Command](), list[Command](), list[Command](), list[Command]()
+        for animal in self.likely:
             record, owners = self.next_book.record(animal.id), self.owners.of(animal)
             if record is None:
-                new.append(animal)
-                first_herds.append(owners.first_herd)
+                births.append(self.next_book.birth_of(animal, owners.first_herd))
                 transfers += owners.transfers
                 exits += [leave(animal.registration_number, animal.left)] if animal.left else []
                 continue
             if owners.is_corrected or is_corrected(animal, record):
                 return None
-            wanted = self.next_book.parents_of(animal, numbers)
+            wanted = self.next_book.parents_of(animal)
             if (wanted.sire, wanted.dam) != (record.sire or "0", record.dam or "0"):
                 corrections.append(wanted)
             transfers += owners.new
             if animal.left and not record.left:
                 exits.append(leave(animal.registration_number, animal.left))
-        births = self.next_book.births_of(new, first_herds) if new else []
         return births + corrections + transfers + exits
 
-    def anew(self) -> list[Command]:
-        """The whole book: each birth with the parents of today, then the transfers, and then the exits."""
-        animals, owners = self.next_book.by_birth, self.owners.of_all(self.next_book.by_birth)
-        births = self.next_book.births_of(animals, [one.first_herd for one in owners])
-        transfers = [*itertools.chain.from_iterable(one.transfers for one in owners)]
-        return births + transfers + exits_of(animals)
+    def anew(self) -> CommandsAnew:
+        """The commands of the whole book."""
+        next_book, some = self.next_book, self.likely
+        owners, told = self.owners.of_all(some), next_book.told_of_all()
+        herds = [one.first_herd for one in owners]
+        if self.others is not None:
+            of_some = dict(zip(map(NUMBER_OF, some), herds))
+            in_book = map(self.book.records.get, told.numbers, itertools.repeat(NOT_IN_BOOK))
+            herds = [*map(of_some.get, told.numbers, map(OWNER_CODE_OF, in_book))]
+        return CommandsAnew(next_book, told, herds, [*itertools.chain.from_iterable(one.transfers for one in owners)])
+
+    def find_likely(self) -> None:
+        self.others, self.likely = self.found_otherwise(), self.next_book.by_birth
+        if self.others is not None:
+            with_day = itertools.compress(self.next_book.animals, map(SINCE_OF, self.next_book.animals.values()))
+            likely = self.others.union(with_day, self.next_book.in_book.sold)
+            ids = self.next_book.lasting[0]
+            self.likely = [*itertools.compress(self.likely, map(likely.__contains__, ids))]
+
+    def found_otherwise(self) -> set[str] | None:
+        """The ids of animals that may be otherwise than in the book, where it is known of others that they aren't."""
+        rows_of_book = self.next_book.rows_of_book
+        return {*rows_of_book.others(self.next_book.animals), *self.next_book.renumbered} if rows_of_book else None
 
     # -- what is told
 
     def tell_changes(self) -> None:
         report, society_records, records = self.next_book.report, self.book.society_records, self.book.records
-        owner_names = {code: self.book.owner_of(code) for code in {record.owner_code for record in records.values()}}
+        owner_of = functools.cache(self.book.owner_of)
         for animal in self.may_be_changed() if society_records else ():
             in_book = society_records.get(animal.id)
             if in_book is None:
@@ -163,30 +221,17 @@ class Filing:
                     report.add(animal.line, animal.id, NewAnimal(animal.registration_number))
                 continue
             record = records[in_book.registration_number]
-            if not self.is_same(animal, record, in_book, owner_names[record.owner_code]):
+            if not self.is_same(animal, record, in_book, owner_of(record.owner_code)):
                 for found in self.changes(animal, record, in_book):
                     report.add(animal.line, animal.id, found)
 
-    def may_be_changed(self) -> list[SheetAnimal]:
+    def may_be_changed(self) -> Iterable[SheetAnimal]:
         """The animals but for those that are known to be as the book has them."""
-        animals, others = self.next_book.animals, self.found_otherwise() if self.others is None else self.others
+        animals, others = self.next_book.animals, self.others
         if others is None:
-            return [*animals.values()]
-        return [animal for id, animal in animals.items() if id in others or id in self.owners.other_days]
-
-    def may_be_filed(self) -> list[SheetAnimal]:
-        """Those of which the book may lack a command: of the others it has one owner, on a day that it was given."""
-        self.others, by_birth = self.found_otherwise(), self.next_book.by_birth
-        others = self.others
-        if others is None:
-            return by_birth
-        likely = {animal.id for animal in by_birth if animal.since} | self.next_book.in_book.sold | others
-        return [animal for animal in by_birth if animal.id in likely]
-
-    def found_otherwise(self) -> set[str] | None:
-        """The ids of animals that may be otherwise than in the book, where it is known of others that they aren't."""
-        rows_of_book = self.next_book.rows_of_book
-        return {*rows_of_book.others(self.next_book.animals), *self.next_book.renumbered} if rows_of_book else None
+            return animals.values()
+        likely = others.union(self.owners.other_days)
+        return map(animals.__getitem__, filter(likely.__contains__, animals))
 
     def is_same(self, animal: SheetAnimal, record: RegisterRecord, in_book: SocietyRecord, owner: str) -> bool:
         """Is it as the book has it, which has this owner? Most are, and are told by nothing."""

@@ -4,6 +4,7 @@ from __future__ import annotations
 import collections
 import datetime
 import itertools
+import operator
 from typing import NamedTuple
 
 from gudokeyi.domain.animals import SocietyRecord
@@ -12,7 +13,7 @@ from gudokeyi.domain.findings import Entry
 from gudokeyi.domain.kinds import CommandKind, Field
 from gudokeyi.domain.provenance import GIVEN_EXIT, ExitBasis, ExitSource
 from gudokeyi.domain.refusals import Refusal
-from gudokeyi.ingest.animals import LINE_OF, SheetAnimal
+from gudokeyi.ingest.animals import DAM_OF, LEFT_OF, SheetAnimal
 from gudokeyi.ingest.words import exit_word, lives, says_lives
 from gudokeyi.ingest.words_beside import words_beside
 from gudokeyi.reconcile.findings.animals import KeptByHand, KeptFromBook
@@ -76,16 +77,15 @@ def given_day(basis: ExitBasis) -> datetime.date | None:
 
 
 def leave_out_early_exits(next_book: NextBook) -> None:
-    known, records, some = next_book.book.society_records, next_book.book.records, next_book.otherwise
+    known, records = next_book.book.society_records, next_book.book.records
     # where the book has the same one all offspring was born before, as of rows that say what it has
-    likely = [one for id, one in next_book.animals.items() if one.left and (id in some or not one.line)]
     new = {
-        one.id: one for one in likely
+        one.id: one for one in filter(LEFT_OF, next_book.animals_otherwise())
         if not (in_book := known.get(one.id)) or records[in_book.registration_number].left != one.left
     }  # fmt: skip
-    progeny = collections.defaultdict[str, list[SheetAnimal]](list)
-    for animal in next_book.animals.values() if new else ():
-        if animal.dam in new and not animal.embryo:
+    progeny, those = collections.defaultdict[str, list[SheetAnimal]](list), next_book.animals.values()
+    for animal in itertools.compress(those, map(new.__contains__, map(DAM_OF, those))) if new else ():
+        if not animal.embryo:
             progeny[animal.dam].append(animal)
     for dam in new.values():
         later = [offspring for offspring in progeny[dam.id] if dam.left and offspring.born > dam.left]
@@ -147,8 +147,8 @@ LOOKED_AT = ("name", "owner", "exit")
 
 def tell_withdrawn_exits(next_book: NextBook) -> None:
     animals, gone = next_book.animals, next_book.in_book.left
-    before = [animals[id] for id in animals if id in gone] if gone else []
-    withdrawn = [animal for animal in before if not has_left(animal)]
+    stay = itertools.compress(animals, map(operator.not_, map(LEFT_OF, animals.values()))) if gone else ()
+    withdrawn = [animals[id] for id in filter(gone.__contains__, stay) if not has_left(animals[id])]
     if len(withdrawn) < SEVERAL_WITHDRAWN:
         # what a cell says is told by itself
         withdrawn = [animal for animal in withdrawn if says_nothing(animal.cells.get(Field.EXIT, ""))]
@@ -170,14 +170,13 @@ def says_nothing(exit: str) -> bool:
 
 def tell_most_changed(next_book: NextBook) -> None:
     """What most rows of animals that the book has have otherwise; an exit that is taken back is told by itself."""
-    report, before = next_book.report, next_book.book.society_records
-    if not before:
+    report = next_book.report
+    if not next_book.book.society_records:
         return
     changed = [one.finding for one in report.entries if one.line and isinstance(one.finding, ValueChanged)]
     counts = collections.Counter(one.name for one in changed if one.name != "exit" or one.after)
-    many, animals = [name for name in LOOKED_AT if counts[name] > FEW_CHANGED], next_book.animals
-    with_row = itertools.compress(animals, map(LINE_OF, animals.values())) if many else ()
-    both = sum(map(before.__contains__, with_row))
+    many = [name for name in LOOKED_AT if counts[name] > FEW_CHANGED]
+    both = next_book.rows - next_book.new_rows if many else 0
     for name in many:
         if 2 * counts[name] > both:
             report.add(0, "", MostChanged(name, counts[name], both))

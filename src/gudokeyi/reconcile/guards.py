@@ -10,7 +10,7 @@ from collections.abc import Collection, Mapping, Sized
 from gudokeyi.domain.animals import SocietyRecord
 from gudokeyi.domain.commands import RegisterRecord
 from gudokeyi.domain.kinds import Role
-from gudokeyi.ingest.animals import DAM_OF, SIRE_OF, SheetAnimal, links_outside
+from gudokeyi.ingest.animals import DAM_OF, SIRE_OF, SheetAnimal
 from gudokeyi.ingest.columns import Columns
 from gudokeyi.ingest.texts import nearly
 from gudokeyi.reconcile.animals_of_book import AnimalsOfBook
@@ -18,6 +18,7 @@ from gudokeyi.reconcile.findings.obstacles import (
     Changed, Guard, IdsLack, LooksLike, ManyDropped, ManyGone, ManyOthers, ParentsLack,
 )  # fmt: skip
 from gudokeyi.reconcile.findings.plausibility import RowOf
+from gudokeyi.reconcile.last_found import Kept, LastFound, NothingKept
 from gudokeyi.store.book import Book
 
 # more than a tenth of the animals, and at least so many, are gone; or all of a small book that has at least so many
@@ -37,11 +38,12 @@ class OtherAnimals:
     def __init__(
         self, book: Book, rows: dict[str, SheetAnimal], given: Collection[str],
         some: Mapping[str, SheetAnimal] | None = None, in_book: AnimalsOfBook | None = None,
+        last: LastFound | None = None,
     ) -> None:  # fmt: skip
         """`some` are the rows that may say something else than the book, where others are known not to; `in_book` are
-        its animals, where they were looked at before."""
+        its animals, where they were looked at before, and `last` is what was found at the last look."""
         self.book, self.rows, self.given = book, rows, given
-        self.in_book = in_book or AnimalsOfBook(book)
+        self.in_book, self.last = in_book or AnimalsOfBook(book), last or NothingKept()
         self.some = rows if some is None else some
 
     def of_both(self) -> list[Guard]:
@@ -64,7 +66,11 @@ class OtherAnimals:
     @functools.cached_property
     def count_of_both(self) -> int:
         """How many rows are of animals that the book has."""
-        return len(self.rows.keys() & self.book.society_records.keys())
+        return len(self.book.society_records) - len(self.without_row)
+
+    @functools.cached_property
+    def without_row(self) -> list[str]:
+        return without_row(self.rows, self.in_book, self.last)
 
     def other_animals(self) -> Guard | None:
         """Animals that have another birth day than in the book, or the name of another one: an ordinary correction is
@@ -134,8 +140,9 @@ class Guards(OtherAnimals):
     def __init__(
         self, book: Book, rows: dict[str, SheetAnimal], columns: Columns,
         some: Mapping[str, SheetAnimal] | None = None, in_book: AnimalsOfBook | None = None,
+        last: LastFound | None = None,
     ) -> None:  # fmt: skip
-        super().__init__(book, rows, columns.found, some, in_book)
+        super().__init__(book, rows, columns.found, some, in_book, last)
         self.columns = columns
 
     def of_rows(self, appends: bool = False) -> list[Guard]:
@@ -149,7 +156,7 @@ class Guards(OtherAnimals):
 
     def lacking(self) -> list[str]:
         """The animals that had a row in the last sheet, and have none."""
-        return [*itertools.filterfalse(self.rows.__contains__, self.in_book.with_row)]
+        return [*filter(self.in_book.with_row.__contains__, self.without_row)]
 
     def gone(self) -> Guard | None:
         gone, had_row = self.lacking(), len(self.in_book.with_row)
@@ -193,21 +200,20 @@ class Guards(OtherAnimals):
         return [guard for guard in found if guard]
 
     def dropped(self, animals: dict[str, SheetAnimal]) -> Guard | None:
-        """More animals are dropped than may be gone, though not all at once."""
+        """More animals are dropped than may be gone, though not all at once. Those that have a row stay."""
         had_row = self.in_book.had_row
-        dropped = [*itertools.filterfalse(animals.__contains__, had_row)]
+        dropped = [id for id in self.without_row if id in had_row and id not in animals]
         if not are_too_many(len(dropped), len(had_row)) or self.gone():
             return None
         return ManyDropped(len(dropped), len(had_row), self.like())
 
     def parents(self) -> Guard | None:
         """Most parents have neither a row nor a place in the book."""
-        outside = links_outside(self.rows.values(), self.rows)
-        lost = [parent for *_, parent in outside if parent not in self.book.society_records]
-        if len(set(lost)) < FEW_PARENTS:
-            return None
-        links = sum(map(bool, itertools.chain.from_iterable(map(of, self.rows.values()) for of in (SIRE_OF, DAM_OF))))
-        if 2 * len(lost) <= links:
+        sires, dams = ([*map(parent_of, self.rows.values())] for parent_of in (SIRE_OF, DAM_OF))
+        outside = self.last.parents_outside(Kept.PARENTS_FOUND, sires, dams, self.rows)
+        links = outside.links(self.rows.values())
+        lost = [parent for *_, parent in links if parent not in self.book.society_records]
+        if len(set(lost)) < FEW_PARENTS or 2 * len(lost) <= outside.known:
             return None
         words = sum(not any(map(str.isdigit, parent)) for parent in lost)
         ids = sum(any(map(str.isdigit, id)) for id in self.rows)
@@ -217,7 +223,7 @@ class Guards(OtherAnimals):
         like = LooksLike.PARENTS_BY_NAME if is_name else LooksLike.PARENTS_BY_ANOTHER_ID
         if 2 * sum(not self.rows.keys().isdisjoint(PARTS.split(parent)) for parent in lost) > len(lost):
             like = LooksLike.IDS_AND_MORE
-        return ParentsLack(len(lost), links, tuple(dict.fromkeys(lost))[:3], like, title)
+        return ParentsLack(len(lost), outside.known, tuple(dict.fromkeys(lost))[:3], like, title)
 
     def column_of(self, parents: set[str]) -> str:
         """The title of a column that isn't read, and in which most of these parents are found."""
@@ -226,6 +232,14 @@ class Guards(OtherAnimals):
         found = {at: len(parents & {*self.columns.cells(at)}) for at in free}
         best = max(free, key=lambda at: found[at], default=None)
         return titles[best] if best is not None and 2 * found[best] > len(parents) else ""
+
+
+def without_row(rows: Mapping[str, SheetAnimal], in_book: AnimalsOfBook, last: LastFound) -> list[str]:
+    """The animals of the book that have no row."""
+    known = in_book.society_records
+    return last.of(
+        Kept.WITHOUT_ROW, ([*rows], in_book), lambda: [*itertools.filterfalse(rows.__contains__, known)]
+    )
 
 
 def are_too_many(gone: int, had_row: int) -> bool:

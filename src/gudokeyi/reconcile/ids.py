@@ -4,6 +4,8 @@ from __future__ import annotations
 
 import collections
 import functools
+import itertools
+import operator
 from collections.abc import Mapping, Set
 
 from gudokeyi.domain.animals import SocietyRecord
@@ -13,7 +15,7 @@ from gudokeyi.domain.kinds import CELL_FIELDS, Field
 from gudokeyi.domain.settings import Setting
 from gudokeyi.domain.spelling import are_other_names
 from gudokeyi.ingest.animals import (
-    ID_OF, WEEKS_LATER, YEARS_LATER, SheetAnimal, by_age, lines_that_name, links_outside,
+    ID_OF, SEX_OF, WEEKS_LATER, YEARS_LATER, SheetAnimal, by_age, lines_that_name, links_outside,
 )  # fmt: skip
 from gudokeyi.ingest.findings.same_ids import IdUsedAgain
 from gudokeyi.ingest.marked_ids import without_sign
@@ -202,6 +204,9 @@ def is_another(animal: SheetAnimal, in_book: SocietyRecord) -> bool:
 
 # The numbers of animals: those of the book stay, and new ones go on from them.
 
+# the letter of a number for the sex; nothing where there is none yet
+SEX_OF_NUMBER = operator.itemgetter(slice(6, 7))
+
 
 def numbers_begin(next_book: NextBook, breed: str, country: str) -> str:
     """With what numbers begin in a book that had no animal, where nobody said it. A state that was undone may have
@@ -228,19 +233,20 @@ def give_numbers(next_book: NextBook, breed: str, country: str) -> None:
     become those that are given; new ones have those that are set else, or those of the book."""
     book, animals = next_book.book, next_book.animals
     former = book.former_numbers() | {id: in_book.registration_number for id, in_book in book.dropped.items()}
-    of_book, are_kept, new = next_book.in_book.numbers, not breed and not country, list[SheetAnimal]()
-    numbers = former | of_book if former else of_book
-    for animal, number in zip(animals.values(), map(numbers.get, animals)):
-        if number is None:
-            new.append(animal)
-        elif are_kept and animal.sex == number[6]:
-            animal.registration_number = number
-        else:
-            animal.registration_number = (breed or number[:3]) + (country or number[3:6]) + animal.sex + number[7:]
-            if animal.registration_number == number:
-                animal.registration_number = number
-            else:
+    numbers = former | next_book.in_book.numbers if former else next_book.in_book.numbers
+    before, new = [*map(numbers.get, animals, itertools.repeat(""))], list[SheetAnimal]()
+    for animal, number in zip(animals.values(), before):
+        animal.registration_number = number
+    are_others = map(operator.ne, map(SEX_OF, animals.values()), map(SEX_OF_NUMBER, before))
+    those = animals.values() if breed or country else itertools.compress(animals.values(), are_others)
+    for animal in those:
+        if number := animal.registration_number:
+            now = (breed or number[:3]) + (country or number[3:6]) + animal.sex + number[7:]
+            if now != number:
+                animal.registration_number = now
                 next_book.renumbered.add(animal.id)
+        else:
+            new.append(animal)
     begin = letters_for(book, breed, country)
     for digits, animal in enumerate(by_age(sorted(new, key=ID_OF)), book.greatest_digits() + 1):
         animal.registration_number = f"{begin}{animal.sex}{digits:012}"

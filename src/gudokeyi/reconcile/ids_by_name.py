@@ -19,6 +19,8 @@ SHORT = 5
 ALIKE, LONGER = 0.8, 2
 # of so many animals at most that weren't there before names are added: else all are looked at anew
 ADDED = 0.1
+# a look asks about the animals that are there three times: those of two looks are known
+MOST_ASKED = 6
 
 # ids by what is compared of the animals' names, or of themselves
 Ids = dict[str, list[str]]
@@ -33,9 +35,19 @@ class NamesEver:
 
     def __init__(self) -> None:
         self.names: dict[str, str] = {}
+        # those that were asked about last, and are among them
+        self.asked: list[tuple[Sequence[str], Sequence[str]]] = []
 
     def has(self, ids: Sequence[str], names: Sequence[str]) -> bool:
         """Are these among them, or few of them new or with another name than before?"""
+        if (ids, names) in self.asked:
+            return True
+        are_there = self.has_or_takes(ids, names)
+        if are_there:
+            self.asked = [*self.asked[1 - MOST_ASKED :], (ids, names)]
+        return are_there
+
+    def has_or_takes(self, ids: Sequence[str], names: Sequence[str]) -> bool:
         before = [*map(self.names.get, ids)]
         if before == [*names]:
             return True
@@ -49,6 +61,7 @@ class NamesEver:
         """Takes animals that are new, or have these names now."""
         built, former = self.__dict__, {id: self.names[id] for id in new if id in self.names}
         self.names |= new
+        self.asked = []
         for index, keys_of in KEYS_OF.items():
             if index in built:
                 take_out(built[index], keys_of, former)
@@ -128,8 +141,8 @@ class NamesEver:
 
 def beginning_with(form: str, names: Forms) -> list[str]:
     """Those of some names, in the order of their forms, whose form begins with one."""
-    first = bisect.bisect_left(names, (form,))
-    found = itertools.takewhile(lambda one: one[0].startswith(form), itertools.islice(names, first, None))
+    behind = range(bisect.bisect_left(names, (form,)), len(names))
+    found = itertools.takewhile(lambda one: one[0].startswith(form), map(names.__getitem__, behind))
     return [name for _, name in found]
 
 

@@ -2,11 +2,12 @@
 from __future__ import annotations
 
 import datetime
+import itertools
 import operator
 from collections.abc import Callable, Sequence
 
 from gudokeyi.domain.animals import SocietyRecord
-from gudokeyi.domain.commands import HEADER, day_text, lines_of
+from gudokeyi.domain.commands import HEADER, lines_of
 from gudokeyi.domain.findings import Report
 from gudokeyi.domain.kinds import Field, Role
 from gudokeyi.domain.messages import MessageText, Mistake, Some, why
@@ -14,19 +15,19 @@ from gudokeyi.domain.pedigree_order import in_order, longest_paths, offspring_by
 from gudokeyi.domain.refusals import Refusal
 from gudokeyi.engine.program import Herdbook
 from gudokeyi.ingest.animals import (
-    BIRTH_OF, BORN_OF, DAM_OF, EMBRYO_OF, ID_OF, LEFT_OF, NUMBER_OF, SIRE_OF, SheetAnimal, ancestors_among,
-    parents_of_all,
+    BIRTH_OF, DAM_OF, ID_OF, NUMBER_OF, SIRE_OF, SheetAnimal, ancestors_among, parents_of_all,
 )  # fmt: skip
 from gudokeyi.ingest.days import Span
 from gudokeyi.ingest.messages import Where
 from gudokeyi.reconcile.findings.parents import DayFact, OwnAncestor, ParentRefused
-from gudokeyi.reconcile.last_found import FoundBy, Kept, LastFound, NothingKept
+from gudokeyi.reconcile.last_found import Kept, LastFound, NothingKept
 from gudokeyi.reconcile.messages import ImportFault
-from gudokeyi.reconcile.next_book import NextBook, exits_of
+from gudokeyi.reconcile.next_book import NOTHING, NextBook, ToldOfAnimals
 from gudokeyi.reconcile.parents import take_back
 from gudokeyi.store.book import Book
 
 FIRST, LAST = operator.attrgetter("first"), operator.attrgetter("last")
+BORN_AND_NUMBER = operator.attrgetter("born", "registration_number")
 
 # Animals that would be their own ancestors: of each cycle one parent is left out.
 
@@ -232,49 +233,43 @@ def leave_out_faulty_parents(next_book: NextBook, program: Herdbook, is_refused:
 Fault = tuple[SheetAnimal, Refusal]
 
 
-def values_of(animals: Sequence[SheetAnimal]) -> FoundBy:
-    """What the program is told of animals."""
-    all_values = (NUMBER_OF, BORN_OF, EMBRYO_OF, LEFT_OF, SIRE_OF, DAM_OF)
-    return tuple([*map(value, animals)] for value in all_values)
-
-
 def is_any_refused(next_book: NextBook, program: Herdbook) -> bool:
     """Does the program refuse any birth with its parents, or an exit?"""
-    last, by_age = next_book.last_found, next_book.by_birth
-    by = values_of(by_age) if last.keeps else ()
-    return last.of(Kept.ANY_FAULT, by, lambda: refuses_any(next_book, program))
+    told = next_book.told_of_all()
+    return next_book.last_found.of(Kept.ANY_FAULT, told, lambda: refuses_any(next_book, program, told))
 
 
-def refuses_any(next_book: NextBook, program: Herdbook) -> bool:
-    by_age = next_book.by_birth
-    exits = exits_of(by_age)
-    births = HEADER + next_book.births_text(by_age) + lines_of(exits)
-    return bool(program.file_text(births, len(by_age) + len(exits)))
+def refuses_any(next_book: NextBook, program: Herdbook, told: ToldOfAnimals) -> bool:
+    births = told.births(next_book.numbers.__getitem__, itertools.repeat(1))
+    text, count = HEADER + lines_of(births) + lines_of(told.exits()), len(told.ids) + told.count_exits()
+    return bool(program.file_text(text, count))
 
 
 def refused_parents(next_book: NextBook, program: Herdbook, progeny: Sequence[SheetAnimal]) -> list[Fault]:
     """Which of these have parents that the program refuses, once they and all whom they name are filed without."""
-    last, those = next_book.last_found, next_book.by_birth
-    what = Kept.FAULTS if progeny is those else Kept.FAULTS_OF_SOME
-    if progeny is not those:
-        named = {id for animal in progeny for id in (animal.id, animal.sire, animal.dam)}
-        those = [animal for animal in those if animal.id in named]
-    by = (*values_of(those), [*map(ID_OF, progeny)]) if last.keeps else ()
-    refused = last.of(what, by, lambda: asked_about(next_book, program, those, progeny))
+    are_all = progeny is next_book.by_birth
+    told = next_book.told_of_all() if are_all else ToldOfAnimals.of(with_parents(next_book, progeny))
+    what, asked = (Kept.FAULTS, told.ids) if are_all else (Kept.FAULTS_OF_SOME, [*map(ID_OF, progeny)])
+    refused = next_book.last_found.of(what, (*told, asked), lambda: asked_about(next_book, program, told, progeny))
     return [(next_book.animals[id], refusal) for id, refusal in refused]
 
 
+def with_parents(next_book: NextBook, progeny: Sequence[SheetAnimal]) -> list[SheetAnimal]:
+    """Some animals and their parents, by birth."""
+    ids = {id for animal in progeny for id in (animal.id, *animal.parent_ids())}
+    return sorted(map(next_book.animals.__getitem__, ids), key=BORN_AND_NUMBER)
+
+
 def asked_about(
-    next_book: NextBook, program: Herdbook, those: Sequence[SheetAnimal], progeny: Sequence[SheetAnimal]
+    next_book: NextBook, program: Herdbook, told: ToldOfAnimals, progeny: Sequence[SheetAnimal]
 ) -> list[tuple[str, Refusal]]:
-    """The ids of offspring whose parents the program refuses, where those are filed without."""
-    numbers = next_book.numbers
-    exits = exits_of(those)
+    """The ids of offspring whose parents the program refuses, where those of whom it is told are filed without."""
+    number_of = next_book.numbers.__getitem__
     asked = [animal for animal in progeny if animal.sire or animal.dam]
-    births = (f"birth,{one.registration_number},{day_text(one.born)},0,0,,1,{'1' * one.embryo}\n" for one in those)
-    links = (f"parents,{one.registration_number},,{numbers[one.sire]},{numbers[one.dam]},,,\n" for one in asked)
-    text = HEADER + "".join(births).encode() + lines_of(exits) + "".join(links).encode()
-    first = len(those) + len(exits)
+    numbers, sires, dams = map(NUMBER_OF, asked), map(number_of, map(SIRE_OF, asked)), map(number_of, map(DAM_OF, asked))
+    links = zip(itertools.repeat("parents"), numbers, NOTHING, sires, dams, NOTHING, NOTHING, NOTHING)
+    text = HEADER + lines_of(told.births_alone()) + lines_of(told.exits()) + lines_of(links)
+    first = len(told.ids) + told.count_exits()
     refused = program.file_text(text, first + len(asked))
     # an exit may be refused too: that is told when the book itself is filed
     return [(asked[place - first].id, refusal) for place, refusal in refused.items() if place >= first]

@@ -4,9 +4,10 @@ from __future__ import annotations
 
 import collections
 import enum
-from collections.abc import Callable, Sequence
+from collections.abc import Callable, Collection, Sequence
 from typing import TypeVar, cast
 
+from gudokeyi.ingest.animals import ParentsOutside
 from gudokeyi.reconcile.ids_by_name import IdsByName, NamesEver
 
 Value = TypeVar("Value")
@@ -17,16 +18,26 @@ FoundBy = tuple[object, ...]
 class Kept(enum.Enum):
     """What is kept."""
 
+    # the ids of the book that no row has, and those of rows or of the book that were given
+    WITHOUT_ROW = enum.auto()
+    GIVEN_IDS = enum.auto()
+    # the parents of rows that have no row: as cells name them, and once they are found
+    PARENTS_WRITTEN = enum.auto()
+    PARENTS_FOUND = enum.auto()
+    # those of all animals
+    PARENTS_WITHOUT_ROW = enum.auto()
     NEAR_IDS = enum.auto()
     IDS_IN_TEXTS = enum.auto()
-    # the ids by the other forms that they may have
+    # the animals whose ids were given, by their names
+    GIVEN_NAMES = enum.auto()
+    # the ids that were given by the days that they may be, and by the other forms that they may have
+    DAYS_FOR_IDS = enum.auto()
     NEAR_TAGS = enum.auto()
-    # the offspring of each animal in each role
-    PROGENY = enum.auto()
-    # commands, and what the program refuses of them
-    BIRTHS = enum.auto()
-    # the same where all have one owner
-    BIRTHS_OF_ONE = enum.auto()
+    # whether those of rows have digits
+    HAVE_DIGITS = enum.auto()
+    # the places of the animals in the order of their birth
+    BY_BIRTH = enum.auto()
+    # which commands the program refuses
     REFUSED = enum.auto()
     REFUSED_ANEW = enum.auto()
     # whose parents it refuses, of all and of some of them, and whether it refuses any
@@ -68,6 +79,12 @@ class LastFound:
         found = find()
         last.append((by, found))
         return found
+
+    def parents_outside(
+        self, what: Kept, sires: list[str], dams: list[str], ids: Collection[str]
+    ) -> ParentsOutside:
+        """The parents of animals that aren't among some ids."""
+        return self.of(what, (sires, dams, [*ids]), lambda: ParentsOutside.of(sires, dams, {*ids}))
 
     def by_name(self, ids: Sequence[str], names: Sequence[str]) -> IdsByName:
         """The animals that are there by their names."""

@@ -49,17 +49,7 @@ def call_anew(book: Book, words: list[str]) -> list[SheetFinding]:
     book.new_tags |= apart
     refuse_twice(book)
     if book.new_tags:
-        renamed = book.new_tags
-        book.society_records = {
-            renamed.get(id, id): one._replace(id=renamed[id]) if id in renamed else one
-            for id, one in book.society_records.items()
-        }
-        book.names = {one.registration_number: one for one in book.society_records.values()}
-        book.ids = {one.registration_number: one.id for one in book.society_records.values()}
-        book.cells = {
-            (renamed.get(str(key[0]), key[0]),): (renamed.get(str(key[0]), key[0]), *row[1:])
-            for key, row in book.cells.items()
-        }
+        book.take_new_tags()
     return [IdsWithApostrophe(len(apart), *pair) for pair in [*apart.items()][:1]]
 
 

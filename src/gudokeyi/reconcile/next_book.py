@@ -3,17 +3,20 @@ what is known of each animal afterwards."""
 from __future__ import annotations
 
 import collections
+import datetime
 import functools
 import itertools
-import operator
-from collections.abc import Iterable, Mapping, Sequence, Set
+from collections.abc import Callable, Iterable, Iterator, Mapping, Sequence, Set
+from typing import NamedTuple
 
 from gudokeyi.domain.animals import NO_FIELDS, SocietyRecord
 from gudokeyi.domain.collections import made
-from gudokeyi.domain.commands import Command, RegisterRecord, day_text, lines_of, parents
+from gudokeyi.domain.commands import Command, RegisterRecord, birth, day_text, parents
 from gudokeyi.domain.findings import Finding, Report
 from gudokeyi.domain.kinds import Field, Role, Standing
-from gudokeyi.ingest.animals import BORN_OF, DAM_OF, EMBRYO_OF, NUMBER_OF, SIRE_OF, SheetAnimal, by_age
+from gudokeyi.ingest.animals import (
+    BORN_OF, DAM_OF, EMBRYO_OF, ID_OF, LEFT_OF, LINE_OF, NUMBER_OF, SIRE_OF, SheetAnimal,
+)  # fmt: skip
 from gudokeyi.ingest.day_cells import DayCell, DayCells
 from gudokeyi.ingest.texts import clean, nearly
 from gudokeyi.ingest.words import KNOWN_CASTRATED, KNOWN_SEXES, KNOWN_YES, sex_word
@@ -101,8 +104,6 @@ def days_of(cell: DayCell, text: str) -> object:
 
 # The book that is to be: what the sheet says of its animals, and what the book has besides.
 
-EMBRYO_TEXTS = {False: "", True: "1"}
-
 
 class NextBook:
     """The animals that are to stand in the book, by id, beside the book as it is."""
@@ -158,6 +159,32 @@ class NextBook:
             return [*self.animals.values()]
         return [row for id, row in self.otherwise.items() if self.animals.get(id) is row]
 
+    def animals_otherwise(self) -> list[SheetAnimal]:
+        """The animals of these rows, and those without a row, once all are there."""
+        rows = self.rows_otherwise()
+        return rows if self.otherwise is self.animals else rows + self.without_row
+
+    @functools.cached_property
+    def without_row(self) -> list[SheetAnimal]:
+        """The animals without a row, once all are there."""
+        return [*itertools.filterfalse(LINE_OF, self.animals.values())]
+
+    @functools.cached_property
+    def new(self) -> list[SheetAnimal]:
+        """The animals that the book hasn't, once all are there."""
+        ids = itertools.filterfalse(self.book.society_records.__contains__, self.animals)
+        return [*map(self.animals.__getitem__, ids)]
+
+    @property
+    def new_rows(self) -> int:
+        """How many of these have a row."""
+        return sum(map(bool, map(LINE_OF, self.new)))
+
+    @property
+    def rows(self) -> int:
+        """How many animals have one, once all are there."""
+        return len(self.animals) - len(self.without_row)
+
     def record(self, id: str) -> RegisterRecord | None:
         in_book = self.book.society_records.get(id)
         return self.book.records[in_book.registration_number] if in_book else None
@@ -172,51 +199,108 @@ class NextBook:
 
     # -- what commands name
 
-    def births_of(
-        self, animals: Sequence[SheetAnimal], owner_codes: Sequence[int], kept: Kept = Kept.BIRTHS
-    ) -> list[Command]:
-        """The births of animals with the parents of today, each in a herd."""
-        number_of = self.numbers.__getitem__
-        sires, dams = map(number_of, map(SIRE_OF, animals)), map(number_of, map(DAM_OF, animals))
-        values = (
-            map(NUMBER_OF, animals), map(day_text, map(BORN_OF, animals)), sires, dams, map(str, owner_codes),
-            map(EMBRYO_TEXTS.__getitem__, map(EMBRYO_OF, animals)),
-        )  # fmt: skip
-        if not self.last_found.keeps:
-            return births_made(*values)
-        columns = [[*one] for one in values]
-        return self.last_found.of(kept, tuple(columns), lambda: births_made(*columns))
+    def number_of(self, id: str) -> str:
+        """That of an animal, once all have theirs, or of an unknown parent."""
+        return self.animals[id].registration_number if id else UNKNOWN
 
-    def births_text(self, animals: list[SheetAnimal]) -> bytes:
-        """The births of animals in the first herd, as records of a command file."""
-        return lines_of(self.births_of(animals, [1] * len(animals), Kept.BIRTHS_OF_ONE))
+    def birth_of(self, animal: SheetAnimal, owner_code: int) -> Command:
+        """The birth of an animal with the parents of today, in a herd."""
+        sire, dam = self.number_of(animal.sire), self.number_of(animal.dam)
+        return birth(animal.registration_number, animal.born, sire, dam, owner_code, animal.embryo)
+
+    def parents_of(self, animal: SheetAnimal) -> Command:
+        return parents(animal.registration_number, self.number_of(animal.sire), self.number_of(animal.dam))
 
     @functools.cached_property
     def numbers(self) -> dict[str, str]:
         """The numbers of all animals by their ids, once they have them, and that of an unknown parent."""
-        return {"": "0", **dict(zip(self.animals, map(NUMBER_OF, self.animals.values())))}
-
-    def parents_of(self, animal: SheetAnimal, numbers: Mapping[str, str]) -> Command:
-        return parents(animal.registration_number, numbers[animal.sire], numbers[animal.dam])
+        numbers = dict(zip(self.animals, map(NUMBER_OF, self.animals.values())))
+        numbers[""] = UNKNOWN
+        return numbers
 
     @functools.cached_property
     def by_birth(self) -> list[SheetAnimal]:
         """All animals, once they have their numbers: from then on neither these nor birth days change."""
-        return by_age(sorted(self.animals.values(), key=NUMBER_OF))
+        those = [*self.animals.values()]
+        numbers, days = [*map(NUMBER_OF, those)], [*map(BORN_OF, those)]
+        places = self.last_found.of(Kept.BY_BIRTH, (numbers, days), lambda: places_by_birth(numbers, days))
+        return [*map(those.__getitem__, places)]
+
+    @functools.cached_property
+    def lasting(self) -> tuple[list[str], list[str], list[datetime.date], list[bool]]:
+        """The ids, numbers and birth days of all of them, and which are embryos."""
+        of_each = (ID_OF, NUMBER_OF, BORN_OF, EMBRYO_OF)
+        ids, numbers, days, embryos = ([*map(of, self.by_birth)] for of in of_each)
+        return ids, numbers, days, embryos
+
+    def told_of_all(self) -> ToldOfAnimals:
+        """What the program is told of all animals, as they are now."""
+        return ToldOfAnimals(*self.lasting, *changing(self.by_birth))
 
 
-def births_made(
-    numbers: Iterable[str], days: Iterable[str], sires: Iterable[str], dams: Iterable[str], owner_codes: Iterable[str],
-    embryos: Iterable[str],
-) -> list[Command]:  # fmt: skip
-    values = zip(itertools.repeat("birth"), numbers, days, sires, dams, itertools.repeat(""), owner_codes, embryos)
-    return [made(Command, one) for one in values]
+def places_by_birth(numbers: Sequence[str], days: Sequence[datetime.date]) -> list[int]:
+    """The places of the oldest first; those of a day by their numbers."""
+    ordinals = [*map(datetime.date.toordinal, days)]
+    return sorted(sorted(range(len(numbers)), key=numbers.__getitem__), key=ordinals.__getitem__)
 
 
-def exits_of(animals: Iterable[SheetAnimal]) -> list[Command]:
-    """The exits of those that have left."""
-    left = [(animal.registration_number, day_text(animal.left)) for animal in animals if animal.left]
-    return [made(Command, ("exit", number, day, "", "", "", "", "")) for number, day in left]
+# What the program is told of animals.
+
+# how a command names an unknown parent
+UNKNOWN = "0"
+EMBRYO_TEXTS = {False: "", True: "1"}
+NOTHING = itertools.repeat("")
+# the values of a command
+Values = tuple[str, ...]
+
+
+class ToldOfAnimals(NamedTuple):
+    """What the program is told of animals, in columns. Parents are ids, and empty where they are unknown."""
+
+    ids: list[str]
+    numbers: list[str]
+    days: list[datetime.date]
+    are_embryos: list[bool]
+    left: list[datetime.date | None]
+    sires: list[str]
+    dams: list[str]
+
+    @classmethod
+    def of(cls, animals: Sequence[SheetAnimal]) -> ToldOfAnimals:
+        ids, numbers, days, embryos = ([*map(of, animals)] for of in (ID_OF, NUMBER_OF, BORN_OF, EMBRYO_OF))
+        return cls(ids, numbers, days, embryos, *changing(animals))
+
+    def births(self, number_of: Callable[[str], str], owner_codes: Iterable[int]) -> Iterator[Values]:
+        """The births with the parents of today, by the numbers of ids, each in a herd."""
+        return self.births_with(map(number_of, self.sires), map(number_of, self.dams), map(str, owner_codes))
+
+    def births_alone(self) -> Iterator[Values]:
+        """The births without parents, in the first herd."""
+        unknown = itertools.repeat(UNKNOWN)
+        return self.births_with(unknown, unknown, itertools.repeat("1"))
+
+    def births_with(self, sires: Iterable[str], dams: Iterable[str], owner_codes: Iterable[str]) -> Iterator[Values]:
+        days, embryos = map(day_text, self.days), map(EMBRYO_TEXTS.__getitem__, self.are_embryos)
+        return zip(itertools.repeat("birth"), self.numbers, days, sires, dams, NOTHING, owner_codes, embryos)
+
+    def exits(self) -> Iterator[Values]:
+        """The exits of those that have left."""
+        numbers, days = itertools.compress(self.numbers, self.left), map(day_text, filter(None, self.left))
+        return zip(itertools.repeat("exit"), numbers, days, NOTHING, NOTHING, NOTHING, NOTHING, NOTHING)
+
+    def count_exits(self) -> int:
+        return len(self.left) - self.left.count(None)
+
+
+def changing(
+    animals: Sequence[SheetAnimal],
+) -> tuple[list[datetime.date | None], list[str], list[str]]:
+    """The days when animals left, and their parents: some may be left out yet."""
+    return [*map(LEFT_OF, animals)], [*map(SIRE_OF, animals)], [*map(DAM_OF, animals)]
+
+
+def commands_of(values: Iterable[Values]) -> list[Command]:
+    return [*map(made, itertools.repeat(Command), values)]
 
 
 # What is known of each animal after an import.

@@ -7,7 +7,7 @@ import itertools
 import re
 from collections.abc import Collection, Iterator, Mapping, Sequence
 
-from gudokeyi.ingest.animals import LINE_OF, NAME_OF, OWNER_OF
+from gudokeyi.ingest.animals import LINE_OF, NAME_OF, OWNER_OF, SheetAnimal
 from gudokeyi.ingest.statuses import taker_of_owner
 from gudokeyi.ingest.texts import plain
 from gudokeyi.ingest.words import (
@@ -35,18 +35,21 @@ UMLAUTS = str.maketrans({"ä": "ae", "ö": "oe", "ü": "ue"})
 SHORT = 4
 
 
-def tell_respelt_owners(next_book: NextBook, owners_before: set[str]) -> None:
+def tell_respelt_owners(
+    next_book: NextBook, owners_before: set[str], rows: collections.Counter[str] | None = None
+) -> None:
     """`owners_before` are those that the book had before this import. A row in whose place one by hand stays tells
-    nothing."""
+    nothing. `rows` are the owners' of the sheet where they are counted already, here and below."""
     taken, kept = collections.defaultdict[str, collections.Counter[str]](collections.Counter), next_book.kept_owners
-    book, animals = next_book.book, next_book.animals
-    if not book.society_records or {*map(OWNER_OF, animals.values())} - {""} <= owners_before:
+    book = next_book.book
+    rows = owners_of_rows(next_book) if rows is None else rows
+    if not book.society_records or rows.keys() <= owners_before:
         return
-    numbers, some = next_book.in_book.numbers, next_book.otherwise
-    rows = [one for one in next_book.rows_otherwise() if one.line and one.id in numbers and one.id not in kept]
-    # these have their owners of before
-    stay = {one.owner for id, one in animals.items() if one.line and id not in some} if some is not animals else set()
-    counts = collections.Counter((book.records[numbers[one.id]].owner_code, one.owner) for one in rows)
+    numbers, some = next_book.in_book.numbers, next_book.rows_otherwise()
+    those = [one for one in some if one.line and one.id in numbers and one.id not in kept]
+    # the others have their owners of before
+    stay = rows - owners_of_rows(next_book, some)
+    counts = collections.Counter((book.records[numbers[one.id]].owner_code, one.owner) for one in those)
     for (owner_code, owner), count in counts.items():
         if before := book.owner_of(owner_code):
             taken[before][owner] += count
@@ -57,9 +60,11 @@ def tell_respelt_owners(next_book: NextBook, owners_before: set[str]) -> None:
             next_book.report.add(0, "", OwnerRespelt(before, owner, count))
 
 
-def owners_of_rows(next_book: NextBook) -> collections.Counter[str]:
-    """How many rows have each owner, in the order in which they come."""
-    animals = next_book.animals.values()
+def owners_of_rows(
+    next_book: NextBook, some: Collection[SheetAnimal] | None = None
+) -> collections.Counter[str]:
+    """How many rows have each owner, in the order in which they come; of some animals, or of all."""
+    animals = next_book.animals.values() if some is None else some
     counts = collections.Counter(itertools.compress(map(OWNER_OF, animals), map(LINE_OF, animals)))
     del counts[""]
     return counts
@@ -79,9 +84,9 @@ def tell_renamed_owners(next_book: NextBook) -> None:
         next_book.report.add(0, "", OwnerRenamed(before, now, len(those)))
 
 
-def tell_owners_alike(next_book: NextBook) -> None:
+def tell_owners_alike(next_book: NextBook, rows: collections.Counter[str] | None = None) -> None:
     """Names of the sheet's rows that differ in case, accents, umlauts, blanks or signs alone."""
-    animals = owners_of_rows(next_book)
+    animals = owners_of_rows(next_book) if rows is None else rows
     alike = collections.defaultdict[str, list[Spelling]](list)
     for owner, count in sorted(animals.items()):
         for name in plain_names(owner):
@@ -179,7 +184,7 @@ def tell_owners_with_more(
     next_book: NextBook, owners_before: set[str], rows: collections.Counter[str] | None = None
 ) -> None:
     """Names that are the last name of others who have an initial or a first name more. Two of whom the book had both
-    before were told when they came. `rows` are the owners' of the sheet where they are counted already."""
+    before were told when they came."""
     rows = owners_of_rows(next_book) if rows is None else rows
     longer = collections.defaultdict[str, list[str]](list)
     if rows.keys() <= owners_before:
@@ -233,9 +238,11 @@ MOST_WITHIN = 5
 BEGIN_EXITS = PLAIN_EXITS - {"tot", "mort", "dead"} | {"verkauf", "verk", "vente", "abgegeben", "abgegangen", "eingegangen"}
 
 
-def tell_doubtful_owners(next_book: NextBook, owners_before: set[str]) -> None:
+def tell_doubtful_owners(
+    next_book: NextBook, owners_before: set[str], rows: collections.Counter[str] | None = None
+) -> None:
     """New owners whose name reads like an exit or a day, or has the names of others in it."""
-    rows = owners_of_rows(next_book)
+    rows = owners_of_rows(next_book) if rows is None else rows
     words = {owner: tuple(WORD.findall(owner.casefold())) for owner in {*rows, *owners_before}}
     named = collections.defaultdict[tuple[str, ...], list[str]](list)
     for owner in sorted(words):
@@ -268,7 +275,8 @@ def parts_of(words: tuple[str, ...], lengths: Collection[int]) -> set[tuple[str,
 
 def tell_born_dead(next_book: NextBook) -> None:
     """New animals whose name says that they never lived."""
-    animals = next_book.animals.values()
+    # all that are new may say something else than the book
+    animals = next_book.rows_otherwise()
     together = "\n".join(itertools.compress(map(NAME_OF, animals), map(LINE_OF, animals))).casefold()
     if not any(begin in together for begin in BEGINS_BORN_DEAD):
         return
@@ -292,10 +300,12 @@ def tells_of_exit(owner: str) -> bool:
     return plain(owner.split()[0]) in BEGIN_EXITS or bool(taker_of_owner(owner))
 
 
-def tell_mistyped_owners(next_book: NextBook, owners_before: set[str]) -> None:
+def tell_mistyped_owners(
+    next_book: NextBook, owners_before: set[str], rows: collections.Counter[str] | None = None
+) -> None:
     """Names of few rows that are those of many but for one letter, or for two that are swapped. One that the book had
     before was told when it came."""
-    rows = owners_of_rows(next_book)
+    rows = owners_of_rows(next_book) if rows is None else rows
     many, likely = NamesOfMany(rows), list[tuple[str, str]]()
     for owner, count in rows.items():
         meant = many.meant(owner) if count <= FEW and len(owner) >= SHORT and owner not in owners_before else ""

@@ -65,24 +65,36 @@ class Names:
         return self.last.by_name([*self.animals], [*map(NAME_OF, self.animals.values())])
 
     @functools.cached_property
+    def given_ids(self) -> list[str]:
+        return [*filter(self.with_id.__contains__, self.animals)]
+
+    @functools.cached_property
     def of_given(self) -> IdsByName:
         """The same of the animals whose ids were given."""
-        are_given = [*map(self.with_id.__contains__, self.animals)]
-        ids, names = (itertools.compress(of_all, are_given) for of_all in (self.by_name.ids, self.by_name.names))
-        return IdsByName([*ids], [*names], self.by_name.ever)
+        ids, by_name = self.given_ids, self.by_name
+        if ids == by_name.ids:
+            return by_name
+        by = ids, by_name.names, by_name.ever
+        return self.last.of(Kept.GIVEN_NAMES, by, lambda: IdsByName(ids, self.names_of(ids), by_name.ever))
+
+    def names_of(self, ids: Sequence[str]) -> list[str]:
+        return [self.animals[id].name for id in ids]
 
     @functools.cached_property
     def tags(self) -> NearTags:
-        ids = [*filter(self.with_id.__contains__, self.animals)]
-        return self.last.of(Kept.NEAR_TAGS, (ids,), lambda: NearTags(ids))
+        return self.last.of(Kept.NEAR_TAGS, (self.given_ids,), lambda: NearTags(self.given_ids))
 
     @functools.cached_property
     def days(self) -> DaysForIds:
-        return DaysForIds([*filter(self.with_id.__contains__, self.animals)])
+        return self.last.of(Kept.DAYS_FOR_IDS, (self.given_ids,), lambda: DaysForIds(self.given_ids))
 
     def same(self, name: str) -> list[str]:
         """The ids of the animals of a name; of those that stay too these are sought among all."""
         return (self.before or self).by_name.same(name)
+
+    def with_name(self, name: str) -> list[str]:
+        """The ids of the animals of a name with the same accents."""
+        return self.by_name.there(self.by_name.ever.named.get(name.casefold(), ()))
 
     def find_parents(self, lacking: dict[str, SheetAnimal], next_book: NextBook, with_id: Collection[str]) -> None:
         """A parent that is none of the ids that were given, but the name of one animal alone, or of one of its sex, is
@@ -150,8 +162,13 @@ class Names:
     @functools.cached_property
     def without_row(self) -> list[Link]:
         """The parents without a row, each with its offspring."""
-        with_row = {*itertools.compress(self.animals, map(LINE_OF, self.animals.values()))}
-        return links_outside(self.animals.values(), with_row)
+        animals, with_row = self.animals.values(), self.ids_of_rows
+        sires, dams = [*map(SIRE_OF, animals)], [*map(DAM_OF, animals)]
+        return self.last.parents_outside(Kept.PARENTS_WITHOUT_ROW, sires, dams, with_row).links(animals)
+
+    @functools.cached_property
+    def ids_of_rows(self) -> list[str]:
+        return [*itertools.compress(self.animals, map(LINE_OF, self.animals.values()))]
 
     @functools.cached_property
     def lacking(self) -> set[str]:
@@ -217,13 +234,12 @@ class Names:
 
     @functools.cached_property
     def have_digits(self) -> bool:
-        return have_digits([id for id, animal in self.animals.items() if animal.line])
+        return self.last.of(Kept.HAVE_DIGITS, (self.ids_of_rows,), lambda: have_digits(self.ids_of_rows))
 
     @functools.cached_property
     def have_days(self) -> bool:
         """Is any id written as a day is?"""
-        ids = [id for id, animal in self.animals.items() if animal.line]
-        return any(map(DAY.fullmatch, ids)) or any(map(is_day, ids))
+        return any(map(DAY.fullmatch, self.ids_of_rows)) or any(map(is_day, self.ids_of_rows))
 
     @functools.cached_property
     def parents_have_digits(self) -> bool:

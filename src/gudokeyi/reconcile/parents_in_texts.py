@@ -11,6 +11,7 @@ from gudokeyi.domain.kinds import Role
 from gudokeyi.domain.messages import MOST_NAMED
 from gudokeyi.domain.spelling import TIMES
 from gudokeyi.ingest.animals import NAME_OF, SheetAnimal, links_outside
+from gudokeyi.ingest.marked_ids import CROSSES
 from gudokeyi.ingest.odd_texts import OF_YEAR
 from gudokeyi.ingest.texts import nearly, nearly_all
 from gudokeyi.reconcile.findings.parents import FoundWithin
@@ -66,6 +67,8 @@ FORMERLY = re.compile(
 # the number of an animal in its year, and a name beside it; its slash stands between no two animals
 NUMBER_OF_YEAR = re.compile(rf"(?<![\w.-])(?<!\d/){OF_YEAR}(?![\w.-]|/\d)")
 BEGINS_WITH_NAME, ENDS_WITH_NAME, KEPT = re.compile(r"/[^\W\d_]"), re.compile(r"[^\W\d_]/$"), "\0"
+# a sign by which animals leave, before an id or behind it
+SIGN_OF_EXIT = re.compile(rf"^[+{CROSSES}]\s*|\s*[{CROSSES}]$")
 # what stands between two names; others are within one, as in `Salz und Pfeffer`
 OF_NAMES = re.compile(r"\s*/\s*")
 YEAR = re.compile(r"(?:19|20)\d\d")
@@ -106,7 +109,7 @@ class ParentsInTexts:
 
     def find(self, report: Report) -> None:
         links = links_outside(self.lacking.values(), self.with_id)
-        links = [link for link in links if " " in link[2] or BETWEEN.search(link[2])]
+        links = [link for link in links if " " in link[2] or BETWEEN.search(link[2]) or SIGN_OF_EXIT.search(link[2])]
         if not links:
             return
         by = ids, names = [*filter(self.with_id.__contains__, self.animals)], [*map(NAME_OF, self.animals.values())]
@@ -217,7 +220,7 @@ class ParentsInTexts:
         ends = [" ".join(part) for at in range(1, len(words)) for part in (words[:at], words[at:])]
         ends = [part for part in ends if any(letter.isdigit() for letter in part)]
         for part in (*filter(None, self.split(BETWEEN, text)), *ends):
-            if id := self.ids.get(nearly(part)):
+            if id := self.ids.get(nearly(part)) or self.ids.get(nearly(SIGN_OF_EXIT.sub("", part))):
                 yield id
 
     # -- numbers of years, as `3/12` and `3/12/Cora`

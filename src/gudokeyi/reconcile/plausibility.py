@@ -14,7 +14,8 @@ from typing import TYPE_CHECKING
 from gudokeyi.domain.findings import Entry, Finding, Report
 from gudokeyi.domain.kinds import Field, Role
 from gudokeyi.ingest.animals import (
-    BORN_OF, CASTRATED_OF, DAM, DAM_OF, ID_OF, LEFT_OF, LINE_OF, NAME_OF, SIRE, SIRE_OF, YEARS_LATER, SheetAnimal,
+    BIRTH_OF, BORN_OF, CASTRATED_OF, DAM, DAM_OF, EMBRYO_OF, ID_OF, LEFT_OF, LINE_OF, NAME_OF, SIRE, SIRE_OF,
+    YEARS_LATER, Castration, SheetAnimal,
 )  # fmt: skip
 from gudokeyi.ingest.days import Precision
 from gudokeyi.reconcile.findings.by_hand import YoungParent
@@ -38,6 +39,8 @@ LITTER = 3
 # as is usual, and not more than one of so many is less than half as far
 FEW_BIRTHS, NEARLY_ALL, RARE = 20, 20, 50
 YEAR = 365
+# no animal is carried for so many days
+LONGEST_CARRIED = datetime.timedelta(400)
 # the day of birth of a parent that isn't known is long before all others
 NEVER = -(10**9)
 # an animal that is so many years older than half of the living ones has probably left
@@ -54,6 +57,13 @@ def values_of(animals: Sequence[SheetAnimal], *values: Callable[[SheetAnimal], o
     return tuple([*map(value, animals)] for value in all_values)
 
 
+def may_be_begotten_before(animal: SheetAnimal, castration: Castration | None) -> bool:
+    """Leaves its day of birth open that it was begotten before its sire was castrated?"""
+    if castration is None or castration.last is None:
+        return False
+    return animal.birth.first <= castration.last + LONGEST_CARRIED
+
+
 class PlausibilityChecks:
     """Looks at all animals, whose days and parents are found. Days that were inferred tell nothing. What is told is
     about animals of the sheet, or about those that somebody files, whose ids are `filed`."""
@@ -66,6 +76,8 @@ class PlausibilityChecks:
         dam are from one another, where others tell that than those of these animals."""
         self.animals, self.limits, self.report, self.filed = animals, limits, report, filed
         self.last, self.usual = last or NothingKept(), usual or usual_days
+        # a value of all animals, made once for all that is told by it
+        self.all_of = functools.cache(lambda value: [*map(value, animals.values())])
 
     def is_new(self, animal: SheetAnimal) -> bool:
         return bool(animal.line) or animal.id in self.filed
@@ -89,19 +101,20 @@ class PlausibilityChecks:
 
     def tell_families(self, book: Book) -> None:
         """What is told of parents, offspring, and animals that are there twice."""
-        self.tell_found(Kept.YOUNG_PARENTS, self.values_of_young, self.look_at_young)
-        self.tell_found(Kept.BIRTHS_OF_DAMS, self.values_of_dams, self.look_at_dams)
+        limits, of_young, of_dams = self.limits, self.told_by(SIRE_OF, DAM_OF, LEFT_OF), self.told_by(DAM_OF, EMBRYO_OF)
+        self.tell_found(Kept.YOUNG_PARENTS, (*of_young, limits.youngest), self.look_at_young)
+        self.tell_found(Kept.BIRTHS_OF_DAMS, (*of_dams, limits.apart, limits.is_apart_said), self.look_at_dams)
         self.look_at_castrated()
         self.tell_twice(book)
 
-    def values_of_young(self) -> FoundBy:
-        left = [*self.animals], [*map(LEFT_OF, self.animals.values())], [*map(LINE_OF, self.animals.values())]
-        return *values_of(self.dated, SIRE_OF, DAM_OF), left, self.limits.youngest
+    def told_by(self, *values: Callable[[SheetAnimal], object]) -> FoundBy:
+        """Some values of all animals, beside those by which all of them are told of: days that are inferred tell
+        nothing."""
+        if not self.last.keeps:
+            return ()
+        return [*self.animals], *map(self.all_of, (LINE_OF, BIRTH_OF, *values))
 
-    def values_of_dams(self) -> FoundBy:
-        return *values_of(self.borne, DAM_OF), self.limits
-
-    def tell_found(self, what: Kept, by: Callable[[], FoundBy], look: Callable[[], None]) -> None:
+    def tell_found(self, what: Kept, by: FoundBy, look: Callable[[], None]) -> None:
         """Tells what a look tells of all animals, which is kept for the next one if anything is."""
         if not self.last.keeps:
             look()
@@ -112,7 +125,7 @@ class PlausibilityChecks:
             look()
             return self.report.cut_off(told_before)
 
-        self.report.entries += self.last.of(what, by(), found)
+        self.report.entries += self.last.of(what, by, found)
 
     @functools.cached_property
     def dated(self) -> list[SheetAnimal]:
@@ -198,20 +211,20 @@ class PlausibilityChecks:
                     self.report.add(offspring.line, offspring.id, likely)
 
     def look_at_castrated(self) -> None:
+        """Castrated males that have offspring, but for such as may have been begotten before."""
         castrated = {*itertools.compress(self.animals, map(CASTRATED_OF, self.animals.values()))}
         progeny = collections.defaultdict(list)
         for animal in self.animals.values() if castrated else ():
-            if animal.sire in castrated:
+            if animal.sire in castrated and not may_be_begotten_before(animal, self.animals[animal.sire].castration):
                 progeny[animal.sire].append(animal)
         for sire, its in progeny.items():
             animal = self.animals[sire]
-            found = CastratedSire(animal.cells.get(Field.SEX, ""), len(its), its[0].id, its[0].line)
-            self.report.add(animal.line, sire, found)
+            title, word = animal.castration[:2] if animal.castration else ("", animal.cells.get(Field.SEX, ""))
+            self.report.add(animal.line, sire, CastratedSire(word, len(its), its[0].id, its[0].line, title))
 
     def tell_twice(self, book: Book) -> None:
         """Animals with one name and birth day, which may be one, but for those of which that is told already."""
-        by = values_of(self.dated, NAME_OF) if self.last.keeps else ()
-        twice = self.last.of(Kept.TWICE, by, self.find_twice)
+        twice = self.last.of(Kept.TWICE, self.told_by(NAME_OF), self.find_twice)
         have_rows = [pair for pair in twice if self.animals[pair[0]].line]
         told = self.new_tags_told() if len(have_rows) < len(twice) else set()
         former = former_ids(book) if have_rows else {}

@@ -5,14 +5,14 @@ from __future__ import annotations
 import functools
 import itertools
 import operator
-from collections.abc import Iterable, Mapping
+from collections.abc import Collection, Iterable, Mapping
 from dataclasses import dataclass
 
 from gudokeyi.domain.animals import NO_OWNER, SocietyRecord
 from gudokeyi.domain.commands import RegisterRecord
 from gudokeyi.domain.kinds import Role, Standing
 from gudokeyi.domain.provenance import GIVEN_BIRTH, GIVEN_EXIT, SexSource
-from gudokeyi.ingest.animals import SheetAnimal
+from gudokeyi.ingest.animals import DAM_OF, ID_OF, NAME_OF, NUMBER_OF, SIRE_OF, SheetAnimal
 from gudokeyi.ingest.days import Span
 from gudokeyi.reconcile.animals_of_book import AnimalsOfBook
 from gudokeyi.store.book import Book
@@ -23,6 +23,7 @@ VALUES = operator.attrgetter(
     "birth_basis", "exit_basis", "sex_source",
 )  # fmt: skip
 SINCE_OF = operator.attrgetter("since")
+OWNER_CODE_OF, SEX_OF_NUMBER = operator.attrgetter("owner_code"), operator.itemgetter(6)
 # of a row that has all in its cells
 ALL_GIVEN: tuple[object, ...] = ("", [], GIVEN_BIRTH)
 
@@ -47,22 +48,43 @@ class RowsOfBook:
     filed by hand have no such row."""
 
     def __init__(self, book: Book, in_book: AnimalsOfBook, before: RowsOfBook | None = None) -> None:
-        """`before` are those of the same animals, whose owners may have had other names; nobody asks them any more."""
+        """`before` are those of the same animals, of which some may have had other ids, and whose owners other names;
+        nobody asks them any more."""
         self.in_book, self.owners = in_book, {**book.owners}
         self.society_records, self.records, self.ids = in_book.society_records, in_book.records, in_book.ids
         self.names = {NO_OWNER: "", **{code: owner for owner, code in self.owners.items()}}
         self.values: dict[str, tuple[object, ...]] = {}
-        # the rows before, and which of them say something else now
+        # the rows before, and the ids of those that say something else now
         self.before, self.found_anew = before, frozenset[str]()
-        those: Iterable[SocietyRecord] = self.society_records.values()
-        if before:
-            self.values, before.before = before.values, None
-            renamed = {code for code, _ in self.names.items() ^ before.names.items()}
-            those = [one for one in those if self.records[one.registration_number].owner_code in renamed]
-            self.found_anew = frozenset(one.id for one in those)
-            if "folded" in vars(before):
-                self.folded = before.folded
+        if before is None:
+            self.find_values(self.society_records.values())
+        else:
+            self.take_over(before)
+
+    def take_over(self, before: RowsOfBook) -> None:
+        """Values that stay what they were."""
+        self.values, before.before = before.values, None
+        gone, codes = self.other_ids(before), {code for code, _ in self.names.items() ^ before.names.items()}
+        those = self.animals_with(codes, {before.society_records[id].registration_number for id in gone})
+        for id in gone:
+            self.values.pop(id, None)
         self.find_values(those)
+        self.found_anew = frozenset(one.id for one in those).union(gone)
+        if not gone and "folded" in vars(before):
+            self.folded = before.folded
+
+    def other_ids(self, before: RowsOfBook) -> set[str]:
+        """The ids that animals had before, and haven't now."""
+        had, have = before.in_book.new_tags, self.in_book.new_tags
+        return {had.get(id, id) for id in {*had, *have} if had.get(id) != have.get(id)}
+
+    def animals_with(self, owner_codes: Collection[int], numbers: Collection[str]) -> list[SocietyRecord]:
+        """Those of some owners, those of some numbers, and the offspring of these."""
+        records, found = self.records.values(), {*numbers}
+        for of, values in (OWNER_CODE_OF, owner_codes), (SIRE_OF, numbers), (DAM_OF, numbers):
+            if values:
+                found.update(itertools.compress(self.records, map(values.__contains__, map(of, records))))
+        return [self.society_records[self.ids[number]] for number in found]
 
     def find_values(self, those: Iterable[SocietyRecord]) -> None:
         for in_book in those:
@@ -71,10 +93,6 @@ class RowsOfBook:
                 self.values[in_book.id] = self.values_of(in_book, record)
             else:
                 self.values.pop(in_book.id, None)
-
-    def is_of(self, book: Book) -> bool:
-        """Are these still the rows of a book, whose animals were read once for both?"""
-        return self.in_book.is_of(book) and self.owners == book.owners
 
     def values_of(self, in_book: SocietyRecord, record: RegisterRecord) -> tuple[object, ...]:
         return (
@@ -96,13 +114,12 @@ class RowsOfBook:
 
     @functools.cached_property
     def folded(self) -> FoldedTexts:
-        own, parents = ({role.sex: set[str]() for role in Role} for _ in range(2))
-        for in_book in self.society_records.values():
-            own[in_book.registration_number[6]] |= {in_book.id.casefold(), in_book.name.casefold()}
-        for role in Role:
-            own[role.sex].discard("")
-            numbers = {record.parent(role) for record in self.records.values()} - {""}
-            parents[role.sex] |= {self.ids[number].casefold() for number in numbers}
+        own, parents, animals = dict[str, set[str]](), dict[str, set[str]](), self.society_records.values()
+        sexes = [*map(SEX_OF_NUMBER, map(NUMBER_OF, animals))]
+        for role, parent_of in (Role.SIRE, SIRE_OF), (Role.DAM, DAM_OF):
+            of_sex = [*itertools.compress(animals, map(role.sex.__eq__, sexes))]
+            own[role.sex] = folded_texts(map(ID_OF, of_sex)) | folded_texts(map(NAME_OF, of_sex))
+            parents[role.sex] = folded_texts(map(self.ids.__getitem__, {*map(parent_of, self.records.values())}))
         return FoldedTexts(own, parents)
 
     def may_disagree(self, others: Iterable[SheetAnimal]) -> bool:
@@ -120,6 +137,11 @@ class RowsOfBook:
             if other and not (named.isdisjoint(parents[other]) and named.isdisjoint(texts[other])):
                 return True
         return False
+
+
+def folded_texts(texts: Iterable[str]) -> set[str]:
+    """The texts that aren't empty, in small letters."""
+    return {*map(str.casefold, texts)} - {""}
 
 
 def is_given(in_book: SocietyRecord) -> bool:

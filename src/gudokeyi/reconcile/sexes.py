@@ -3,34 +3,48 @@ are invented so that nothing is refused for them."""
 from __future__ import annotations
 
 import collections
+import functools
 import itertools
-from collections.abc import Mapping
+import operator
+from collections.abc import Iterator, Mapping, Set
 from typing import NamedTuple
 
 from gudokeyi.domain.findings import Finding, Report
 from gudokeyi.domain.kinds import Field, Role
 from gudokeyi.domain.provenance import SexSource
-from gudokeyi.ingest.animals import DAM_OF, ID_OF, NAME_OF, SEX_OF, SIRE_OF, UNREAD_OF, Link, SheetAnimal
+from gudokeyi.ingest.animals import (
+    DAM_OF, ID_OF, NAME_OF, SEX_OF, SIRE_OF, UNREAD_OF, Link, SheetAnimal, links_outside,
+)  # fmt: skip
+from gudokeyi.ingest.sexes import is_unsure
 from gudokeyi.reconcile.findings.animals import SexInferred, SexNotKnown, SexUnsure
 from gudokeyi.reconcile.findings.by_hand import ValueChanged
 from gudokeyi.reconcile.findings.parents import Couple, NoSexesFit, ParentsSwapped
 from gudokeyi.reconcile.findings.same_animals import SexAgainstOffspring, SexOfAnother
-from gudokeyi.reconcile.last_found import Kept
 from gudokeyi.reconcile.next_book import NextBook
+from gudokeyi.reconcile.parents import Names
 from gudokeyi.reconcile.plausibility import FEW_REFUSED
 
 # Sexes of animals whose rows don't say them: as parents they are, or as in the book.
 
+PARENTS = (Role.SIRE, SIRE_OF), (Role.DAM, DAM_OF)
 
-def leave_out_unread_sexes(next_book: NextBook, are_all_there: bool) -> None:
+
+def leave_out_unread_sexes(
+    next_book: NextBook, lacking: Mapping[str, SheetAnimal], are_all_there: bool
+) -> None:
     """The row of an animal whose sex can't be read is left out, where neither the book nor any offspring says it; where
-    all parents are there, and each animal has a sex, nobody is asked for one."""
+    all parents are there, and each animal has a sex, nobody is asked for one. `lacking` are the rows that name a parent
+    without one."""
     animals, roles = next_book.animals, next_book.roles
-    unread = [*itertools.compress(animals, map(UNREAD_OF, animals.values()))]
-    if are_all_there and not unread and all(map(SEX_OF, animals.values())):
+    # rows that say what the book has are read
+    unread = [row.id for row in next_book.rows_otherwise() if row.unread]
+    without = {*itertools.compress(animals, map(operator.not_, map(SEX_OF, animals.values())))}
+    if are_all_there and not unread and not without:
         return
-    sires, dams = (collections.Counter(map(parent_of, animals.values())) for parent_of in (SIRE_OF, DAM_OF))
-    del sires[""], dams[""]
+    asked = without.union(unread, *(row.parent_ids() for row in lacking.values()))
+    sires, dams = (
+        collections.Counter(filter(asked.__contains__, map(parent_of, animals.values()))) for _, parent_of in PARENTS
+    )
     roles |= dict.fromkeys(sires, Role.SIRE) | dict.fromkeys(dams, Role.DAM)
     for parent in sires.keys() & dams.keys():
         roles[parent] = role_of_both(next_book, parent, sires[parent], dams[parent])
@@ -48,10 +62,6 @@ def role_of_both(next_book: NextBook, id: str, sires: int, dams: int) -> Role:
     return Role.SIRE if sires >= dams else Role.DAM
 
 
-# the role of offspring that speak against a sex
-AGAINST = {Role.SIRE.sex: Role.DAM, Role.DAM.sex: Role.SIRE}
-
-
 class Contradiction(NamedTuple):
     """The offspring that speak against the cell of a sex, and whether the book does too."""
 
@@ -61,19 +71,21 @@ class Contradiction(NamedTuple):
     in_book: bool
 
 
-def mend_sexes(next_book: NextBook, gone: Mapping[str, SheetAnimal]) -> None:
+def mend_sexes(
+    next_book: NextBook, gone: Mapping[str, SheetAnimal], lacking: Mapping[str, SheetAnimal], names: Names
+) -> None:
     """Where more speaks against the cell of a sex than for it, that is what may be wrong: the parent stays one. Each
-    offspring, and the book, speak as much as the cell."""
+    offspring, and the book, speak as much as the cell. `lacking` are the rows that name a parent without one; `names`
+    are those of all animals."""
     # most sheets have nothing of the kind, and large ones aren't looked at closer
-    evidence = progeny_by_role(next_book, gone) if may_disagree(next_book, gone) else {}
-    animals = next_book.animals
-    likely = [
-        id for id, by_role in evidence.items() if (row := animals.get(id)) and row.sex and by_role[AGAINST[row.sex]]
-    ]  # fmt: skip
-    found = [one for id in likely if (one := contradiction(next_book, id, evidence[id]))]
+    if not may_disagree(next_book, gone):
+        return
+    parents = ParentsMeant(next_book, gone, lacking, names)
+    evidence = parents.progeny(parents.of_other_sex())
+    found = [one for id, by_role in evidence.items() if (one := contradiction(next_book, id, by_role))]
     # sires in the column of dams are told as such
     new = sum(len(one.progeny) for one in found if not one.in_book)
-    if new > FEW_REFUSED and 2 * new > sum(len(its) for by_role in evidence.values() for its in by_role.values()):
+    if new > FEW_REFUSED and 2 * new > parents.count():
         found = [one for one in found if one.in_book]
     for animal, role, its, in_book in found:
         written = animal.cells.get(Field.SEX, "") or animal.sex
@@ -114,8 +126,7 @@ def may_disagree(next_book: NextBook, gone: Mapping[str, SheetAnimal]) -> bool:
     if next_book.rows_of_book:
         return next_book.rows_of_book.may_disagree(next_book.otherwise.values())
     all_animals, known = [*next_book.animals.values(), *gone.values()], next_book.book.society_records
-    parents = (Role.SIRE, SIRE_OF), (Role.DAM, DAM_OF)
-    texts = {role.sex: {text.casefold() for text in {*map(parent_of, all_animals)}} for role, parent_of in parents}
+    texts = {role.sex: {text.casefold() for text in {*map(parent_of, all_animals)}} for role, parent_of in PARENTS}
     animals = next_book.animals.values()
     for sex, other in ("M", "F"), ("F", "M"):
         those = [animal for animal in animals if animal.sex == sex]
@@ -127,57 +138,76 @@ def may_disagree(next_book: NextBook, gone: Mapping[str, SheetAnimal]) -> bool:
     return False
 
 
-def progeny_by_role(next_book: NextBook, gone: Mapping[str, SheetAnimal]) -> dict[str, dict[Role, set[str]]]:
-    """The offspring of each animal in each role, as cells name it by its id or by a name that it has alone; where a
-    cell names none so, as the book has it."""
-    all_animals = {**next_book.animals, **gone}
-    values = ([*map(of, all_animals.values())] for of in (ID_OF, NAME_OF, SIRE_OF, DAM_OF))
-    found_by = *values, next_book.in_book
-    return next_book.last_found.of(Kept.PROGENY, found_by, lambda: all_progeny_by_role(next_book, all_animals))
+class ParentsMeant:
+    """The parents of all animals, as cells name them by their ids or by a name that one has alone; where a cell names
+    none so, as the book has them."""
+
+    def __init__(
+        self, next_book: NextBook, gone: Mapping[str, SheetAnimal], lacking: Mapping[str, SheetAnimal], names: Names
+    ) -> None:
+        self.next_book, self.animals, self.lacking, self.names = next_book, next_book.animals | gone, lacking, names
+
+    @functools.cached_property
+    def by_other_texts(self) -> list[Link]:
+        """Those whose cells have none of the ids: first the sires."""
+        links = links_outside(self.lacking.values(), self.animals)
+        meant = ((offspring, role, self.meant(offspring, role, text)) for offspring, role, text in links)
+        return sorted((link for link in meant if link[2]), key=lambda link: link[1] is Role.DAM)
+
+    def meant(self, offspring: SheetAnimal, role: Role, text: str) -> str:
+        named, record = self.names.with_name(text), self.next_book.record(offspring.id)
+        of_book = self.next_book.id_of(record.parent(role)) if record else ""
+        return named[0] if len(named) == 1 else of_book
+
+    def of_other_sex(self) -> set[str]:
+        """Those whose rows say another sex than that of their role, or than the book. Rows that say what the book has
+        name no such parent."""
+        next_book, rows = self.next_book, self.next_book.animals
+        those = next_book.otherwise if next_book.rows_of_book else self.animals
+        found = {id for id, row in next_book.otherwise.items() if row.sex not in ("", sex_in_book(next_book, id))}
+        for role, parent_of in PARENTS:
+            parents = {*map(parent_of, those.values())}.union(one for _, of, one in self.by_other_texts if of is role)
+            found.update(id for id in parents if (row := rows.get(id)) and row.sex not in ("", role.sex))
+        return found
+
+    def progeny(self, parents: Set[str]) -> dict[str, dict[Role, set[str]]]:
+        """The offspring of some of them in each role."""
+        found: dict[str, dict[Role, set[str]]] = {}
+        by_texts = (link for link in self.by_other_texts if link[2] in parents)
+        for offspring, role, parent in itertools.chain(self.by_ids(parents), by_texts):
+            found.setdefault(parent, {Role.SIRE: set(), Role.DAM: set()})[role].add(offspring.id)
+        return found
+
+    def by_ids(self, parents: Set[str]) -> Iterator[Link]:
+        """Some of them whose cells have their ids: first the sires."""
+        for role, parent_of in PARENTS if parents else ():
+            cells = [*map(parent_of, self.animals.values())]
+            having = itertools.compress(zip(self.animals.values(), cells), map(parents.__contains__, cells))
+            yield from ((offspring, role, text) for offspring, text in having)
+
+    def count(self) -> int:
+        """How many links to them there are."""
+        cells = itertools.chain.from_iterable(map(parent_of, self.animals.values()) for _, parent_of in PARENTS)
+        return len(self.by_other_texts) + sum(map(self.animals.__contains__, cells))
 
 
-def all_progeny_by_role(
-    next_book: NextBook, all_animals: Mapping[str, SheetAnimal]
-) -> dict[str, dict[Role, set[str]]]:
-    found: dict[str, dict[Role, set[str]]] = {}
-    texts: list[Link] = []
-    for role, parent_of in (Role.SIRE, SIRE_OF), (Role.DAM, DAM_OF):
-        for offspring, text in zip(all_animals.values(), map(parent_of, all_animals.values())):
-            if text in all_animals:
-                add_offspring(found, text, role, offspring)
-            elif text:
-                texts.append((offspring, role, text))
-    named = animals_named(all_animals) if texts else {}
-    for offspring, role, text in texts:
-        record = next_book.record(offspring.id)
-        parent = named.get(text.casefold(), "") or (next_book.id_of(record.parent(role)) if record else "")
-        if parent:
-            add_offspring(found, parent, role, offspring)
-    return found
-
-
-def add_offspring(found: dict[str, dict[Role, set[str]]], parent: str, role: Role, offspring: SheetAnimal) -> None:
-    by_role = found.get(parent)
-    if by_role is None:
-        by_role = found[parent] = {Role.SIRE: set(), Role.DAM: set()}
-    by_role[role].add(offspring.id)
-
-
-def animals_named(animals: Mapping[str, SheetAnimal]) -> dict[str, str]:
-    """Those that have a name alone, by it in small letters."""
-    names = collections.Counter(one.name.casefold() for one in animals.values() if one.name)
-    return {name: id for id, one in animals.items() if names[name := one.name.casefold()] == 1}
+def sex_in_book(next_book: NextBook, id: str) -> str:
+    """That of an animal, or nothing where the book hasn't it."""
+    in_book = next_book.book.society_records.get(id)
+    return in_book.registration_number[6] if in_book else ""
 
 
 def find_sexes(next_book: NextBook) -> None:
     """An animal without a sex has that of the parent that it is, or else that of the book, or the likely one of its
     cell; else it is taken for a female, and stays one for that reason. One that was invented stays so where no row has
     the animal as a parent."""
-    without = [(id, animal) for id, animal in next_book.animals.items() if not animal.sex]
-    rows = [animal for animal in next_book.animals.values() if animal.line] if without else []
+    animals, known = next_book.animals, next_book.book.society_records
+    without = [*itertools.compress(animals.items(), map(operator.not_, map(SEX_OF, animals.values())))]
+    are_invented = any(id in known and known[id].sex is SexSource.INVENTED for id, _ in without)
+    rows = [animal for animal in animals.values() if animal.line] if are_invented else []
     parents_of_rows = {*map(SIRE_OF, rows), *map(DAM_OF, rows)}
     for id, animal in without:
-        role, in_book = next_book.roles.get(id), next_book.book.society_records.get(id)
+        role, in_book = next_book.roles.get(id), known.get(id)
         if role:
             animal.sex, animal.sex_source = role.sex, SexSource(role.value)
         elif in_book and in_book.sex is not SexSource.NOTHING:
@@ -194,7 +224,7 @@ def find_sexes(next_book: NextBook) -> None:
 
 
 def sex_found(animal: SheetAnimal) -> Finding:
-    if animal.likely_sex:
+    if animal.likely_sex and is_unsure(animal.cells[Field.SEX]):
         return SexUnsure(animal.sex, animal.sex_source, animal.cells[Field.SEX])
     return SexInferred(animal.sex, animal.sex_source, "sex" in animal.unread)
 

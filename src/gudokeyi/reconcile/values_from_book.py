@@ -14,6 +14,7 @@ from gudokeyi.ingest.animals import SheetAnimal, birth_in_book
 from gudokeyi.ingest.days import DayFault, Span
 from gudokeyi.ingest.findings.cells import DayLeftOut
 from gudokeyi.ingest.findings.exits import ExitInferred
+from gudokeyi.ingest.sexes import is_unsure
 from gudokeyi.ingest.words_beside import words_beside
 from gudokeyi.reconcile.exits import Exit, exit_in_book, given_day
 from gudokeyi.reconcile.findings.animals import KeptByHand, KeptFromBook, SexUnsure
@@ -117,7 +118,7 @@ class Keeping:
         if not animal.sex and not in_book.sex.is_inferred:
             animal.sex = record.registration_number[6]
             animal.castrated = animal.castrated and animal.sex == "M"
-            if animal.likely_sex:
+            if animal.likely_sex and is_unsure(animal.cells[Field.SEX]):
                 found = SexUnsure(animal.sex, SexSource.BOOK, animal.cells[Field.SEX])
                 self.report.add(animal.line, animal.id, found)
             else:

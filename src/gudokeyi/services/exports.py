@@ -5,7 +5,7 @@ from __future__ import annotations
 import functools
 import pathlib
 import re
-from collections.abc import Iterable, Iterator, Sequence
+from collections.abc import Iterable, Sequence
 
 from gudokeyi.domain.animals import SocietyRecord
 from gudokeyi.domain.messages import Mistake
@@ -14,7 +14,7 @@ from gudokeyi.domain.provenance import BirthSource, ExitSource, SexSource
 from gudokeyi.engine.answers import inverse_elements
 from gudokeyi.services.book_program import BookProgram
 from gudokeyi.services.lists import (
-    CASTRATED, LIST_COLUMNS, Column, ColumnRecipe, PedigreeFacts, as_it_is, each, made_table, own_recipes, parent,
+    CASTRATED, LIST_COLUMNS, Column, as_it_is, each, made_table, own_recipes, parent,
 )  # fmt: skip
 from gudokeyi.services.output_files import write_outs
 from gudokeyi.services.tables import Kind, Table
@@ -33,20 +33,12 @@ SEX_WORDS = {source.value: source.words() for source in SexSource}
 GIVEN = (BirthSource.GIVEN.value, ExitSource.GIVEN.value, SexSource.GIVEN.value)
 
 
-def sexes_said(
-    _: PedigreeFacts, numbers: Sequence[str], castrated: Sequence[int], sources: Sequence[str], sires: Sequence[str],
-    dams: Sequence[str],
-) -> Iterator[str]:  # fmt: skip
-    """What a sheet says of sexes: nothing of an inferred one that an import infers again, of a parent or a female; that
-    of a male whose cell wasn't sure isn't sure here either."""
-    parents = {*sires, *dams}
-    for number, is_castrated, source in zip(numbers, castrated, sources):
-        is_inferred = source not in GIVEN and (number in parents or number[6] == "F")
-        doubt = "?" if source == SexSource.NOTHING.value else ""
-        yield "" if is_inferred and not is_castrated else (CASTRATED if is_castrated else number[6]) + doubt
+def sex_said(number: str, is_castrated: int) -> str:
+    return CASTRATED if is_castrated else number[6]
 
 
 def inferred_sex(number: str, source: str) -> str:
+    """That of an animal of which nobody gave it: by this an import that takes the sheet infers it again."""
     return "" if source in GIVEN else number[6]
 
 
@@ -72,7 +64,7 @@ def exit_words(source: str, period: str | None, no_such_day: str | None, text: s
 COLUMNS = (
     as_it_is("id", "id", Kind.TEXT),
     as_it_is("name", "name", Kind.TEXT),
-    ColumnRecipe("sex", Kind.PLAIN, ("number", "castrated", "sex_source", "sire", "dam"), sexes_said),
+    each("sex", Kind.PLAIN, ("number", "castrated"), sex_said),
     each("birth", Kind.PLAIN, ("born", "birth_source", "birth_period"), said_of_day),
     parent("sire"),
     parent("dam"),

@@ -164,7 +164,7 @@ CASTRATED = "male castrated"
 
 
 def sex_with_castration(number: str, source: str, is_castrated: int) -> str:
-    return CASTRATED if is_castrated else sex_of(number, source)
+    return f"{CASTRATED}{SEX_SOURCES[source].mark()}" if is_castrated else sex_of(number, source)
 
 
 SEX_WITH_CASTRATION = each("sex", Kind.PLAIN, ("number", "sex_source", "castrated"), sex_with_castration)

@@ -31,7 +31,6 @@ from gudokeyi.services.prepared_changes import Prepared
 from gudokeyi.services.saving import outcome_of
 from gudokeyi.services.sheet_imports import About, Bounds, finish
 from gudokeyi.store.book import Book
-from gudokeyi.store.files import source_of
 
 
 def import_pedigree(
@@ -53,7 +52,6 @@ def import_pedigree_into(
     check_place(book, file.path)
     book.read_all()
     report = Report()
-    source = source_of(file.path, file.data)
     unknown = unknown_parents(book, import_options.unknown, import_options.known)
     days = DayCells(unknown, month_first=False)
     import_options = with_settings(book, import_options)
@@ -84,7 +82,7 @@ def import_pedigree_into(
         refuse_lost_links(report)
     about += invented("standard input" if file.path == STANDARD_INPUT else str(file.path), counts)
     invented_for = max(counts.values(), default=0)
-    return finish(next_book, program, import_options, source, About(call, about, invented=invented_for))
+    return finish(next_book, program, import_options, file, About(call, about, invented=invented_for))
 
 
 def refuse_others(next_book: NextBook, import_options: ImportOptions, doubtful: list[Obstacle]) -> None:

@@ -4,19 +4,19 @@ from __future__ import annotations
 
 import contextlib
 import functools
-import itertools
 import pathlib
 from collections.abc import Callable
 from dataclasses import dataclass
 
-from gudokeyi.domain.changes import Option, Source
-from gudokeyi.domain.findings import Call, Entry, ImportRefused, StrictlyRefused, What
+from gudokeyi.domain.changes import Option
+from gudokeyi.domain.findings import Call, Entry, ImportRefused, Report, StrictlyRefused, What
 from gudokeyi.domain.kinds import Field, Remembered
-from gudokeyi.ingest.animals import LINE_OF
 from gudokeyi.ingest.births_beside import year_column
+from gudokeyi.ingest.castrations import castration_columns
 from gudokeyi.ingest.exits_beside import columns_beside
 from gudokeyi.ingest.files import GivenFile
-from gudokeyi.ingest.findings.columns import ColumnUntitled
+from gudokeyi.ingest.findings.columns import ColumnUntitled, TitleBelow
+from gudokeyi.ingest.inferred_values import columns_of_marks
 from gudokeyi.ingest.names_for_ids import names_read
 from gudokeyi.ingest.owners_beside import first_names_column
 from gudokeyi.ingest.parents_beside import tell_parents_named_otherwise
@@ -79,7 +79,7 @@ class About:
 
 
 def finish(
-    next_book: NextBook, program: BookProgram, import_options: ImportOptions, source: Source, about: About
+    next_book: NextBook, program: BookProgram, import_options: ImportOptions, given: GivenFile, about: About
 ) -> tuple[Outcome, Prepared | None]:
     """Files the book, and prepares what is written where nothing keeps it from being taken, and no preview is
     wished."""
@@ -88,6 +88,7 @@ def finish(
     if import_options.preview:
         return outcome, None
     assert outcome.after
+    source = source_of(given.path, given.data)
     return outcome, prepared_of(next_book, filed, program, import_options, source, outcome.after.new)
 
 
@@ -153,14 +154,14 @@ def tell_plausibility(next_book: NextBook, limits: Limits) -> None:
 
 def tell_owners(next_book: NextBook, owners_before: set[str]) -> None:
     """What may be wrong of owners' names, beside those that the book had."""
-    tell_respelt_owners(next_book, owners_before)
-    tell_owners_alike(next_book)
-    tell_mistyped_owners(next_book, owners_before)
     rows = owners_of_rows(next_book)
+    tell_respelt_owners(next_book, owners_before, rows)
+    tell_owners_alike(next_book, rows)
+    tell_mistyped_owners(next_book, owners_before, rows)
     tell_owners_of_book_alike(next_book, owners_before, rows)
     tell_owners_with_more(next_book, owners_before, rows)
     tell_owners_of_like_words(next_book, owners_before, rows)
-    tell_doubtful_owners(next_book, owners_before)
+    tell_doubtful_owners(next_book, owners_before, rows)
 
 
 def refuse_unsaid_letters(next_book: NextBook, import_options: ImportOptions) -> None:
@@ -174,15 +175,11 @@ def refuse_unsaid_letters(next_book: NextBook, import_options: ImportOptions) ->
 
 
 def book_after(next_book: NextBook, filed: Filed, import_options: ImportOptions, about: About) -> BookAfter:
-    book, animals = next_book.book, next_book.animals
-    with_row = sum(map(bool, map(LINE_OF, animals.values())))
-    unknown = [animals[id].line for id in itertools.filterfalse(book.society_records.__contains__, animals)]
-    added = unknown.count(0)
-    new = len(unknown) - added
+    new = next_book.new_rows
     return BookAfter(
-        len(animals), new, about.invented, bool(book.records) and filed.keeps is not None,
-        numbers_begin(next_book, import_options.breed, import_options.country), import_options.drop_gone, with_row,
-        added,
+        len(next_book.animals), new, about.invented, bool(next_book.book.records) and filed.keeps is not None,
+        numbers_begin(next_book, import_options.breed, import_options.country), import_options.drop_gone,
+        next_book.rows, len(next_book.new) - new,
     )  # fmt: skip
 
 
@@ -221,7 +218,7 @@ def import_sheet_into(
 ) -> tuple[Outcome, Prepared | None]:  # fmt: skip
     """What a sheet makes of a book, and the change that is to be made, none for a preview. `last` is what this process
     read of a sheet before, where it looks again and again."""
-    path, source = file.path, source_of(file.path, file.data)
+    path = file.path
     check_place(book, path)
     book.read_all()
     import_options = with_settings(book, import_options)
@@ -232,19 +229,20 @@ def import_sheet_into(
         read = read_animals(file, import_options, book, words, last)
     keep(book, read)
     read.report.entries += [Entry(0, "", found) for found in renamed]
-    are_renamed = call_as_now(read.animals, book, read.report)
+    call_as_now(read.animals, book, read.report)
     next_book = NextBook(
         book, read.animals, set(read.columns.found), read.report, read.rows.cells.days, in_book=read.in_book,
         last_found=last.found if last else None,
     )  # fmt: skip
-    are_other_rows = keep_unsaid(next_book) or are_renamed
+    are_other_rows = keep_unsaid(next_book)
     if last and book.society_records:
+        # a row that says what the book has doesn't name an animal by an id of before
         next_book.compare(last.rows_of(book), frozenset() if are_other_rows else last.same_rows(book))
     complete(next_book, read.columns, import_options)
     tell_parents_named_otherwise(read.columns, next_book.animals, next_book.report)
     own = find_own_columns(book, read.columns, import_options.own)
     used = again(words, import_options) + [Option("--worksheet", read.sheet.as_before)] * bool(read.sheet.as_before)
-    tell_breeders(read, own, next_book)
+    tell_columns_not_kept(read, own, next_book)
     lacks_own = tell_lost_own_columns(book, own, read.columns, next_book.report)
     understood = understood_of(path, read, used, {} if lacks_own else titles_before(book), own)
     remember_places(book, read, import_options.worksheet)
@@ -254,13 +252,18 @@ def import_sheet_into(
         keep_as_notes(next_book, dict(read.columns.titles_found()), read.rows.remarks())
 
     about = About(import_options.call(str(path)), understood.lines(), understood, limits_of(words), take_own=take_own)
-    return finish(next_book, program, import_options, source, about)
+    return finish(next_book, program, import_options, file, about)
 
 
 def remember_places(book: Book, read: ReadSheet, worksheet: str) -> None:
     """From which worksheet and columns the next sheet is read."""
     remember_columns(book, read.columns.titles_found())
     remember_worksheet(book, worksheet, read.sheet.worksheets)
+
+
+def tell_columns_not_kept(read: ReadSheet, own: OwnSheetColumns, next_book: NextBook) -> None:
+    tell_breeders(read, own, next_book)
+    tell_titles_below(read, own, next_book.report)
 
 
 def tell_breeders(read: ReadSheet, own: OwnSheetColumns, next_book: NextBook) -> None:
@@ -277,6 +280,17 @@ def tell_breeders(read: ReadSheet, own: OwnSheetColumns, next_book: NextBook) ->
             next_book.report.add(0, "", BreedersNotKept(read.sheet.titles[at], len(others), line, text))
 
 
+def tell_titles_below(read: ReadSheet, own: OwnSheetColumns, report: Report) -> None:
+    """Titles that the first row of titles lacks, and whose columns aren't read."""
+    sheet = read.sheet
+    others = {*read.columns.found.values(), *own.places.values(), *places_beside(read)} if sheet.added else set[int]()
+    for at, line in sheet.added.items():
+        rows = zip(sheet.rows, sheet.column(at))
+        said = [(row.line, text) for row, text in rows if text not in ("", sheet.titles[at])]
+        if said and at not in others:
+            report.add(line, "", TitleBelow(sheet.titles[at], sheet.line, len(said), *said[0]))
+
+
 def other_breeders(said: dict[int, str], next_book: NextBook) -> list[tuple[int, str]]:
     """Those of some lines who aren't the owner of the dam, or of a founder its own one, as the sheet has these."""
     animals, respelt = next_book.animals, next_book.book.respelt
@@ -287,17 +301,23 @@ def other_breeders(said: dict[int, str], next_book: NextBook) -> list[tuple[int,
     return sorted((line, said[line]) for line, owner in of_lines.items() if compared(said[line]) != owner)
 
 
+def places_beside(read: ReadSheet) -> list[int]:
+    """The columns that are read beside those of fields."""
+    sheet, found = read.sheet, read.columns.found
+    beside = [*columns_beside(sheet, found), *year_column(sheet, found), *castration_columns(sheet, found)]
+    beside += [*reasons_beside(sheet.titles, found), *columns_of_marks(sheet, found)]
+    return [*beside, *names_read(sheet, found, read.rows.unknown)]
+
+
 def understood_of(
     path: pathlib.Path, read: ReadSheet, remembered: list[Option], before: dict[str, str], own: OwnSheetColumns
 ) -> Understood:
     sheet, columns = read.sheet, read.columns
     of_reasons = reasons_beside(sheet.titles, read.columns.found)
     kept = tuple(sheet.titles[at] for at in sorted({*own.places.values(), *of_reasons}))
-    places_beside = [*columns_beside(sheet, columns.found), *year_column(sheet, columns.found)]
-    places_beside += names_read(sheet, columns.found, read.rows.unknown)
     first_names = first_names_column(sheet, columns.found)
     with_owners = "" if first_names is None else sheet.titles[first_names]
-    beside = [*(sheet.titles[at] for at in places_beside), with_owners]
+    beside = [*(sheet.titles[at] for at in places_beside(read)), with_owners]
     titles = tuple(
         ColumnRead(Field(name), title, with_owners if name == Field.OWNER else "")
         for name, title in columns.titles_found()

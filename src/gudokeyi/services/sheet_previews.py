@@ -4,11 +4,12 @@ from __future__ import annotations
 
 import collections
 import hashlib
+import operator
 import pathlib
-from collections.abc import Collection, Mapping, Sequence
-from dataclasses import dataclass
+from collections.abc import Callable, Collection, Mapping, Sequence
+from dataclasses import dataclass, fields
 
-from gudokeyi.domain.findings import Entry, Severity, What
+from gudokeyi.domain.findings import Entry, Finding, Severity, What
 from gudokeyi.domain.kinds import Field
 from gudokeyi.domain.messages import Mistake
 from gudokeyi.ingest.columns import Columns
@@ -63,7 +64,7 @@ def columns_shown(
     words = remember(book, with_settings(book, import_options))
     columns = read_columns(read_file(path), import_options, book, words, last)
     sheet = columns.sheet
-    fields = {at: name for name, at in columns.found.items()}
+    names = {at: name for name, at in columns.found.items()}
     if not any(sheet.titles):
         raise Mistake(SheetFault.NO_TITLES.said(path=path))
     letters = sum(map(len, sheet.titles))
@@ -74,8 +75,8 @@ def columns_shown(
     first_names = first_names_column(sheet, columns.found)
     view = ColumnsView(
         tuple(sheet.titles),
-        tuple(fields.get(at, "") for at in range(len(sheet.titles))),
-        tuple((row.line, cells_shown(sheet, row, fields)) for row in sheet.rows[:ROWS]),
+        tuple(names.get(at, "") for at in range(len(sheet.titles))),
+        tuple((row.line, cells_shown(sheet, row, names)) for row in sheet.rows[:ROWS]),
         len(sheet.rows),
         {} if first_names is None else {first_names: Field.OWNER},
         others_of(book, columns, import_options.own, first_names),
@@ -83,10 +84,10 @@ def columns_shown(
     return view, sheet
 
 
-def cells_shown(sheet: Sheet, row: SheetRow, fields: Collection[int]) -> tuple[str, ...]:
+def cells_shown(sheet: Sheet, row: SheetRow, read: Collection[int]) -> tuple[str, ...]:
     """The cells of a row; those that no field is read from as the spreadsheet shows them."""
     cells = enumerate(row.cells)
-    texts = (cell if at in fields else sheet.shown.get((row.line, at), cell) for at, cell in cells)
+    texts = (cell if at in read else sheet.shown.get((row.line, at), cell) for at, cell in cells)
     return tuple(text[:LETTERS] for text in texts)
 
 
@@ -130,15 +131,26 @@ def changes_by_animal(outcome: Outcome, drops_gone: bool) -> dict[str, bytes]:
     some of the first alone. What has no row stays as it is, unless it is dropped, and so does what was filed by hand; a
     new animal has whichever number is free."""
     told = collections.defaultdict[str, list[str]](list)
+    kinds = {type(entry.finding) for entry in outcome.report.entries}
+    values_of = {kind: values_told(kind) for kind in kinds if changes_something(kind, drops_gone)}
     for entry in outcome.report.entries:
-        stays = isinstance(entry.finding, (*STAYS, OwnValueWritten)) or (entry.what is What.GONE and not drops_gone)
-        if entry.id and not stays:
-            values = "" if isinstance(entry.finding, NewAnimal) else repr(entry.finding)
-            told[entry.id].append(f"{entry.line} {entry.finding.code} {values}")
+        kind = type(entry.finding)
+        if kind in values_of and entry.id:
+            told[entry.id].append(f"{entry.line} {kind.code} {values_of[kind](entry.finding)}")
     for id, values_of_it in outcome.own_values.items():
         told[id] += map(repr, values_of_it)
-    texts = {id: repr(sorted(one)).encode() for id, one in told.items()}
+    texts = {id: (one[0] if len(one) == 1 else repr(sorted(one))).encode() for id, one in told.items()}
     return {id: hashlib.blake2b(text, digest_size=DIGEST_BYTES).digest() for id, text in texts.items()}
+
+
+def changes_something(kind: type[Finding], drops_gone: bool) -> bool:
+    return not issubclass(kind, (*STAYS, OwnValueWritten)) and (kind.what is not What.GONE or drops_gone)
+
+
+def values_told(kind: type[Finding]) -> Callable[[Finding], object]:
+    """What gets the values of a finding of a kind: that is a fraction of what its text takes."""
+    names = [] if issubclass(kind, NewAnimal) else [one.name for one in fields(kind)]
+    return operator.attrgetter(*names) if names else lambda _: ""
 
 
 def animals_otherwise(before: Mapping[str, bytes], now: Mapping[str, bytes]) -> tuple[str, ...]:

@@ -13,6 +13,7 @@ import itertools
 import operator
 from collections.abc import Callable, Collection, Iterable, Mapping
 from dataclasses import dataclass, field, fields
+from typing import Container
 
 from gudokeyi.domain.animals import NO_OWNER
 from gudokeyi.domain.findings import Entry, ImportRefused, Report
@@ -31,7 +32,7 @@ from gudokeyi.ingest.sheets import Sheet, read_sheet
 from gudokeyi.ingest.titles import known_titles, parts_of, read_given, read_sexes
 from gudokeyi.ingest.unknown_parents import UnknownParents
 from gudokeyi.ingest.workbooks import NamedBefore
-from gudokeyi.reconcile.animals_of_book import AnimalsOfBook
+from gudokeyi.reconcile.animals_of_book import AnimalsOfBook, AnimalsWithNewTags
 from gudokeyi.reconcile.findings.obstacles import NoRowTaken
 from gudokeyi.reconcile.last_found import LastFound
 from gudokeyi.reconcile.import_options import ImportOptions, RememberedWords, worksheet_before
@@ -110,18 +111,23 @@ class Reading:
         return *values, [*self.no_animals], self.sure, self.born, self.owners, self.called, self.sexes_of_book, self.today
 
     def meant_by(self) -> tuple[object, ...]:
-        """By what the rows are changed into what they mean: by words for unknown parents where columns are read beside
-        those of the births, exits and parents alone, but for those that are marks for a cell above."""
+        """By what the rows are changed into what they mean, beside the ids that are animals for sure: by words for
+        unknown parents where columns are read beside those of the births, exits and parents alone, but for those that
+        are marks for a cell above."""
         sheet, columns = self.sheet, self.columns
         beside = columns_beside(sheet, columns) or year_column(sheet, columns) or names_columns(sheet, columns)
         words = (self.unknown.more, self.unknown.known) if beside or Field.STATUS in self.columns else ()
-        return dict(self.columns), self.sure, words, marks_in(self.unknown.more), self.called
+        return dict(self.columns), words, marks_in(self.unknown.more), self.called
 
-    def meant(self, report: Report, notes_of: Callable[[Sheet, Mapping[str, int]], Notes] = Notes) -> Sheet:
-        """The sheet with its rows as they are meant."""
+    def meant(
+        self, report: Report, notes_of: Callable[[Sheet, Mapping[str, int]], Notes] = Notes,
+        sure: Container[str] | None = None,
+    ) -> Sheet:  # fmt: skip
+        """The sheet with its rows as they are meant; `sure` answers which ids are animals for sure."""
         if Field.ID not in self.columns:
             return self.sheet
-        return as_meant(self.sheet, self.columns, self.unknown, self.sure, report, notes_of, self.called)
+        sure = self.sure if sure is None else sure
+        return as_meant(self.sheet, self.columns, self.unknown, sure, report, notes_of, self.called)
 
     def rows(self, meant: Sheet, report: Report, before: Rows | None = None) -> Rows:
         """The rows as they are meant; `before` are the last ones, where they may be of the same sheet."""
@@ -138,14 +144,34 @@ class Reading:
         return rows, rows.animals() if Field.ID in self.columns else {}
 
 
+class AskedIds:
+    """Answers which ids are animals for sure, and keeps the answers: few are asked for."""
+
+    def __init__(self, sure: Container[str]) -> None:
+        self.sure, self.answers = sure, dict[object, bool]()
+
+    def __contains__(self, id: object) -> bool:
+        return self.answers.setdefault(id, id in self.sure)
+
+    def are_answered_so(self, sure: Container[object]) -> bool:
+        """Would the answers be the same of other ids?"""
+        return all((id in sure) is answer for id, answer in self.answers.items())
+
+
 @dataclass
 class RowsMeant:
-    """A sheet with its rows as they are meant, what was told of that, and by what they were changed."""
+    """A sheet with its rows as they are meant, what was told of that, by what they were changed, and which ids were
+    asked for."""
 
     sheet: Sheet
     meant_by: tuple[object, ...]
+    asked: AskedIds
     meant: Sheet
     entries: list[Entry]
+
+    def is_of(self, reading: Reading) -> bool:
+        is_same = self.sheet is reading.sheet and self.meant_by == reading.meant_by()
+        return is_same and self.asked.are_answered_so(reading.sure)
 
 
 @dataclass
@@ -183,11 +209,14 @@ class LastReading:
     """What came of each step last, and beside which animals of the book."""
 
     def __init__(self) -> None:
-        self.columns: ColumnsRead | None = None
+        # of the animals by the ids with which they are stored, and by new ones
+        self.columns: list[ColumnsRead] = []
         self.notes: Notes | None = None
         self.meant: RowsMeant | None = None
         self.animals: AnimalsRead | None = None
+        # by the ids with which they are stored, and by new ones
         self.in_book: AnimalsOfBook | None = None
+        self.with_new_tags: AnimalsWithNewTags | None = None
         self.rows_of_book: RowsOfBook | None = None
         self.same: SameRows | None = None
         # what was found of the animals
@@ -198,10 +227,12 @@ class LastReading:
         ids: Collection[str],
     ) -> Columns:  # fmt: skip
         read_by = (dict(given), dict(before), unknown.more, unknown.known, ids)
-        last = self.columns
-        if last is None or last.columns.sheet is not sheet or last.read_by != read_by:
-            self.columns = last = ColumnsRead(read_by, find_columns(sheet, given, before, unknown, ids))
-        return last.columns
+        for last in self.columns:
+            if last.columns.sheet is sheet and last.read_by == read_by:
+                return last.columns
+        found = ColumnsRead(read_by, find_columns(sheet, given, before, unknown, ids))
+        self.columns = [*self.columns[-1:], found]
+        return found.columns
 
     def notes_of(self, sheet: Sheet, columns: Mapping[str, int]) -> Notes:
         if self.notes is None or not self.notes.is_of(sheet, columns):
@@ -210,12 +241,13 @@ class LastReading:
 
     def meant_of(self, reading: Reading, report: Report) -> Sheet:
         """The rows as they are meant, of which is told before all else."""
-        last, meant_by = self.meant, reading.meant_by()
-        if last is None or last.sheet is not reading.sheet or last.meant_by != meant_by:
-            meant = reading.meant(report, self.notes_of)
+        last = self.meant
+        if last is None or not last.is_of(reading):
+            asked = AskedIds(reading.sure)
+            meant = reading.meant(report, self.notes_of, asked)
             if last and last.sheet is reading.sheet and last.meant.is_same(meant):
                 meant = last.meant
-            self.meant = last = RowsMeant(reading.sheet, meant_by, meant, [*report.entries])
+            self.meant = last = RowsMeant(reading.sheet, reading.meant_by(), asked, meant, [*report.entries])
         report.entries = [*last.entries]
         return last.meant
 
@@ -232,18 +264,21 @@ class LastReading:
 
     def animals_of_book(self, book: Book) -> AnimalsOfBook:
         if self.in_book is None or not self.in_book.is_of(book):
-            self.in_book = AnimalsOfBook(book)
-        return self.in_book
+            self.in_book, self.with_new_tags = AnimalsOfBook.as_stored(book), None
+        if not book.new_tags:
+            return self.in_book
+        if self.with_new_tags is None or self.with_new_tags.new_tags != book.new_tags:
+            self.with_new_tags = AnimalsWithNewTags(book, self.in_book)
+        return self.with_new_tags
 
     def rows_of(self, book: Book) -> RowsOfBook:
         """What the rows of the book's animals say."""
         last, in_book = self.rows_of_book, self.animals_of_book(book)
-        if last is None or not last.is_of(book):
-            last = last if last and last.in_book is in_book else None
+        if last is None or last.in_book is not in_book or last.owners != book.owners:
+            last = last if last and last.in_book.records is in_book.records else None
             self.rows_of_book = None
             self.rows_of_book = last = RowsOfBook(book, in_book, last)
         return last
-
 
     def same_rows(self, book: Book) -> set[str]:
         """The ids of plain rows that say what the book has of their animals."""
@@ -254,7 +289,7 @@ class LastReading:
         if last is None or last.animals is not plain.animals or last.rows_of_book is not rows_of_book:
             rows, ids = plain.by_id(), set[str]()
             if last and last.animals is plain.animals and last.rows_of_book is rows_of_book.before:
-                # owners alone have other names: rows with others say what they said
+                # owners and ids alone are others: rows with none of these say what they said
                 ids = last.ids - rows_of_book.found_anew
                 rows = {id: rows[id] for id in rows_of_book.found_anew & rows.keys()}
             ids |= rows.keys() - rows_of_book.others(rows).keys()

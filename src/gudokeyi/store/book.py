@@ -55,8 +55,9 @@ class Book:
         self.names_of_owner_codes: dict[int, str] = {}
         # how owners were written until now, and are from now on
         self.renamed: list[tuple[str, str]] = []
-        # the ids that animals have from now on, by those that they had
+        # the ids that animals have from now on, by those that they had, and all animals by those that they had
         self.new_tags: dict[str, str] = {}
+        self.before_new_tags: Mapping[str, SocietyRecord] | None = None
         # what is told behind an answer
         self.notes: list[str] = []
         # the journal, where it is read beside other work
@@ -86,6 +87,24 @@ class Book:
         """The animals are those that were read of the book in this state."""
         self.every_row, self.cells = state.rows, state.cells
         self.society_records, self.names, self.records = state.society_records, state.names, state.records
+
+    @property
+    def as_stored(self) -> Mapping[str, SocietyRecord]:
+        """All animals by the ids with which they are stored."""
+        return self.society_records if self.before_new_tags is None else self.before_new_tags
+
+    def take_new_tags(self) -> None:
+        """All animals, which were read at once, have their new ids from here on."""
+        tags, before, cells, names = self.new_tags, self.society_records, self.cells, {**self.names}
+        keys: dict[Values, Values] = {(id,): (now,) for id, now in tags.items()}
+        animals = dict(zip(map(tags.get, before, before), before.values()))
+        self.cells = dict(zip(map(keys.get, cells, cells), cells.values()))
+        for id, now in tags.items():
+            animals[now] = names[before[id].registration_number] = before[id]._replace(id=now)
+            if (id,) in cells:
+                self.cells[now,] = (now, *cells[id,][1:])
+        self.society_records, self.names, self.before_new_tags = animals, names, before
+        self.ids = dict(zip(names, animals))
 
     @property
     def path(self) -> pathlib.Path:

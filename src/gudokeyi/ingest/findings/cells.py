@@ -6,7 +6,7 @@ from dataclasses import dataclass
 
 from gudokeyi.domain.findings import Finding, LeftOut, Part, Severity, Suggestion, What, is_animal, is_no_animal
 from gudokeyi.domain.kinds import Field
-from gudokeyi.domain.wording import OptionalPart, Text, WithText
+from gudokeyi.domain.wording import OptionalPart, Text, Told, WithText
 from gudokeyi.ingest.days import DayFault
 
 # What is found of a sheet's rows and cells: each kind as data, and in words.
@@ -76,18 +76,30 @@ class UnseenInId(RowLeftOut):
 
 
 @dataclass(frozen=True, slots=True)
+class TitleFor(Told):
+    """A title of a later row, and the one of the first titles for which it stands."""
+
+    title: str
+    other: str
+
+    message = Text("'{title}' as '{other}'")
+
+
+@dataclass(frozen=True, slots=True)
 class TitlesAgain(RowLeftOut):
     """The row has the titles, as a page's first one; where they stand in another order, the rows below are read by
-    it."""
+    it, and some may stand for others."""
 
     is_in_other_order: bool | None = None
+    for_others: tuple[TitleFor, ...] = ()
 
     code = "titles again"
-    message = Text("the row is left out: it repeats the titles{maybe_in_other_order}")
+    message = Text("the row is left out: it repeats the titles{maybe_in_other_order}{maybe_for_others}")
     parts = {
         "maybe_in_other_order": OptionalPart(
             " in another order, by which the rows below it are read", when="is_in_other_order"
         ),
+        "maybe_for_others": OptionalPart(", {for_others}"),
     }
 
 

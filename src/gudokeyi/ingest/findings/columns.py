@@ -5,9 +5,10 @@ from collections.abc import Mapping
 from dataclasses import dataclass
 
 from gudokeyi.domain.changes import Option
-from gudokeyi.domain.findings import Finding, Severity, Suggestion, What, columns
+from gudokeyi.domain.findings import Finding, Severity, Suggestion, What, columns, kept_as
 from gudokeyi.domain.kinds import Field
 from gudokeyi.domain.messages import AnyOf
+from gudokeyi.domain.own_columns import OwnKind
 from gudokeyi.domain.wording import AllOf, Counted, Joined, OptionalPart, Text
 from gudokeyi.ingest.titles import title_list
 
@@ -339,3 +340,27 @@ class ColumnUntitled(SheetFinding):
 
     def values(self) -> Mapping[str, object]:
         return {"exits": self.exits or None}
+
+
+@dataclass(frozen=True, slots=True)
+class TitleBelow(SheetFinding):
+    """A title of a later row of titles that the first one lacks, whose column isn't read: the line of the first one,
+    and how many cells the column has, with the first of them."""
+
+    title: str
+    titles_line: int
+    count: int
+    line: int
+    text: str
+
+    code = "title below"
+    message = Counted(
+        "'{title}' stands among these titles, and not among those in line {titles_line}: its column isn't read, with "
+        "{count} cell, '{text}' in line {line}",
+        "'{title}' stands among these titles, and not among those in line {titles_line}: its column isn't read, with "
+        "{count} cells, the first '{text}' in line {line}",
+        "count",
+    )
+
+    def suggestions(self) -> tuple[Suggestion, ...]:
+        return (Suggestion(f"to keep '{self.title}'", (kept_as(self.title, OwnKind.TEXT),)),)

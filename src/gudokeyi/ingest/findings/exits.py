@@ -128,6 +128,24 @@ class BuyersRead(SheetFinding):
     )
 
 
+@dataclass(frozen=True, slots=True)
+class BuyerDisagrees(Finding):
+    """A column says to whom the animal was sold, and a status that it is there."""
+
+    title: str
+    buyer: str
+    status_title: str
+    status: str
+
+    what = What.WARNING
+    severity = Severity.FACTS
+    code = "buyer disagrees"
+    message = Text(
+        "'{title}' says '{buyer}', and '{status_title}' says '{status}': the animal counts as living, with its owner; "
+        "if it was sold, write sold, verkauft or vendu in place of '{status}'"
+    )
+
+
 class Remark(NamedTuple):
     """A cell that tells of something which no field has: it is kept as a note."""
 

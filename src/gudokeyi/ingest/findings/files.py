@@ -217,7 +217,7 @@ class NotesAtCells(SheetFinding):
 
 @dataclass(frozen=True, slots=True)
 class StruckThrough(SheetFinding):
-    """Rows of a worksheet with text that is struck through: how many, and the first of them; an earlier version stored
+    """Animals' rows of a worksheet that are struck through: how many, and the first of them; an earlier version stored
     no more than the very first."""
 
     count: int
@@ -237,6 +237,39 @@ class StruckThrough(SheetFinding):
 
     def values(self) -> Mapping[str, object]:
         return lines_told(self.lines or (self.line,), self.count)
+
+
+@dataclass(frozen=True, slots=True)
+class StruckCell(Told):
+    """A cell all of whose text is struck through."""
+
+    title: str
+    line: int
+    text: str
+
+    message = Text("'{text}' in line {line} of the column '{title}'")
+
+
+@dataclass(frozen=True, slots=True)
+class StruckCells(SheetFinding):
+    """Such cells of rows whose other cells aren't so: how many, and the first of them."""
+
+    count: int
+    cells: tuple[StruckCell, ...]
+
+    severity = Severity.ANIMALS
+    code = "struck cells"
+    message = Counted(
+        "the text of {count} cell is struck through, {cells}, and is read like all others: if it isn't right any more, "
+        "write what is, or nothing; if the animal has left, write an exit",
+        "the texts of {count} cells are struck through, {cells}{maybe_more}, and are read like all others: if one "
+        "isn't right any more, write what is, or nothing; if an animal has left, write an exit",
+        "count",
+    )
+    parts = {"maybe_more": OptionalPart(" and {more} more")}
+
+    def values(self) -> Mapping[str, object]:
+        return {"more": self.count - len(self.cells) or None}
 
 
 @dataclass(frozen=True, slots=True)

@@ -1,6 +1,7 @@
 """What is found of the words for sexes of a sheet: each kind as data, and in words."""
 from __future__ import annotations
 
+import itertools
 from collections.abc import Mapping
 from dataclasses import dataclass
 
@@ -8,7 +9,10 @@ from gudokeyi.domain.changes import Option
 from gudokeyi.domain.findings import Suggestion
 from gudokeyi.domain.wording import SEXES, Counted, OptionalPart, Text, Told
 from gudokeyi.ingest.findings.columns import SheetFinding
-from gudokeyi.ingest.findings.sheets import TextCount, sexes_of
+from gudokeyi.ingest.findings.sheets import CellsUnread, TextCount, sexes_of, sexes_of_all, sexes_that_may_be
+
+# one offspring may name a parent by mistake for so many others
+MANY_MORE = 20
 
 
 @dataclass(frozen=True, slots=True)
@@ -27,6 +31,53 @@ class SexWord(Told):
 
     def values(self) -> Mapping[str, object]:
         return {"is_castrated": not self.whole}
+
+
+@dataclass(frozen=True, slots=True)
+class UnknownSex(Told):
+    """A text for a sex that isn't known, how many animals have it, and how many of these are sires and dams."""
+
+    text: str
+    animals: int
+    sires: int
+    dams: int
+
+    message = Counted(
+        "'{text}' ({animals} animal{maybe_sires}{maybe_dams})", "'{text}' ({animals} animals{maybe_sires}{maybe_dams})",
+        "animals",
+    )  # fmt: skip
+    parts = {
+        "maybe_sires": OptionalPart(", {sires} of them sires", "sires", ", {sires} of them a sire", "sires"),
+        "maybe_dams": OptionalPart(", {dams} of them dams", "dams", ", {dams} of them a dam", "dams"),
+    }
+
+    def sex(self) -> str:
+        """What their offspring say; empty where they don't."""
+        if self.sires > MANY_MORE * self.dams:
+            return "m"
+        return "f" if self.dams > MANY_MORE * self.sires else ""
+
+
+@dataclass(frozen=True, slots=True)
+class SexesUnknown(CellsUnread):
+    """None of the words for sexes of a column can be read."""
+
+    sexes: tuple[UnknownSex, ...]
+
+    code = "sexes unknown"
+    message = Text("no word for a sex of the column '{cells_title}' is known: {sexes}: {advice}")
+    page_message = Text("no word for a sex of the column '{cells_title}' is known: {sexes}{maybe_advice}")
+
+    def suggestions(self) -> tuple[Suggestion, ...]:
+        """All that the offspring say, and each word by itself; of two words that have none each is the other's sex."""
+        by_offspring = {one.text: one.sex() for one in self.sexes if one.sex()}
+        if not by_offspring and len(self.sexes) == 2:
+            texts = [one.text for one in self.sexes]
+            return sexes_of_all(dict(zip(texts, "mf"))) + sexes_of_all(dict(zip(texts, "fm")))
+        at_once = sexes_of_all(by_offspring) if len(by_offspring) > 1 else ()
+        others = (one.text for one in self.sexes if not (one.sex() or any(map(str.isdigit, one.text))))
+        single = (sexes_of(text, sex) for text, sex in by_offspring.items())
+        return (*at_once, *itertools.chain(*single, *map(sexes_that_may_be, others)))
 
 
 @dataclass(frozen=True, slots=True)
@@ -136,3 +187,68 @@ class FemaleLetter(SheetFinding):
 
     def suggestions(self) -> tuple[Suggestion, ...]:
         return sexes_of(self.letter.text, "mc", "m")
+
+
+@dataclass(frozen=True, slots=True)
+class CastrationsRead(SheetFinding):
+    """A column such as `Kastriert am`, by which so many males are castrated whose sexes don't say it; how many other
+    cells of it say neither yes nor no, and the first of them."""
+
+    title: str
+    count: int
+    others: int
+    line: int
+    text: str
+
+    code = "castrations read"
+    message = Counted(
+        "the column '{title}' says that {count} male is castrated whose sex doesn't: it counts as castrated, without "
+        "the day{maybe_others}",
+        "the column '{title}' says that {count} males are castrated whose sexes don't: they count as castrated, "
+        "without the days{maybe_others}",
+        "count",
+    )
+    parts = {
+        "maybe_others": OptionalPart(
+            "; {others} other cells of it tell of no castration, the first is '{text}' in line {line}",
+            one="; another cell of it tells of no castration: '{text}' in line {line}", value="others",
+        ),
+    }
+
+
+@dataclass(frozen=True, slots=True)
+class CastratedFemales(SheetFinding):
+    """Cells of such a column that tell of females: how many, and the first."""
+
+    title: str
+    count: int
+    line: int
+    text: str
+
+    code = "castrated females"
+    message = Counted(
+        "the column '{title}' says that {count} female is castrated, '{text}' in line {line}: it stays a female; if it "
+        "is a castrated male, write that as its sex, as male castrated",
+        "the column '{title}' says that {count} females are castrated, the first '{text}' in line {line}: they stay "
+        "females; if one is a castrated male, write that as its sex, as male castrated",
+        "count",
+    )
+
+
+@dataclass(frozen=True, slots=True)
+class CastratedWithoutSex(SheetFinding):
+    """The same of animals whose sex no cell says."""
+
+    title: str
+    count: int
+    line: int
+    text: str
+
+    code = "castrated without sex"
+    message = Counted(
+        "the column '{title}' says that {count} animal is castrated whose sex no cell says, '{text}' in line {line}: "
+        "it counts as not castrated; write its sex, as male castrated",
+        "the column '{title}' says that {count} animals are castrated whose sexes no cell says, the first '{text}' in "
+        "line {line}: they count as not castrated; write their sexes, as male castrated",
+        "count",
+    )

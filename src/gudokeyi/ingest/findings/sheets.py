@@ -196,12 +196,17 @@ def sexes_of(word: str, *sexes: str) -> tuple[Suggestion, ...]:
     return tuple(Suggestion(f"if '{word}' is {SAID_SEXES[sex]}", (Option("--sexes", f"{word}={sex}"),)) for sex in sexes)
 
 
-def sexes_of_two(words: tuple[str, str], sexes: tuple[str, str]) -> tuple[Suggestion, ...]:
-    """One says that two words are of two sexes."""
-    if any({",", "="} & {*word} for word in words):
+def sexes_that_may_be(word: str) -> tuple[Suggestion, ...]:
+    """The same of a word that isn't known."""
+    return sexes_of(word, "m", "f", *(["mc"] if word.casefold() in OF_CASTRATED else []))
+
+
+def sexes_of_all(sexes: Mapping[str, str]) -> tuple[Suggestion, ...]:
+    """One says of which sex each of several words is; none where a word has signs of the option."""
+    if any({",", "="} & {*word} for word in sexes):
         return ()
-    case = " and ".join(f"'{word}' is {SAID_SEXES[sex]}" for word, sex in zip(words, sexes))
-    option = Option("--sexes", ",".join(f"{word}={sex}" for word, sex in zip(words, sexes)))
+    case = " and ".join(f"'{word}' is {SAID_SEXES[sex]}" for word, sex in sexes.items())
+    option = Option("--sexes", ",".join(f"{word}={sex}" for word, sex in sexes.items()))
     return (Suggestion(f"if {case}", (option,)),)
 
 
@@ -235,12 +240,8 @@ class CellsUnread(SheetFinding):
 
     def suggestions(self) -> tuple[Suggestion, ...]:
         field, word = self.cells.field, self.cells.texts[0].text
-        are_two = len(self.cells.texts) == 2 and not self.cells.more
-        if field is Field.SEX and are_two and self.cells.count == self.cells.said:
-            words = word, self.cells.texts[1].text
-            return sexes_of_two(words, ("m", "f")) + sexes_of_two(words, ("f", "m"))
         if field is Field.SEX and not any(map(str.isdigit, word)):
-            return sexes_of(word, "m", "f", *(["mc"] if word.casefold() in OF_CASTRATED else []))
+            return sexes_that_may_be(word)
         found = (tells_of_no_exit(word),) if field is Field.EXIT else ()
         # where most is read the column is the right one
         if field in OPTIONAL and 2 * self.cells.count >= self.cells.said:

@@ -208,30 +208,34 @@ class SireLeftLongBefore(PlausibilityWarning):
 
 @dataclass(frozen=True, slots=True)
 class CastratedSire(PlausibilityWarning):
-    """A wether, a gelding or another castrated male has offspring."""
+    """A wether, a gelding or another castrated male has offspring; `title` is that of a column of castrations that says
+    so by the word."""
 
     word: str
     progeny: int
     first: str
     line: int
+    title: str = ""
 
     severity = Severity.PARENTS
     code = "castrated sire"
     stored_fields = {"progeny": "calves"}
     message = Counted(
-        "it is the sire of {first}{maybe_line}, and {maybe_word}{maybe_of_book}",
-        "it is the sire of {first}{maybe_line}{maybe_more}, and {maybe_word}{maybe_of_book}",
+        "it is the sire of {first}{maybe_line}, and {maybe_word}{maybe_title}{maybe_of_book}",
+        "it is the sire of {first}{maybe_line}{maybe_more}, and {maybe_word}{maybe_title}{maybe_of_book}",
         "progeny",
     )
     parts = {
         "maybe_line": OptionalPart(" (line {line})"),
         "maybe_more": OptionalPart(" and of {more} more"),
-        "maybe_word": OptionalPart("its sex is '{word}'"),
+        "maybe_word": OptionalPart("its sex is '{word}'", when="is_of_sex"),
+        "maybe_title": OptionalPart("'{title}' says '{word}'"),
         "maybe_of_book": OptionalPart("the book has it as castrated", when="is_of_book"),
     }
 
     def values(self) -> Mapping[str, object]:
-        return {"more": self.progeny - 1 if self.progeny > 1 else None, "is_of_book": not self.word}
+        more = self.progeny - 1 if self.progeny > 1 else None
+        return {"more": more, "is_of_book": not self.word, "is_of_sex": not self.title}
 
 
 @dataclass(frozen=True, slots=True)

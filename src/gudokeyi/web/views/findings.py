@@ -55,13 +55,11 @@ def suggestions_of(findings: Iterable[Finding]) -> tuple[Suggestion, ...]:
 
 def days_of(findings: Iterable[Finding]) -> dict[str, list[int]]:
     """For each bound the days that findings suggest for it."""
-    found: dict[str, list[int]] = {bound: [] for bound in BOUNDS}
     # a large sheet has thousands, and few kinds suggest a bound
-    for finding in findings:
-        if isinstance(finding, BirthsTooNear | BirthsNearerThanUsual | YoungParent):
-            for option in (option for one in finding.suggestions() for option in one.options if option.option in found):
-                found[option.option].append(int(option.word))
-    return found
+    those = [*findings]
+    young = [max(one.days, 0) for one in those if isinstance(one, YoungParent)]
+    apart = [one.days for one in those if isinstance(one, (BirthsTooNear, BirthsNearerThanUsual))]
+    return dict(zip(BOUNDS, (young, apart)))
 
 
 def proposed(suggestions: Sequence[Suggestion], words: PageLanguage) -> list[Proposed]:
@@ -290,8 +288,9 @@ def first_of_each(entries: Iterable[Entry]) -> Iterator[Entry]:
     """The first entries of each kind, as many as are shown."""
     counts = collections.Counter[What]()
     for entry in entries:
-        places = places_of(entry)
-        for what in places:
+        is_first = False
+        for what in places_of(entry):
             counts[what] += 1
-        if any(counts[what] <= MOST_SHOWN for what in places):
+            is_first |= counts[what] <= MOST_SHOWN
+        if is_first:
             yield entry
