@@ -21,15 +21,14 @@ from gudokeyi.ingest.exits_unread import (
     ExitsUnread, codes_of_status, column_unread, living_unmarked, remarks_unread,
 )  # fmt: skip
 from gudokeyi.ingest.findings.columns import (
-    ColumnLost, ColumnsLack, ColumnUntitled, LikelierColumn, NamedColumnLacks, ParentsBeside, ParentsFromOther,
-    SheetFinding, TellsNoExits, TitleTwice,
+    ColumnLost, ColumnsLack, ColumnUntitled, LikelierColumn, NamedColumnLacks, SheetFinding, TellsNoExits, TitleTwice,
 )  # fmt: skip
 from gudokeyi.ingest.findings.rows import CastratedInRemarks, FieldUnread, StatusUnread
 from gudokeyi.ingest.findings.sheets import MOST_SHOWN
 from gudokeyi.ingest.many_texts import likely_among
-from gudokeyi.ingest.names_for_ids import names_for_ids
 from gudokeyi.ingest.owners_beside import owners_beside, persons_name
 from gudokeyi.ingest.parent_titles import MOST_ALIKE, PARENTS, columns_of_pair, columns_of_parent
+from gudokeyi.ingest.parents_beside import tell_parents_beside, tell_parents_from_others
 from gudokeyi.ingest.remarks import telling_castrations, telling_exits
 from gudokeyi.ingest.sheets import Sheet
 from gudokeyi.ingest.titles import (
@@ -342,30 +341,6 @@ def tell_untitled(columns: Columns) -> None:
         exits = sum(cells[one] for one in likely_among(cells) if has_word(one, TELLING_EXITS) or is_cross(one))
         line, text = next((line, texts[at]) for line, texts in columns.sheet.rows if at < len(texts) and texts[at])
         columns.notes.append(ColumnUntitled(letters_of(at), cells.total(), line, text, exits))
-
-
-def tell_parents_from_others(columns: Columns, parents: list[Field]) -> None:
-    """Parents whose ids stand in a column with another title than the usual ones."""
-    for name in (one for one in parents if one in columns.found):
-        at, usual = columns.found[name], columns_of_parent(columns.sheet, name)
-        others = [one for one in usual if columns.is_free(one)]
-        if others and at not in usual:
-            columns.notes.append(ParentsFromOther(name, columns.title(at), columns.title(others[0])))
-
-
-def tell_parents_beside(columns: Columns, unknown: Container[str]) -> None:
-    """Parents whose names stand in a column of their own, where those of others have their ids, and aren't read."""
-    sheet, found = columns.sheet, columns.found
-    for name in (one for one in PARENTS if one in columns.found):
-        read = {sheet.rows[place].line for place in names_for_ids(sheet.rows, sheet, found, name, unknown)}
-        for at in columns.of_parent(name):
-            both = zip(columns.sheet.rows, columns.cells(columns.found[name]), columns.cells(at))
-            lacking = [(row.line, beside) for row, id, beside in both if id in unknown and beside not in unknown]
-            lacking = [one for one in lacking if one[0] not in read] if lacking else []
-            if lacking and 2 * len(lacking) <= len(columns.sheet.rows):
-                title, beside = columns.title(columns.found[name]), columns.title(at)
-                others = tuple(line for line, _ in lacking[1:MOST_ALIKE])
-                columns.notes.append(ParentsBeside(title, beside, len(lacking), *lacking[0], others))
 
 
 # the different words that a column of sexes may have, and the different days that one of exits may

@@ -1,17 +1,49 @@
-"""Parents of whom a row has an id and, in a column that isn't read, a name that are two different animals of the
-list."""
+"""What is told of parents by other columns than those that are read: whose ids or names these have, and of whom a row
+has an id and a name that are two different animals of the list."""
 from __future__ import annotations
 
 import collections
 from collections.abc import Collection, Mapping
-from typing import NamedTuple
+from typing import TYPE_CHECKING, Container, NamedTuple
 
 from gudokeyi.domain.findings import Report
 from gudokeyi.domain.kinds import Field, Role
 from gudokeyi.domain.messages import MOST_NAMED
 from gudokeyi.ingest.animals import SheetAnimal
-from gudokeyi.ingest.columns import Columns
+from gudokeyi.ingest.findings.columns import ParentsBeside, ParentsFromOther
 from gudokeyi.ingest.findings.rows import ParentNamedOtherwise
+from gudokeyi.ingest.names_for_ids import names_for_ids
+from gudokeyi.ingest.parent_titles import PARENTS, columns_of_parent
+
+if TYPE_CHECKING:
+    from gudokeyi.ingest.columns import Columns
+
+# so many lines are told
+MOST_LINES = 20
+
+
+def tell_parents_from_others(columns: Columns, parents: list[Field]) -> None:
+    """Parents whose ids stand in a column with another title than the usual ones."""
+    for name in (one for one in parents if one in columns.found):
+        at, usual = columns.found[name], columns_of_parent(columns.sheet, name)
+        others = [one for one in usual if columns.is_free(one)]
+        if others and at not in usual:
+            columns.notes.append(ParentsFromOther(name, columns.title(at), columns.title(others[0])))
+
+
+def tell_parents_beside(columns: Columns, unknown: Container[str]) -> None:
+    """Parents whose names stand in a column of their own, where those of others have their ids, and aren't read."""
+    sheet, found = columns.sheet, columns.found
+    for name in (one for one in PARENTS if one in columns.found):
+        read = {sheet.rows[place].line for place in names_for_ids(sheet.rows, sheet, found, name, unknown)}
+        for at in columns.of_parent(name):
+            both = zip(columns.sheet.rows, columns.cells(columns.found[name]), columns.cells(at))
+            lacking = [(row.line, beside) for row, id, beside in both if id in unknown and beside not in unknown]
+            lacking = [one for one in lacking if one[0] not in read] if lacking else []
+            if lacking and 2 * len(lacking) <= len(columns.sheet.rows):
+                title, beside = columns.title(columns.found[name]), columns.title(at)
+                others = tuple(line for line, _ in lacking[1:MOST_LINES])
+                columns.notes.append(ParentsBeside(title, beside, len(lacking), *lacking[0], others))
 
 
 class NamedOtherwise(NamedTuple):
