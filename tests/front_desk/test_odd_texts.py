@@ -278,3 +278,34 @@ def test_row_with_a_sign_of_a_parent_without_one(desk: Desk) -> None:
     done.tells(f"line 4: DE103: {TWICE}")
     assert " 0 new, " in done.last and desk.parents()["DE103"] == ("DE102", "DE101")
     assert desk.parents()["DE104"] == ("DE102", "DE103")
+
+
+@pytest.mark.parametrize(
+    "name",
+    ["-", "0", "NN", "N.N.", "ohne Namen", "Unbekannt", "n/a", "sans nom", "unnamed", "o. N.", "---", "nan", "unbek."],
+)
+def test_no_name(desk: Desk, name: str) -> None:
+    """It is told once, and several animals that have it are as they were."""
+    rows = f"a1;{name};f;2019-03-24;;;X;\na2;Eva;m;2019-03-02;;;X;\na3;{{}};f;2021-03-02;a2;a1;X;\n"
+    told = "leave the cell empty, or write the name"
+    desk.take(TITLES + rows.format("Ida"), "--preview").shows(
+        f"to look at: 1 cell of the column 'name' says that there is no name, '{name}' in line 2: its animal counts as "
+        f"one without a name; {told}"
+    )
+    done = desk.take(TITLES + rows.format(name))
+    assert f"2 cells of the column 'name' say that there is no name, the first in line 2: '{name}' (2 times): their" in done.out
+    assert desk.parents()["a3"] == ("a2", "a1") and name not in desk.good("show", "a3").out.splitlines()[0]
+    assert " 0 new, 0 changed" in desk.take(TITLES + rows.format("")).last
+
+
+@pytest.mark.parametrize("name", ["Nina", "Nan", "Sans", "Nora N.", "Onno", "Nulla", "07", "Unbekannte Dame", "Kai"])
+def test_names_like_none(desk: Desk, name: str) -> None:
+    done = desk.take(f"{TITLES}a1;{name};f;2019-03-24;;;X;\na2;Eva;m;2019-03-02;;;X;\n")
+    assert "there is no name" not in done.told and name in desk.good("show", "a1").out
+
+
+@pytest.mark.parametrize("name, is_told", [("01.05.2012", True), ("2012-05-01", True), ("12.5", False), ("1.5 Eva", False)])
+def test_day_for_a_name(desk: Desk, name: str, is_told: bool) -> None:
+    """Also in a text file."""
+    done = desk.take(f"{TITLES}a1;{name};f;2019-03-24;;;X;\na2;Eva;m;2019-03-02;;;X;\n")
+    assert (f"line 2: a1: to look at: its name is the day {name}, which spreadsheets make" in done.out) == is_told

@@ -18,7 +18,7 @@ from gudokeyi.ingest.castrations import Castrations
 from gudokeyi.ingest.day_cells import Order
 from gudokeyi.ingest.day_forms import DayForms
 from gudokeyi.ingest.days import NAME
-from gudokeyi.ingest.days_for_ids import days_among
+from gudokeyi.ingest.days_for_ids import days_among, is_day
 from gudokeyi.ingest.exchanged_days import exchanged
 from gudokeyi.ingest.findings.cells import (
     BETWEEN_CELLS, DAYS, DayForText, DittoForText, IdAlone, IdOfOtherAlphabet, IdToCome, IdTooLong, IdUnlikeOthers,
@@ -29,6 +29,7 @@ from gudokeyi.ingest.findings.exits import Remark
 from gudokeyi.ingest.findings.files import GreyRows, HiddenRows
 from gudokeyi.ingest.findings.sheets import CutNumber, FormulaCell, Place
 from gudokeyi.ingest.inferred_values import lines_of_inferred_sexes
+from gudokeyi.ingest.no_names import names_told
 from gudokeyi.ingest.odd_ids import Oddity, odd_ids
 from gudokeyi.ingest.odd_texts import first_days, tell_exits_in_ids, tell_exits_in_names, tell_several_ids
 from gudokeyi.ingest.plain_rows import CELLS_OF, SIGNS, PlainRows, chooser, first_sum
@@ -111,6 +112,8 @@ def tell_odd_ids(animals: dict[str, SheetAnimal], known: Container[str], report:
 NO_NUMBER, AROUND = re.compile(r"\n([^\d\n]+)(?=\n)"), " .:…?!-–()"
 LIKE_DAY = re.compile(r"\n(\d{1,2}(?:-|\. ?)[^\W\d_]{3,9}\.?|[^\W\d_]{3,9}\.?-\d\d)(?=\n)")
 DAY_SHOWN = re.compile(rf"\d{{1,2}}(?:-|\. ?){NAME}|{NAME}-\d\d", re.IGNORECASE)
+# a text that may be a whole day, which is no name
+WHOLE_DAY = re.compile(r"\n(\d{4}-\d\d-\d\d|\d{1,2}(?:\. ?\d{1,2}\. ?|[/-]\d{1,2}[/-])\d{4})(?=\n)")
 
 
 def tell_ids_to_come(animals: dict[str, SheetAnimal], report: Report) -> set[str]:
@@ -139,7 +142,9 @@ def tell_days_for_texts(
 ) -> set[str]:
     """Ids or names that a spreadsheet has as days, in these lines, or among these texts as it shows them. Answers the
     ids of those that are told."""
-    shown, told = {*filter(DAY_SHOWN.fullmatch, LIKE_DAY.findall("\n".join(["", *texts, ""])))}, set[str]()
+    together, told = "\n".join(["", *texts, ""]), set[str]()
+    shown = {*filter(DAY_SHOWN.fullmatch, LIKE_DAY.findall(together))}
+    shown |= {*filter(is_day, WHOLE_DAY.findall(together))} if field is Field.NAME else set()
     for animal in animals.values() if shown or lines else ():
         text = animal.id if field is Field.ID else animal.name
         if text and (animal.line in lines or text in shown):
@@ -364,6 +369,8 @@ class Rows:
             title = self.sheet.titles[self.columns[Field.SEX]]
             self.notes += self.sexes.told(title)
             self.notes += one_sex_alone(title, self.texts(Field.SEX), self.sexes, animals.values())
+        if self.cells.no_names:
+            self.notes += names_told(self.unread.titles[Field.NAME], animals.values(), self.cells.no_names)
         self.notes += self.castrations.told(animals.values(), self.sexes)
         self.notes += first_days(animals, self.plain.different.get(Field.BIRTH, ()))
         self.notes += [] if self.month_first else self.exchanged_days()

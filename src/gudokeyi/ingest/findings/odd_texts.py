@@ -10,6 +10,7 @@ from gudokeyi.domain.wording import AllOf, Counted, OptionalPart, Text
 from gudokeyi.ingest.findings.cells import OddId
 from gudokeyi.ingest.findings.columns import SheetFinding
 from gudokeyi.ingest.findings.files import lines_told
+from gudokeyi.ingest.findings.sheets import TextCount
 
 # so many lines of rows are told
 MOST_LINES = 9
@@ -81,3 +82,22 @@ class FirstDays(SheetFinding):
 
     def values(self) -> Mapping[str, object]:
         return lines_told(self.lines, self.count)
+
+
+@dataclass(frozen=True, slots=True)
+class NoNames(SheetFinding):
+    """Texts in the column of names that are none: how many, the first line, and what they are."""
+
+    title: str
+    count: int
+    line: int
+    said: tuple[TextCount, ...]
+
+    code = "no names"
+    message = Counted(
+        "{count} cell of the column '{title}' says that there is no name, {said} in line {line}: its animal counts as one "
+        "without a name; leave the cell empty, or write the name",
+        "{count} cells of the column '{title}' say that there is no name, the first in line {line}: {said}: their "
+        "animals count as ones without a name; leave the cells empty, or write the names",
+        "count",
+    )
