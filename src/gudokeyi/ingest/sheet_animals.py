@@ -31,7 +31,9 @@ from gudokeyi.ingest.findings.sheets import CutNumber, FormulaCell, Place
 from gudokeyi.ingest.inferred_values import lines_of_inferred_sexes
 from gudokeyi.ingest.no_names import names_told
 from gudokeyi.ingest.odd_ids import Oddity, odd_ids
-from gudokeyi.ingest.odd_texts import first_days, tell_exits_in_ids, tell_exits_in_names, tell_several_ids
+from gudokeyi.ingest.odd_texts import (
+    exits_in_sexes, first_days, tell_exits_in_ids, tell_exits_in_names, tell_several_ids,
+)  # fmt: skip
 from gudokeyi.ingest.plain_rows import CELLS_OF, SIGNS, PlainRows, chooser, first_sum
 from gudokeyi.ingest.rows_as_meant import DITTO, Takers
 from gudokeyi.ingest.same_ids import SameIds, tell_used_again
@@ -368,6 +370,7 @@ class Rows:
         if Field.SEX in self.columns:
             title = self.sheet.titles[self.columns[Field.SEX]]
             self.notes += self.sexes.told(title)
+            self.notes += exits_in_sexes(title, animals, self.plain.different[Field.SEX])
             self.notes += one_sex_alone(title, self.texts(Field.SEX), self.sexes, animals.values())
         if self.cells.no_names:
             self.notes += names_told(self.unread.titles[Field.NAME], animals.values(), self.cells.no_names)

@@ -5,7 +5,7 @@ from __future__ import annotations
 from collections.abc import Mapping
 from dataclasses import dataclass
 
-from gudokeyi.domain.findings import PlausibilityWarning, Severity
+from gudokeyi.domain.findings import PlausibilityWarning
 from gudokeyi.domain.wording import AllOf, Counted, OptionalPart, Text
 from gudokeyi.ingest.findings.cells import OddId
 from gudokeyi.ingest.findings.columns import SheetFinding
@@ -45,6 +45,26 @@ class IdTellsOfExit(PlausibilityWarning):
             when="is_living",
         ),
     }
+
+
+@dataclass(frozen=True, slots=True)
+class SexTellsOfExit(SheetFinding):
+    """The same of cells for the sex, which is read without that: how many, and the first."""
+
+    title: str
+    count: int
+    text: str
+    line: int
+
+    code = "sex tells of exit"
+    message = Counted(
+        "{count} cell of the column '{title}' seems to tell of an exit besides the sex, '{text}' in line {line}, and its "
+        "animal counts as living: if it has left, write that into the column for exits, and here the sex alone",
+        "{count} cells of the column '{title}' seem to tell of exits besides the sexes, the first '{text}' in line {line}, "
+        "and their animals count as living: if they have left, write that into the column for exits, and here the sexes "
+        "alone",
+        "count",
+    )
 
 
 @dataclass(frozen=True, slots=True)
