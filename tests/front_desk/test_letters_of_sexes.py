@@ -54,7 +54,10 @@ def test_wethers_in_words(desk: Desk, text: str) -> None:
         # beside M alone it is weiblich, also where a word of German lists stands besides
         (("M", "W"), "MF"), (("m", "w", "weiblich", "F"), "MFFF"), (("Bock", "Ziege", "m", "w"), "MFMF"),
         (("Bock", "Aue", "W"), "MFF"),
-        (("M", "F", "W"), "MFC"), (("Ram", "Ewe", "wether", "W"), "MFCC"), (("Widder", "Aue", "W"), "MFM"),
+        (("M", "F", "W"), "MFC"), (("Ram", "Ewe", "wether", "W"), "MFCC"),
+        # beside Widder too, but not where A stands for Aue
+        (("Widder", "Aue", "W"), "MFF"), (("Widder", "Aue", "w?"), "MFF"), (("Widder", "Aue", "W", "A"), "MFMF"),
+        (("Widder", "Hammel", "Aue", "w"), "MCFF"), (("Widder", "ewe", "W"), "MFM"), (("Wallach", "Zibbe", "W"), "CFC"),
         (("M", "F", "W", "W"), "MFFF"), (("R", "E", "W"), "MFC"), (("B", "D", "W"), "MFC"),
         (("m", "w", "w (gelded)", "w (kastriert)"), "MFCF"), (("m", "w", "w (not gelded)"), "MFF"),
         # beside letters that aren't known none is asked alone
@@ -146,6 +149,17 @@ def test_letter_of_german_titles(desk: Desk, titles: str, female: str, wanted: s
     assert f"'w' (7 animals) of the column '{titles.split(',')[2]}' is {read}" in done.out
     assert sexes_of(desk, "DE301", "DE307") == [wanted] * 2
     assert any(one.endswith("w=mc" if wanted == "female" else "w=f") for one in done.commands())
+
+
+@pytest.mark.parametrize("parents, wanted", [("", "female"), (",,DE103", "female"), (",DE103,", "male"), (",DE103,DE103", "female")])
+def test_letter_beside_widder(desk: Desk, parents: str, wanted: str) -> None:
+    """It is weiblich there and told, unless animals that have it are sires."""
+    rows = "DE100,Anna,Aue,2015-03-01,,\nDE101,Bert,Widder,2015-03-02,,\nDE103,Dora,w,2015-03-02,,\n"
+    rows += f"DE105,Eva,Aue,2019-03-02{parents or ',,'}\n"
+    done = desk.take(GERMAN_TITLES.format(sex="Geschlecht") + rows)
+    assert sexes_of(desk, "DE103") == [wanted]
+    told = f"'w' (1 animal) of the column 'Geschlecht' is {OF_WEIBLICH}, though females are written otherwise there too: 'Aue'"
+    assert (told in done.out) == (wanted == "female") and ("'w' as 'Widder'" in done.out) == (wanted == "male")
 
 
 NONE_KNOWN = "no word for a sex of the column 'Sex' is known: "

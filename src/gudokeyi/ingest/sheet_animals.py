@@ -37,7 +37,7 @@ from gudokeyi.ingest.odd_texts import (
 from gudokeyi.ingest.plain_rows import CELLS_OF, SIGNS, PlainRows, chooser, first_sum
 from gudokeyi.ingest.rows_as_meant import DITTO, Takers
 from gudokeyi.ingest.same_ids import SameIds, tell_used_again
-from gudokeyi.ingest.sexes import Sexes, one_sex_alone, parents_by_text, sexes_in_book, sexes_of_dams
+from gudokeyi.ingest.sexes import Sexes, one_sex_alone, parents_by_text, sexes_in_book, sexes_of_parents
 from gudokeyi.ingest.sheets import Sheet, SheetRow
 from gudokeyi.ingest.spellings import CUT
 from gudokeyi.ingest.struck_cells import struck_told
@@ -246,7 +246,7 @@ class Rows:
         # of words of a title such as `Dog/Bitch` cells have the first letters; letters of a title are no cells
         named = [word for word in words_of_sexes(titles.get(Field.SEX, "")) if len(word) > 1]
         return Sexes(
-            [*self.texts(Field.SEX), *named], given, functools.partial(sexes_of_dams, self.texts),
+            [*self.texts(Field.SEX), *named], given, functools.partial(sexes_of_parents, self.texts),
             functools.partial(sexes_in_book, self.texts, of_book), is_german(titles.values()),
         )  # fmt: skip
 
