@@ -162,6 +162,29 @@ def test_letter_beside_widder(desk: Desk, parents: str, wanted: str) -> None:
     assert (told in done.out) == (wanted == "female") and ("'w' as 'Widder'" in done.out) == (wanted == "male")
 
 
+@pytest.mark.parametrize("male, female", [("m", "w"), ("Widder", "Aue"), ("männlich", "weiblich"), ("♂", "♀"), ("1,0", "0,1")])
+def test_marks_in_two_columns(desk: Desk, male: str, female: str) -> None:
+    """Of these it is told that they aren't read, and not that a parent stands there; nor beside a column of sexes."""
+    titles, sex = f"Ohrmarke;Name;{male};{female};Geburt;Vater;Mutter{{}}\n", ";Geschlecht"
+    rows = "1;Ada;;x;01.03.2015;;{}\n2;Bert;x;;02.03.2015;;{}\n3;Cora;;x;03.03.2018;2;1{}\n"
+    told = (
+        f"to look at: no sex is read: the columns '{male}' and '{female}' have 3 marks for it, the first in line 2, and "
+        "words of one column alone are read, as m and f: each sex is inferred; write such a column"
+    )
+    done = desk.take(titles.format("") + rows.format("", "", ""), "--preview")
+    done.shows(told)
+    assert "sex" in done.told and "a parent in" not in done.told
+    done = desk.take(titles.format(sex) + rows.format(";w", ";m", ";w"))
+    assert "no sex is read" not in done.told and " 0 inferred" in done.last
+
+
+@pytest.mark.parametrize("cell", ["", "2015-03-04", "Rex"])
+def test_no_marks_of_sexes(desk: Desk, cell: str) -> None:
+    """Neither where few rows have one, nor where cells say more."""
+    rows = f"1;Ada;;{cell};2015-03-01;;\n2;Bert;x;;2015-03-02;;\n3;Cora;;{cell};2018-03-03;2;1\n4;Dora;;;2018-03-03;2;1\n"
+    assert "no sex is read" not in desk.take(f"Ohrmarke;Name;m;w;Geburt;Vater;Mutter\n{rows}").told
+
+
 NONE_KNOWN = "no word for a sex of the column 'Sex' is known: "
 OTHER_LETTERS = "1,Ada,C,2015-03-01,,\n2,,B,2015-03-02,,\n3,,C,2017-03-02,2,Ada\n4,,S,2018-03-02,2,3\n5,,B,2018-03-02,2,3\n"
 

@@ -26,6 +26,7 @@ from gudokeyi.ingest.findings.sheets import MOST_SHOWN
 from gudokeyi.ingest.many_texts import likely_among
 from gudokeyi.ingest.names_for_ids import names_for_ids
 from gudokeyi.ingest.remarks import telling_castrations, telling_exits
+from gudokeyi.ingest.sex_marks import columns_of_marks, marks_told
 from gudokeyi.ingest.sheets import Sheet
 from gudokeyi.ingest.titles import (
     KNOWN_DOUBTFUL, KNOWN_PAIRS, KNOWN_REASONS, KNOWN_TITLES, NEEDED, TITLES, known_titles, names_both_sexes,
@@ -342,7 +343,8 @@ def tell_parents_beside(columns: Columns, unknown: Container[str]) -> None:
     sheet, found = columns.sheet, columns.found
     for name in (one for one in PARENTS if one in columns.found):
         read = {sheet.rows[place].line for place in names_for_ids(sheet.rows, sheet, found, name, unknown)}
-        for at in columns.titled(KNOWN_TITLES[name]):
+        marks = [] if Field.SEX in found else columns_of_marks(sheet, found.values())
+        for at in (at for at in columns.titled(KNOWN_TITLES[name]) if at not in marks):
             both = zip(columns.sheet.rows, columns.cells(columns.found[name]), columns.cells(at))
             lacking = [(row.line, beside) for row, id, beside in both if id in unknown and beside not in unknown]
             lacking = [one for one in lacking if one[0] not in read] if lacking else []
@@ -359,6 +361,8 @@ MOST_SEXES, MOST_DIFFERENT = 40, 2000
 def tell_unread_fields(columns: Columns, named: Mapping[str, str]) -> None:
     """Columns that aren't read, and look like what no column is read for: one of sexes, or one of exits' days."""
     looks = {Field.SEX: looks_like_sexes, Field.EXIT: looks_like_exit_days}
+    if Field.SEX not in columns.found and named.get(Field.SEX) != "":
+        columns.notes += marks_told(columns.sheet, columns.found.values())
     for name, look in looks.items():
         if name in columns.found or named.get(name) == "":
             continue
