@@ -26,7 +26,7 @@ from gudokeyi.ingest.findings.cells import (
 )  # fmt: skip
 from gudokeyi.ingest.findings.columns import SheetFinding
 from gudokeyi.ingest.findings.exits import Remark
-from gudokeyi.ingest.findings.files import GreyRows, HiddenRows
+from gudokeyi.ingest.findings.files import ColoredRows, GreyRows, HiddenRows
 from gudokeyi.ingest.findings.sheets import CutNumber, FormulaCell, Place
 from gudokeyi.ingest.inferred_values import lines_of_inferred_sexes
 from gudokeyi.ingest.no_names import names_told
@@ -398,8 +398,8 @@ class Rows:
         tell_odd_ids(animals, told | tell_several_ids(animals, told, self.report), self.report)
 
     def marked_rows(self, animals: dict[str, SheetAnimal]) -> Iterator[SheetFinding]:
-        """The animals' rows that are filled grey, those that are hidden, and what is struck through."""
-        marked = {GreyRows: self.sheet.grey, HiddenRows: self.sheet.hidden}
+        """The animals' rows that are filled grey or otherwise, those that are hidden, and what is struck through."""
+        marked = {GreyRows: self.sheet.grey, ColoredRows: self.sheet.colored, HiddenRows: self.sheet.hidden}
         are_marked = any(marked.values()) or any(self.sheet.struck)
         lines = {*map(LINE_OF, animals.values())} if are_marked else set[int]()
         for kind, marks in marked.items():
