@@ -54,7 +54,10 @@ def test_wethers_in_words(desk: Desk, text: str) -> None:
         # beside M alone it is weiblich, also where a word of German lists stands besides
         (("M", "W"), "MF"), (("m", "w", "weiblich", "F"), "MFFF"), (("Bock", "Ziege", "m", "w"), "MFMF"),
         (("Bock", "Aue", "W"), "MFF"),
-        (("M", "F", "W"), "MFC"), (("Ram", "Ewe", "wether", "W"), "MFCC"), (("Widder", "Aue", "W"), "MFM"),
+        (("M", "F", "W"), "MFC"), (("Ram", "Ewe", "wether", "W"), "MFCC"),
+        # beside Widder too, but not where A stands for Aue
+        (("Widder", "Aue", "W"), "MFF"), (("Widder", "Aue", "w?"), "MFF"), (("Widder", "Aue", "W", "A"), "MFMF"),
+        (("Widder", "Hammel", "Aue", "w"), "MCFF"), (("Widder", "ewe", "W"), "MFM"), (("Wallach", "Zibbe", "W"), "CFC"),
         (("M", "F", "W", "W"), "MFFF"), (("R", "E", "W"), "MFC"), (("B", "D", "W"), "MFC"),
         (("m", "w", "w (gelded)", "w (kastriert)"), "MFCF"), (("m", "w", "w (not gelded)"), "MFF"),
         # beside letters that aren't known none is asked alone
@@ -146,6 +149,40 @@ def test_letter_of_german_titles(desk: Desk, titles: str, female: str, wanted: s
     assert f"'w' (7 animals) of the column '{titles.split(',')[2]}' is {read}" in done.out
     assert sexes_of(desk, "DE301", "DE307") == [wanted] * 2
     assert any(one.endswith("w=mc" if wanted == "female" else "w=f") for one in done.commands())
+
+
+@pytest.mark.parametrize("parents, wanted", [("", "female"), (",,DE103", "female"), (",DE103,", "male"), (",DE103,DE103", "female")])
+def test_letter_beside_widder(desk: Desk, parents: str, wanted: str) -> None:
+    """It is weiblich there and told, unless animals that have it are sires."""
+    rows = "DE100,Anna,Aue,2015-03-01,,\nDE101,Bert,Widder,2015-03-02,,\nDE103,Dora,w,2015-03-02,,\n"
+    rows += f"DE105,Eva,Aue,2019-03-02{parents or ',,'}\n"
+    done = desk.take(GERMAN_TITLES.format(sex="Geschlecht") + rows)
+    assert sexes_of(desk, "DE103") == [wanted]
+    told = f"'w' (1 animal) of the column 'Geschlecht' is {OF_WEIBLICH}, though females are written otherwise there too: 'Aue'"
+    assert (told in done.out) == (wanted == "female") and ("'w' as 'Widder'" in done.out) == (wanted == "male")
+
+
+@pytest.mark.parametrize("male, female", [("m", "w"), ("Widder", "Aue"), ("männlich", "weiblich"), ("♂", "♀"), ("1,0", "0,1")])
+def test_marks_in_two_columns(desk: Desk, male: str, female: str) -> None:
+    """Of these it is told that they aren't read, and not that a parent stands there; nor beside a column of sexes."""
+    titles, sex = f"Ohrmarke;Name;{male};{female};Geburt;Vater;Mutter{{}}\n", ";Geschlecht"
+    rows = "1;Ada;;x;01.03.2015;;{}\n2;Bert;x;;02.03.2015;;{}\n3;Cora;;x;03.03.2018;2;1{}\n"
+    told = (
+        f"to look at: no sex is read: the columns '{male}' and '{female}' have 3 marks for it, the first in line 2, and "
+        "words of one column alone are read, as m and f: each sex is inferred; write such a column"
+    )
+    done = desk.take(titles.format("") + rows.format("", "", ""), "--preview")
+    done.shows(told)
+    assert "sex" in done.told and "a parent in" not in done.told
+    done = desk.take(titles.format(sex) + rows.format(";w", ";m", ";w"))
+    assert "no sex is read" not in done.told and " 0 inferred" in done.last
+
+
+@pytest.mark.parametrize("cell", ["", "2015-03-04", "Rex"])
+def test_no_marks_of_sexes(desk: Desk, cell: str) -> None:
+    """Neither where few rows have one, nor where cells say more."""
+    rows = f"1;Ada;;{cell};2015-03-01;;\n2;Bert;x;;2015-03-02;;\n3;Cora;;{cell};2018-03-03;2;1\n4;Dora;;;2018-03-03;2;1\n"
+    assert "no sex is read" not in desk.take(f"Ohrmarke;Name;m;w;Geburt;Vater;Mutter\n{rows}").told
 
 
 NONE_KNOWN = "no word for a sex of the column 'Sex' is known: "

@@ -13,7 +13,8 @@ TELLS = "seems to tell of an exit, and it counts as living"
     "name",
     ["Susi †", "Viola † 12.3.2022", "Hans +", "Berta (tot)", "Olga verk.", "Rex sold", "Ida (verkauft 2022)",
      "Uwe - tot", "Mia +2022", "Ute geschl. 5/22", "Zora Verkauft", "Belle (vendue)", "Berta RIP", "Max (eingeschl.)",
-     "Luna ✝", "Ina euth.", "Otto (rip 2020)", "R.I.P. Bella", "Ute eingeschl. 2020", "Bob PTS"],
+     "Luna ✝", "Ina euth.", "Otto (rip 2020)", "R.I.P. Bella", "Ute eingeschl. 2020", "Bob PTS",
+     "RIP Kepton Ruby 6th", "rip Susi", "+ Susi", "+Susi", "† Susi"],
 )  # fmt: skip
 def test_exit_in_a_name(desk: Desk, name: str) -> None:
     """It is told of an animal that counts as living, and not of one that has an exit."""
@@ -29,10 +30,23 @@ def test_exit_in_a_name(desk: Desk, name: str) -> None:
 @pytest.mark.parametrize(
     "name",
     ["Walking Dead", "Gone With The Wind", "Lotte", "Mort", "Totila", "Sold Out", "Gestüt Max", "C+A", "Verka", "Ripley",
-     "Tripoli", "TRIPOLI", "Rip van Winkle", "Lady Rip", "RIP Curl", "GRIP"],
+     "Tripoli", "TRIPOLI", "Rip van Winkle", "Lady Rip", "RIP CURL", "GRIP"],
 )  # fmt: skip
 def test_name_alone(desk: Desk, name: str) -> None:
     assert "its name" not in desk.take(f"{TITLES}a1;{name};f;2019-03-24;;;X;\na2;Eva;f;2019-03-02;;;X;\n").told
+
+
+@pytest.mark.parametrize("sex, is_told", [("f†", True), ("f (tot)", True), ("Aue †", True), ("f", False)])
+def test_exit_in_a_sex(desk: Desk, sex: str, is_told: bool) -> None:
+    """The sex is read, and it is told of one that counts as living."""
+    rows = f"a1;Ida;{sex};2019-03-24;;;X;{{}}\na2;Eva;f;2019-03-02;;;X;\n"
+    done = desk.take(TITLES + rows.format(""))
+    told = (
+        f"to look at: 1 cell of the column 'sex' seems to tell of an exit besides the sex, '{sex}' in line 2, and its "
+        "animal counts as living: if it has left, write that into the column for exits, and here the sex alone"
+    )
+    assert (told in done.out) == is_told and "F" in desk.numbers()["a1"]
+    assert "of an exit besides" not in desk.take(TITLES + rows.format("2022-03-12")).told
 
 
 FOUR = "DE101;Anna;f;2015-03-01;;;X;\nDE102;Bert;m;2015-03-02;;;X;\n{};Cora;f;2019-03-03;DE102;DE101;X;{}\n"
@@ -278,3 +292,34 @@ def test_row_with_a_sign_of_a_parent_without_one(desk: Desk) -> None:
     done.tells(f"line 4: DE103: {TWICE}")
     assert " 0 new, " in done.last and desk.parents()["DE103"] == ("DE102", "DE101")
     assert desk.parents()["DE104"] == ("DE102", "DE103")
+
+
+@pytest.mark.parametrize(
+    "name",
+    ["-", "0", "NN", "N.N.", "ohne Namen", "Unbekannt", "n/a", "sans nom", "unnamed", "o. N.", "---", "nan", "unbek."],
+)
+def test_no_name(desk: Desk, name: str) -> None:
+    """It is told once, and several animals that have it are as they were."""
+    rows = f"a1;{name};f;2019-03-24;;;X;\na2;Eva;m;2019-03-02;;;X;\na3;{{}};f;2021-03-02;a2;a1;X;\n"
+    told = "leave the cell empty, or write the name"
+    desk.take(TITLES + rows.format("Ida"), "--preview").shows(
+        f"to look at: 1 cell of the column 'name' says that there is no name, '{name}' in line 2: its animal counts as "
+        f"one without a name; {told}"
+    )
+    done = desk.take(TITLES + rows.format(name))
+    assert f"2 cells of the column 'name' say that there is no name, the first in line 2: '{name}' (2 times): their" in done.out
+    assert desk.parents()["a3"] == ("a2", "a1") and name not in desk.good("show", "a3").out.splitlines()[0]
+    assert " 0 new, 0 changed" in desk.take(TITLES + rows.format("")).last
+
+
+@pytest.mark.parametrize("name", ["Nina", "Nan", "Sans", "Nora N.", "Onno", "Nulla", "07", "Unbekannte Dame", "Kai"])
+def test_names_like_none(desk: Desk, name: str) -> None:
+    done = desk.take(f"{TITLES}a1;{name};f;2019-03-24;;;X;\na2;Eva;m;2019-03-02;;;X;\n")
+    assert "there is no name" not in done.told and name in desk.good("show", "a1").out
+
+
+@pytest.mark.parametrize("name, is_told", [("01.05.2012", True), ("2012-05-01", True), ("12.5", False), ("1.5 Eva", False)])
+def test_day_for_a_name(desk: Desk, name: str, is_told: bool) -> None:
+    """Also in a text file."""
+    done = desk.take(f"{TITLES}a1;{name};f;2019-03-24;;;X;\na2;Eva;m;2019-03-02;;;X;\n")
+    assert (f"line 2: a1: to look at: its name is the day {name}, which spreadsheets make" in done.out) == is_told

@@ -93,8 +93,9 @@ def test_days_before_the_birth() -> None:
     at_birth = dated(AWAY, BORN)
     assert found("Süd", on(early), AWAY) == ((NORD, [at_birth], 1, True), str(BORN), told, INFERRED)
     assert found("Süd", on(early), at_birth) == ((NORD, [at_birth], 1, False), "", told, INFERRED)
-    for since in on(early), on(BORN), year_of(BORN.year):
-        assert found("Nord", since) == ((NORD, [], 0, False), "", [], INFERRED)
+    moved = [OwnerDayMoved("Nord", early, BORN)]
+    for since, its in (on(early), moved), (on(BORN), []), (year_of(BORN.year), []):
+        assert found("Nord", since) == ((NORD, [], 0, False), "", its, INFERRED)
     for owner in "", "Nord":
         wanted = (NO_OWNER, [transfer(NUMBER, DAY, NO_OWNER, NORD)], 0, False) if owner else (NO_OWNER, [], 0, False)
         assert found(owner, on(DAY), first=NO_OWNER).owners == wanted

@@ -131,6 +131,17 @@ def test_month_or_year_of_an_owner(desk: Desk) -> None:
     done.tells(f"line 3: d: to look at: {told} its owner before")
 
 
+def test_day_before_the_birth(desk: Desk) -> None:
+    """Of the first owner it is told in a later sheet as in the first one, and changes nothing."""
+    rows = "id;sex;birth;sire;dam;owner;since\ns;M;2001-03-01;;;Meier;{}\nd;F;2001-03-02;;;Meier;{}\n"
+    told = "to look at: it has been of 'Meier' since 2001-03-0{}, and not since 1999-05-06, which can't be with its birth"
+    desk.take(rows.format("1999-05-06", "")).tells(f"line 2: s: {told.format(1)}, its exit or its owner before")
+    for _ in range(2):
+        done = desk.take(rows.format("", "1999-05-06"))
+        done.tells(f"line 3: d: {told.format(2)}, its exit or its owner before")
+        assert " 0 changed" in done.last and not desk.transfer_days()
+
+
 def test_day_before_an_inferred_one(desk: Desk) -> None:
     """The inferred day of the owner before gives way."""
     desk.take(TITLES + PARENTS)

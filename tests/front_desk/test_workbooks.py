@@ -211,6 +211,39 @@ def test_grey_rows(desk: Desk, workbook: openpyxl.Workbook, grey: openpyxl.style
     assert "grey fill" not in desk.good("import", "sheet.xlsx", "--book", "striped").out
 
 
+RED = openpyxl.styles.PatternFill("solid", fgColor="FFFF0000")
+COLORS = (
+    openpyxl.styles.Color(rgb="FF92D050"), openpyxl.styles.Color(theme=5, tint=0.6), openpyxl.styles.Color(indexed=5),
+)  # fmt: skip
+
+
+@pytest.mark.parametrize("color", COLORS)
+def test_colored_rows(desk: Desk, workbook: openpyxl.Workbook, color: openpyxl.styles.Color) -> None:
+    """The few animals' rows that have a colour are told once, also where all others have another one; titles, columns
+    and single cells are none, and nor are rows that are many, or have many colours."""
+    sheet, fill = workbook["Tiere"], openpyxl.styles.PatternFill("solid", fgColor=color)
+    for at in range(4, 40):
+        for column, text in enumerate((f"X{at}", "f", "2010-01-01", "B1", ""), 1):
+            sheet.cell(at, column, text)
+    for cell in [*sheet[1], *sheet["B"], *sheet[7], *sheet[9][1:], sheet["C12"]]:
+        cell.fill = fill
+    save(desk, workbook)
+    told = "a fill of another colour than the others"
+    said = f"2 rows have {told}, the first is line 7: nothing is read from it; if it means something, as that animals have"
+    done = desk.good("import", "sheet.xlsx")
+    assert done.out.count(told) == 1 and f"to look at: {said} left, write that into a column" in done.out
+    for at in range(1, 40):
+        for cell in sheet[at]:
+            cell.fill = RED if at == 8 else fill
+    save(desk, workbook)
+    assert f"1 row has {told}, line 8: nothing" in desk.good("import", "sheet.xlsx", "--book", "green").out
+    for at in range(1, 40):
+        for cell in sheet[at]:
+            cell.fill = openpyxl.styles.PatternFill("solid", fgColor=f"FF00{at // 3:02}FF")
+    save(desk, workbook)
+    assert told not in desk.good("import", "sheet.xlsx", "--book", "of-owners").out
+
+
 def test_hidden_rows(desk: Desk, workbook: openpyxl.Workbook) -> None:
     """Animals' rows that are hidden are told once, however they are, and taken; empty rows are none."""
     sheet = workbook["Tiere"]

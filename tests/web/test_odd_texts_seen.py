@@ -16,14 +16,14 @@ LIST = TITLES + (
     "Böcke;;;;;;\nDE 0001;Max †;2014-05-03;;;Huber Hans;tot 2020\nDE 0002;Sepp;17/03/2014;;;Huber Hans;\n"
     "DE 0003 / DE 0004;Uwe und Udo;2014-04-02;;;Huber Hans;\nZiegen;;;;;;\nDE 0005;Eva RIP;28/04/2014;;;Huber Hans;\n"
     "Pending;Ida;2016-07-03;;DE 0003;Huber Hans;\n;Hof Süd;;;;;\nDE 0006;Ute;01.01.1900;;;Huber Hans;\n"
-    "DE 0007;dito;03.01.2017;;;Huber Hans;\n"
+    "DE 0007;dito;03.01.2017;;;Huber Hans;\nDE 0008;N.N.;04.01.2017;;;Huber Hans;\n"
 )
 SAID = (
     "its name 'Max †' seems to tell of an exit", "its name 'Eva RIP' seems to tell of an exit",
     "Its id has DE 0003 and DE 0004 in it", "the column G has no title",
     "seems to have exchanged day and month in 'geb'", "'Pending' reads like no id",
     "its name is 'dito', which stands for the cell above", "has the birth day 1900-01-01", "'Böcke' stands above 3 animals whose rows say no sex",
-    "(is DE 0003 / DE 0004 meant?)",
+    "(is DE 0003 / DE 0004 meant?)", "says that there is no name, 'N.N.' in line 12",
 )  # fmt: skip
 
 

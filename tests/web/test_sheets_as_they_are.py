@@ -205,6 +205,9 @@ def test_new_tags_of_a_family(empty_site: Site, language: str) -> None:
         ("en", "2 rows have a grey fill, the first is line 4: nothing is read from it"),
         ("de", "2 Zeilen, zuerst 4, sind grau hinterlegt: daraus wird nichts gelesen"),
         ("fr", "2 lignes, d'abord la 4, ont un fond gris : rien n'en est lu"),
+        ("en", "1 row has a fill of another colour than the others, line 3: nothing is read from it"),
+        ("de", "1 Zeile, 3, ist in einer anderen Farbe hinterlegt als die übrigen: daraus wird nichts gelesen"),
+        ("fr", "1 ligne, la 3, a un fond d'une autre couleur que les autres : rien n'en est lu"),
         ("en", "2 rows are hidden, the first is line 5: they are taken like all others"),
         ("de", "2 Zeilen, zuerst 5, sind ausgeblendet: sie werden wie alle übernommen"),
         ("fr", "2 lignes, d'abord la 5, sont masquées : elles sont prises comme toutes"),
@@ -225,6 +228,8 @@ def test_grey_rows(empty_site: Site, language: str, told: str) -> None:
         sheet.append([f"{at:03}", "w", f"1.2.{2010 + at}", "", ""])
     for cell in [*sheet[4], *sheet[6]]:
         cell.fill = PatternFill("solid", fgColor="FFBFBFBF")
+    for cell in sheet[3]:
+        cell.fill = PatternFill("solid", fgColor="FFFF0000")
     sheet.row_dimensions.group(5, 6, hidden=True)
     sheet["B8"].font = Font(strike=True)
     workbook.save(file)

@@ -213,6 +213,8 @@ class AnimalCells:
         self.readings, self.takers = Readings(), Takers({})
         # what stands beside the days of exits, by lines
         self.reasons: Mapping[int, str] = {}
+        # the texts of the column of names that are none, once these are looked at
+        self.no_names: Collection[str] = ()
         # the titles and texts of other columns that tell of castrations, by lines
         self.castrations: Mapping[int, tuple[str, str]] = {}
         # the lines of rows whose sex a list of the book marks as inferred
@@ -239,6 +241,7 @@ class AnimalCells:
         sire = "" if self.unknown.is_one(sire) else sire
         dam = "" if self.unknown.is_one(dam) else dam
         owner = "" if names_no_owner(owner) else owner
+        name = "" if name in self.no_names else name
         animal = SheetAnimal(id, line, name, "", ANY_DAY, sire, dam, owner, cells)
         if not f"{id}{name}{owner}{sire}{dam}".isascii():
             self.look_at_letters(animal)

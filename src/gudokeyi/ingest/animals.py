@@ -105,7 +105,7 @@ class SheetAnimal:
         new.registration_number, new.birth_basis = self.registration_number, self.birth_basis
         new.exit_basis, new.sex_source, new.named_in = self.exit_basis, self.sex_source, self.named_in
         new.unread, new.owner_before = self.unread, self.owner_before
-        new.is_since_sale, new.likely_sex = self.is_since_sale, self.likely_sex
+        new.is_since_sale, new.likely_sex, new.castration = self.is_since_sale, self.likely_sex, self.castration
         return new
 
     def where(self) -> MessageText:

@@ -30,6 +30,7 @@ from gudokeyi.ingest.owners_beside import owners_beside, persons_name
 from gudokeyi.ingest.parent_titles import MOST_ALIKE, PARENTS, columns_of_pair, columns_of_parent
 from gudokeyi.ingest.parents_beside import tell_parents_beside, tell_parents_from_others
 from gudokeyi.ingest.remarks import telling_castrations, telling_exits
+from gudokeyi.ingest.sex_marks import marks_told
 from gudokeyi.ingest.sheets import Sheet
 from gudokeyi.ingest.titles import (
     KNOWN_DOUBTFUL, KNOWN_REASONS, KNOWN_STATES, KNOWN_TITLES, NEEDED, TITLES, known_titles, names_both_sexes,
@@ -350,6 +351,8 @@ MOST_SEXES, MOST_DIFFERENT = 40, 2000
 def tell_unread_fields(columns: Columns, named: Mapping[str, str]) -> None:
     """Columns that aren't read, and look like what no column is read for: one of sexes, or one of exits' days."""
     looks = {Field.SEX: looks_like_sexes, Field.EXIT: looks_like_exit_days}
+    if Field.SEX not in columns.found and named.get(Field.SEX) != "":
+        columns.notes += marks_told(columns.sheet, columns.found.values())
     for name, look in looks.items():
         if name in columns.found or named.get(name) == "":
             continue

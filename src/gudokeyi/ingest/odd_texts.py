@@ -8,9 +8,12 @@ import re
 from collections.abc import Collection, Iterable, Iterator, Mapping
 
 from gudokeyi.domain.findings import Report
+from gudokeyi.domain.kinds import Field
 from gudokeyi.ingest.animals import SheetAnimal
 from gudokeyi.ingest.findings.columns import SheetFinding
-from gudokeyi.ingest.findings.odd_texts import MOST_LINES, FirstDays, IdTellsOfExit, NameTellsOfExit, TwoIds
+from gudokeyi.ingest.findings.odd_texts import (
+    MOST_LINES, FirstDays, IdTellsOfExit, NameTellsOfExit, SexTellsOfExit, TwoIds,
+)  # fmt: skip
 from gudokeyi.ingest.texts import listed, shape
 
 # Names that tell of an exit.
@@ -27,13 +30,13 @@ SHORT = listed("verk, gest, verst, verend, geschl, schl, eingeschl, abg, abgeg, 
 SMALL = listed(
     "tot, weg, verk, gest, eingeschl, euth, dead, died, sold, culled, exported, gone, rip, pts, mort, morte, dcd"
 )
-# letters that stand for words, in capitals at the end of a name; another name may begin with them
+# letters that stand for words, in capitals at the end of a name; another name in capitals may begin with them
 LETTERS = listed("RIP, PTS")
 WITH_POINTS = "r.i.p"
 SIGNS = ("†", "✝", "+")
-# a cross before a day or in brackets, or a plus alone at the end
+# a cross before a day, in brackets or first of all, or a plus alone at the end
 EXIT = re.compile(
-    rf"[†✝]|\+ ?(?=\d)|(?<= )\+$|\( ?\+|(?i:\b(?:{'|'.join(SURE)})\b)|(?i:\b(?:{'|'.join(SHORT)})\.(?!\w))|"
+    rf"[†✝]|\+ ?(?=\d)|(?<= )\+$|\( ?\+|^\+ ?(?=[^\W\d_])|^(?:RIP[,:]? +(?=.*[a-zß-ÿ])|rip +(?=[A-ZÀ-Þ]))|(?i:\b(?:{'|'.join(SURE)})\b)|(?i:\b(?:{'|'.join(SHORT)})\.(?!\w))|"
     rf"(?i:[(\[] ?(?:{'|'.join(SMALL)})\b[^)\]]*[)\]])|(?i:\br\.i\.p\b)|"
     rf"(?<=[ ,;/–-])(?:{'|'.join((*SMALL, *LETTERS))})[.!]?(?: +[\d./-]+)?$"
 )
@@ -61,6 +64,15 @@ def tell_exits_in_names(animals: Mapping[str, SheetAnimal], names: Iterable[str]
     for animal in animals.values() if telling else ():
         if animal.name in telling and counts_as_living(animal):
             report.add(animal.line, animal.id, NameTellsOfExit(animal.name))
+
+
+def exits_in_sexes(title: str, animals: Mapping[str, SheetAnimal], texts: Iterable[str]) -> list[SheetFinding]:
+    """What is told of animals that count as living, and whose cell for the sex has one of these texts that tells of an
+    exit too, as `Aue †`."""
+    telling = names_with_exits(texts)
+    those = [one for one in animals.values() if counts_as_living(one)] if telling else []
+    found = [(text, one.line) for one in those if (text := one.cells.get(Field.SEX, "")) in telling and one.sex]
+    return [SexTellsOfExit(title, len(found), *found[0])] if found else []
 
 
 def tell_exits_in_ids(animals: Mapping[str, SheetAnimal], marked: Mapping[int, str], report: Report) -> None:

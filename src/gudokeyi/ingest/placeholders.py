@@ -11,6 +11,7 @@ from gudokeyi.domain.findings import Report
 from gudokeyi.domain.kinds import Field
 from gudokeyi.ingest.animals import ID_OF, NAME_OF, SheetAnimal
 from gudokeyi.ingest.days import NAME
+from gudokeyi.ingest.days_for_ids import is_day
 from gudokeyi.ingest.findings.cells import DayForText, DittoForText, IdToCome, TruthValue
 from gudokeyi.ingest.rows_as_meant import DITTO
 from gudokeyi.ingest.words import KNOWN_TO_COME
@@ -20,6 +21,8 @@ from gudokeyi.ingest.words import KNOWN_TO_COME
 NO_NUMBER, AROUND = re.compile(r"\n([^\d\n]+)(?=\n)"), " .:…?!-–()"
 LIKE_DAY = re.compile(r"\n(\d{1,2}(?:-|\. ?)[^\W\d_]{3,9}\.?|[^\W\d_]{3,9}\.?-\d\d)(?=\n)")
 DAY_SHOWN = re.compile(rf"\d{{1,2}}(?:-|\. ?){NAME}|{NAME}-\d\d", re.IGNORECASE)
+# a text that may be a whole day, which is no name
+WHOLE_DAY = re.compile(r"\n(\d{4}-\d\d-\d\d|\d{1,2}(?:\. ?\d{1,2}\. ?|[/-]\d{1,2}[/-])\d{4})(?=\n)")
 
 
 @functools.lru_cache(1)
@@ -59,12 +62,18 @@ def days_shown(texts: tuple[str, ...]) -> set[str]:
     return {*filter(DAY_SHOWN.fullmatch, LIKE_DAY.findall("\n".join(["", *texts, ""])))}
 
 
+@functools.lru_cache(1)
+def whole_days(names: tuple[str, ...]) -> set[str]:
+    return {*filter(is_day, WHOLE_DAY.findall("\n".join(["", *names, ""])))}
+
+
 def tell_days_for_texts(
     animals: dict[str, SheetAnimal], field: Field, lines: Collection[int], texts: Iterable[str], report: Report
 ) -> set[str]:
     """Ids or names that a spreadsheet has as days, in these lines, or among these texts as it shows them. Answers the
     ids of those that are told."""
-    shown, told = days_shown(tuple(texts)), set[str]()
+    all_texts, told = tuple(texts), set[str]()
+    shown = days_shown(all_texts) | (whole_days(all_texts) if field is Field.NAME else set())
     for animal in animals.values() if shown or lines else ():
         text = animal.id if field is Field.ID else animal.name
         if text and (animal.line in lines or text in shown):

@@ -19,6 +19,7 @@ from gudokeyi.ingest.animals import SheetAnimal
 from gudokeyi.ingest.day_cells import ExitCell
 from gudokeyi.ingest.days import ANY_DAY, Span
 from gudokeyi.ingest.encodings import LOST, decoded_twice
+from gudokeyi.ingest.no_names import no_names
 from gudokeyi.ingest.sexes import is_unsure
 from gudokeyi.ingest.sheets import Sheet
 from gudokeyi.ingest.statuses import taker_of_owner
@@ -103,6 +104,7 @@ class PlainRows:
         self.leave_words(self.words)
         self.leave_ids()
         self.leave_texts()
+        self.look_at_names()
         self.animals = self.read()
 
     def read(self) -> list[SheetAnimal]:
@@ -113,7 +115,7 @@ class PlainRows:
             self.odd |= {at for at, (birth, left) in days if left and birth.first > left}
         self.leave_embryos()
         animals = [*map(
-            SheetAnimal, self.texts[Field.ID], map(LINE_OF, self.rows), self.kept(Field.NAME), self.sexes(), births,
+            SheetAnimal, self.texts[Field.ID], map(LINE_OF, self.rows), self.names(), self.sexes(), births,
             self.parents(Field.SIRE), self.parents(Field.DAM), self.owners(), self.said(), self.days(Field.SINCE, None),
             lefts,
         )]  # fmt: skip
@@ -148,6 +150,7 @@ class PlainRows:
         found.leave_words(found.words - self.words)
         for field, texts in self.different.items():
             found.leave(Field(field), {*before.read_otherwise(cells, Field(field), texts)})
+        found.look_at_names()
         return found if 2 * len(found.odd) <= len(self.rows) else None
 
     def take_rows(self, sheet: Sheet) -> None:
@@ -237,8 +240,11 @@ class PlainRows:
         """The value of each text of a column."""
         return [*map(values.__getitem__, self.texts[field])]
 
-    def kept(self, field: Field) -> Iterable[str]:
-        return self.texts.get(field) or itertools.repeat("")
+    def look_at_names(self) -> None:
+        self.cells.no_names = no_names(self.different.get(Field.NAME, ()), self.cells.unknown.known)
+
+    def names(self) -> Iterable[str]:
+        return self.without(Field.NAME, self.cells.no_names) if Field.NAME in self.texts else itertools.repeat("")
 
     def without(self, field: Field, empty: Collection[str]) -> Iterable[str]:
         """The texts of a column, some of which say nothing."""

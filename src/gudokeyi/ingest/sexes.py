@@ -60,12 +60,13 @@ class Sexes:
         self,
         texts: list[str],
         given: dict[str, str],
-        of_dams: Callable[[], Iterable[str]] = tuple,
+        of_parents: Callable[[Field], Iterable[str]] = lambda _: (),
         of_book: Callable[[], Iterable[tuple[str, str]]] = tuple,
         is_german: bool = False,
     ) -> None:
-        """`of_dams` are those of its cells whose animals are dams, `of_book` those whose animals the book has, each
-        with the sex there; `is_german` where its list has German titles."""
+        """`of_parents` are those of its cells whose animals are sires or dams, `of_book` those whose animals the book
+        has, each with the sex there; `is_german` where its list has German titles."""
+        self.of_parents = of_parents
         self.of_book, self.is_german = of_book, is_german
         self.known = KNOWN_SEXES | {word: "M" if sex == CASTRATED_MALE else sex for word, sex in given.items()}
         self.given = given
@@ -79,7 +80,7 @@ class Sexes:
         self.letters = self.letters_of_three({sex_word(text) for text in {*texts}}, given)
         self.letter: LetterRead | None = None
         if LETTER not in {*given, *self.letters}:
-            self.letter = self.letter_beside_females(texts, of_dams)
+            self.letter = self.letter_beside_females(texts)
             self.leave_open(texts)
         # the same words stand in many cells
         self.meaning = functools.cache(self.find)
@@ -108,7 +109,7 @@ class Sexes:
                 return {letter: longer[letter][0][0] if letter in alone else by_letter[letter] for letter in by_letter}
         return {}
 
-    def letter_beside_females(self, texts: list[str], of_dams: Callable[[], Iterable[str]]) -> LetterRead | None:
+    def letter_beside_females(self, texts: list[str]) -> LetterRead | None:
         """What `W` is where the column has other words for females too: the word that begins with it, a castrated male
         beside such as `F` and `ewe`, unless dams have it too, or else a female, as it is beside `M` alone."""
         written = {sex_word(text): text for text in reversed([*dict.fromkeys(texts)])}
@@ -119,10 +120,10 @@ class Sexes:
         is_of_pair = "m" in sexes and not are_english or "M" not in sexes.values() and not are_english
         if LETTER not in written or not females or is_of_pair or "F" in {sex for _, sex in longer}:
             return None
-        if longer:
+        if longer and (are_english or not self.is_weiblich(written.keys(), longer)):
             self.letters = {LETTER: longer[0][0]}
             return None
-        counts, dams = (collections.Counter(map(sex_word, cells)) for cells in (texts, of_dams()))
+        counts, dams = (collections.Counter(map(sex_word, cells)) for cells in (texts, self.of_parents(Field.DAM)))
         others, some = (sum(those[word] for word in females) for those in (dams, counts))
         if dams[LETTER] > max(FEW_MISTAKEN, others // MANY_MORE):
             return None
@@ -132,6 +133,14 @@ class Sexes:
             self.letters = {LETTER: WETHER}
         letter, *beside = (SexCount(written[word], counts[word]) for word in (LETTER, *sorted(females)))
         return LetterRead(letter, tuple(beside), is_castrated)
+
+    def is_weiblich(self, words: Collection[str], longer: Collection[tuple[str, str]]) -> bool:
+        """Is the letter a female beside such words as Widder and Aue, which German lists have? Not beside the letter
+        of the other one, nor where more of those that have it are sires than dams."""
+        if OF_AUE in words or any(is_castrated(word) for word, _ in longer):
+            return False
+        sires, dams = (sum(sex_word(one) == LETTER for one in self.of_parents(role)) for role in (Field.SIRE, Field.DAM))
+        return sires <= dams
 
     def is_wether(self, beside: Collection[str], is_likely: bool) -> bool:
         """Is the letter a castrated male beside these words for females? It stays what the book's own animals are that
@@ -221,11 +230,11 @@ class Sexes:
         return told
 
 
-def sexes_of_dams(column: Callable[[str], list[str]]) -> list[str]:
-    """The cells for the sexes of rows whose ids or names are dams, by the texts of the columns."""
-    dams = {*map(str.casefold, {*column(Field.DAM)})} - {""}
+def sexes_of_parents(column: Callable[[str], list[str]], role: Field) -> list[str]:
+    """The cells for the sexes of rows whose ids or names are sires, or dams, by the texts of the columns."""
+    parents = {*map(str.casefold, {*column(role)})} - {""}
     rows = zip(*map(column, (Field.ID, Field.NAME, Field.SEX)))
-    return [sex for id, name, sex in rows if id.casefold() in dams or name.casefold() in dams]
+    return [sex for id, name, sex in rows if id.casefold() in parents or name.casefold() in parents]
 
 
 def has_letter_beside_females(texts: Collection[str]) -> bool:

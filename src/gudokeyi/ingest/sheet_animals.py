@@ -28,18 +28,21 @@ from gudokeyi.ingest.findings.cells import (
 )  # fmt: skip
 from gudokeyi.ingest.findings.columns import SheetFinding
 from gudokeyi.ingest.findings.exits import Remark
-from gudokeyi.ingest.findings.files import GreyRows, HiddenRows
+from gudokeyi.ingest.findings.files import ColoredRows, GreyRows, HiddenRows
 from gudokeyi.ingest.findings.sheets import CutNumber, FormulaCell, Place
 from gudokeyi.ingest.inferred_values import lines_of_inferred_sexes
+from gudokeyi.ingest.no_names import names_told
 from gudokeyi.ingest.odd_ids import Oddity, odd_ids
-from gudokeyi.ingest.odd_texts import first_days, tell_exits_in_ids, tell_exits_in_names, tell_several_ids
+from gudokeyi.ingest.odd_texts import (
+    exits_in_sexes, first_days, tell_exits_in_ids, tell_exits_in_names, tell_several_ids,
+)  # fmt: skip
 from gudokeyi.ingest.placeholders import (
     TRUTHS, tell_days_for_texts, tell_dittos, tell_ids_to_come, tell_truths,
 )  # fmt: skip
 from gudokeyi.ingest.plain_rows import CELLS_OF, SIGNS, PlainRows, chooser, first_sum, may_be_sum
 from gudokeyi.ingest.rows_as_meant import Takers
 from gudokeyi.ingest.same_ids import SameIds, tell_used_again
-from gudokeyi.ingest.sexes import Sexes, one_sex_alone, parents_by_text, sexes_in_book, sexes_of_dams
+from gudokeyi.ingest.sexes import Sexes, one_sex_alone, parents_by_text, sexes_in_book, sexes_of_parents
 from gudokeyi.ingest.sheets import Sheet, SheetRow
 from gudokeyi.ingest.spellings import CUT
 from gudokeyi.ingest.struck_cells import struck_told
@@ -206,7 +209,7 @@ class Rows:
         # of words of a title such as `Dog/Bitch` cells have the first letters; letters of a title are no cells
         named = [word for word in words_of_sexes(titles.get(Field.SEX, "")) if len(word) > 1]
         return Sexes(
-            [*self.texts(Field.SEX), *named], given, functools.partial(sexes_of_dams, self.texts),
+            [*self.texts(Field.SEX), *named], given, functools.partial(sexes_of_parents, self.texts),
             functools.partial(sexes_in_book, self.texts, of_book), is_german(titles.values()),
         )  # fmt: skip
 
@@ -330,7 +333,10 @@ class Rows:
         if Field.SEX in self.columns:
             title = self.sheet.titles[self.columns[Field.SEX]]
             self.notes += self.sexes.told(title)
+            self.notes += exits_in_sexes(title, animals, self.plain.different[Field.SEX])
             self.notes += one_sex_alone(title, self.texts(Field.SEX), self.sexes, animals.values())
+        if self.cells.no_names:
+            self.notes += names_told(self.unread.titles[Field.NAME], animals.values(), self.cells.no_names)
         self.notes += self.castrations.told(animals.values(), self.sexes)
         self.notes += first_days(animals, self.plain.different.get(Field.BIRTH, ()))
         self.notes += [] if self.month_first else self.exchanged_days()
@@ -355,8 +361,8 @@ class Rows:
         tell_odd_ids(animals, told | tell_several_ids(animals, told, self.report), self.report)
 
     def marked_rows(self, animals: dict[str, SheetAnimal]) -> Iterator[SheetFinding]:
-        """The animals' rows that are filled grey, those that are hidden, and what is struck through."""
-        marked = {GreyRows: self.sheet.grey, HiddenRows: self.sheet.hidden}
+        """The animals' rows that are filled grey or otherwise, those that are hidden, and what is struck through."""
+        marked = {GreyRows: self.sheet.grey, ColoredRows: self.sheet.colored, HiddenRows: self.sheet.hidden}
         are_marked = any(marked.values()) or any(self.sheet.struck)
         lines = {*map(LINE_OF, animals.values())} if are_marked else set[int]()
         for kind, marks in marked.items():

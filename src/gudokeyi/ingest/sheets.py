@@ -1,6 +1,7 @@
 """A spreadsheet as rows of cells: CSV in one of three separators and three encodings, or `.xlsx`."""
 from __future__ import annotations
 
+import collections
 import csv
 import functools
 import io
@@ -37,8 +38,8 @@ BLANKS = ("  ", " \n", "\n ", " \r", "\r ")
 BEGINNING, LEAST = 5, 3
 # an apostrophe by which a spreadsheet knows a text; names such as `'t Hof`, and quoted ones, have one of their own
 APOSTROPHE = re.compile(rf"{TEXT}(?=\w)(?!(?i:[stnk])[ -][^\W\d])(?!.*{TEXT}$)")
-# so great a part of the rows at most is marked by grey
-MOST_GREY = 0.4
+# so great a part of the rows at most is marked by grey, and by other colours
+MOST_GREY, MOST_COLORED = 0.4, 0.1
 Score = Callable[[list[str]], int]
 
 
@@ -113,6 +114,8 @@ class Sheet:
     as_before: str = ""
     # the lines of rows that are filled grey
     grey: list[int] = field(default_factory=list)
+    # and of the few that have another fill of their own
+    colored: list[int] = field(default_factory=list)
     # and of those that a workbook hides
     hidden: list[int] = field(default_factory=list)
     # what is struck through in a workbook
@@ -160,6 +163,14 @@ def marked_by_grey(grey: list[int], line: int, rows: int) -> list[int]:
     return below if len(below) <= MOST_GREY * rows else []
 
 
+def marked_by_color(colored: Mapping[int, int], line: int, rows: int) -> list[int]:
+    """The lines below that of the titles that have a fill that few rows have; none where many have such fills."""
+    below = {one: fill for one, fill in colored.items() if one > line}
+    counts, most = collections.Counter(below.values()), max(1, MOST_COLORED * rows)
+    few = sorted(one for one, fill in below.items() if counts[fill] <= most)
+    return few if len(few) <= most else []
+
+
 @dataclass
 class FileRead:
     """The rows of a file with the titles among them, and what is read beside them, as `Sheet` has it."""
@@ -174,6 +185,7 @@ class FileRead:
     taken: str
     formulas: Formulas | None = None
     grey: list[int] = field(default_factory=list)
+    colored: Mapping[int, int] = field(default_factory=dict)
     hidden: list[int] = field(default_factory=list)
     struck: Struck = NOTHING_STRUCK
     shown: Shown = field(default_factory=dict)
@@ -187,7 +199,8 @@ def read_file_of_workbook(file: GivenFile, score: Score, worksheet: str, before:
     rows = [SheetRow(*one) for one in found.rows]
     return FileRead(
         rows, found.how, found.faults, found.unread, found.tops, best_worksheet, found.title, found.formulas,
-        found.grey, found.hidden, found.struck, found.shown, found.days, found.titles, found.title * found.as_before,
+        found.grey, found.colored, found.hidden, found.struck, found.shown, found.days, found.titles,
+        found.title * found.as_before,
     )  # fmt: skip
 
 
@@ -234,7 +247,8 @@ def read_sheet(file: GivenFile, score: Score, worksheet: str = "", before: Named
     return Sheet(
         line, ordered.titles, below, read.how, read.faults, {}, ordered.places(unseen), read.formulas, unread, above,
         decision=Decision(read.tops, read.best, read.taken, first, at), worksheets=read.worksheets,
-        as_before=read.as_before, grey=marked_by_grey(read.grey, line, len(below)), hidden=read.hidden,
+        as_before=read.as_before, grey=marked_by_grey(read.grey, line, len(below)),
+        colored=marked_by_color(read.colored, line, len(below)), hidden=read.hidden,
         struck=read.struck._replace(cells=ordered.places(read.struck.cells)), shown=ordered.places(read.shown),
         days=ordered.columns(read.days), other_orders=ordered.moved, added=ordered.added,
     )  # fmt: skip

@@ -20,7 +20,7 @@ from gudokeyi.domain.cells import from_spreadsheets
 from gudokeyi.domain.findings import ImportRefused
 from gudokeyi.domain.messages import Mistake
 from gudokeyi.ingest.files import MOST_CELLS, MOST_ROWS
-from gudokeyi.ingest.fills import grey_lines
+from gudokeyi.ingest.fills import filled_lines
 from gudokeyi.ingest.findings.columns import SheetFinding
 from gudokeyi.ingest.findings.files import (
     DigitsLost, FormulasWithoutValue, NotesAtCells, StruckWithin, WorksheetLacks, WorksheetUnclear,
@@ -186,6 +186,8 @@ class Worksheet(NamedTuple):
     unread: list[SheetFinding]
     # the numbers of rows that are filled grey
     grey: list[int]
+    # and of those that have a fill of another colour, which has a number too
+    colored: Mapping[int, int]
     # and of those that it hides
     hidden: list[int]
     # and what is struck through
@@ -227,9 +229,9 @@ def read_workbook(
     others = [f"'{title}'" for title in titles if title != titles[at]]
     how = f"the worksheet '{titles[at]}' of an .xlsx file" + (f"; not read: {', '.join(others)}" if others else "")
     how = how if others else "an .xlsx file"
-    found = faults(texts), formulas(values, texts), unread(values, struck), grey_lines(values), hidden_lines(values)
-    besides = struck_through(values, struck), shown_cells(values), days_of(values)
-    return Worksheet(rows, how, *found, *besides, titles[at], tops, tuple(titles), as_before)
+    found, fills = (faults(texts), formulas(values, texts), unread(values, struck)), filled_lines(values, rows)
+    besides = hidden_lines(values), struck_through(values, struck), shown_cells(values), days_of(values)
+    return Worksheet(rows, how, *found, *fills, *besides, titles[at], tops, tuple(titles), as_before)
 
 
 def opened(path: pathlib.Path, data: bytes, values: bool) -> Any:

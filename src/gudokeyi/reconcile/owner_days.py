@@ -280,11 +280,15 @@ class OwnerDays:
         if animal.since is None or owner_code == NO_OWNER or self.is_later(animal):
             return made(Owners, (owner_code, [], 0, False))
         if animal.since.first <= animal.born:
-            if animal.since.last < animal.born:
-                self.tell(animal, OwnerDayMoved(animal.owner, animal.since.last, animal.born))
+            self.tell_before_birth(animal, animal.since)
             return made(Owners, (owner_code, [], 0, False))
         only = [transfer(animal.registration_number, self.day_said(animal, animal.since), NO_OWNER, owner_code)]
         return Owners(NO_OWNER, self.in_order(animal, only, animal.since), 0, False)
+
+    def tell_before_birth(self, animal: SheetAnimal, since: Span) -> None:
+        """The first owner has it from its birth on, also where the sheet says a day before."""
+        if since.last < animal.born:
+            self.tell(animal, OwnerDayMoved(animal.owner, since.last, animal.born))
 
     def of_sold(self, animal: SheetAnimal, owner_code: int) -> Owners:
         """A new animal that its first owner sold."""
@@ -318,6 +322,7 @@ class OwnerDays:
         if since is None or not animal.owner or self.is_later(animal):
             return None
         if not record.from_owner and since.first <= animal.born:
+            self.tell_before_birth(animal, since)
             return None
         if since.is_day:
             animal.owner_day = OwnerDay.GIVEN

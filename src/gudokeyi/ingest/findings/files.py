@@ -311,6 +311,23 @@ class GreyRows(SheetFinding):
 
 
 @dataclass(frozen=True, slots=True)
+class ColoredRows(SheetFinding):
+    """The same of rows with a fill of another colour, which few have."""
+
+    count: int
+    line: int
+
+    code = "colored rows"
+    message = Counted(
+        "{count} row has a fill of another colour than the others, line {line}: nothing is read from it; if it means "
+        "something, as that an animal has left, write that into a column",
+        "{count} rows have a fill of another colour than the others, the first is line {line}: nothing is read from it; "
+        "if it means something, as that animals have left, write that into a column",
+        "count",
+    )
+
+
+@dataclass(frozen=True, slots=True)
 class HiddenRows(SheetFinding):
     """Rows that a worksheet hides: how many, and the first of them."""
 

@@ -5,11 +5,12 @@ from __future__ import annotations
 from collections.abc import Mapping
 from dataclasses import dataclass
 
-from gudokeyi.domain.findings import PlausibilityWarning, Severity
+from gudokeyi.domain.findings import PlausibilityWarning
 from gudokeyi.domain.wording import AllOf, Counted, OptionalPart, Text
 from gudokeyi.ingest.findings.cells import OddId
 from gudokeyi.ingest.findings.columns import SheetFinding
 from gudokeyi.ingest.findings.files import lines_told
+from gudokeyi.ingest.findings.sheets import TextCount
 
 # so many lines of rows are told
 MOST_LINES = 9
@@ -47,6 +48,26 @@ class IdTellsOfExit(PlausibilityWarning):
 
 
 @dataclass(frozen=True, slots=True)
+class SexTellsOfExit(SheetFinding):
+    """The same of cells for the sex, which is read without that: how many, and the first."""
+
+    title: str
+    count: int
+    text: str
+    line: int
+
+    code = "sex tells of exit"
+    message = Counted(
+        "{count} cell of the column '{title}' seems to tell of an exit besides the sex, '{text}' in line {line}, and its "
+        "animal counts as living: if it has left, write that into the column for exits, and here the sex alone",
+        "{count} cells of the column '{title}' seem to tell of exits besides the sexes, the first '{text}' in line {line}, "
+        "and their animals count as living: if they have left, write that into the column for exits, and here the sexes "
+        "alone",
+        "count",
+    )
+
+
+@dataclass(frozen=True, slots=True)
 class TwoIds(OddId):
     """An id that has several within which are written as other ids of the sheet."""
 
@@ -81,3 +102,22 @@ class FirstDays(SheetFinding):
 
     def values(self) -> Mapping[str, object]:
         return lines_told(self.lines, self.count)
+
+
+@dataclass(frozen=True, slots=True)
+class NoNames(SheetFinding):
+    """Texts in the column of names that are none: how many, the first line, and what they are."""
+
+    title: str
+    count: int
+    line: int
+    said: tuple[TextCount, ...]
+
+    code = "no names"
+    message = Counted(
+        "{count} cell of the column '{title}' says that there is no name, {said} in line {line}: its animal counts as one "
+        "without a name; leave the cell empty, or write the name",
+        "{count} cells of the column '{title}' say that there is no name, the first in line {line}: {said}: their "
+        "animals count as ones without a name; leave the cells empty, or write the names",
+        "count",
+    )

@@ -6,7 +6,7 @@ from collections.abc import Mapping
 from dataclasses import dataclass
 
 from gudokeyi.domain.changes import Option
-from gudokeyi.domain.findings import Suggestion
+from gudokeyi.domain.findings import Severity, Suggestion
 from gudokeyi.domain.wording import SEXES, Counted, OptionalPart, Text, Told
 from gudokeyi.ingest.findings.columns import SheetFinding
 from gudokeyi.ingest.findings.sheets import CellsUnread, TextCount, sexes_of, sexes_of_all, sexes_that_may_be
@@ -78,6 +78,25 @@ class SexesUnknown(CellsUnread):
         others = (one.text for one in self.sexes if not (one.sex() or any(map(str.isdigit, one.text))))
         single = (sexes_of(text, sex) for text, sex in by_offspring.items())
         return (*at_once, *itertools.chain(*single, *map(sexes_that_may_be, others)))
+
+
+@dataclass(frozen=True, slots=True)
+class SexMarksUnread(SheetFinding):
+    """Two columns, as `m` and `w`, have marks for the sexes, and no column has words for them: how many marks, and the
+    first line with one."""
+
+    male: str
+    female: str
+    count: int
+    line: int
+
+    decides_much = True
+    severity = Severity.ANIMALS
+    code = "sex marks unread"
+    message = Text(
+        "no sex is read: the columns '{male}' and '{female}' have {count} marks for it, the first in line {line}, and words "
+        "of one column alone are read, as m and f: each sex is inferred; write such a column"
+    )
 
 
 @dataclass(frozen=True, slots=True)
