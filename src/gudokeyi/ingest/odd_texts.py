@@ -42,8 +42,8 @@ EXIT = re.compile(
 )
 
 
-# a sheet that is looked at again has the same
-@functools.lru_cache(1)
+# a sheet that is looked at again has the same names and words for sexes
+@functools.lru_cache(2)
 def names_with_exits(names: tuple[str, ...]) -> set[str]:
     """Those of many names that tell of an exit. Those alone are looked at that have one of the words within."""
     in_small = {name: name.lower() for name in names}
@@ -69,7 +69,7 @@ def tell_exits_in_names(animals: Mapping[str, SheetAnimal], names: Iterable[str]
 def exits_in_sexes(title: str, animals: Mapping[str, SheetAnimal], texts: Iterable[str]) -> list[SheetFinding]:
     """What is told of animals that count as living, and whose cell for the sex has one of these texts that tells of an
     exit too, as `Aue †`."""
-    telling = names_with_exits(texts)
+    telling = names_with_exits(tuple(texts))
     those = [one for one in animals.values() if counts_as_living(one)] if telling else []
     found = [(text, one.line) for one in those if (text := one.cells.get(Field.SEX, "")) in telling and one.sex]
     return [SexTellsOfExit(title, len(found), *found[0])] if found else []

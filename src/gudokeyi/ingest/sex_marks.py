@@ -30,4 +30,5 @@ def marks_told(sheet: Sheet, read: Collection[int]) -> list[SexMarksUnread]:
         return []
     cells = zip(sheet.rows, *map(sheet.column, places))
     lines = [row.line for row, *marks in cells if any(marks)]
-    return [SexMarksUnread(*(sheet.titles[at] for at in places), len(lines), lines[0])]
+    male, female = (sheet.titles[at] for at in places)
+    return [SexMarksUnread(male, female, len(lines), lines[0])]

@@ -229,9 +229,11 @@ def read_workbook(
     others = [f"'{title}'" for title in titles if title != titles[at]]
     how = f"the worksheet '{titles[at]}' of an .xlsx file" + (f"; not read: {', '.join(others)}" if others else "")
     how = how if others else "an .xlsx file"
-    found, fills = (faults(texts), formulas(values, texts), unread(values, struck)), filled_lines(values, rows)
-    besides = hidden_lines(values), struck_through(values, struck), shown_cells(values), days_of(values)
-    return Worksheet(rows, how, *found, *fills, *besides, titles[at], tops, tuple(titles), as_before)
+    return Worksheet(
+        rows, how, faults(texts), formulas(values, texts), unread(values, struck), *filled_lines(values, rows),
+        hidden_lines(values), struck_through(values, struck), shown_cells(values), days_of(values), titles[at], tops,
+        tuple(titles), as_before,
+    )  # fmt: skip
 
 
 def opened(path: pathlib.Path, data: bytes, values: bool) -> Any:
