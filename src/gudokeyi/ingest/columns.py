@@ -55,6 +55,8 @@ class Columns:
     notes: list[SheetFinding] = field(default_factory=list)
     # the columns that have parts of days
     parts: Collection[int] = ()
+    # the titles that would be read for fields of which somebody says that no column has them
+    refused: dict[str, str] = field(default_factory=dict)
 
     def cells(self, at: int) -> list[str]:
         return self.sheet.column(at)

@@ -30,7 +30,8 @@ from gudokeyi.reconcile.findings.obstacles import StrictlyNothing
 from gudokeyi.reconcile.findings.own_columns import BreedersNotKept
 from gudokeyi.reconcile.ids import call_as_now, give_numbers, letters_unsaid, numbers_begin
 from gudokeyi.reconcile.import_options import (
-    ImportOptions, again, limits_of, remember, remember_columns, remember_worksheet, rename_owners, with_settings,
+    ImportOptions, again, limits_of, remember, remember_columns, remember_refused, remember_worksheet, rename_owners,
+    with_settings,
 )  # fmt: skip
 from gudokeyi.reconcile.impossible_parents import leave_out_faulty_parents
 from gudokeyi.reconcile.limits import Limits
@@ -244,7 +245,7 @@ def import_sheet_into(
     tell_columns_not_kept(read, own, next_book)
     lacks_own = tell_lost_own_columns(book, own, read.columns, next_book.report)
     understood = understood_of(path, read, used, {} if lacks_own else titles_before(book), own)
-    remember_places(book, read, import_options.worksheet)
+    remember_places(book, read, import_options)
 
     def take_own() -> None:
         take_own_values(next_book, own, read.sheet, bool(words[Remembered.MONTH_FIRST]))
@@ -254,10 +255,11 @@ def import_sheet_into(
     return finish(next_book, program, import_options, file, about)
 
 
-def remember_places(book: Book, read: ReadSheet, worksheet: str) -> None:
-    """From which worksheet and columns the next sheet is read."""
+def remember_places(book: Book, read: ReadSheet, import_options: ImportOptions) -> None:
+    """From which worksheet and columns the next sheet is read, and which columns aren't."""
     remember_columns(book, read.columns.titles_found())
-    remember_worksheet(book, worksheet, read.sheet.worksheets)
+    remember_refused(book, import_options, read.columns.refused)
+    remember_worksheet(book, import_options.worksheet, read.sheet.worksheets)
 
 
 def tell_columns_not_kept(read: ReadSheet, own: OwnSheetColumns, next_book: NextBook) -> None:

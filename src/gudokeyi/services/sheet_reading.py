@@ -21,7 +21,8 @@ from gudokeyi.domain.kinds import Field, Remembered
 from gudokeyi.domain.messages import MOST_NAMED
 from gudokeyi.ingest.animals import UNREAD_OF, SheetAnimal
 from gudokeyi.ingest.births_beside import year_column
-from gudokeyi.ingest.columns import Columns, find_columns
+from gudokeyi.ingest.columns import Columns
+from gudokeyi.ingest.columns_said_none import NoneSaid, with_said_none
 from gudokeyi.ingest.exits_beside import columns_beside
 from gudokeyi.ingest.files import GivenFile
 from gudokeyi.ingest.names_for_ids import names_columns
@@ -29,13 +30,14 @@ from gudokeyi.ingest.rows_as_meant import Notes, as_meant, marks_in, member_numb
 from gudokeyi.ingest.sexes import has_letter_beside_females
 from gudokeyi.ingest.sheet_animals import Rows
 from gudokeyi.ingest.sheets import Sheet, read_sheet
+from gudokeyi.ingest.texts import plain
 from gudokeyi.ingest.titles import known_titles, parts_of, read_given, read_sexes
 from gudokeyi.ingest.unknown_parents import UnknownParents
 from gudokeyi.ingest.workbooks import NamedBefore
 from gudokeyi.reconcile.animals_of_book import AnimalsOfBook, AnimalsWithNewTags
 from gudokeyi.reconcile.findings.obstacles import NoRowTaken
 from gudokeyi.reconcile.last_found import LastFound
-from gudokeyi.reconcile.import_options import ImportOptions, RememberedWords, worksheet_before
+from gudokeyi.reconcile.import_options import ImportOptions, RememberedWords, refused_columns, worksheet_before
 from gudokeyi.reconcile.new_tags import ids_for_sure
 from gudokeyi.reconcile.rows_of_book import RowsOfBook
 from gudokeyi.store.book import Book
@@ -223,14 +225,14 @@ class LastReading:
         self.found = LastFound()
 
     def columns_of(
-        self, sheet: Sheet, given: Mapping[str, str], before: Mapping[str, str], unknown: UnknownParents,
-        ids: Collection[str],
+        self, sheet: Sheet, given: Mapping[str, str], before: Mapping[str, str], none: NoneSaid,
+        unknown: UnknownParents, ids: Collection[str],
     ) -> Columns:  # fmt: skip
-        read_by = (dict(given), dict(before), unknown.more, unknown.known, ids)
+        read_by = (dict(given), dict(before), none, unknown.more, unknown.known, ids)
         for last in self.columns:
             if last.columns.sheet is sheet and last.read_by == read_by:
                 return last.columns
-        found = ColumnsRead(read_by, find_columns(sheet, given, before, unknown, ids))
+        found = ColumnsRead(read_by, with_said_none(sheet, given, before, none, unknown, ids))
         self.columns = [*self.columns[-1:], found]
         return found.columns
 
@@ -317,15 +319,22 @@ def read_columns(
 ) -> Columns:
     """The columns of a sheet, which has its rows."""
     now = read_given(import_options.columns)
-    before = titles_before(book) | read_given(words[Remembered.COLUMNS])
+    last_titles, said = titles_before(book), read_given(words[Remembered.COLUMNS])
+    before, none = last_titles | said, none_said(book, last_titles, said)
     titles, worksheet = frozenset({*before.values(), *now.values()}), worksheet_before(book)
     sheet = LAST_SHEET.of(file, titles, import_options.worksheet, worksheet)
     unknown = UnknownParents(words[Remembered.UNKNOWN], words[Remembered.KNOWN])
     ids = (last.animals_of_book(book) if last else AnimalsOfBook(book)).had_row
     before = {name: title for name, title in before.items() if name not in now}
     if last:
-        return last.columns_of(sheet, now, before, unknown, ids)
-    return find_columns(sheet, now, before, unknown, ids)
+        return last.columns_of(sheet, now, before, none, unknown, ids)
+    return with_said_none(sheet, now, before, none, unknown, ids)
+
+
+def none_said(book: Book, last_titles: Mapping[str, str], said: Mapping[str, str]) -> NoneSaid:
+    """The fields of which it is said that no column has them."""
+    titles = {name: last_titles.get(name, "") for name, title in said.items() if not title}
+    return NoneSaid(titles, frozenset(plain(one) for one in refused_columns(book)) if titles else frozenset())
 
 
 def names_of_owners(book: Book) -> dict[str, str]:
