@@ -1,5 +1,5 @@
 """Ids and names that stand for something else: words for an id to come, marks for the cell above, and the days and
-truth values that a spreadsheet made of texts. What is found of all ids or names at once is kept for the next look at them."""
+truth values that a spreadsheet made of texts. What is found of all ids or names at once is kept for the next look."""
 from __future__ import annotations
 
 import functools

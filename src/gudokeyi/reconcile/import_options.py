@@ -9,7 +9,7 @@ from dataclasses import dataclass, field, replace
 from typing import Any
 
 from gudokeyi.domain.changes import Option
-from gudokeyi.domain.findings import Call, columns, quoted
+from gudokeyi.domain.findings import Call, quoted
 from gudokeyi.domain.kinds import Field, Remembered
 from gudokeyi.domain.messages import Mistake
 from gudokeyi.domain.options import AS_STORED, IMPORT, Described, Kind
@@ -136,9 +136,9 @@ def remember(book: Book, import_options: ImportOptions) -> RememberedWords:
 
 def remember_columns(book: Book, titles: list[tuple[str, str]]) -> None:
     """The titles of the sheet's columns, by field; those of other fields stay, and so does what is as it was."""
-    now = {one.word: one for one in book.remembered if one.what is Remembered.COLUMN}
-    now |= {field: Meaning(Remembered.COLUMN, field, title) for field, title in titles}
-    book.remembered = [one for one in book.remembered if one.what is not Remembered.COLUMN] + [*now.values()]
+    columns = {one.word: one for one in book.remembered if one.what is Remembered.COLUMN}
+    columns |= {field: Meaning(Remembered.COLUMN, field, title) for field, title in titles}
+    book.remembered = [one for one in book.remembered if one.what is not Remembered.COLUMN] + [*columns.values()]
 
 
 def remember_refused(book: Book, import_options: ImportOptions, refused: Mapping[str, str]) -> None:
@@ -147,7 +147,7 @@ def remember_refused(book: Book, import_options: ImportOptions, refused: Mapping
     for at, one in enumerate(book.remembered):
         if one.what is Remembered.COLUMNS and one.word in import_options.columns:
             fields = [name for name, title in read_given([one.word]).items() if not title and name in refused]
-            more = [columns({name: refused[name]}).word for name in fields]
+            more = [quoted(f"{name}={refused[name]}") for name in fields]
             meaning = ",".join(dict.fromkeys([*filter(None, [one.meaning]), *more]))
             book.remembered[at] = one._replace(meaning=meaning)
 

@@ -319,21 +319,22 @@ def read_columns(
 ) -> Columns:
     """The columns of a sheet, which has its rows."""
     now = read_given(import_options.columns)
-    last_titles, said = titles_before(book), read_given(words[Remembered.COLUMNS])
-    before, none = last_titles | said, none_said(book, last_titles, said)
+    before = titles_before(book) | read_given(words[Remembered.COLUMNS])
     titles, worksheet = frozenset({*before.values(), *now.values()}), worksheet_before(book)
     sheet = LAST_SHEET.of(file, titles, import_options.worksheet, worksheet)
     unknown = UnknownParents(words[Remembered.UNKNOWN], words[Remembered.KNOWN])
     ids = (last.animals_of_book(book) if last else AnimalsOfBook(book)).had_row
     before = {name: title for name, title in before.items() if name not in now}
+    none = none_said(book, read_given(words[Remembered.COLUMNS]))
     if last:
         return last.columns_of(sheet, now, before, none, unknown, ids)
     return with_said_none(sheet, now, before, none, unknown, ids)
 
 
-def none_said(book: Book, last_titles: Mapping[str, str], said: Mapping[str, str]) -> NoneSaid:
+def none_said(book: Book, said: Mapping[str, str]) -> NoneSaid:
     """The fields of which it is said that no column has them."""
-    titles = {name: last_titles.get(name, "") for name, title in said.items() if not title}
+    before = titles_before(book)
+    titles = {name: before.get(name, "") for name, title in said.items() if not title}
     return NoneSaid(titles, frozenset(plain(one) for one in refused_columns(book)) if titles else frozenset())
 
 
