@@ -1,6 +1,8 @@
 """Columns that aren't read, though what they have belongs to animals: they are told with the word that reads them."""
 from __future__ import annotations
 
+import pytest
+
 from front_desk.desk import Desk
 
 PARENTS = "Ohrmarke;geb;Vater;Mutter"
@@ -48,3 +50,64 @@ def test_parents_are_back_that_were_said_to_be_none(desk: Desk) -> None:
     assert "'Vater' isn't read as sire, since it was said" in done.out
     desk.typed(next(one for one in done.commands() if one.endswith("sire=Vater")))
     assert desk.parents()["003"] == ("001", "002")
+
+
+# -- columns of exits, owners and their first days, by their titles and their days
+
+OWNED = "001;m;01.02.2010;;;{owner};{day}\n002;w;03.02.2010;;;Huber;\n003;w;03.02.2013;001;002;Huber;\n"
+
+
+@pytest.mark.parametrize(
+    "title",
+    [
+        "Schlachttag", "Abmeldung", "Abgemeldet am", "DOD", "Date of death", "Todesdatum", "Date décès", "Merzdatum",
+        "Ausgang", "Austritt", "Date of disposal", "Cull date",
+    ],
+)  # fmt: skip
+def test_titles_of_exits(desk: Desk, title: str) -> None:
+    desk.take(f"Ohrmarke;Geschlecht;geb;Vater;Mutter;Besitzer;{title}\n{OWNED.format(owner='Huber', day='3.4.2020')}")
+    assert [row["exit"] for row in desk.listed("list", "--columns", "exit")] == ["2020-04-03", "", ""]
+
+
+@pytest.mark.parametrize(
+    "title",
+    ["Besitzer/Halter", "Owner/Keeper", "Besitzer (aktuell)", "jetziger Besitzer", "Breeder/Owner", "Propr.", "Cheptel"],
+)
+def test_titles_of_owners(desk: Desk, title: str) -> None:
+    desk.take(f"Ohrmarke;Geschlecht;geb;Vater;Mutter;{title};Farbe\n{OWNED.format(owner='Meier', day='')}")
+    assert [row["owner"] for row in desk.listed("list", "--columns", "owner")] == ["Meier", "Huber", "Huber"]
+
+
+@pytest.mark.parametrize("title", ["Date entrée", "Eingang", "Zukauf am", "Purchased", "Bought on", "Entry date", "Ankauf"])
+def test_titles_of_first_days(desk: Desk, title: str) -> None:
+    rows = OWNED.format(owner="Meier", day="3.4.2012")
+    desk.take(f"Ohrmarke;Geschlecht;geb;Vater;Mutter;Besitzer;{title}\n{rows}")
+    assert "since 2012-04-03" in desk.good("show", "001").out
+    # one that says it more plainly is read, and words are no days
+    before = "Ohrmarke;Geschlecht;geb;Vater;Mutter;Besitzer;Besitzer seit;Zukauf\n"
+    done = desk.take(before + rows.replace("Meier;3.4.2012", "Meier;3.4.2012;ja"), "--book", "plain")
+    assert "since from 'Besitzer seit'" in done.out and "not read: 'Zukauf'" in done.out
+    alone = desk.take(f"Ohrmarke;Geschlecht;geb;Vater;Mutter;Besitzer;Zukauf\n{rows.replace('3.4.2012', 'ja')}", "--book", "yes")
+    assert "not read: 'Zukauf'" in alone.out and "to look at" not in alone.out
+
+
+def test_days_that_may_be_exits(desk: Desk) -> None:
+    """A column of days behind the births is told where none has the exits, until that is said."""
+    rows = "".join(f"00{at};0{at}.02.2010;;;;{f'0{at}.03.2020' if at < 4 else ''}\n" for at in range(1, 7))
+    text = "Ohrmarke;geb;Vater;Mutter;Besitzer;Letzter Tag\n" + rows
+    done = desk.take(text)
+    done.shows(
+        "to look at: no column of exits is found, and 'Letzter Tag' isn't read, whose 3 days are all behind the births, "
+        "the first '01.03.2020' in line 2: animals that left then count as living"
+    )
+    assert words_of(done.commands()) == ["'exit=Letzter Tag'", "exit="]
+    told = "no column of exits is found"
+    # days of something else, of all animals, or before births, and a list with exits
+    for other in (
+        text.replace("Letzter Tag", "Letzte Impfung"), text.replace(";;\n", ";;01.03.2020\n"),
+        text.replace(".03.2020", ".01.2010"), text.replace("Besitzer", "Abgang"), text.replace("03.03.2020", ""),
+    ):  # fmt: skip
+        assert told not in desk.take(other, "--book", "other").out, other
+    assert told not in desk.take(text, "--columns", "exit=").out
+    done = desk.typed(done.commands()[0])
+    assert told not in done.out and "changed: exit 3" in done.out

@@ -16,7 +16,7 @@ from gudokeyi.ingest.castrations import castrated_places
 from gudokeyi.ingest.column_detection import MOST_COMPARED, IdColumn, LikelyColumns, are_different, are_row_numbers
 from gudokeyi.ingest.days import is_span
 from gudokeyi.ingest.encodings import Letters, decoded_twice
-from gudokeyi.ingest.exits_beside import KNOWN_BUYERS, says_day
+from gudokeyi.ingest.exits_beside import KNOWN_BUYERS, are_days, says_day
 from gudokeyi.ingest.findings.columns import (
     ColumnLost, ColumnsLack, ColumnUntitled, LikelierColumn, NamedColumnLacks, ParentsBeside, ParentsFromOther,
     SheetFinding, TellsNoExits, TitleTwice,
@@ -28,8 +28,8 @@ from gudokeyi.ingest.names_for_ids import names_for_ids
 from gudokeyi.ingest.remarks import telling_castrations, telling_exits
 from gudokeyi.ingest.sheets import Sheet
 from gudokeyi.ingest.titles import (
-    KNOWN_DOUBTFUL, KNOWN_PAIRS, KNOWN_REASONS, KNOWN_TITLES, NEEDED, TITLES, known_titles, names_both_sexes,
-    names_exits_alone, said_of,
+    KNOWN_DOUBTFUL, KNOWN_DOUBTFUL_DAYS, KNOWN_PAIRS, KNOWN_REASONS, KNOWN_TITLES, NEEDED, TITLES, known_titles,
+    names_both_sexes, names_exits_alone, said_of,
 )  # fmt: skip
 from gudokeyi.ingest.texts import plain
 from gudokeyi.ingest.words import (
@@ -188,6 +188,8 @@ def usual_column(columns: Columns, name: str) -> None:
     # one that has nothing is read where no other has its field
     for at in sorted(titled, key=lambda one: not any(columns.cells(one))):
         title = plain(columns.title(at))
+        if title in KNOWN_DOUBTFUL_DAYS and not are_days(columns.counts(at)):
+            continue
         is_doubtful = title in KNOWN_DOUBTFUL or name == Field.STATUS and title not in KNOWN_REASONS
         if not is_doubtful or tells_exits(columns, at, is_told=name != Field.STATUS):
             columns.found[name] = at

@@ -22,7 +22,8 @@ from gudokeyi.domain.messages import MOST_NAMED
 from gudokeyi.ingest.animals import UNREAD_OF, SheetAnimal
 from gudokeyi.ingest.births_beside import year_column
 from gudokeyi.ingest.columns import Columns
-from gudokeyi.ingest.columns_said_none import NoneSaid, with_said_none
+from gudokeyi.ingest.columns_said_none import NoneSaid
+from gudokeyi.ingest.columns_told import columns_told
 from gudokeyi.ingest.exits_beside import columns_beside
 from gudokeyi.ingest.files import GivenFile
 from gudokeyi.ingest.names_for_ids import names_columns
@@ -232,7 +233,7 @@ class LastReading:
         for last in self.columns:
             if last.columns.sheet is sheet and last.read_by == read_by:
                 return last.columns
-        found = ColumnsRead(read_by, with_said_none(sheet, given, before, none, unknown, ids))
+        found = ColumnsRead(read_by, columns_told(sheet, given, before, none, unknown, ids))
         self.columns = [*self.columns[-1:], found]
         return found.columns
 
@@ -328,7 +329,7 @@ def read_columns(
     none = none_said(book, read_given(words[Remembered.COLUMNS]))
     if last:
         return last.columns_of(sheet, now, before, none, unknown, ids)
-    return with_said_none(sheet, now, before, none, unknown, ids)
+    return columns_told(sheet, now, before, none, unknown, ids)
 
 
 def none_said(book: Book, said: Mapping[str, str]) -> NoneSaid:

@@ -5,7 +5,7 @@ from dataclasses import dataclass
 
 from gudokeyi.domain.findings import Suggestion
 from gudokeyi.domain.kinds import Field
-from gudokeyi.domain.wording import Counted
+from gudokeyi.domain.wording import Counted, Text
 from gudokeyi.ingest.findings.columns import SheetFinding, column
 
 
@@ -34,4 +34,28 @@ class SaidNone(SheetFinding):
         return (
             Suggestion("if it is the one", (column(self.field, self.title),)),
             Suggestion("if there is none", (column(self.field, ""),)),
+        )
+
+
+@dataclass(frozen=True, slots=True)
+class MayBeExits(SheetFinding):
+    """A column that isn't read, of days behind the births, where no column of exits is found: how many, and the
+    first."""
+
+    title: str
+    count: int
+    line: int
+    text: str
+
+    decides_much = True
+    code = "may be exits"
+    message = Text(
+        "no column of exits is found, and '{title}' isn't read, whose {count} days are all behind the births, the first "
+        "'{text}' in line {line}: animals that left then count as living"
+    )
+
+    def suggestions(self) -> tuple[Suggestion, ...]:
+        return (
+            Suggestion("if it tells of exits", (column(Field.EXIT, self.title),)),
+            Suggestion("if no column tells of exits", (column(Field.EXIT, ""),)),
         )

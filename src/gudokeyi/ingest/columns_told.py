@@ -1,0 +1,19 @@
+"""The columns of a sheet, with all that is told of those which aren't read, though they have what belongs to animals."""
+from __future__ import annotations
+
+from collections.abc import Collection, Mapping
+from typing import Container
+
+from gudokeyi.ingest.columns import Columns
+from gudokeyi.ingest.columns_said_none import NoneSaid, with_said_none
+from gudokeyi.ingest.likely_exits import tell_likely_exits
+from gudokeyi.ingest.sheets import Sheet
+
+
+def columns_told(
+    sheet: Sheet, given: Mapping[str, str], before: Mapping[str, str], none: NoneSaid, unknown: Container[str],
+    ids: Collection[str],
+) -> Columns:  # fmt: skip
+    columns = with_said_none(sheet, given, before, none, unknown, ids)
+    tell_likely_exits(columns, {**before, **given})
+    return columns
