@@ -16,6 +16,7 @@ from gudokeyi.ingest.castrations import castration_columns
 from gudokeyi.ingest.exits_beside import columns_beside
 from gudokeyi.ingest.files import GivenFile
 from gudokeyi.ingest.findings.columns import ColumnUntitled, TitleBelow
+from gudokeyi.ingest.genetic_dams import genetic_columns
 from gudokeyi.ingest.inferred_values import columns_of_marks
 from gudokeyi.ingest.names_for_ids import names_read
 from gudokeyi.ingest.parents_beside import tell_parents_named_otherwise
@@ -307,6 +308,7 @@ def places_beside(read: ReadSheet) -> list[int]:
     sheet, found = read.sheet, read.columns.found
     beside = [*columns_beside(sheet, found), *year_column(sheet, found), *castration_columns(sheet, found)]
     beside += [*reasons_beside(sheet.titles, found), *columns_of_marks(sheet, found)]
+    beside += genetic_columns(sheet, found)
     return [*beside, *names_read(sheet, found, read.rows.unknown)]
 
 

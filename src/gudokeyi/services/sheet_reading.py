@@ -26,6 +26,7 @@ from gudokeyi.ingest.columns_said_none import NoneSaid
 from gudokeyi.ingest.columns_told import columns_told
 from gudokeyi.ingest.exits_beside import columns_beside
 from gudokeyi.ingest.files import GivenFile
+from gudokeyi.ingest.genetic_dams import genetic_columns
 from gudokeyi.ingest.names_for_ids import names_columns
 from gudokeyi.ingest.rows_as_meant import Notes, as_meant, marks_in, member_numbered
 from gudokeyi.ingest.sexes import has_letter_beside_females
@@ -119,6 +120,7 @@ class Reading:
         are marks for a cell above."""
         sheet, columns = self.sheet, self.columns
         beside = columns_beside(sheet, columns) or year_column(sheet, columns) or names_columns(sheet, columns)
+        beside = beside or genetic_columns(sheet, columns)
         words = (self.unknown.more, self.unknown.known) if beside or Field.STATUS in self.columns else ()
         return dict(self.columns), words, marks_in(self.unknown.more), self.called
 
