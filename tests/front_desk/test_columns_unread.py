@@ -111,3 +111,46 @@ def test_days_that_may_be_exits(desk: Desk) -> None:
     assert told not in desk.take(text, "--columns", "exit=").out
     done = desk.typed(done.commands()[0])
     assert told not in done.out and "changed: exit 3" in done.out
+
+
+# -- columns of marks, and of corrections
+
+LITTER = "Ohrmarke;Geschlecht;geb;Vater;Mutter;Abgang;{}\n001;m;01.02.2010;;;;\n002;w;03.02.2010;;;;\n003;w;03.02.2013;001;002;{};{}\n"
+UNREAD = "the column '{}' isn't read, and has '{}' in line 4: "
+
+
+@pytest.mark.parametrize(
+    ("title", "text", "said"),
+    [
+        ("totgeboren", "x", "if that animal was born dead"), ("Totgeburt", "ja", "if that animal was born dead"),
+        ("Stillborn", "Y", "if that animal was born dead"), ("Mort-né", "oui", "if that animal was born dead"),
+        ("gelöscht", "x", "the row is taken"), ("Deleted", "yes", "the row is taken"), ("ungültig", "1", "the row is taken"),
+        ("storniert", "ja", "the row is taken"), ("supprimé(e)", "x", "the row is taken"),
+    ],
+)  # fmt: skip
+def test_marks_of_rows(desk: Desk, title: str, text: str, said: str) -> None:
+    """They are told of animals without an exit; neither a no nor a count says that of a row."""
+    told = UNREAD.format(title, text) + said
+    assert told in desk.take(LITTER.format(title, "", text)).out
+    for exit, other in (("03.02.2013", text), ("", "nein"), ("", "0"), ("", "2"), ("", "-")):
+        assert UNREAD.partition("'")[0] not in desk.take(LITTER.format(title, exit, other), "--book", f"b{other}").out
+
+
+@pytest.mark.parametrize(
+    ("title", "text", "said"),
+    [
+        ("korrigiertes Geburtsdatum", "14.3.2013", "'14.3.2013' and not '03.02.2013' in line 4: where it is right, write that"),
+        ("corrected DOB", "14/3/2013", "'14/3/2013' and not '03.02.2013' in line 4: where it is right, write that"),
+        ("Geburtsdatum neu", "2012", "'2012' and not '03.02.2013' in line 4: where it is right, write that into 'geb'"),
+        ("Vater (korrigiert)", "009", "'009' and not '001' in line 4: where it is right, write that into 'Vater'"),
+        ("correct sex", "m", "'m' and not 'w' in line 4: where it is right, write that into 'Geschlecht'"),
+    ],
+)  # fmt: skip
+def test_corrections_beside(desk: Desk, title: str, text: str, said: str) -> None:
+    told = f"to look at: '{title}' isn't read, and says {said}"
+    assert told in desk.take(LITTER.format(title, "", text)).out
+    same = {"Vater (korrigiert)": "001", "correct sex": "w"}.get(title, "3.2.2013")
+    for other in ("", same):
+        assert "isn't read, and says" not in desk.take(LITTER.format(title, "", other), "--book", "other").out
+    # a new ear tag is none
+    assert "isn't read, and says" not in desk.take(LITTER.format("neue Ohrmarke", "", "009"), "--book", "other").out

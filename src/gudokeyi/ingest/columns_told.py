@@ -5,6 +5,7 @@ from collections.abc import Collection, Mapping
 from typing import Container
 
 from gudokeyi.ingest.columns import Columns, find_columns
+from gudokeyi.ingest.marks_and_corrections import tell_marks
 from gudokeyi.ingest.columns_said_none import NoneSaid, with_said_none
 from gudokeyi.ingest.genetic_dams import tell_carriers, with_genetic_dam, without_carriers
 from gudokeyi.ingest.likely_exits import tell_likely_exits
@@ -21,5 +22,6 @@ def columns_told(
     without_carriers(columns)
     tell_carriers(columns, unknown)
     tell_parents_by_genes(columns, unknown)
+    tell_marks(columns, unknown)
     tell_likely_exits(columns, {**before, **given})
     return columns

@@ -3,9 +3,9 @@ from __future__ import annotations
 
 from dataclasses import dataclass
 
-from gudokeyi.domain.findings import Suggestion
+from gudokeyi.domain.findings import Severity, Suggestion
 from gudokeyi.domain.kinds import Field
-from gudokeyi.domain.wording import Counted, Text
+from gudokeyi.domain.wording import Counted, OptionalPart, Text
 from gudokeyi.ingest.findings.columns import SheetFinding, column
 
 
@@ -59,3 +59,75 @@ class MayBeExits(SheetFinding):
             Suggestion("if it tells of exits", (column(Field.EXIT, self.title),)),
             Suggestion("if no column tells of exits", (column(Field.EXIT, ""),)),
         )
+
+
+@dataclass(frozen=True, slots=True)
+class StillbornUnread(SheetFinding):
+    """A column that isn't read, and says of animals without an exit that they were born dead: of how many, and the
+    first."""
+
+    title: str
+    count: int
+    line: int
+    text: str
+
+    decides_much = True
+    code = "stillborn unread"
+    message = Counted(
+        "the column '{title}' isn't read, and has '{text}' in line {line}: if that animal was born dead, write so into the "
+        "column for exits, with its birth day: it counts as living",
+        "the column '{title}' isn't read, and has {count} cells, the first '{text}' in line {line}: if these animals were "
+        "born dead, write so into the column for exits, with their birth days: they count as living",
+        "count",
+    )
+
+
+@dataclass(frozen=True, slots=True)
+class DeletedRows(SheetFinding):
+    """A column that isn't read, and says of rows that they don't hold, whose animals have no exit: of how many, and the
+    first."""
+
+    title: str
+    count: int
+    line: int
+    text: str
+
+    decides_much = True
+    severity = Severity.ANIMALS
+    code = "deleted rows"
+    message = Counted(
+        "the column '{title}' isn't read, and has '{text}' in line {line}: the row is taken like all others; if it doesn't "
+        "hold, take it out of the list, and if its animal has left, write an exit",
+        "the column '{title}' isn't read, and has {count} cells, the first '{text}' in line {line}: these rows are taken "
+        "like all others; if one doesn't hold, take it out of the list, and if its animal has left, write an exit",
+        "count",
+    )
+
+
+@dataclass(frozen=True, slots=True)
+class CorrectionsUnread(SheetFinding):
+    """A column that isn't read, and corrects another one: in how many rows it has another text, the first of them, and
+    what is read there, empty for nothing; `is_full` where it has no fewer cells."""
+
+    field: Field
+    title: str
+    beside: str
+    count: int
+    line: int
+    text: str
+    other: str
+    is_full: bool
+
+    decides_much = True
+    code = "corrections unread"
+    message = Counted(
+        "'{beside}' isn't read, and says '{text}'{maybe_other} in line {line}: where it is right, write that into '{title}'",
+        "'{beside}' isn't read, and says otherwise than '{title}' in {count} rows, first '{text}'{maybe_other} in line "
+        "{line}: where it is right, write that into '{title}'",
+        "count",
+    )
+    parts = {"maybe_other": OptionalPart(" and not '{other}'")}
+
+    def suggestions(self) -> tuple[Suggestion, ...]:
+        likely = Suggestion(f"if '{self.beside}' is the one", (column(self.field, self.beside),))
+        return (likely,) if self.is_full else ()
