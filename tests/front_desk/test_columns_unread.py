@@ -154,3 +154,32 @@ def test_corrections_beside(desk: Desk, title: str, text: str, said: str) -> Non
         assert "isn't read, and says" not in desk.take(LITTER.format(title, "", other), "--book", "other").out
     # a new ear tag is none
     assert "isn't read, and says" not in desk.take(LITTER.format("neue Ohrmarke", "", "009"), "--book", "other").out
+
+
+# -- second owners
+
+TWICE = "Ohrmarke;Geschlecht;geb;Vater;Mutter;{}\n001;m;01.02.2010;;;Huber;03.02.2011;Meier;03.04.2015\n"
+TWICE += "002;w;03.02.2010;;;Huber;03.02.2011;;\n003;w;03.02.2013;001;002;Huber;;Egli;03.04.2016\n"
+
+
+@pytest.mark.parametrize(
+    "titles",
+    [
+        "Besitzer 1;seit 1;Besitzer 2;seit 2", "1. Besitzer;seit;2. Besitzer;bis", "Owner 1;Since 1;Owner 2;Since 2",
+        "Propriétaire 1;depuis 1;Propriétaire 2;depuis 2", "Besitzer;Besitzer seit;Mitbesitzer;dabei seit",
+    ],
+)  # fmt: skip
+def test_second_owners(desk: Desk, titles: str) -> None:
+    first, _, second, _ = titles.split(";")
+    done = desk.take(TWICE.format(titles))
+    done.shows(
+        f"to look at: '{second}' isn't read, and has 2 owners, the first 'Meier' in line 2: the owner is 'Huber', as "
+        f"'{first}' has it; where an animal has gone to the second one, write that one into '{first}'"
+    )
+    assert [row["owner"] for row in desk.listed("list", "--columns", "owner")] == ["Huber"] * 3
+    assert "since 2011-02-03" in desk.good("show", "001").out
+    # nobody besides
+    same = TWICE.format(titles).replace("Meier", "Huber").replace("Egli", "")
+    assert f"'{second}' isn't read" not in desk.take(same, "--book", "same").out
+    nobody = desk.take(same.replace("Huber;;", ";;Egli"), "--book", "nobody").out
+    assert f"'{second}' isn't read, and has 'Egli' in line 4: nobody owns it, as '{first}' has nothing" in nobody

@@ -10,6 +10,7 @@ from gudokeyi.ingest.columns_said_none import NoneSaid, with_said_none
 from gudokeyi.ingest.genetic_dams import tell_carriers, with_genetic_dam, without_carriers
 from gudokeyi.ingest.likely_exits import tell_likely_exits
 from gudokeyi.ingest.parents_by_genes import tell_parents_by_genes
+from gudokeyi.ingest.second_owners import tell_second_owners
 from gudokeyi.ingest.sheets import Sheet
 
 
@@ -22,6 +23,7 @@ def columns_told(
     without_carriers(columns)
     tell_carriers(columns, unknown)
     tell_parents_by_genes(columns, unknown)
+    tell_second_owners(columns, unknown)
     tell_marks(columns, unknown)
     tell_likely_exits(columns, {**before, **given})
     return columns

@@ -69,7 +69,9 @@ TITLES = {
     "Halter/Besitzer, Eigentümer/Halter, Halter/Eigentümer, Besitzer/Eigentümer, Eigentümer/Besitzer, Züchter/Besitzer, "
     "Besitzer/Züchter, owner/keeper, keeper/owner, owner/holding, owner/breeder, breeder/owner, owner (current), "
     "current keeper, propriétaire/détenteur, détenteur/propriétaire, propriétaire/éleveur, éleveur/propriétaire, "
-    "détenteur actuel, propr, Herde, cheptel, troupeau",
+    "détenteur actuel, propr, Herde, cheptel, troupeau, owner 1, 1st owner, first owner, keeper 1, Besitzer 1, "
+    "1. Besitzer, erster Besitzer, Eigentümer 1, 1. Eigentümer, Halter 1, 1. Halter, propriétaire 1, 1er propriétaire, "
+    "premier propriétaire, détenteur 1",
     Field.SINCE: "owner since, owned since, since, date of transfer, transfer date, transferred, date of purchase, "
     "purchase date, bought, acquired, Besitzer seit, im Besitz seit, seit, Besitzwechsel, Besitzerwechsel, "
     "Besitzwechsel am, Besitzerwechsel am, Wechseldatum, Halter seit, Eigentümer seit, gekauft am, Kaufdatum, "
@@ -77,7 +79,9 @@ TITLES = {
     "date de transfert, date de mutation, date d'acquisition, acheté le, achetée le, acquis le, acquise le, mutation "
     "le, date acquired, acquired on, purchased, purchased on, bought on, date bought, Zukaufsdatum, Zukauf am, "
     "zugekauft am, Ankaufsdatum, Ankauf am, angekauft am, Zukauf, Ankauf, Eingangsdatum, Eingang am, Eingang, "
-    "date achat, achat le, date d'entrée, date entrée, entrée le, entré le, entrée, date of entry, entry date",
+    "date achat, achat le, date d'entrée, date entrée, entrée le, entré le, entrée, date of entry, entry date, since 1, "
+    "owner since 1, owner 1 since, seit 1, Besitzer seit 1, Besitzer 1 seit, depuis 1, propriétaire depuis 1, "
+    "propriétaire 1 depuis",
     Field.EXIT: "exit date, date of exit, Abgangsdatum, Abgang am, abgegangen am, date de sortie, date left, "
     "left on, sorti le, "
     "exit, left, departure, Abgang, abgegangen, sortie, "

@@ -1,6 +1,7 @@
 """What is found of columns that aren't read, though they have what belongs to animals: each kind as data."""
 from __future__ import annotations
 
+from collections.abc import Mapping
 from dataclasses import dataclass
 
 from gudokeyi.domain.findings import Severity, Suggestion
@@ -131,3 +132,33 @@ class CorrectionsUnread(SheetFinding):
     def suggestions(self) -> tuple[Suggestion, ...]:
         likely = Suggestion(f"if '{self.beside}' is the one", (column(self.field, self.beside),))
         return (likely,) if self.is_full else ()
+
+
+@dataclass(frozen=True, slots=True)
+class SecondOwnersUnread(SheetFinding):
+    """A column with a second owner, which isn't read: in how many rows it has another one, the first of them, and who
+    is read there, empty for nobody."""
+
+    title: str
+    beside: str
+    count: int
+    line: int
+    text: str
+    other: str
+
+    decides_much = True
+    code = "second owners unread"
+    message = Counted(
+        "'{beside}' isn't read, and has '{text}' in line {line}: {maybe_other}{maybe_nobody}; if the animal has gone to "
+        "'{text}', write that into '{title}'",
+        "'{beside}' isn't read, and has {count} owners, the first '{text}' in line {line}: {maybe_other}{maybe_nobody}; "
+        "where an animal has gone to the second one, write that one into '{title}'",
+        "count",
+    )
+    parts = {
+        "maybe_other": OptionalPart("the owner is '{other}', as '{title}' has it"),
+        "maybe_nobody": OptionalPart("nobody owns it, as '{title}' has nothing", when="is_nobody"),
+    }
+
+    def values(self) -> Mapping[str, object]:
+        return {"is_nobody": not self.other}
