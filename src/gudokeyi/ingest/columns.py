@@ -16,10 +16,8 @@ from gudokeyi.ingest.castrations import castrated_places
 from gudokeyi.ingest.column_detection import MOST_COMPARED, IdColumn, LikelyColumns, are_different, are_row_numbers
 from gudokeyi.ingest.days import is_span
 from gudokeyi.ingest.encodings import Letters, decoded_twice
-from gudokeyi.ingest.exits_beside import KNOWN_BUYERS, exit_columns, exit_day_columns, says_day
-from gudokeyi.ingest.exits_unread import (
-    ExitsUnread, codes_of_status, column_unread, living_unmarked, remarks_unread,
-)  # fmt: skip
+from gudokeyi.ingest.exits_beside import KNOWN_BUYERS, are_days, exit_columns, exit_day_columns, says_day
+from gudokeyi.ingest.exits_unread import ExitsUnread, codes_of_status, column_unread, living_unmarked, remarks_unread
 from gudokeyi.ingest.findings.columns import (
     ColumnLost, ColumnsLack, ColumnUntitled, LikelierColumn, NamedColumnLacks, SheetFinding, TellsNoExits, TitleTwice,
 )  # fmt: skip
@@ -33,8 +31,8 @@ from gudokeyi.ingest.remarks import telling_castrations, telling_exits
 from gudokeyi.ingest.sex_marks import marks_told
 from gudokeyi.ingest.sheets import Sheet
 from gudokeyi.ingest.titles import (
-    KNOWN_DOUBTFUL, KNOWN_REASONS, KNOWN_STATES, KNOWN_TITLES, NEEDED, TITLES, known_titles, names_both_sexes,
-    names_exits_alone, said_of,
+    KNOWN_DOUBTFUL, KNOWN_DOUBTFUL_DAYS, KNOWN_REASONS, KNOWN_STATES, KNOWN_TITLES, NEEDED, TITLES, known_titles,
+    names_both_sexes, names_exits_alone, said_of,
 )  # fmt: skip
 from gudokeyi.ingest.texts import plain
 from gudokeyi.ingest.words import (
@@ -62,6 +60,8 @@ class Columns:
     exits_unread: list[ExitsUnread] = field(default_factory=list)
     # the titles of the last sheet's columns of exits that this one lacks, where exits are read from another
     lost_exits: tuple[str, ...] = ()
+    # the titles that would be read for fields of which somebody says that no column has them
+    refused: dict[str, str] = field(default_factory=dict)
 
     def cells(self, at: int) -> list[str]:
         return self.sheet.column(at)
@@ -203,6 +203,8 @@ def usual_column(columns: Columns, name: str) -> None:
     # one that has nothing is read where no other has its field
     for at in sorted(titled, key=lambda one: not any(columns.cells(one))):
         title = plain(columns.title(at))
+        if title in KNOWN_DOUBTFUL_DAYS and not are_days(columns.counts(at)):
+            continue
         is_doubtful = title in KNOWN_DOUBTFUL or name == Field.STATUS and title not in KNOWN_REASONS
         if not is_doubtful or tells_exits(columns, at, is_told=name != Field.STATUS):
             columns.found[name] = at

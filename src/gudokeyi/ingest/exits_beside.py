@@ -3,7 +3,8 @@ to whom an animal was sold."""
 from __future__ import annotations
 
 import functools
-from collections.abc import Mapping, Sequence
+import itertools
+from collections.abc import Iterable, Mapping, Sequence
 from dataclasses import dataclass, field
 from typing import Container
 
@@ -30,6 +31,8 @@ BUYERS = {
     "sold to": "sold to, buyer, purchaser, bought by, purchased by, new owner",
     "vendu à": "vendu à, vendue à, vendu(e) à, acheteur, acheteuse, acquéreur, nouveau propriétaire",
 }
+# so many texts show whether a column has days
+MOST_TEXTS = 500
 KNOWN_BUYERS = {plain(title): said for said, titles in BUYERS.items() for title in listed(titles)}
 
 
@@ -90,6 +93,12 @@ def says_day_or_month(text: str) -> bool:
     """Does it say more than a year, which may be a price?"""
     is_whole = any(form.fullmatch(text) for form in (TWO, DIGITS))
     return is_whole or any(len(place.groupdict()) > 1 for place in places_within(text))
+
+
+def are_days(texts: Iterable[str]) -> bool:
+    """Are most of some texts days, of which the first are looked at?"""
+    some = [*itertools.islice(texts, MOST_TEXTS)]
+    return 2 * sum(map(says_day, some)) > len(some)
 
 
 def word_of(title: str) -> str:

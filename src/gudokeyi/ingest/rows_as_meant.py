@@ -20,6 +20,7 @@ from gudokeyi.ingest.exits_beside import Exits
 from gudokeyi.ingest.findings.cells import UnseenInId
 from gudokeyi.ingest.findings.rows import CellsRepeated, MarksAreNames, NoteRow, NothingRepeated
 from gudokeyi.ingest.findings.sheets import UnseenDropped
+from gudokeyi.ingest.genetic_dams import genetic_dams
 from gudokeyi.ingest.marked_ids import without_signs_of_exits
 from gudokeyi.ingest.names_for_ids import with_names_for_ids
 from gudokeyi.ingest.no_days import without_no_days
@@ -245,6 +246,8 @@ def as_meant(
     for at, names in with_names_for_ids(sheet, columns, unknown).items():
         rows = [with_cell(row, at, names[place]) if place in names else row for place, row in enumerate(sheet.rows)]
         sheet = replace(sheet, rows=rows, kept={})
+    if dams := genetic_dams(sheet.rows, sheet, columns, unknown, report):
+        sheet = replace(sheet, rows=with_cells(sheet.rows, columns[Field.DAM], dams), kept={})
     notes = notes_of(sheet, columns).found(animals)
     for line, text in notes.items():
         report.add(line, "", NoteRow(text))

@@ -68,18 +68,33 @@ TITLES = {
     "Besitzername, Name Eigentümer, Name des Eigentümers, Eigentümername, Name Halter, Name des Halters, Haltername, "
     "Name Tierhalter, Name des Tierhalters, Betriebsname, Name des Betriebs, nom du propriétaire, nom propriétaire, "
     "nom du détenteur, nom détenteur, nom de l'élevage, nom élevage, nom de l'exploitation, nom exploitation, "
-    "surname, last name, family name, Nachname, Familienname, nom de famille",
+    "surname, last name, family name, Nachname, Familienname, nom de famille, "
+    "Besitzer aktuell, jetziger Besitzer, jetzige Besitzerin, heutiger Besitzer, derzeitiger Besitzer, Besitzer/in, "
+    "Eigentümer/in, aktueller Eigentümer, jetziger Eigentümer, aktueller Halter, jetziger Halter, Besitzer/Halter, "
+    "Halter/Besitzer, Eigentümer/Halter, Halter/Eigentümer, Besitzer/Eigentümer, Eigentümer/Besitzer, Züchter/Besitzer, "
+    "Besitzer/Züchter, owner/keeper, keeper/owner, owner/holding, owner/breeder, breeder/owner, owner (current), "
+    "current keeper, propriétaire/détenteur, détenteur/propriétaire, propriétaire/éleveur, éleveur/propriétaire, "
+    "détenteur actuel, propr, Herde, cheptel, troupeau, owner 1, 1st owner, first owner, keeper 1, Besitzer 1, "
+    "1. Besitzer, erster Besitzer, Eigentümer 1, 1. Eigentümer, Halter 1, 1. Halter, propriétaire 1, 1er propriétaire, "
+    "premier propriétaire, détenteur 1",
     Field.SINCE: "owner since, owned since, since, date of transfer, transfer date, transferred, date of purchase, "
     "purchase date, bought, acquired, Besitzer seit, im Besitz seit, seit, Besitzwechsel, Besitzerwechsel, "
     "Besitzwechsel am, Besitzerwechsel am, Wechseldatum, Halter seit, Eigentümer seit, gekauft am, Kaufdatum, "
     "Zugangsdatum, Zugang am, Zugang, erworben am, Besitzer ab, propriétaire depuis, depuis, depuis le, date d'achat, "
     "date de transfert, date de mutation, date d'acquisition, acheté le, achetée le, acquis le, acquise le, mutation "
-    "le, date acquired, acquired on, purchased, purchased on, bought on",
+    "le, date acquired, acquired on, purchased, purchased on, bought on, date bought, Zukaufsdatum, Zukauf am, "
+    "zugekauft am, Ankaufsdatum, Ankauf am, angekauft am, Zukauf, Ankauf, Eingangsdatum, Eingang am, Eingang, "
+    "date achat, achat le, date d'entrée, date entrée, entrée le, entré le, entrée, date of entry, entry date, since 1, "
+    "owner since 1, owner 1 since, seit 1, Besitzer seit 1, Besitzer 1 seit, depuis 1, propriétaire depuis 1, "
+    "propriétaire 1 depuis",
     Field.EXIT: "exit date, date of exit, Abgangsdatum, Abgang am, abgegangen am, date de sortie, date left, "
     "left on, sorti le, "
     "exit, left, departure, Abgang, abgegangen, sortie, "
     "date of death, Todesdatum, gestorben am, verstorben am, date de décès, mort le, décédé le, died, death, "
-    "gestorben, verstorben, mort, décès, "
+    "gestorben, verstorben, mort, décès, date décès, date de mort, date mort, DOD, date died, "
+    "Ausgangsdatum, Ausgang am, Ausgang, Austrittsdatum, Austritt am, Austritt, Abmeldedatum, Abmeldung am, Abmeldung, "
+    "abgemeldet am, abgemeldet, Merzdatum, Merzung, gemerzt am, gemerzt, Abgänge, date of disposal, disposal date, "
+    "disposed on, disposed, cull date, date off, off date, date sortie, "
     "Verbleib, fate, whereabouts, disposal, devenir, status, Tierstatus, statut, état, Zustand, Lebensstatus, "
     "Lebenszustand, situation",
     Field.EMBRYO: "embryo, embryo calf, stored embryo, embryo transfer, et, et calf, Embryotransfer, ET-Kalb, "
@@ -100,6 +115,8 @@ DOUBTFUL_EXITS = (
     "Verbleib, fate, whereabouts, disposal, devenir, status, Tierstatus, statut, état, Zustand, Lebensstatus, "
     "Lebenszustand, situation"
 )
+# titles whose columns say on which days animals came, or whether one was bought at all
+DOUBTFUL_DAYS = "Zukauf, Ankauf, Eingang, entrée"
 # Columns that a sheet has to have; `--columns sire=` says that there is none.
 NEEDED = (Field.ID, Field.BIRTH, Field.SIRE, Field.DAM)
 
@@ -137,6 +154,7 @@ KNOWN_PAIRS = {field: {plain(title) for title in listed(titles)} for field, titl
 # titles that name a parent, and not only its sex
 NAMING_PARENTS = {title for role, pairs in KNOWN_PAIRS.items() for title in KNOWN_TITLES[role] if title not in pairs}
 KNOWN_DOUBTFUL = {plain(title) for title in listed(DOUBTFUL_EXITS)}
+KNOWN_DOUBTFUL_DAYS = {plain(title) for title in listed(DOUBTFUL_DAYS)}
 KNOWN_STATUSES, KNOWN_REASONS = {*KNOWN_TITLES[Field.STATUS]}, {plain(title) for title in listed(REASONS)}
 # columns in which yes is said of the living, with what stands before the title where no is said
 OF_LIVING = {
@@ -252,7 +270,11 @@ def names_both_sexes(title: str) -> bool:
 
 
 # titles of one word that name a death or a sale, and a day
-DEATHS = {plain(title) for title in ("Todesdatum", "Todestag", "Sterbedatum", "Sterbetag", "Schlachtdatum")}
+TITLES_OF_DEATHS = (
+    "Todesdatum", "Todestag", "Sterbedatum", "Sterbetag", "Schlachtdatum", "Schlachttag", "Schlachttermin", "DOD",
+    "date décès", "date mort", "Merzdatum", "cull date",
+)  # fmt: skip
+DEATHS = {plain(title) for title in TITLES_OF_DEATHS}
 SALE_DAYS = {plain(title) for title in ("Verkaufsdatum", "Verkaufstag", "Abgabedatum")}
 
 

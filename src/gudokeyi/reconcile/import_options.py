@@ -15,7 +15,7 @@ from gudokeyi.domain.messages import Mistake
 from gudokeyi.domain.options import AS_STORED, IMPORT, Described, Kind
 from gudokeyi.domain.requests import refuse_text
 from gudokeyi.domain.settings import Setting
-from gudokeyi.ingest.titles import TITLES, parts_of
+from gudokeyi.ingest.titles import TITLES, parts_of, read_given
 from gudokeyi.ingest.texts import clean, listed, plain
 from gudokeyi.ingest.workbooks import NamedBefore
 from gudokeyi.reconcile.limits import APART, YOUNGEST, Limits
@@ -126,9 +126,11 @@ def remember(book: Book, import_options: ImportOptions) -> RememberedWords:
     if import_options.day_first:
         both[Remembered.MONTH_FIRST] = []
     others = [one for one in book.remembered if one.what not in now]
+    meanings = {one.word: one.meaning for one in book.remembered if one.what is Remembered.COLUMNS}
     book.remembered = others + [
-        Meaning(kind, word, MEANINGS.get(kind, "")) for kind, words in both.items() for word in words
-    ]
+        Meaning(kind, word, meanings.get(word, "") if kind is Remembered.COLUMNS else MEANINGS.get(kind, ""))
+        for kind, words in both.items() for word in words
+    ]  # fmt: skip
     return both
 
 
@@ -141,6 +143,22 @@ def remember_columns(book: Book, titles: Mapping[str, str], exits: Sequence[str]
     titles = {**titles, **numbered}
     columns |= {field: Meaning(Remembered.COLUMN, field, title) for field, title in titles.items()}
     book.remembered = [one for one in book.remembered if one.what is not Remembered.COLUMN] + [*columns.values()]
+
+
+def remember_refused(book: Book, import_options: ImportOptions, refused: Mapping[str, str]) -> None:
+    """The titles of columns that aren't read, though they could be: beside each word by which it was said now that no
+    column has their fields."""
+    for at, one in enumerate(book.remembered):
+        if one.what is Remembered.COLUMNS and one.word in import_options.columns:
+            fields = [name for name, title in read_given([one.word]).items() if not title and name in refused]
+            more = [quoted(f"{name}={refused[name]}") for name in fields]
+            meaning = ",".join(dict.fromkeys([*filter(None, [one.meaning]), *more]))
+            book.remembered[at] = one._replace(meaning=meaning)
+
+
+def refused_columns(book: Book) -> list[str]:
+    """The columns of which it was said that they don't have what their titles say, as `exit=Status`."""
+    return parts_of([one.meaning for one in book.remembered if one.what is Remembered.COLUMNS and one.meaning])
 
 
 # stands in no title of a worksheet

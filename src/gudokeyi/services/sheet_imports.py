@@ -16,6 +16,7 @@ from gudokeyi.ingest.castrations import castration_columns
 from gudokeyi.ingest.exits_beside import columns_beside, exit_day_columns
 from gudokeyi.ingest.files import GivenFile
 from gudokeyi.ingest.findings.columns import ColumnUntitled, TitleBelow
+from gudokeyi.ingest.genetic_dams import genetic_columns
 from gudokeyi.ingest.inferred_values import columns_of_marks
 from gudokeyi.ingest.names_for_ids import names_read
 from gudokeyi.ingest.owners_beside import first_names_column
@@ -31,7 +32,8 @@ from gudokeyi.reconcile.findings.obstacles import StrictlyNothing
 from gudokeyi.reconcile.findings.own_columns import BreedersNotKept
 from gudokeyi.reconcile.ids import call_as_now, give_numbers, letters_unsaid, numbers_begin
 from gudokeyi.reconcile.import_options import (
-    ImportOptions, again, limits_of, remember, remember_columns, remember_worksheet, rename_owners, with_settings,
+    ImportOptions, again, limits_of, remember, remember_columns, remember_refused, remember_worksheet, rename_owners,
+    with_settings,
 )  # fmt: skip
 from gudokeyi.reconcile.impossible_parents import leave_out_faulty_parents
 from gudokeyi.reconcile.limits import Limits
@@ -245,7 +247,7 @@ def import_sheet_into(
     tell_columns_not_kept(read, own, next_book)
     lacks_own = tell_lost_own_columns(book, own, read.columns, next_book.report)
     understood = understood_of(path, read, used, {} if lacks_own else titles_before(book), own)
-    remember_places(book, read, import_options.worksheet, next_book.lost_exits if next_book.kept_exits else ())
+    remember_places(book, read, import_options, next_book.lost_exits if next_book.kept_exits else ())
 
     def take_own() -> None:
         take_own_values(next_book, own, read.sheet, bool(words[Remembered.MONTH_FIRST]))
@@ -255,15 +257,16 @@ def import_sheet_into(
     return finish(next_book, program, import_options, file, about)
 
 
-def remember_places(book: Book, read: ReadSheet, worksheet: str, lost_exits: tuple[str, ...]) -> None:
-    """From which worksheet and columns the next sheet is read; `lost_exits` are the titles of columns that it may have
-    again."""
+def remember_places(book: Book, read: ReadSheet, import_options: ImportOptions, lost_exits: tuple[str, ...]) -> None:
+    """From which worksheet and columns the next sheet is read, and which columns aren't; `lost_exits` are the titles of
+    columns that it may have again."""
     sheet, found = read.sheet, read.columns.found
     places = [found[Field.EXIT], *exit_day_columns(sheet, found)] if Field.EXIT in found else []
     exits, is_first = [sheet.titles[at] for at in places], titles_before(book).get(Field.EXIT) in lost_exits
     exits = [*lost_exits, *exits] if is_first else [*exits, *lost_exits]
     remember_columns(book, dict(read.columns.titles_found()), exits)
-    remember_worksheet(book, worksheet, read.sheet.worksheets)
+    remember_refused(book, import_options, read.columns.refused)
+    remember_worksheet(book, import_options.worksheet, read.sheet.worksheets)
 
 
 def tell_columns_not_kept(read: ReadSheet, own: OwnSheetColumns, next_book: NextBook) -> None:
@@ -311,6 +314,7 @@ def places_beside(read: ReadSheet) -> list[int]:
     sheet, found = read.sheet, read.columns.found
     beside = [*columns_beside(sheet, found), *year_column(sheet, found), *castration_columns(sheet, found)]
     beside += [*reasons_beside(sheet.titles, found), *columns_of_marks(sheet, found)]
+    beside += genetic_columns(sheet, found)
     return [*beside, *names_read(sheet, found, read.rows.unknown)]
 
 

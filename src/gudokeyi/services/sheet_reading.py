@@ -20,21 +20,25 @@ from gudokeyi.domain.kinds import Field, Remembered
 from gudokeyi.domain.messages import MOST_NAMED
 from gudokeyi.ingest.animals import UNREAD_OF, SheetAnimal
 from gudokeyi.ingest.births_beside import year_column
-from gudokeyi.ingest.columns import Columns, find_columns
+from gudokeyi.ingest.columns import Columns
+from gudokeyi.ingest.columns_said_none import NoneSaid
+from gudokeyi.ingest.columns_told import columns_told
 from gudokeyi.ingest.exits_beside import columns_beside
 from gudokeyi.ingest.files import GivenFile
+from gudokeyi.ingest.genetic_dams import genetic_columns
 from gudokeyi.ingest.names_for_ids import names_columns
 from gudokeyi.ingest.rows_as_meant import Notes, as_meant, marks_in, member_numbered
 from gudokeyi.ingest.sexes import has_letter_beside_females
 from gudokeyi.ingest.sheet_animals import Rows
 from gudokeyi.ingest.sheets import Sheet, read_sheet
+from gudokeyi.ingest.texts import plain
 from gudokeyi.ingest.titles import TITLES, known_titles, parts_of, read_given, read_sexes
 from gudokeyi.ingest.unknown_parents import UnknownParents
 from gudokeyi.ingest.workbooks import NamedBefore
 from gudokeyi.reconcile.animals_of_book import AnimalsOfBook, AnimalsWithNewTags
 from gudokeyi.reconcile.findings.obstacles import NoRowTaken
 from gudokeyi.reconcile.last_found import LastFound
-from gudokeyi.reconcile.import_options import ImportOptions, RememberedWords, worksheet_before
+from gudokeyi.reconcile.import_options import ImportOptions, RememberedWords, refused_columns, worksheet_before
 from gudokeyi.reconcile.new_tags import ids_for_sure
 from gudokeyi.reconcile.rows_of_book import RowsOfBook
 from gudokeyi.store.book import Book
@@ -120,6 +124,7 @@ class Reading:
         are marks for a cell above."""
         sheet, columns = self.sheet, self.columns
         beside = columns_beside(sheet, columns) or year_column(sheet, columns) or names_columns(sheet, columns)
+        beside = beside or genetic_columns(sheet, columns)
         words = (self.unknown.more, self.unknown.known) if beside or Field.STATUS in self.columns else ()
         return dict(self.columns), words, marks_in(self.unknown.more), self.called
 
@@ -224,14 +229,14 @@ class LastReading:
         self.found = LastFound()
 
     def columns_of(
-        self, sheet: Sheet, given: Mapping[str, str], before: Mapping[str, str], unknown: UnknownParents,
-        ids: Collection[str],
+        self, sheet: Sheet, given: Mapping[str, str], before: Mapping[str, str], none: NoneSaid,
+        unknown: UnknownParents, ids: Collection[str],
     ) -> Columns:  # fmt: skip
-        read_by = (dict(given), dict(before), unknown.more, unknown.known, ids)
+        read_by = (dict(given), dict(before), none, unknown.more, unknown.known, ids)
         for last in self.columns:
             if last.columns.sheet is sheet and last.read_by == read_by:
                 return last.columns
-        found = ColumnsRead(read_by, find_columns(sheet, given, before, unknown, ids))
+        found = ColumnsRead(read_by, columns_told(sheet, given, before, none, unknown, ids))
         self.columns = [*self.columns[-1:], found]
         return found.columns
 
@@ -324,9 +329,17 @@ def read_columns(
     unknown = UnknownParents(words[Remembered.UNKNOWN], words[Remembered.KNOWN])
     ids = (last.animals_of_book(book) if last else AnimalsOfBook(book)).had_row
     before = {name: title for name, title in before.items() if name.split()[0] not in now}
+    none = none_said(book, read_given(words[Remembered.COLUMNS]))
     if last:
-        return last.columns_of(sheet, now, before, unknown, ids)
-    return find_columns(sheet, now, before, unknown, ids)
+        return last.columns_of(sheet, now, before, none, unknown, ids)
+    return columns_told(sheet, now, before, none, unknown, ids)
+
+
+def none_said(book: Book, said: Mapping[str, str]) -> NoneSaid:
+    """The fields of which it is said that no column has them."""
+    before = titles_before(book)
+    titles = {name: before.get(name, "") for name, title in said.items() if not title}
+    return NoneSaid(titles, frozenset(plain(one) for one in refused_columns(book)) if titles else frozenset())
 
 
 def names_of_owners(book: Book) -> dict[str, str]:

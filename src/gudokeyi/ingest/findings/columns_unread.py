@@ -1,0 +1,164 @@
+"""What is found of columns that aren't read, though they have what belongs to animals: each kind as data."""
+from __future__ import annotations
+
+from collections.abc import Mapping
+from dataclasses import dataclass
+
+from gudokeyi.domain.findings import Severity, Suggestion
+from gudokeyi.domain.kinds import Field
+from gudokeyi.domain.wording import Counted, OptionalPart, Text
+from gudokeyi.ingest.findings.columns import SheetFinding, column
+
+
+@dataclass(frozen=True, slots=True)
+class SaidNone(SheetFinding):
+    """A column that would be read for a field, had it not been said of an earlier sheet that none has that; how many of
+    its cells have a text, and the first of them."""
+
+    field: Field
+    title: str
+    count: int
+    line: int
+    text: str
+
+    decides_much = True
+    code = "said none"
+    message = Counted(
+        "'{title}' isn't read as {field}, since it was said of an earlier list that no column is that; it has {count} "
+        "cell, '{text}' in line {line}",
+        "'{title}' isn't read as {field}, since it was said of an earlier list that no column is that; it has {count} "
+        "cells, the first '{text}' in line {line}",
+        "count",
+    )
+
+    def suggestions(self) -> tuple[Suggestion, ...]:
+        return (
+            Suggestion("if it is the one", (column(self.field, self.title),)),
+            Suggestion("if there is none", (column(self.field, ""),)),
+        )
+
+
+@dataclass(frozen=True, slots=True)
+class MayBeExits(SheetFinding):
+    """A column that isn't read, of days behind the births, where no column of exits is found: how many, and the
+    first."""
+
+    title: str
+    count: int
+    line: int
+    text: str
+
+    decides_much = True
+    code = "may be exits"
+    message = Text(
+        "no column of exits is found, and '{title}' isn't read, whose {count} days are all behind the births, the first "
+        "'{text}' in line {line}: animals that left then count as living"
+    )
+
+    def suggestions(self) -> tuple[Suggestion, ...]:
+        return (
+            Suggestion("if it tells of exits", (column(Field.EXIT, self.title),)),
+            Suggestion("if no column tells of exits", (column(Field.EXIT, ""),)),
+        )
+
+
+@dataclass(frozen=True, slots=True)
+class StillbornUnread(SheetFinding):
+    """A column that isn't read, and says of animals without an exit that they were born dead: of how many, and the
+    first."""
+
+    title: str
+    count: int
+    line: int
+    text: str
+
+    decides_much = True
+    code = "stillborn unread"
+    message = Counted(
+        "the column '{title}' isn't read, and has '{text}' in line {line}: if that animal was born dead, write so into the "
+        "column for exits, with its birth day: it counts as living",
+        "the column '{title}' isn't read, and has {count} cells, the first '{text}' in line {line}: if these animals were "
+        "born dead, write so into the column for exits, with their birth days: they count as living",
+        "count",
+    )
+
+
+@dataclass(frozen=True, slots=True)
+class DeletedRows(SheetFinding):
+    """A column that isn't read, and says of rows that they don't hold, whose animals have no exit: of how many, and the
+    first."""
+
+    title: str
+    count: int
+    line: int
+    text: str
+
+    decides_much = True
+    severity = Severity.ANIMALS
+    code = "deleted rows"
+    message = Counted(
+        "the column '{title}' isn't read, and has '{text}' in line {line}: the row is taken like all others; if it doesn't "
+        "hold, take it out of the list, and if its animal has left, write an exit",
+        "the column '{title}' isn't read, and has {count} cells, the first '{text}' in line {line}: these rows are taken "
+        "like all others; if one doesn't hold, take it out of the list, and if its animal has left, write an exit",
+        "count",
+    )
+
+
+@dataclass(frozen=True, slots=True)
+class CorrectionsUnread(SheetFinding):
+    """A column that isn't read, and corrects another one: in how many rows it has another text, the first of them, and
+    what is read there, empty for nothing; `is_full` where it has no fewer cells."""
+
+    field: Field
+    title: str
+    beside: str
+    count: int
+    line: int
+    text: str
+    other: str
+    is_full: bool
+
+    decides_much = True
+    code = "corrections unread"
+    message = Counted(
+        "'{beside}' isn't read, and says '{text}'{maybe_other} in line {line}: where it is right, write that into '{title}'",
+        "'{beside}' isn't read, and says otherwise than '{title}' in {count} rows, first '{text}'{maybe_other} in line "
+        "{line}: where it is right, write that into '{title}'",
+        "count",
+    )
+    parts = {"maybe_other": OptionalPart(" and not '{other}'")}
+
+    def suggestions(self) -> tuple[Suggestion, ...]:
+        likely = Suggestion(f"if '{self.beside}' is the one", (column(self.field, self.beside),))
+        return (likely,) if self.is_full else ()
+
+
+@dataclass(frozen=True, slots=True)
+class SecondOwnersUnread(SheetFinding):
+    """A column with a second owner, which isn't read: in how many rows it has another one, the first of them, and who
+    is read there, empty for nobody."""
+
+    title: str
+    beside: str
+    count: int
+    line: int
+    text: str
+    other: str
+
+    decides_much = True
+    code = "second owners unread"
+    message = Counted(
+        "'{beside}' isn't read, and has '{text}' in line {line}: {maybe_other}{maybe_nobody}; if the animal has gone to "
+        "'{text}', write that into '{title}'",
+        "'{beside}' isn't read, and has {count} owners, the first '{text}' in line {line}: {maybe_other}{maybe_nobody}; "
+        "where an animal has gone to the second one, write that one into '{title}'",
+        "count",
+    )
+    parts = {
+        "maybe_other": OptionalPart("the owner is '{other}', as '{title}' has it"),
+        "maybe_nobody": OptionalPart("nobody owns it, as '{title}' has nothing", when="is_nobody"),
+    }
+
+    def values(self) -> Mapping[str, object]:
+        return {"is_nobody": not self.other}

@@ -1,0 +1,89 @@
+"""What is found of columns with other dams than those of birth, and of parents that a test of genes tells: each kind as
+data, and in words."""
+from __future__ import annotations
+
+from dataclasses import dataclass
+
+from gudokeyi.domain.findings import Severity, Suggestion
+from gudokeyi.domain.kinds import Field
+from gudokeyi.domain.wording import Counted, OptionalPart
+from gudokeyi.ingest.findings.columns import SheetFinding, column
+
+
+@dataclass(frozen=True, slots=True)
+class GeneticDamsRead(SheetFinding):
+    """A column of genetic dams, which is read beside that of the dams: in so many rows it has another one; the first of
+    them, and what stands in the column of the dams there."""
+
+    title: str
+    beside: str
+    count: int
+    line: int
+    text: str
+    other: str
+
+    severity = Severity.PARENTS
+    code = "genetic dams read"
+    message = Counted(
+        "the dam of {count} animal is read from '{beside}', '{text}' in line {line}{maybe_other}",
+        "the dams of {count} animals are read from '{beside}', the first '{text}' in line {line}{maybe_other}",
+        "count",
+    )
+    parts = {
+        "maybe_other": OptionalPart(": '{other}' in '{title}' carried it, and is no dam"),
+    }
+
+
+@dataclass(frozen=True, slots=True)
+class CarriersAlone(SheetFinding):
+    """Rows that have a carrier, and no dam: how many, and the first."""
+
+    title: str
+    beside: str
+    count: int
+    line: int
+    text: str
+
+    decides_much = True
+    severity = Severity.PARENTS
+    code = "carriers alone"
+    message = Counted(
+        "{count} row has no dam in '{title}', and '{text}' in '{beside}', in line {line}: who carries an animal isn't its "
+        "dam, which counts as unknown; write the dam into '{title}'",
+        "{count} rows have no dam in '{title}', and something in '{beside}', the first '{text}' in line {line}: who "
+        "carries an animal isn't its dam, which counts as unknown; write the dams into '{title}'",
+        "count",
+    )
+
+    def suggestions(self) -> tuple[Suggestion, ...]:
+        return (Suggestion("if they are dams where no other one stands", (column(Field.DAM, self.beside),)),)
+
+
+@dataclass(frozen=True, slots=True)
+class GenesDiffer(SheetFinding):
+    """Another column has parents by a test of genes, which isn't read: in so many rows another one than that which is;
+    the first of them, and what is read there; `is_full` where it has no fewer of them."""
+
+    field: Field
+    title: str
+    beside: str
+    count: int
+    line: int
+    text: str
+    other: str
+    is_full: bool
+
+    decides_much = True
+    severity = Severity.PARENTS
+    code = "genes differ"
+    message = Counted(
+        "'{beside}' isn't read, and has another {field} than '{title}' in {count} row: '{text}' and not '{other}', in line "
+        "{line}: where the test is right, write that into '{title}'",
+        "'{beside}' isn't read, and has another {field} than '{title}' in {count} rows: first '{text}' and not '{other}', "
+        "in line {line}: where the test is right, write that into '{title}'",
+        "count",
+    )
+
+    def suggestions(self) -> tuple[Suggestion, ...]:
+        likely = Suggestion(f"if '{self.beside}' is the one", (column(self.field, self.beside),))
+        return (likely,) if self.is_full else ()

@@ -1,0 +1,185 @@
+"""Columns that aren't read, though what they have belongs to animals: they are told with the word that reads them."""
+from __future__ import annotations
+
+import pytest
+
+from front_desk.desk import Desk
+
+PARENTS = "Ohrmarke;geb;Vater;Mutter"
+
+
+def words_of(desk_commands: list[str]) -> list[str]:
+    return [one.partition("--columns ")[2] for one in desk_commands]
+
+
+# -- columns of which it was said once that there are none
+
+
+def test_column_is_back_that_was_said_to_be_none(desk: Desk) -> None:
+    """Each time, until it is read, or said to be none while it is there."""
+    lost = f"{PARENTS}\n001;2001-01-01;;\n002;2001-02-01;;\n"
+    back = f"{PARENTS};Rufname;Abgang\n001;2001-01-01;;;Max;\n002;2001-02-01;;;Eva;3.5.2025\n"
+    desk.take(back.replace("3.5.2025", "").replace("Rufname", "Name"))
+    desk.take(lost, "--columns", "exit=", "--columns", "name=")
+    for _ in range(2):
+        done = desk.take(back)
+        done.shows(
+            "to look at: 'Abgang' isn't read as exit, since it was said of an earlier list that no column is that; "
+            "it has 1 cell, '3.5.2025' in line 3",
+            "to look at: 'Rufname' isn't read as name, since it was said of an earlier list that no column is that; "
+            "it has 2 cells, the first 'Max' in line 2",
+        )
+        assert words_of(done.commands()) == ["exit=Abgang", "exit=", "name=Rufname", "name="]
+    # an empty one has nothing to lose
+    assert "'Abgang' isn't read" not in desk.take(back.replace("3.5.2025", "")).out
+    done = desk.typed(done.commands()[1])
+    assert "'Abgang' isn't read" not in done.out and "'Rufname' isn't read" in done.out
+    assert "'Abgang' isn't read" not in desk.take(back).out
+    # what was said of one column isn't said of another
+    other = back.replace("Abgang", "Todesdatum")
+    assert "'Todesdatum' isn't read as exit, since it was said" in (done := desk.take(other)).out
+    done = desk.typed(next(one for one in done.commands() if one.endswith("exit=Todesdatum")))
+    assert "'Todesdatum' isn't read" not in done.out and "changed: exit 1" in done.out
+    assert "'Todesdatum' isn't read" not in desk.take(other).out
+
+
+def test_parents_are_back_that_were_said_to_be_none(desk: Desk) -> None:
+    desk.take("Ohrmarke;geb;Mutter\n001;2001-01-01;\n002;2001-02-01;\n", "--columns", "sire=")
+    back = "Ohrmarke;geb;Mutter;Vater\n001;2001-01-01;;\n002;2001-02-01;;\n003;2003-02-01;002;001\n"
+    done = desk.take(back)
+    assert "'Vater' isn't read as sire, since it was said" in done.out
+    desk.typed(next(one for one in done.commands() if one.endswith("sire=Vater")))
+    assert desk.parents()["003"] == ("001", "002")
+
+
+# -- columns of exits, owners and their first days, by their titles and their days
+
+OWNED = "001;m;01.02.2010;;;{owner};{day}\n002;w;03.02.2010;;;Huber;\n003;w;03.02.2013;001;002;Huber;\n"
+
+
+@pytest.mark.parametrize(
+    "title",
+    [
+        "Schlachttag", "Abmeldung", "Abgemeldet am", "DOD", "Date of death", "Todesdatum", "Date décès", "Merzdatum",
+        "Ausgang", "Austritt", "Date of disposal", "Cull date",
+    ],
+)  # fmt: skip
+def test_titles_of_exits(desk: Desk, title: str) -> None:
+    desk.take(f"Ohrmarke;Geschlecht;geb;Vater;Mutter;Besitzer;{title}\n{OWNED.format(owner='Huber', day='3.4.2020')}")
+    assert [row["exit"] for row in desk.listed("list", "--columns", "exit")] == ["2020-04-03", "", ""]
+
+
+@pytest.mark.parametrize(
+    "title",
+    ["Besitzer/Halter", "Owner/Keeper", "Besitzer (aktuell)", "jetziger Besitzer", "Breeder/Owner", "Propr.", "Cheptel"],
+)
+def test_titles_of_owners(desk: Desk, title: str) -> None:
+    desk.take(f"Ohrmarke;Geschlecht;geb;Vater;Mutter;{title};Farbe\n{OWNED.format(owner='Meier', day='')}")
+    assert [row["owner"] for row in desk.listed("list", "--columns", "owner")] == ["Meier", "Huber", "Huber"]
+
+
+@pytest.mark.parametrize("title", ["Date entrée", "Eingang", "Zukauf am", "Purchased", "Bought on", "Entry date", "Ankauf"])
+def test_titles_of_first_days(desk: Desk, title: str) -> None:
+    rows = OWNED.format(owner="Meier", day="3.4.2012")
+    desk.take(f"Ohrmarke;Geschlecht;geb;Vater;Mutter;Besitzer;{title}\n{rows}")
+    assert "since 2012-04-03" in desk.good("show", "001").out
+    # one that says it more plainly is read, and words are no days
+    before = "Ohrmarke;Geschlecht;geb;Vater;Mutter;Besitzer;Besitzer seit;Zukauf\n"
+    done = desk.take(before + rows.replace("Meier;3.4.2012", "Meier;3.4.2012;ja"), "--book", "plain")
+    assert "since from 'Besitzer seit'" in done.out and "not read: 'Zukauf'" in done.out
+    alone = desk.take(f"Ohrmarke;Geschlecht;geb;Vater;Mutter;Besitzer;Zukauf\n{rows.replace('3.4.2012', 'ja')}", "--book", "yes")
+    assert "not read: 'Zukauf'" in alone.out and "to look at" not in alone.out
+
+
+def test_days_that_may_be_exits(desk: Desk) -> None:
+    """A column of days behind the births is told where none has the exits, until that is said."""
+    rows = "".join(f"00{at};0{at}.02.2010;;;;{f'0{at}.03.2020' if at < 4 else ''}\n" for at in range(1, 7))
+    text = "Ohrmarke;geb;Vater;Mutter;Besitzer;Letzter Tag\n" + rows
+    done = desk.take(text)
+    done.shows(
+        "to look at: no column of exits is found, and 'Letzter Tag' isn't read, whose 3 days are all behind the births, "
+        "the first '01.03.2020' in line 2: animals that left then count as living"
+    )
+    assert words_of(done.commands()) == ["'exit=Letzter Tag'", "exit="]
+    told = "no column of exits is found"
+    # days of something else, of all animals, or before births, and a list with exits
+    for other in (
+        text.replace("Letzter Tag", "Letzte Impfung"), text.replace(";;\n", ";;01.03.2020\n"),
+        text.replace(".03.2020", ".01.2010"), text.replace("Besitzer", "Abgang"), text.replace("03.03.2020", ""),
+    ):  # fmt: skip
+        assert told not in desk.take(other, "--book", "other").out, other
+    assert told not in desk.take(text, "--columns", "exit=").out
+    done = desk.typed(done.commands()[0])
+    assert told not in done.out and "changed: exit 3" in done.out
+
+
+# -- columns of marks, and of corrections
+
+LITTER = "Ohrmarke;Geschlecht;geb;Vater;Mutter;Abgang;{}\n001;m;01.02.2010;;;;\n002;w;03.02.2010;;;;\n003;w;03.02.2013;001;002;{};{}\n"
+UNREAD = "the column '{}' isn't read, and has '{}' in line 4: "
+
+
+@pytest.mark.parametrize(
+    ("title", "text", "said"),
+    [
+        ("totgeboren", "x", "if that animal was born dead"), ("Totgeburt", "ja", "if that animal was born dead"),
+        ("Stillborn", "Y", "if that animal was born dead"), ("Mort-né", "oui", "if that animal was born dead"),
+        ("gelöscht", "x", "the row is taken"), ("Deleted", "yes", "the row is taken"), ("ungültig", "1", "the row is taken"),
+        ("storniert", "ja", "the row is taken"), ("supprimé(e)", "x", "the row is taken"),
+    ],
+)  # fmt: skip
+def test_marks_of_rows(desk: Desk, title: str, text: str, said: str) -> None:
+    """They are told of animals without an exit; neither a no nor a count says that of a row."""
+    told = UNREAD.format(title, text) + said
+    assert told in desk.take(LITTER.format(title, "", text)).out
+    for exit, other in (("03.02.2013", text), ("", "nein"), ("", "0"), ("", "2"), ("", "-")):
+        assert UNREAD.partition("'")[0] not in desk.take(LITTER.format(title, exit, other), "--book", f"b{other}").out
+
+
+@pytest.mark.parametrize(
+    ("title", "text", "said"),
+    [
+        ("korrigiertes Geburtsdatum", "14.3.2013", "'14.3.2013' and not '03.02.2013' in line 4: where it is right, write that"),
+        ("corrected DOB", "14/3/2013", "'14/3/2013' and not '03.02.2013' in line 4: where it is right, write that"),
+        ("Geburtsdatum neu", "2012", "'2012' and not '03.02.2013' in line 4: where it is right, write that into 'geb'"),
+        ("Vater (korrigiert)", "009", "'009' and not '001' in line 4: where it is right, write that into 'Vater'"),
+        ("correct sex", "m", "'m' and not 'w' in line 4: where it is right, write that into 'Geschlecht'"),
+    ],
+)  # fmt: skip
+def test_corrections_beside(desk: Desk, title: str, text: str, said: str) -> None:
+    told = f"to look at: '{title}' isn't read, and says {said}"
+    assert told in desk.take(LITTER.format(title, "", text)).out
+    same = {"Vater (korrigiert)": "001", "correct sex": "w"}.get(title, "3.2.2013")
+    for other in ("", same):
+        assert "isn't read, and says" not in desk.take(LITTER.format(title, "", other), "--book", "other").out
+    # a new ear tag is none
+    assert "isn't read, and says" not in desk.take(LITTER.format("neue Ohrmarke", "", "009"), "--book", "other").out
+
+
+# -- second owners
+
+TWICE = "Ohrmarke;Geschlecht;geb;Vater;Mutter;{}\n001;m;01.02.2010;;;Huber;03.02.2011;Meier;03.04.2015\n"
+TWICE += "002;w;03.02.2010;;;Huber;03.02.2011;;\n003;w;03.02.2013;001;002;Huber;;Egli;03.04.2016\n"
+
+
+@pytest.mark.parametrize(
+    "titles",
+    [
+        "Besitzer 1;seit 1;Besitzer 2;seit 2", "1. Besitzer;seit;2. Besitzer;bis", "Owner 1;Since 1;Owner 2;Since 2",
+        "Propriétaire 1;depuis 1;Propriétaire 2;depuis 2", "Besitzer;Besitzer seit;Mitbesitzer;dabei seit",
+    ],
+)  # fmt: skip
+def test_second_owners(desk: Desk, titles: str) -> None:
+    first, _, second, _ = titles.split(";")
+    done = desk.take(TWICE.format(titles))
+    done.shows(
+        f"to look at: '{second}' isn't read, and has 2 owners, the first 'Meier' in line 2: the owner is 'Huber', as "
+        f"'{first}' has it; where an animal has gone to the second one, write that one into '{first}'"
+    )
+    assert [row["owner"] for row in desk.listed("list", "--columns", "owner")] == ["Huber"] * 3
+    assert "since 2011-02-03" in desk.good("show", "001").out
+    # nobody besides
+    same = TWICE.format(titles).replace("Meier", "Huber").replace("Egli", "")
+    assert f"'{second}' isn't read" not in desk.take(same, "--book", "same").out
+    nobody = desk.take(same.replace("Huber;;", ";;Egli"), "--book", "nobody").out
+    assert f"'{second}' isn't read, and has 'Egli' in line 4: nobody owns it, as '{first}' has nothing" in nobody

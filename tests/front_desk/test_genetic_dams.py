@@ -1,0 +1,78 @@
+"""Dams of embryos, and parents by a test of genes: the genetic dam is the dam, and no other parent is lost in
+silence."""
+from __future__ import annotations
+
+import pytest
+
+from front_desk.desk import Desk
+
+EWES = "001;m;01.02.2010;;;\n002;w;03.02.2010;;;\n003;w;04.02.2010;;;\n004;w;05.02.2010;;;\n"
+LAMBS = "005;w;03.02.2013;001;002;\n006;w;03.02.2013;001;003;004\n"
+TITLES = "Ohrmarke;Geschlecht;geb;Vater;{};{}\n"
+
+
+@pytest.mark.parametrize(
+    "title",
+    [
+        "genetische Mutter", "Spendertier", "Spender", "Donor dam", "Mère génétique", "Biologische Mutter", "Donor",
+        "Genetic dam",
+    ],
+)  # fmt: skip
+def test_genetic_dam_beside_the_dams(desk: Desk, title: str) -> None:
+    done = desk.take(TITLES.format("Mutter", title) + EWES + LAMBS)
+    assert [desk.parents()[id][1] for id in ("005", "006")] == ["002", "004"]
+    done.tells(
+        f"to look at: the dam of 1 animal is read from '{title}', '004' in line 7: '003' in 'Mutter' carried it, and is no dam"
+    )
+    assert "not read" not in done.out
+    assert " 0 changed" in desk.take(TITLES.format("Mutter", title) + EWES + LAMBS).last
+
+
+@pytest.mark.parametrize(
+    ("carrier", "genetic"),
+    [
+        ("Leihmutter", "Genetische Mutter"), ("Recipient dam", "Genetic dam"), ("Recipient dam", "Dam"),
+        ("Trägertier", "Mutter"), ("Empfängerin", "Mutter"), ("Mère porteuse", "Mère"), ("Porteuse", "Mère génétique"),
+    ],
+)  # fmt: skip
+def test_carrier_is_no_dam(desk: Desk, carrier: str, genetic: str) -> None:
+    """Also where hers is the only id; that is told, and a word reads her where no other dam stands."""
+    text = TITLES.format(carrier, genetic) + EWES + LAMBS
+    done = desk.take(text)
+    assert [desk.parents()[id][1] for id in ("005", "006")] == ["", "004"]
+    done.shows(
+        f"to look at: 1 row has no dam in '{genetic}', and '002' in '{carrier}', in line 6: who carries an animal isn't its "
+        f"dam, which counts as unknown; write the dam into '{genetic}'"
+    )
+    [said] = [one for one in done.commands() if f"dam={carrier}" in one]
+    if carrier == "Leihmutter":
+        assert "carries" not in desk.typed(said).out
+        assert [desk.parents()[id][1] for id in ("005", "006")] == ["002", "004"]
+    # her state, and one beside a dam, aren't told
+    for other in text.replace("005;w;03.02.2013;001;002;", "005;w;03.02.2013;001;ja;"), text.replace("002;\n", "002;003\n"):
+        assert "carries" not in desk.take(other, "--book", "other").out
+
+
+def test_carriers_alone(desk: Desk) -> None:
+    """No carrier is offered as a dam where a list has no dams."""
+    sheet = desk.write("sheet.csv", TITLES.format("Leihmutter", "Farbe") + EWES + LAMBS)
+    done = desk.wrong("no column for dam is found", "import", sheet)
+    assert [one.partition("--columns ")[2] for one in done.commands()] == ["dam="]
+
+
+@pytest.mark.parametrize("title", ["Vater gemäss DNA", "Sire by DNA", "Père (ADN)", "Vater 2"])
+def test_parent_by_a_test(desk: Desk, title: str) -> None:
+    rows = EWES + "005;m;01.03.2010;;;\n006;w;03.02.2013;001;002;005\n007;w;03.02.2013;001;002;\n"
+    text = f"Ohrmarke;Geschlecht;geb;Vater;Mutter;{title}\n{rows}"
+    done = desk.take(text)
+    done.shows(
+        f"to look at: '{title}' isn't read, and has another sire than 'Vater' in 1 row: '005' and not '001', in line 7: "
+        "where the test is right, write that into 'Vater'"
+    )
+    assert desk.parents()["006"] == ("001", "002")
+    lacking = desk.take(text.replace("001;002;005", ";002;005"), "--book", "lacking")
+    assert f"1 row has nothing in 'Vater', and '005' in '{title}'" in lacking.out
+    # the same parent, and a remark
+    for other in "001", "bestätigt", "ja":
+        done = desk.take(text.replace("001;002;005", f"001;002;{other}"), "--book", "other")
+        assert "another sire" not in done.out, other
