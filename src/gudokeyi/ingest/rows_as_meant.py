@@ -254,11 +254,12 @@ def as_meant(
     exits = exits_said(rows, sheet, columns, unknown, report) if Field.EXIT in columns else Exits()
     if exits.texts:
         rows = with_cells(rows, columns[Field.EXIT], exits.texts)
-    if rows is sheet.rows and not (exits.remarks or exits.reasons):
+    if rows is sheet.rows and not (exits.remarks or exits.reasons or exits.sales):
         return sheet
     return replace(
-        sheet, rows=rows, kept={}, remarks=exits.remarks, exit_titles=exits.titles, reasons=exits.reasons
-    )
+        sheet, rows=rows, kept={}, remarks=exits.remarks, exit_titles=exits.titles, reasons=exits.reasons,
+        sales=exits.sales,
+    )  # fmt: skip
 
 
 def with_cells(rows: Sequence[SheetRow], at: int, texts: Mapping[int, str]) -> list[SheetRow]:

@@ -187,7 +187,7 @@ class Rows:
         self.unread.exit_titles = sheet.exit_titles
         self.forms = DayForms(self.texts(Field.BIRTH), (born or {}).values(), month_first)
         self.cells = AnimalCells(unknown, self.sexes, self.unread, report, month_first, self.forms)
-        self.cells.reasons = sheet.reasons
+        self.cells.reasons, self.cells.sales = sheet.reasons, sheet.sales
         self.castrations = Castrations(sheet, columns, unknown)
         self.cells.castrations = self.castrations.lines
         self.cells.inferred_sexes = lines_of_inferred_sexes(sheet, columns, lambda text: self.sexes.meaning(text).sex)

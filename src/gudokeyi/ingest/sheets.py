@@ -107,6 +107,8 @@ class Sheet:
     exit_titles: Mapping[int, str] = field(default_factory=dict)
     # what that column says beside the day of an exit, by lines
     reasons: Mapping[int, str] = field(default_factory=dict)
+    # what other columns tell of sales beside the day of another exit, by lines
+    sales: Mapping[int, str] = field(default_factory=dict)
     decision: Decision | None = None
     # the worksheets of a workbook, and the one that is taken since it was named before
     worksheets: tuple[str, ...] = ()
@@ -130,8 +132,10 @@ class Sheet:
 
     def is_same(self, meant: Sheet) -> bool:
         """Has another sheet that was made of the same one the same rows?"""
-        return (meant.rows, meant.unseen, meant.remarks, meant.exit_titles, meant.reasons, meant.marked) == (
-            self.rows, self.unseen, self.remarks, self.exit_titles, self.reasons, self.marked
+        return (
+            meant.rows, meant.unseen, meant.remarks, meant.exit_titles, meant.reasons, meant.sales, meant.marked
+        ) == (
+            self.rows, self.unseen, self.remarks, self.exit_titles, self.reasons, self.sales, self.marked
         )  # fmt: skip
 
     def column(self, at: int) -> list[str]:

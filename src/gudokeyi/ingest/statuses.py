@@ -19,7 +19,9 @@ from gudokeyi.ingest.texts import plain
 from gudokeyi.ingest.titles import (
     KNOWN_REASONS, KNOWN_STATES, KNOWN_STATUSES, OF_LIVING, names_exits_alone, names_other_exits, said_of,
 )  # fmt: skip
-from gudokeyi.ingest.words import DEAD, KNOWN_YES, exit_word, is_still_there, lives, lives_besides, says_lives
+from gudokeyi.ingest.words import (
+    DEAD, KNOWN_SALES, KNOWN_YES, PLAIN_EXITS, exit_word, is_still_there, lives, lives_besides, says_lives,
+)  # fmt: skip
 
 # an owner who takes an animal
 TAKER = re.compile(
@@ -40,6 +42,9 @@ WITH_NOW = re.compile(
     r"(?:bei |an |with |to |chez |à )?(?P<taker>\S.*)",
     re.IGNORECASE,
 )
+# what may tell of a death behind a sale, and the words that do
+WORD_OR_SIGN = re.compile(r"[^\W\d_]+|†|✝|\+\s*\d")
+KNOWN_DEATHS = PLAIN_EXITS - KNOWN_SALES
 # so many different texts a column of words has at most
 MOST_TEXTS = 2000
 # so many such columns are looked at
@@ -50,6 +55,15 @@ def taker_of_owner(text: str) -> str:
     """Who has an animal whose owner is written as `verkauft an Meier`; empty where the text tells of no sale."""
     found = TAKER.search(text) or WITH_NOW.match(text)
     return found["taker"] if found else ""
+
+
+def parted_at_death(text: str) -> tuple[str, str]:
+    """A text that tells first of a sale, and then of a death: the one, and the other, which is empty where there is
+    none."""
+    sale = TAKER.search(text) or SOLD.match(text)
+    words = WORD_OR_SIGN.finditer(text, sale.start("taker")) if sale else ()
+    at = next((word.start() for word in words if plain(word[0]) in KNOWN_DEATHS or DEAD.search(word[0])), 0)
+    return (text[:at].rstrip(" ,;(/–—-"), text[at:].rstrip(" )")) if at else (text, "")
 
 
 def exits_of_living(rows: list[SheetRow], title: str, at: int) -> dict[int, str]:
