@@ -21,10 +21,10 @@ from gudokeyi.ingest.files import MOST_LETTERS, GivenFile, check_bounds
 from gudokeyi.ingest.findings.cells import TitleFor
 from gudokeyi.ingest.findings.columns import SheetFinding
 from gudokeyi.ingest.findings.exits import Remark
-from gudokeyi.ingest.findings.files import Apostrophes, MarksAlone
+from gudokeyi.ingest.findings.files import Apostrophes, MarksAlone, RowsBetweenMarks
 from gudokeyi.ingest.messages import SheetFault
 from gudokeyi.ingest.shown_cells import Shown
-from gudokeyi.ingest.stray_quotes import with_marks_doubled
+from gudokeyi.ingest.stray_quotes import with_marks_doubled, with_rows_parted
 from gudokeyi.ingest.struck_texts import NOTHING_STRUCK, Struck
 from gudokeyi.ingest.texts import clean
 from gudokeyi.ingest.titles_within import in_order, needed_in
@@ -337,10 +337,15 @@ def rows_of_text(text: str, separator: str, score: Score) -> tuple[list[SheetRow
     rows = read_records(text, separator)[is_named(text) :]
     first = [row.cells for row in rows[:BEGINNING]]
     titles = len(first[title_row(first, score)]) if first else 0
-    doubled = with_marks_doubled(text, separator, titles)
-    if doubled is None:
-        return rows, []
-    return read_records(doubled.text, separator)[is_named(text) :], [MarksAlone(doubled.rows, doubled.first)]
+    found = list[SheetFinding]()
+    if (doubled := with_marks_doubled(text, separator, titles)) is not None:
+        found.append(MarksAlone(doubled.rows, doubled.first))
+    text = doubled.text if doubled else text
+    has_longer = '"' in text and titles > 1 and text.count("\n") > len(rows)
+    if has_longer and (parted := with_rows_parted(text, separator, titles)) is not None:
+        found.append(RowsBetweenMarks(parted.rows, parted.first))
+        text = parted.text
+    return (read_records(text, separator)[is_named(text) :] if found else rows), found
 
 
 def read_records(text: str, separator: str) -> list[SheetRow]:

@@ -66,6 +66,23 @@ class MarksAlone(SheetFinding):
 
 
 @dataclass(frozen=True, slots=True)
+class RowsBetweenMarks(SheetFinding):
+    """Whole rows of a text file between two quotation marks, which would read as one row."""
+
+    count: int
+    line: int
+
+    severity = Severity.PARENTS
+    code = "rows between marks"
+    message = Counted(
+        "{count} row stands between two quotation marks, the first of which is in line {line}: it is read without these",
+        "{count} rows stand between two quotation marks, the first of which is in line {line}: each is read as a row of "
+        "its own, without these marks; take them out of the file",
+        "count",
+    )
+
+
+@dataclass(frozen=True, slots=True)
 class TextInLine(Told):
     """A text with its first line, and what it was before its letters were decoded twice, if they were."""
 
