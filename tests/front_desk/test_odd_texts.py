@@ -191,6 +191,17 @@ def test_exchanged_days(desk: Desk) -> None:
     )
 
 
+def test_years_as_days(desk: Desk) -> None:
+    """A year in a cell whose format is a day is told as what it may be, and not as an animal that must have left;
+    where others are born then, nothing is told."""
+    births = [f"1{at % 10}.03.2018" for at in range(30)]
+    told = "in line 32, as a spreadsheet shows 2018 in a cell whose format is a day"
+    done = desk.take(days(*births, "10.07.1905"), "--preview")
+    assert f"to look at: 'birth' has 10.07.1905 {told}" in done.out and "has it left?" not in done.told
+    done = desk.take(days(*births, "10.07.1905", "11.02.1906"), "--preview")
+    assert told not in done.told and done.out.count("has it left?") == 2
+
+
 @pytest.mark.parametrize("birth", ["2020-05-13", "07/03/2020"])
 def test_days_as_they_are(desk: Desk, birth: str) -> None:
     """A day that is later in a month, or a text that isn't, shows that none is exchanged."""

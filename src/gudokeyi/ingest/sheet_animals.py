@@ -47,6 +47,7 @@ from gudokeyi.ingest.titles import KNOWN_STATES, is_german, parts_of, words_of_s
 from gudokeyi.ingest.unknown_parents import UnknownParents
 from gudokeyi.ingest.texts import nearly, plain
 from gudokeyi.ingest.words import KNOWN_SUMS, is_error_value
+from gudokeyi.ingest.years_as_days import years_as_days
 
 # Rows that may be no animals: those that count or sum up, and those that have an id alone. They are taken, and told,
 # unless somebody says by a word of theirs that they are none.
@@ -337,12 +338,15 @@ class Rows:
             self.notes += one_sex_alone(title, self.texts(Field.SEX), self.sexes, animals.values())
         self.notes += self.castrations.told(animals.values(), self.sexes)
         self.notes += first_days(animals, self.plain.different.get(Field.BIRTH, ()))
-        self.notes += [] if self.month_first else self.exchanged_days()
+        self.notes += self.odd_days()
 
-    def exchanged_days(self) -> Iterator[SheetFinding]:
+    def odd_days(self) -> Iterator[SheetFinding]:
+        """Days with day and month exchanged, and those that are years."""
         for field in (field for field in DAYS if field in self.columns):
             title, different = self.sheet.titles[self.columns[field]], self.plain.different[field]
-            yield from exchanged(title, self.texts(field), different, self.sheet.rows)
+            column = title, self.texts(field), different, self.sheet.rows
+            yield from [] if self.month_first else exchanged(*column)
+            yield from years_as_days(*column)
 
     def look_at_ids(self, animals: dict[str, SheetAnimal]) -> None:
         """What is told of ids, and of names that are days."""
