@@ -8,9 +8,10 @@ import re
 from collections.abc import Collection, Iterable, Iterator, Mapping
 
 from gudokeyi.domain.findings import Report
+from gudokeyi.domain.kinds import Field
 from gudokeyi.ingest.animals import SheetAnimal
 from gudokeyi.ingest.findings.columns import SheetFinding
-from gudokeyi.ingest.findings.odd_texts import MOST_LINES, FirstDays, IdTellsOfExit, NameTellsOfExit, TwoIds
+from gudokeyi.ingest.findings.odd_texts import MOST_LINES, DeathInBirth, FirstDays, IdTellsOfExit, NameTellsOfExit, TwoIds
 from gudokeyi.ingest.texts import listed, shape
 
 # Names that tell of an exit.
@@ -31,6 +32,10 @@ SMALL = listed(
 LETTERS = listed("RIP, PTS")
 WITH_POINTS = "r.i.p"
 SIGNS = ("†", "✝", "+")
+DEATH_SIGNS = SIGNS[:2]
+BORN_DEAD = re.compile(
+    r"\b(?:tot\W?(?:geb\w*|geboren)|still\W?(?:born|birth)|born dead|morts?\W?née?s?|mortnée?)\b", re.IGNORECASE
+)
 # a cross before a day or in brackets, or a plus alone at the end
 EXIT = re.compile(
     rf"[†✝]|\+ ?(?=\d)|(?<= )\+$|\( ?\+|(?i:\b(?:{'|'.join(SURE)})\b)|(?i:\b(?:{'|'.join(SHORT)})\.(?!\w))|"
@@ -61,6 +66,17 @@ def tell_exits_in_names(animals: Mapping[str, SheetAnimal], names: Iterable[str]
     for animal in animals.values() if telling else ():
         if animal.name in telling and counts_as_living(animal):
             report.add(animal.line, animal.id, NameTellsOfExit(animal.name))
+
+
+def tell_deaths_in_births(animals: Mapping[str, SheetAnimal], births: Collection[str], report: Report) -> None:
+    """Of animals that count as living, and whose birth has a sign of a death, or says that they were born dead."""
+    together = "\n".join(births)
+    if not (any(sign in together for sign in DEATH_SIGNS) or BORN_DEAD.search(together)):
+        return
+    telling = {text for text in births if any(sign in text for sign in DEATH_SIGNS) or BORN_DEAD.search(text)}
+    for animal in animals.values():
+        if (text := animal.cells.get(Field.BIRTH, "")) in telling and counts_as_living(animal):
+            report.add(animal.line, animal.id, DeathInBirth(text))
 
 
 def tell_exits_in_ids(animals: Mapping[str, SheetAnimal], marked: Mapping[int, str], report: Report) -> None:

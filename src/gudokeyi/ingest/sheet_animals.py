@@ -32,7 +32,9 @@ from gudokeyi.ingest.findings.files import GreyRows, HiddenRows
 from gudokeyi.ingest.findings.sheets import CutNumber, FormulaCell, Place
 from gudokeyi.ingest.inferred_values import lines_of_inferred_sexes
 from gudokeyi.ingest.odd_ids import Oddity, odd_ids
-from gudokeyi.ingest.odd_texts import first_days, tell_exits_in_ids, tell_exits_in_names, tell_several_ids
+from gudokeyi.ingest.odd_texts import (
+    first_days, tell_deaths_in_births, tell_exits_in_ids, tell_exits_in_names, tell_several_ids,
+)  # fmt: skip
 from gudokeyi.ingest.placeholders import (
     TRUTHS, tell_days_for_texts, tell_dittos, tell_ids_to_come, tell_truths,
 )  # fmt: skip
@@ -322,6 +324,7 @@ class Rows:
         self.look_at_ids(animals)
         tell_exits_in_names(animals, self.plain.different.get(Field.NAME, ()), self.report)
         tell_exits_in_ids(animals, self.sheet.marked, self.report)
+        tell_deaths_in_births(animals, self.plain.different.get(Field.BIRTH, ()), self.report)
         for field in (Field.NAME, Field.OWNER):
             if not TRUTHS.isdisjoint(self.plain.different.get(field, ())):
                 tell_truths(animals, field, self.report)

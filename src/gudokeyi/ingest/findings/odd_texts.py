@@ -16,6 +16,20 @@ MOST_LINES = 9
 
 
 @dataclass(frozen=True, slots=True)
+class DeathInBirth(PlausibilityWarning):
+    """The cell of a birth tells of a death, and the animal counts as living."""
+
+    text: str
+
+    severity = Severity.FACTS
+    code = "death in birth"
+    message = Text(
+        "its birth '{text}' tells of a death, and it counts as living: if it has left, write that into a column for "
+        "exits; if it was born dead, leave its row out"
+    )
+
+
+@dataclass(frozen=True, slots=True)
 class NameTellsOfExit(PlausibilityWarning):
     """A name with a sign or a word by which animals leave, of one that counts as living."""
 
