@@ -289,3 +289,15 @@ def test_row_with_a_sign_of_a_parent_without_one(desk: Desk) -> None:
     done.tells(f"line 4: DE103: {TWICE}")
     assert " 0 new, " in done.last and desk.parents()["DE103"] == ("DE102", "DE101")
     assert desk.parents()["DE104"] == ("DE102", "DE103")
+
+
+def test_other_breeds(desk: Desk) -> None:
+    """Rows of another breed than most are told once; where none is that of most, or all say one, nothing is."""
+    titles, row = TITLES.replace("\n", ";Rasse\n"), "a{};A;f;2018-03-1{};;;X;;{}\n"
+    breeds = ["Skudde", "Skudde", "", "Texel", "Skudde (grau)", "Texel", "Skudde", "Skudde"]
+    sheet = titles + "".join(row.format(at, at, breed) for at, breed in enumerate(breeds))
+    told = "to look at: 'Rasse' says another breed than 'Skudde', which most rows have, in 2 rows, the first is line 5 "
+    assert desk.take(sheet, "--preview").out.count(told + "with 'Texel': these animals are taken") == 1
+    one = titles + "".join(row.format(at, at, breed) for at, breed in enumerate(breeds[:5]))
+    assert "to look at: 'Rasse' says 'Texel' in line 5, where most rows have 'Skudde'" in desk.take(one, "--preview").out
+    assert "'Rasse' says" not in desk.take(sheet.replace("Texel", "Skudde"), "--preview").told

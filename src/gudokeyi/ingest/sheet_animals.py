@@ -35,6 +35,7 @@ from gudokeyi.ingest.odd_ids import Oddity, odd_ids
 from gudokeyi.ingest.odd_texts import (
     first_days, tell_deaths_in_births, tell_exits_in_ids, tell_exits_in_names, tell_several_ids,
 )  # fmt: skip
+from gudokeyi.ingest.other_breeds import other_breeds
 from gudokeyi.ingest.placeholders import (
     TRUTHS, tell_days_for_texts, tell_dittos, tell_ids_to_come, tell_truths,
 )  # fmt: skip
@@ -342,6 +343,7 @@ class Rows:
         self.notes += self.castrations.told(animals.values(), self.sexes)
         self.notes += first_days(animals, self.plain.different.get(Field.BIRTH, ()))
         self.notes += self.odd_days()
+        self.notes += other_breeds(self.sheet, self.columns, self.cells.unknown)
 
     def odd_days(self) -> Iterator[SheetFinding]:
         """Days with day and month exchanged, and those that are years."""

@@ -353,11 +353,12 @@ class WorksheetUnclear(SheetFinding):
     fit: bool
 
     code = "worksheet unclear"
-    message = Text("{path}: {maybe_count}{maybe_none_fits} ({names}): say which one is taken by --worksheet")
+    message = Text("{path}: {maybe_count}{maybe_none_fits} ({names}): say which one is taken by --worksheet{maybe_others}")
     page_message = Text("which worksheet is meant: {worksheets}?")
     parts = {
         "maybe_count": OptionalPart("{count} worksheets have titles that fit", when="fit"),
         "maybe_none_fits": OptionalPart("no worksheet has such titles", when="none_fits"),
+        "maybe_others": OptionalPart("; if others have animals too, take each of them then with --append", when="fit"),
     }
 
     def values(self) -> Mapping[str, object]:
