@@ -141,3 +141,34 @@ def test_words_of_a_status_named(desk: Desk) -> None:
     for title, line in ("Whereabouts", 9), ("Left on", 11):
         told = f"1 of 2 cells that tell of an exit in the column '{title}', the first in line {line}: 'tot'"
         assert told in done.told
+
+
+@pytest.mark.parametrize("title, yes", [("Dead", "Y"), ("tot", "J"), ("mort", "O"), ("Died", "1"), ("verkauft", "x")])
+def test_yes_in_a_column_of_exits(desk: Desk, title: str, yes: str) -> None:
+    """It says what the title does, in whatever letter; a no is none."""
+    rows = f"a;M;2001-01-01;;;{yes}\nb;F;2001-01-01;;;N\nc;F;2004-01-01;a;b;\n"
+    done = desk.take(f"id;sex;born;sire;dam;{title}\n{rows}")
+    assert "can't be read" not in done.told and "--unknown" not in done.told
+    assert [row["id"] for row in desk.table("book/ids.csv") if row["exit"]] == ["a"]
+
+
+@pytest.mark.parametrize(
+    "cell", ["Verkauf 14.10.2019 rückgängig", "14.10.2019 storniert", "verkauft an Huber 2019, storniert", "sale cancelled"]
+)
+def test_sale_that_was_undone(desk: Desk, cell: str) -> None:
+    """The animal stays with its owner, and that is told."""
+    sheet = f"id;sex;born;sire;dam;owner;exit\na;M;2001-01-01;;;Huber;\nb;F;2001-01-01;;;Kunz;{cell}\n"
+    done = desk.take(sheet)
+    assert f"tells of something else than an exit, in line 3: '{cell}': the animal stays" in done.out
+    assert not any(row["exit"] for row in desk.table("book/ids.csv")) and "exit," not in "\n".join(desk.commands())
+    assert desk.transfer_days() == []
+    desk.take(sheet.replace(cell, f"{cell}, gestorben 2020"), "--book", "dead")
+    assert [row["id"] for row in desk.table("dead/ids.csv") if row["exit"]] == ["b"] or "exit," in desk.text("dead/commands.csv")
+
+
+@pytest.mark.parametrize("birth", ["14.3.2018 †", "tot geboren 14.3.2018", "stillborn 14/3/2018"])
+def test_death_in_a_birth(desk: Desk, birth: str) -> None:
+    """That is told of an animal that counts as living, and of none that has left."""
+    sheet = f"id;sex;born;sire;dam;exit\na;M;2001-01-01;;;\nb;F;{birth};;;\nc;F;{birth};;;3.4.2019\n"
+    told = [line for line in desk.take(sheet, "--preview").out.splitlines() if "tells of a death" in line]
+    assert len(told) == 1 and told[0].startswith(f"line 3: b: to look at: its birth '{birth}' tells of a death")

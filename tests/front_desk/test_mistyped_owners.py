@@ -235,3 +235,22 @@ def test_spellings_of_all_pairs(seed: int) -> None:
     several = {frozenset(its) for name, its in by_name.items() if name and len(its) > 1}
     most = {its for its in several if not any(its < other for other in several)}
     assert {frozenset(one.text for one in its) for its in found} == most and len(found) == len(most)
+
+
+@pytest.mark.parametrize(
+    "cell",
+    [
+        "Huber Hans, 079 123 45 67", "Huber Hans 079/123 45 67", "Huber Hans (Thun)", "Huber Hans, Thun",
+        "Huber Hans, hans@example.ch", "Huber Hans, 3600 Thun", "ehemals Huber Hans",
+    ],
+)  # fmt: skip
+def test_owner_with_an_address(desk: Desk, cell: str) -> None:
+    """A name with a telephone number, a place or an address behind it is told, and one of another owner isn't."""
+    rows = "".join(f"00{at};m;01.02.201{at};Huber Hans\n" for at in range(3))
+    rows += f"004;w;3.2.2013;{cell}\n005;w;3.2.2013;Kunz Leo, Bern\n"
+    done = desk.take("Ohrmarke;Geschlecht;geb;Besitzer\n" + rows, "--columns", "sire=,dam=")
+    done.shows(
+        f"line 5: 004: to look at: the owner of 1 animal is written '{cell}', which has the name Huber Hans in it, and "
+        "becomes an owner of its own: write the name alone of the one who has the animal"
+    )
+    assert "Kunz" not in done.told

@@ -205,6 +205,17 @@ def test_exchanged_days(desk: Desk) -> None:
     )
 
 
+def test_years_as_days(desk: Desk) -> None:
+    """A year in a cell whose format is a day is told as what it may be, and not as an animal that must have left;
+    where others are born then, nothing is told."""
+    births = [f"1{at % 10}.03.2018" for at in range(30)]
+    told = "in line 32, as a spreadsheet shows 2018 in a cell whose format is a day"
+    done = desk.take(days(*births, "10.07.1905"), "--preview")
+    assert f"to look at: 'birth' has 10.07.1905 {told}" in done.out and "has it left?" not in done.told
+    done = desk.take(days(*births, "10.07.1905", "11.02.1906"), "--preview")
+    assert told not in done.told and done.out.count("has it left?") == 2
+
+
 @pytest.mark.parametrize("birth", ["2020-05-13", "07/03/2020"])
 def test_days_as_they_are(desk: Desk, birth: str) -> None:
     """A day that is later in a month, or a text that isn't, shows that none is exchanged."""
@@ -323,3 +334,15 @@ def test_day_for_a_name(desk: Desk, name: str, is_told: bool) -> None:
     """Also in a text file."""
     done = desk.take(f"{TITLES}a1;{name};f;2019-03-24;;;X;\na2;Eva;m;2019-03-02;;;X;\n")
     assert (f"line 2: a1: to look at: its name is the day {name}, which spreadsheets make" in done.out) == is_told
+
+
+def test_other_breeds(desk: Desk) -> None:
+    """Rows of another breed than most are told once; where none is that of most, or all say one, nothing is."""
+    titles, row = TITLES.replace("\n", ";Rasse\n"), "a{};A;f;2018-03-1{};;;X;;{}\n"
+    breeds = ["Skudde", "Skudde", "", "Texel", "Skudde (grau)", "Texel", "Skudde", "Skudde"]
+    sheet = titles + "".join(row.format(at, at, breed) for at, breed in enumerate(breeds))
+    told = "to look at: 'Rasse' says another breed than 'Skudde', which most rows have, in 2 rows, the first is line 5 "
+    assert desk.take(sheet, "--preview").out.count(told + "with 'Texel': these animals are taken") == 1
+    one = titles + "".join(row.format(at, at, breed) for at, breed in enumerate(breeds[:5]))
+    assert "to look at: 'Rasse' says 'Texel' in line 5, where most rows have 'Skudde'" in desk.take(one, "--preview").out
+    assert "'Rasse' says" not in desk.take(sheet.replace("Texel", "Skudde"), "--preview").told

@@ -189,6 +189,24 @@ def test_first_owner_since_a_day(desk: Desk) -> None:
         assert since(desk, "c") == known
 
 
+def test_owner_since_the_birth(desk: Desk) -> None:
+    """Where the list says so it is printed, and shown, and of an animal without an owner it isn't."""
+    rows = "a;2001-03-02;;;Groß;02.03.2001\nb;2001-03-02;;;Groß;\nc;2001-03-02;;;;2001-03-02\n"
+    desk.take("id;birth;sire;dam;owner;owner since\n" + rows)
+    assert [since(desk, id) for id in "abc"] == ["2001-03-02", "not known", "not known"]
+    assert "  owner         Groß, since 2001-03-02\n" in desk.good("show", "a").out
+    assert "  owner         Groß\n" in desk.good("show", "b").out
+
+
+def test_day_of_an_owner_before_an_inferred_birth(desk: Desk) -> None:
+    """A day that is said bounds one that is inferred, but where parents are born later."""
+    rows = "p;2017-03-02;;;Groß;\na;ca. 2018;p;;Groß;7.3.2018\nb;3.2018;;;Groß;5.3.2018\nc;;p;;Groß;2016-01-01\n"
+    done = desk.take("id;birth;sire;dam;owner;owner since\n" + rows)
+    assert desk.born()["a"] == "2018-03-07" and desk.born()["b"] == "2018-03-05" and desk.born()["c"] > "2017-03-02"
+    assert done.out.count("which can't be with its birth") == 1
+    assert (since(desk, "a"), since(desk, "b")) == ("2018-03-07", "2018-03-05")
+
+
 def test_words_that_are_no_owner(desk: Desk) -> None:
     """What says of a parent that it isn't known names no owner, as an empty cell, but for what may be initials."""
     words = ["-", "?", "unbekannt", "N.N.", "n/a"]

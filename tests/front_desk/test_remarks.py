@@ -108,3 +108,11 @@ def test_castrated(desk: Desk, text: str) -> None:
 )
 def test_not_castrated(text: str) -> None:
     assert not tells_castration(text)
+
+
+def test_code_of_a_place(desk: Desk) -> None:
+    """A word with a digit behind it is a code, and no castrated animal; the word alone is."""
+    titles, row = "id;sex;birth;sire;dam;Postcode\n", "a{};M;200{}-01-01;;;{}\n"
+    codes = "".join(row.format(at, at, code) for at, code in enumerate(["OX1", "OX12 3AB", "B1"]))
+    assert "castrated" not in desk.take(titles + codes, "--preview").told
+    assert "tells that an animal is castrated" in desk.take(titles + codes + row.format(5, 5, "Ox"), "--preview").told

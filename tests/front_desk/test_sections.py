@@ -78,3 +78,16 @@ def test_sections_of_a_litter(desk: Desk) -> None:
     )
     done = desk.take("id;name;birth;sire;dam\n" + rows.format("--- Jahrgang 2020 ---"), "--book", "other")
     done.shows(f"line 4: the row is left out: '--- Jahrgang 2020 ---' {LEFT_OUT}")
+
+
+@pytest.mark.parametrize("heading", ["Aus dem Herdbuch gelöscht", "DELETED FROM HERD BOOK", "Verstorbene Tiere", "Sorties 2023"])
+def test_section_of_exits(desk: Desk, heading: str) -> None:
+    """A heading that tells of exits is told with the animals below that live, and one with words for sale isn't."""
+    rows = f"A 1;Rosl;2015-03-02;;;\n{heading};;;;;\nA 2;Hans;2015-03-02;;;3.4.2020\nA 3;Sepp;2015-03-02;;;\n"
+    done = desk.take(f"id;name;birth;sire;dam;exit\n{rows}", "--preview")
+    done.shows(
+        f"line 3: to look at: '{heading}' stands above A 3 (line 5), which counts as living: nothing is read from such a "
+        "row; if it has left, write a day, or a word such as sold, verkauft or vendu, into a column for exits"
+    )
+    done = desk.take(f"id;name;birth;sire;dam;exit\n{rows.replace(heading, 'Zu verkaufen')}", "--preview")
+    assert "counts as living: nothing is read" not in done.told

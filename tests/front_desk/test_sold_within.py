@@ -204,3 +204,46 @@ def test_exit_after_a_sale(desk: Desk) -> None:
     desk.take(TITLES.replace("Abgang", "gestorben am;Status") + ROWS.replace(";\n", ";;\n") + rows, "--book", "three")
     left = [line.split(",")[2] for line in desk.text("three/commands.csv").splitlines() if line.startswith("exit")]
     assert left == ["2023-05-12", "2023-05-12"]
+
+
+@pytest.mark.parametrize(
+    "titles, cells",
+    [
+        ("Besitzer;seit;Abgang", "Kunz;5.5.2022;verkauft an Meier Ida 3.12.2018"),
+        ("Besitzer;seit;verkauft am;Käufer", "Kunz;5.5.2022;3.12.2018;Meier Ida"),
+        ("Besitzer;seit;gestorben am;verkauft am;verkauft an", "Kunz;5.5.2022;14.8.2023;3.12.2018;Meier Ida"),
+    ],
+)
+def test_sale_before_the_owner_of_now(desk: Desk, titles: str, cells: str) -> None:
+    """The column of the owner has that of now: a sale before it is told, and a death behind it is the exit."""
+    rest = ";" * (titles.count(";") - 1)
+    sheet = BESIDE.replace("Besitzer", titles) + "".join(f"{row}{rest}\n" for row in ROWS.splitlines()[:2])
+    sheet += f"003;A;w;3.2.2013;001;002;{cells}\n"
+    done = desk.take(sheet)
+    assert owner_of(desk, "003") == "Kunz" and desk.transfer_days() == ["2022-05-05"]
+    told = "3.12.2018' tells of a sale before 2022-05-05, since when the row says that Kunz has it: Kunz stays its owner"
+    assert told in done.out and "counts as gone" not in done.out
+    left = [line.split(",")[2] for line in desk.commands() if line.startswith("exit")]
+    assert left == ["2023-08-14"] * ("gestorben" in titles)
+    assert " 0 new, 0 changed" in desk.take(sheet).last
+
+
+@pytest.mark.parametrize(
+    "titles, cells, told",
+    [
+        ("Besitzer;Abgang", "Huber;verkauft an Meier Ida 3.12.2018, † 14.8.2023", "† 14.8.2023"),
+        ("Besitzer;Abgang", "Huber;verk. Ida Meier 3.12.2018 (gestorben 14.8.2023)", "gestorben 14.8.2023"),
+        ("Besitzer;Abgang", "Huber;sold to Ida Meier 3.12.2018, died 14/8/2023", "died 14/8/2023"),
+        ("Besitzer;gestorben am;verkauft am;Käufer", "Huber;14.8.2023;3.12.2018;Meier Ida", "14.8.2023"),
+    ],
+)
+def test_death_behind_a_sale(desk: Desk, titles: str, cells: str, told: str) -> None:
+    """It is the exit, and the taker is the owner since the sale."""
+    rest = ";" * (titles.count(";") - 1)
+    sheet = BESIDE.replace("Besitzer", titles) + "".join(f"{row}{rest}\n" for row in ROWS.splitlines()[:2])
+    sheet += f"003;A;w;3.2.2013;001;002;{cells}\n"
+    done = desk.take(sheet)
+    assert owner_of(desk, "003") == "Meier Ida" and desk.transfer_days() == ["2018-12-03"]
+    assert [line.split(",")[2] for line in desk.commands() if line.startswith("exit")] == ["2023-08-14"]
+    assert f"names an owner of the society, and its exit is '{told}'" in done.out and "counts as gone" not in done.out
+    assert " 0 new, 0 changed" in desk.take(sheet).last

@@ -97,6 +97,14 @@ def test_error_values(desk: Desk) -> None:
     assert " 15 left out (15 cells)" in done.last
 
 
+def test_error_as_a_sex(desk: Desk) -> None:
+    """It counts as empty, as is told, and takes no row away."""
+    rows = "s;M;2001-01-01;;\nd;F;2001-01-01;;\na;#NV;2004-01-01;s;d\nb;F;2004-01-01;s;d\n"
+    done = desk.take(TITLES + rows)
+    assert "the row is left out" not in done.told and "'#NV': each counts as empty" in done.out
+    assert sorted(row["id"] for row in desk.ids()) == ["a", "b", "d", "s"]
+
+
 def test_errors_in_any_cell(desk: Desk) -> None:
     """Of each column one is left out, also of one that isn't read, and a row without an id."""
     titles = "id;name;sex;birth;sire;dam;owner;since;exit;embryo;note\n"

@@ -46,7 +46,7 @@ def test_two_worksheets_fit(desk: Desk, workbook: openpyxl.Workbook) -> None:
     for row in [TITLES, ROWS[0]]:
         other.append(row)
     save(desk, workbook)
-    told = "2 worksheets have titles that fit ('Tiere', 'Stand 2019'): say which one is taken by --worksheet"
+    told = "2 worksheets have titles that fit ('Tiere', 'Stand 2019'): say which one is taken by --worksheet; if others "
     done = desk.wrong(told, "import", "sheet.xlsx")
     assert len(done.commands()) == 2
     lacks = "has no worksheet 'Schafe', which --worksheet names: it has 'Deckblatt', 'Tiere', 'Stand 2019'"
@@ -276,3 +276,20 @@ def test_names_like_truth_values(desk: Desk, workbook: openpyxl.Workbook) -> Non
     done = desk.take("id;name;sex;birth;sire;dam;owner\nB1;VRAI;m;2001-03-01;;;FALSCH\nC2;True;f;2004-03-02;B1;;Huber\n")
     done.tells(f"line 2: B1: to look at: its name is VRAI, {made}", f"line 2: B1: to look at: its owner is FALSCH, {made}")
     assert sum(made in sentence for sentence in done.report) == 2
+
+
+def test_animals_of_two_worksheets(desk: Desk, workbook: openpyxl.Workbook) -> None:
+    """Those of the second are added by the word that the refusal says."""
+    tiere, gone = workbook["Tiere"], workbook.create_sheet("Abgänge")
+    gone.append(TITLES)
+    rows = [[f"X{at}", "w", f"{1 + at % 28}.02.2010", None, None] for at in range(30)]
+    for sheet, its in (tiere, rows), (gone, rows[:4]):
+        for row in its:
+            sheet.append(row)
+    save(desk, workbook)
+    desk.good("import", "sheet.xlsx", "--worksheet", "Tiere")
+    count = len(desk.ids())
+    refused = desk.run("import", "sheet.xlsx", "--worksheet", "Abgänge")
+    assert refused.status == 1 and "say --append, by which the others stay" in refused.err
+    desk.good("import", "sheet.xlsx", "--worksheet", "Abgänge", "--append")
+    assert len(desk.ids()) == count

@@ -139,3 +139,23 @@ def test_marks_that_are_not_doubled(empty_site: Site, language: str) -> None:
     empty_site.take(address)
     with empty_site.desk.opened() as book:
         assert book and {*book.society_records} == {"101", "102", "103", "104"}
+
+
+ROWS_BETWEEN = {
+    "en": "2 rows stand between two quotation marks, the first of which is in line 3",
+    "de": "2 Zeilen stehen zwischen zwei Anführungszeichen, das erste in Zeile 3",
+    "fr": "2 lignes sont entre deux guillemets, le premier à la ligne 3",
+}  # fmt: skip
+
+
+@pytest.mark.parametrize("language", LANGUAGES)
+def test_rows_between_marks(empty_site: Site, language: str) -> None:
+    """A mark that opens in one row and closes in the next takes no row away; a text of several lines is one still."""
+    empty_site.get(f"/language/{language}")
+    rows = '101;Max;M;2010-02-21;;;Huber\n102;"Eva;F;2011-06-05;;;Huber\n103;Ada";F;2019-06-27;101;;Huber\n'
+    address, page = look_at(empty_site, TITLES + rows + '104;"B;\nC";F;2020-06-27;101;;Huber\n')
+    assert ROWS_BETWEEN[language] in plain(shown(part(page, "May be wrong", language)))
+    empty_site.take(address)
+    with empty_site.desk.opened() as book:
+        names = [one.name for one in book.society_records.values()] if book else []
+    assert names[:3] == ["Max", "Eva", "Ada"] and len(names) == 4 and names[3][:1] == "B"

@@ -76,3 +76,17 @@ def test_exit_that_vanishes(empty_site: Site, language: str, told: str) -> None:
     _, page = look_at(site, titles + "001;m;01.02.2010;;;Huber;\n" + rows.format(""))
     assert told in shown(page).replace("\u202f", " ").replace("\xa0", " ")
     assert not [one for one in buttons_of(page) if "Abgang" in one or "sortie" in one or "exit" in one]
+
+
+@pytest.mark.parametrize(("language", "told"), [
+    ("en", "since when the row says that Kunz has it"),
+    ("de", "und seit da gehört das Tier nach der Zeile Kunz"),
+    ("fr", "et depuis ce jour la ligne dit que l'animal est à Kunz"),
+])  # fmt: skip
+def test_sale_before_the_owner_of_now(empty_site: Site, language: str, told: str) -> None:
+    """A preview tells of a sale before the owner of now, and of one with a death behind it."""
+    empty_site.get(f"/language/{language}")
+    rows = "001;m;01.02.2010;;;Zoo;;\n002;w;03.02.2010;;;Huber;;verkauft an Zoo 1.2.2020, † 3.5.2021\n"
+    rows += "003;w;3.2.2013;001;002;Kunz;5.5.2022;verkauft an Zoo 3.4.2018\n"
+    _, page = look_at(empty_site, TITLES.replace("Abgang am;Verbleib", "seit;Abgang") + rows)
+    assert told in shown(page).replace("\u202f", " ").replace("\xa0", " ") and "† 3.5.2021" in shown(page)

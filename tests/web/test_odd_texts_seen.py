@@ -91,3 +91,26 @@ def test_what_the_book_has_so(empty_site: Site, language: str) -> None:
         assert book and "†DE 0001" not in book.society_records and {"Huber Hans"} == {*book.owners} - {"Meier Ida"}
         records = {id: book.records[one.registration_number] for id, one in book.society_records.items()}
         assert book.ids[records["DE 0002"].sire] == "DE 0001" and not records["DE 0002"].dam
+
+
+BREEDS = "Ohrmarke;Name;Geschlecht;geb;Vater;Mutter;Besitzer;Abgang;Rasse\n" + "".join(
+    f"DE {at:04};A{at};w;1{at % 10}.03.2018;;;Huber Hans;;Skudde\n" for at in range(10, 34)
+)
+MORE = BREEDS + (
+    "DE 0040;B;w;14.3.2018 †;;;Huber Hans;;Texel\nDE 0041;C;w;10.07.1905;;;Huber Hans, 079 123 45 67;;Skudde\n"
+    "Aus dem Herdbuch gelöscht;;;;;;;;\nDE 0042;D;w;15.03.2018;;;Huber Hans;;Skudde\nDE 0043;Total Tiere;;;;;;;\n"
+)
+MORE_SAID = {
+    "en": ("tells of a death", "a cell whose format is a day", "has the name Huber Hans in it", "animals that count as living"),
+    "de": ("spricht von einem Tod", "in einer Zelle im Datumsformat", "Huber Hans, 079 123 45 67", "die als lebend zählen"),
+    "fr": ("parle d'une mort", "dans une cellule au format date", "Huber Hans, 079 123 45 67", "qui comptent comme vivants"),
+}  # fmt: skip
+
+
+@pytest.mark.parametrize("language", LANGUAGES)
+def test_more_that_is_said(empty_site: Site, language: str) -> None:
+    """Of births, owners, sections, sums and breeds a preview says what a terminal does."""
+    empty_site.get(f"/language/{language}")
+    _, page = look_at(empty_site, MORE)
+    told = shown(part(page, "May be wrong", language)).replace("\u00a0", " ").replace("\u202f", " ")
+    assert not [one for one in (*MORE_SAID[language], "Texel", "Total Tiere") if one not in told], told

@@ -21,7 +21,9 @@ from gudokeyi.ingest.findings.cells import (
 )  # fmt: skip
 from gudokeyi.ingest.findings.columns import SheetFinding
 from gudokeyi.ingest.findings.exits import ExitInDoubt, ExitInferred, ExitsInOtherWords, ExitsWithoutDay, NoExits, Remark
-from gudokeyi.ingest.findings.rows import OwnerInExit, OwnerSold, SoldWithin, StatusDisagrees, TakerUnclear
+from gudokeyi.ingest.findings.rows import (
+    OwnerInExit, OwnerSold, SoldEarlier, SoldThenLeft, SoldWithin, StatusDisagrees, TakerUnclear,
+)  # fmt: skip
 from gudokeyi.ingest.findings.sexes import SexesUnknown, SexesUnsure, UnknownSex
 from gudokeyi.ingest.findings.sheets import (
     MOST_TEXTS, Cells, CellsUnread, ErrorCells, ErrorColumn, NarrowCells, NarrowColumn, TextCount,
@@ -29,7 +31,7 @@ from gudokeyi.ingest.findings.sheets import (
 from gudokeyi.ingest.rows_as_meant import Takers
 from gudokeyi.ingest.sexes import Sexes, is_unsure
 from gudokeyi.ingest.sheets import Sheet
-from gudokeyi.ingest.statuses import taker_of_owner
+from gudokeyi.ingest.statuses import parted_at_death, taker_of_owner
 from gudokeyi.ingest.texts import plain
 from gudokeyi.ingest.titles import names_other_exits
 from gudokeyi.ingest.unknown_parents import UnknownParents, names_no_owner
@@ -215,6 +217,8 @@ class AnimalCells:
         self.reasons: Mapping[int, str] = {}
         # the texts of the column of names that are none, once these are looked at
         self.no_names: Collection[str] = ()
+        # sales that other columns tell beside the days of other exits, by lines
+        self.sales: Mapping[int, str] = {}
         # the titles and texts of other columns that tell of castrations, by lines
         self.castrations: Mapping[int, tuple[str, str]] = {}
         # the lines of rows whose sex a list of the book marks as inferred
@@ -254,6 +258,8 @@ class AnimalCells:
             animal.since = self.span(animal, Field.SINCE, since, self.days.day(Field.SINCE, since))
         if owner and (taker := taker_of_owner(owner)):
             self.read_taker(animal, owner, taker)
+        if sale := self.sales.get(line):
+            self.read_sale(animal, sale)
         if exit:
             self.read_exit(animal, exit)
         if (reason := self.reasons.get(line)) and (animal.left or animal.exit_basis.day_is_unknown):
@@ -313,6 +319,9 @@ class AnimalCells:
         return day.span
 
     def read_exit(self, animal: SheetAnimal, text: str) -> None:
+        sale, behind = parted_at_death(text)
+        if behind and (sold := self.days.exit(sale)) and self.is_sold_within(animal, sale, sold, behind):
+            text = behind
         exit = self.days.exit(text)
         if exit is None or self.is_sold_within(animal, text if not exit.is_span else self.sale_beside(animal), exit):
             return
@@ -368,21 +377,32 @@ class AnimalCells:
     def lines_of_sales(self) -> set[int]:
         """Those of rows of which another column may tell so to whom the animal was sold."""
         sales = {reason for reason in {*self.reasons.values()} if self.takers.behind_sale(reason)}
-        return {line for line, reason in self.reasons.items() if reason in sales} if sales else set()
+        return {line for line, reason in self.reasons.items() if reason in sales}.union(self.sales)
 
-    def is_sold_within(self, animal: SheetAnimal, text: str, exit: ExitCell) -> bool:
-        """Was it sold to an owner of the society? Then it has him, since the day that the text has."""
+    def read_sale(self, animal: SheetAnimal, sale: str) -> None:
+        """What other columns say of a sale, beside the day of another exit."""
+        sold = self.days.exit(sale)
+        if sold and self.is_sold_within(animal, sale, sold, animal.cells.get(Field.EXIT, "")):
+            self.sold.add(animal.id)
+
+    def is_sold_within(self, animal: SheetAnimal, text: str, exit: ExitCell, behind: str = "") -> bool:
+        """Was it sold to an owner of the society? Then it has him, since the day that the text has, unless another one
+        has it since a later day. `behind` tells how it left later."""
         named = self.takers.named(text) or self.takers.sold_to(text)
         if len(named) != 1:
             if named:
                 self.report.add(animal.line, animal.id, TakerUnclear(text, named[:MOST_NAMED]))
             return False
-        [owner] = named
-        self.unread.read[Field.EXIT] += 1
+        [owner], day = named, exit.day.span
+        self.unread.read[Field.EXIT] += not behind
         before = animal.owner if animal.owner != owner else ""
-        animal.owner, animal.owner_before, animal.since = owner, before, exit.day.span or animal.since
-        animal.is_since_sale = exit.day.span is not None
-        self.report.add(animal.line, animal.id, SoldWithin(owner, before, text))
+        if before and day and animal.since and day.last < animal.since.first:
+            self.report.add(animal.line, animal.id, SoldEarlier(text, owner, before, animal.since.first))
+            return True
+        animal.owner, animal.owner_before, animal.since = owner, before, day or animal.since
+        animal.is_since_sale = day is not None
+        told = SoldThenLeft(owner, before, text, behind) if behind else SoldWithin(owner, before, text)
+        self.report.add(animal.line, animal.id, told)
         return True
 
     def is_day_of_sale(self, animal: SheetAnimal, exit: ExitCell) -> bool:

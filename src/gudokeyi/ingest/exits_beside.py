@@ -46,6 +46,8 @@ class Exits:
     titles: dict[int, str] = field(default_factory=dict)
     reasons: dict[int, str] = field(default_factory=dict)
     remarks: list[Remark] = field(default_factory=list)
+    # to whom and when animals were sold that have the day of another exit, by the lines of their rows
+    sales: dict[int, str] = field(default_factory=dict)
 
 
 def exit_columns(sheet: Sheet, columns: Mapping[str, int]) -> list[int]:
@@ -218,6 +220,10 @@ class Buyers:
         self.said = KNOWN_BUYERS[plain(sheet.titles[at])]
         # the same texts stand in many cells
         self.is_there = functools.cache(is_there)
+        self.of_sales = [
+            at for at, title in enumerate(sheet.titles)
+            if at not in (self.at, *columns.values()) and plain(word_of(title)) in KNOWN_SALES
+        ]  # fmt: skip
 
     def add(self, exits: Exits, rows: Sequence[SheetRow], report: Report) -> None:
         count = 0
@@ -234,8 +240,15 @@ class Buyers:
                 exits.texts[place] = self.text(exit, buyer)
                 exits.reasons.pop(row.line, None)
                 count += 1
+            elif day := self.day_of_sale(row):
+                exits.sales[row.line] = f"{self.said} {buyer} {day}"
         if count:
             report.add(0, "", BuyersRead(self.titles[self.at], count))
+
+    def day_of_sale(self, row: SheetRow) -> str:
+        """That in another column than that of the exits; empty where there is none."""
+        days = (cell_of(row, at) for at in self.of_sales)
+        return next((day for day in days if is_span(day)), "")
 
     def column_of_living(self, row: SheetRow, exit: str) -> int | None:
         """The column that says that the animal is there where no exit is told: that of a status, or of the exits."""

@@ -12,7 +12,7 @@ from gudokeyi.domain.kinds import Field
 from gudokeyi.ingest.animals import SheetAnimal
 from gudokeyi.ingest.findings.columns import SheetFinding
 from gudokeyi.ingest.findings.odd_texts import (
-    MOST_LINES, FirstDays, IdTellsOfExit, NameTellsOfExit, SexTellsOfExit, TwoIds,
+    MOST_LINES, DeathInBirth, FirstDays, IdTellsOfExit, NameTellsOfExit, SexTellsOfExit, TwoIds,
 )  # fmt: skip
 from gudokeyi.ingest.texts import listed, shape
 
@@ -34,9 +34,14 @@ SMALL = listed(
 LETTERS = listed("RIP, PTS")
 WITH_POINTS = "r.i.p"
 SIGNS = ("†", "✝", "+")
+DEATH_SIGNS = SIGNS[:2]
+BORN_DEAD = re.compile(
+    r"\b(?:tot\W?(?:geb\w*|geboren)|still\W?(?:born|birth)|born dead|morts?\W?née?s?|mortnée?)\b", re.IGNORECASE
+)
 # a cross before a day, in brackets or first of all, or a plus alone at the end
 EXIT = re.compile(
-    rf"[†✝]|\+ ?(?=\d)|(?<= )\+$|\( ?\+|^\+ ?(?=[^\W\d_])|^(?:RIP[,:]? +(?=.*[a-zß-ÿ])|rip +(?=[A-ZÀ-Þ]))|(?i:\b(?:{'|'.join(SURE)})\b)|(?i:\b(?:{'|'.join(SHORT)})\.(?!\w))|"
+    r"[†✝]|\+ ?(?=\d)|(?<= )\+$|\( ?\+|^\+ ?(?=[^\W\d_])|^(?:RIP[,:]? +(?=.*[a-zß-ÿ])|rip +(?=[A-ZÀ-Þ]))|"
+    rf"(?i:\b(?:{'|'.join(SURE)})\b)|(?i:\b(?:{'|'.join(SHORT)})\.(?!\w))|"
     rf"(?i:[(\[] ?(?:{'|'.join(SMALL)})\b[^)\]]*[)\]])|(?i:\br\.i\.p\b)|"
     rf"(?<=[ ,;/–-])(?:{'|'.join((*SMALL, *LETTERS))})[.!]?(?: +[\d./-]+)?$"
 )
@@ -73,6 +78,17 @@ def exits_in_sexes(title: str, animals: Mapping[str, SheetAnimal], texts: Iterab
     those = [one for one in animals.values() if counts_as_living(one)] if telling else []
     found = [(text, one.line) for one in those if (text := one.cells.get(Field.SEX, "")) in telling and one.sex]
     return [SexTellsOfExit(title, len(found), *found[0])] if found else []
+
+
+def tell_deaths_in_births(animals: Mapping[str, SheetAnimal], births: Collection[str], report: Report) -> None:
+    """Of animals that count as living, and whose birth has a sign of a death, or says that they were born dead."""
+    together = "\n".join(births)
+    if not (any(sign in together for sign in DEATH_SIGNS) or BORN_DEAD.search(together)):
+        return
+    telling = {text for text in births if any(sign in text for sign in DEATH_SIGNS) or BORN_DEAD.search(text)}
+    for animal in animals.values():
+        if (text := animal.cells.get(Field.BIRTH, "")) in telling and counts_as_living(animal):
+            report.add(animal.line, animal.id, DeathInBirth(text))
 
 
 def tell_exits_in_ids(animals: Mapping[str, SheetAnimal], marked: Mapping[int, str], report: Report) -> None:

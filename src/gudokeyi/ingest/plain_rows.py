@@ -162,8 +162,9 @@ class PlainRows:
         odd = {at for at, place in enumerate(before) if place in self.odd}
         # what stands for the animal of an odd row isn't asked for
         self.animals = [NO_ANIMAL if place is None else self.animals[place] for place in before]
-        if sheet.reasons != self.sheet.reasons:
+        if sheet.reasons != self.sheet.reasons or sheet.sales != self.sheet.sales:
             others = {line for line, _ in sheet.reasons.items() ^ self.sheet.reasons.items()}
+            others |= {line for line, _ in sheet.sales.items() ^ self.sheet.sales.items()}
             odd |= {at for at, row in enumerate(sheet.rows) if row.line in others}
         self.sheet, self.rows, self.odd = sheet, sheet.rows, new | odd
         self.texts = {name: sheet.column(at) for name, at in self.columns.items()}

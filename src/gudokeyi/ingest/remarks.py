@@ -54,6 +54,8 @@ KNOWN_CASTRATIONS = {
         "kastriert, kastr, Kastration, castrated, castration, gelded, neutered, castré, châtré"
     )
 }  # fmt: skip
+# a word with a digit right behind it may be a code, as `OX1` is that of a place
+JOINED = re.compile(r"[^\W\d_]\d")
 TO_COME = {plain(word) for word in listed("soll, sollte, muss, werden, wird, should, must, be, avant, vor, before")}
 
 
@@ -96,7 +98,7 @@ def without_young(text: str) -> str:
 
 def tells_castration(text: str) -> bool:
     """Does it tell that the animal is castrated, and not that it isn't, or will be?"""
-    tells = has_word(text, KNOWN_CASTRATIONS) or is_alone(text, KNOWN_CASTRATED)
+    tells = has_word(text, KNOWN_CASTRATIONS) or is_alone(text, KNOWN_CASTRATED) and not JOINED.search(text)
     return tells and not has_word(text, KNOWN_NEGATIONS | TO_COME)
 
 

@@ -29,7 +29,7 @@ from gudokeyi.ingest.sheets import Sheet, SheetRow, cell_of, with_cell
 from gudokeyi.ingest.statuses import SOLD, TAKER, exits_said, taker_of_owner
 from gudokeyi.ingest.texts import nearly, plain, shape, shapes_of
 from gudokeyi.ingest.unknown_parents import UnknownParents, names_no_owner
-from gudokeyi.ingest.words import KNOWN_EXITS, KNOWN_SEXES, KNOWN_SUMS, is_in_doubt, lives_besides, sex_word
+from gudokeyi.ingest.words import KNOWN_EXITS, KNOWN_SEXES, KNOWN_SUMS, is_in_doubt, is_undone, lives_besides, sex_word
 
 # Cells with signs that no one sees: they are read without, but an id, which others write otherwise than it is seen.
 
@@ -263,11 +263,12 @@ def as_meant(
     exits = exits_said(rows, sheet, columns, unknown, report) if Field.EXIT in columns else Exits()
     if exits.texts:
         rows = with_cells(rows, columns[Field.EXIT], exits.texts)
-    if rows is sheet.rows and not (exits.remarks or exits.reasons):
+    if rows is sheet.rows and not (exits.remarks or exits.reasons or exits.sales):
         return sheet
     return replace(
-        sheet, rows=rows, kept={}, remarks=exits.remarks, exit_titles=exits.titles, reasons=exits.reasons
-    )
+        sheet, rows=rows, kept={}, remarks=exits.remarks, exit_titles=exits.titles, reasons=exits.reasons,
+        sales=exits.sales,
+    )  # fmt: skip
 
 
 def with_cells(rows: Sequence[SheetRow], at: int, texts: Mapping[int, str]) -> list[SheetRow]:
@@ -301,7 +302,7 @@ class Takers:
     def named(self, text: str) -> tuple[str, ...]:
         """The owners who are named behind `verkauft an`, or in a text that begins with whom."""
         found = TAKER.search(text) or TO_WHOM.match(text)
-        return self.called(without_days(found["taker"])) if found and not lives_besides(text) else ()
+        return self.called(without_days(found["taker"])) if found and not (lives_besides(text) or is_undone(text)) else ()
 
     def behind_sale(self, text: str) -> tuple[str, ...]:
         """The owners whom a text may mean that has nothing but a name and a day beside a word for a sale, as

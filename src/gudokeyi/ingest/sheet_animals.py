@@ -34,8 +34,9 @@ from gudokeyi.ingest.inferred_values import lines_of_inferred_sexes
 from gudokeyi.ingest.no_names import names_told
 from gudokeyi.ingest.odd_ids import Oddity, odd_ids
 from gudokeyi.ingest.odd_texts import (
-    exits_in_sexes, first_days, tell_exits_in_ids, tell_exits_in_names, tell_several_ids,
+    exits_in_sexes, first_days, tell_deaths_in_births, tell_exits_in_ids, tell_exits_in_names, tell_several_ids,
 )  # fmt: skip
+from gudokeyi.ingest.other_breeds import other_breeds
 from gudokeyi.ingest.placeholders import (
     TRUTHS, tell_days_for_texts, tell_dittos, tell_ids_to_come, tell_truths,
 )  # fmt: skip
@@ -50,6 +51,7 @@ from gudokeyi.ingest.titles import KNOWN_STATES, is_german, parts_of, words_of_s
 from gudokeyi.ingest.unknown_parents import UnknownParents
 from gudokeyi.ingest.texts import nearly, plain
 from gudokeyi.ingest.words import KNOWN_SUMS, is_error_value
+from gudokeyi.ingest.years_as_days import years_as_days
 
 # Rows that may be no animals: those that count or sum up, and those that have an id alone. They are taken, and told,
 # unless somebody says by a word of theirs that they are none.
@@ -123,8 +125,12 @@ def tell_odd_ids(animals: dict[str, SheetAnimal], known: Container[str], report:
 
 
 def sum_of(animal: SheetAnimal, cells: list[str]) -> str:
-    """The word such as `Summe` with which its id begins, or which is a cell of a row without a birth day."""
-    return first_sum(animal.id) or next((cell.strip(SIGNS) for cell in cells if plain(cell) in KNOWN_SUMS), "")
+    """The word such as `Summe` with which its id begins, or which is a cell of a row without a birth day, or begins one
+    where the row says nothing else of an animal."""
+    word = first_sum(animal.id) or next((cell.strip(SIGNS) for cell in cells if plain(cell) in KNOWN_SUMS), "")
+    if word or any(map(animal.cells.get, SAYS[1:])):
+        return word
+    return next((cell.strip(SIGNS) for cell in cells if first_sum(cell)), "")
 
 
 # The animals of a sheet: which rows are taken, and what is seen of the sheet as a whole.
@@ -190,7 +196,7 @@ class Rows:
         self.unread.exit_titles = sheet.exit_titles
         self.forms = DayForms(self.texts(Field.BIRTH), (born or {}).values(), month_first)
         self.cells = AnimalCells(unknown, self.sexes, self.unread, report, month_first, self.forms)
-        self.cells.reasons = sheet.reasons
+        self.cells.reasons, self.cells.sales = sheet.reasons, sheet.sales
         self.castrations = Castrations(sheet, columns, unknown)
         self.cells.castrations = self.castrations.lines
         self.cells.inferred_sexes = lines_of_inferred_sexes(sheet, columns, lambda text: self.sexes.meaning(text).sex)
@@ -320,6 +326,7 @@ class Rows:
         self.look_at_ids(animals)
         tell_exits_in_names(animals, self.plain.different.get(Field.NAME, ()), self.report)
         tell_exits_in_ids(animals, self.sheet.marked, self.report)
+        tell_deaths_in_births(animals, self.plain.different.get(Field.BIRTH, ()), self.report)
         for field in (Field.NAME, Field.OWNER):
             if not TRUTHS.isdisjoint(self.plain.different.get(field, ())):
                 tell_truths(animals, field, self.report)
@@ -339,12 +346,16 @@ class Rows:
             self.notes += names_told(self.unread.titles[Field.NAME], animals.values(), self.cells.no_names)
         self.notes += self.castrations.told(animals.values(), self.sexes)
         self.notes += first_days(animals, self.plain.different.get(Field.BIRTH, ()))
-        self.notes += [] if self.month_first else self.exchanged_days()
+        self.notes += self.odd_days()
+        self.notes += other_breeds(self.sheet, self.columns, self.cells.unknown)
 
-    def exchanged_days(self) -> Iterator[SheetFinding]:
+    def odd_days(self) -> Iterator[SheetFinding]:
+        """Days with day and month exchanged, and those that are years."""
         for field in (field for field in DAYS if field in self.columns):
             title, different = self.sheet.titles[self.columns[field]], self.plain.different[field]
-            yield from exchanged(title, self.texts(field), different, self.sheet.rows)
+            column = title, self.texts(field), different, self.sheet.rows
+            yield from [] if self.month_first else exchanged(*column)
+            yield from years_as_days(*column)
 
     def look_at_ids(self, animals: dict[str, SheetAnimal]) -> None:
         """What is told of ids, and of names that are days."""

@@ -22,10 +22,10 @@ from gudokeyi.ingest.files import MOST_LETTERS, GivenFile, check_bounds
 from gudokeyi.ingest.findings.cells import TitleFor
 from gudokeyi.ingest.findings.columns import SheetFinding
 from gudokeyi.ingest.findings.exits import Remark
-from gudokeyi.ingest.findings.files import Apostrophes, MarksAlone
+from gudokeyi.ingest.findings.files import Apostrophes, MarksAlone, RowsBetweenMarks
 from gudokeyi.ingest.messages import SheetFault
 from gudokeyi.ingest.shown_cells import Shown
-from gudokeyi.ingest.stray_quotes import with_marks_doubled
+from gudokeyi.ingest.stray_quotes import with_marks_doubled, with_rows_parted
 from gudokeyi.ingest.struck_texts import NOTHING_STRUCK, Struck
 from gudokeyi.ingest.texts import clean
 from gudokeyi.ingest.titles_within import in_order, needed_in
@@ -108,6 +108,8 @@ class Sheet:
     exit_titles: Mapping[int, str] = field(default_factory=dict)
     # what that column says beside the day of an exit, by lines
     reasons: Mapping[int, str] = field(default_factory=dict)
+    # what other columns tell of sales beside the day of another exit, by lines
+    sales: Mapping[int, str] = field(default_factory=dict)
     decision: Decision | None = None
     # the worksheets of a workbook, and the one that is taken since it was named before
     worksheets: tuple[str, ...] = ()
@@ -133,8 +135,10 @@ class Sheet:
 
     def is_same(self, meant: Sheet) -> bool:
         """Has another sheet that was made of the same one the same rows?"""
-        return (meant.rows, meant.unseen, meant.remarks, meant.exit_titles, meant.reasons, meant.marked) == (
-            self.rows, self.unseen, self.remarks, self.exit_titles, self.reasons, self.marked
+        return (
+            meant.rows, meant.unseen, meant.remarks, meant.exit_titles, meant.reasons, meant.sales, meant.marked
+        ) == (
+            self.rows, self.unseen, self.remarks, self.exit_titles, self.reasons, self.sales, self.marked
         )  # fmt: skip
 
     def column(self, at: int) -> list[str]:
@@ -347,10 +351,15 @@ def rows_of_text(text: str, separator: str, score: Score) -> tuple[list[SheetRow
     rows = read_records(text, separator)[is_named(text) :]
     first = [row.cells for row in rows[:BEGINNING]]
     titles = len(first[title_row(first, score)]) if first else 0
-    doubled = with_marks_doubled(text, separator, titles)
-    if doubled is None:
-        return rows, []
-    return read_records(doubled.text, separator)[is_named(text) :], [MarksAlone(doubled.rows, doubled.first)]
+    found = list[SheetFinding]()
+    if (doubled := with_marks_doubled(text, separator, titles)) is not None:
+        found.append(MarksAlone(doubled.rows, doubled.first))
+    text = doubled.text if doubled else text
+    has_longer = '"' in text and titles > 1 and text.count("\n") > len(rows)
+    if has_longer and (parted := with_rows_parted(text, separator, titles)) is not None:
+        found.append(RowsBetweenMarks(parted.rows, parted.first))
+        text = parted.text
+    return (read_records(text, separator)[is_named(text) :] if found else rows), found
 
 
 def read_records(text: str, separator: str) -> list[SheetRow]:

@@ -15,11 +15,13 @@ from gudokeyi.ingest.exits_beside import Exits, add_buyers, add_exit_days, add_s
 from gudokeyi.ingest.findings.exits import NoExits, Remark
 from gudokeyi.ingest.findings.rows import StatusDisagrees, StatusRead
 from gudokeyi.ingest.sheets import Sheet, SheetRow, cell_of, column_of
-from gudokeyi.ingest.texts import plain
+from gudokeyi.ingest.texts import listed, plain
 from gudokeyi.ingest.titles import (
     KNOWN_REASONS, KNOWN_STATES, KNOWN_STATUSES, OF_LIVING, names_exits_alone, names_other_exits, said_of,
 )  # fmt: skip
-from gudokeyi.ingest.words import DEAD, KNOWN_YES, exit_word, is_still_there, lives, lives_besides, says_lives
+from gudokeyi.ingest.words import (
+    DEAD, EXITS, KNOWN_DEATHS, KNOWN_YES, PLAIN_EXITS, exit_word, has_word, is_still_there, lives, lives_besides, says_lives,
+)  # fmt: skip
 
 # an owner who takes an animal
 TAKER = re.compile(
@@ -40,6 +42,10 @@ WITH_NOW = re.compile(
     r"(?:bei |an |with |to |chez |à )?(?P<taker>\S.*)",
     re.IGNORECASE,
 )
+# what says yes in a column whose title tells of an exit, besides the words that tell of one anywhere
+YES_ALONE = KNOWN_YES - {"et", "embryo", *(word.casefold() for word in listed(EXITS))}
+# what may tell of a death behind a sale, and the words that do
+WORD_OR_SIGN = re.compile(r"[^\W\d_]+|†|✝|\+\s*\d")
 # so many different texts a column of words has at most
 MOST_TEXTS = 2000
 # so many such columns are looked at
@@ -52,6 +58,15 @@ def taker_of_owner(text: str) -> str:
     return found["taker"] if found else ""
 
 
+def parted_at_death(text: str) -> tuple[str, str]:
+    """A text that tells first of a sale, and then of a death: the one, and the other, which is empty where there is
+    none."""
+    sale = TAKER.search(text) or SOLD.match(text)
+    words = WORD_OR_SIGN.finditer(text, sale.start("taker")) if sale else ()
+    at = next((word.start() for word in words if plain(word[0]) in KNOWN_DEATHS or DEAD.search(word[0])), 0)
+    return (text[:at].rstrip(" ,;(/–—-"), text[at:].rstrip(" )")) if at else (text, "")
+
+
 def exits_of_living(rows: list[SheetRow], title: str, at: int) -> dict[int, str]:
     """By the places of rows what a column that tells which animals live says of exits, where that is another text."""
     if plain(title) not in OF_LIVING:
@@ -59,6 +74,15 @@ def exits_of_living(rows: list[SheetRow], title: str, at: int) -> dict[int, str]
     cells = [cell_of(row, at) for row in rows]
     said = {text: said_of(text, title) for text in {*cells}}
     return {place: said[text] for place, text in enumerate(cells) if said[text] != text}
+
+
+def add_yes(exits: Exits, rows: list[SheetRow], title: str, at: int) -> None:
+    """A yes in a column such as `Dead` says what its title does."""
+    if not (names_exits_alone(title) and has_word(title, PLAIN_EXITS)):
+        return
+    for place, text in enumerate(column_of(rows, at)):
+        if text.casefold() in YES_ALONE:
+            exits.texts.setdefault(place, title)
 
 
 class Said(NamedTuple):
@@ -183,6 +207,7 @@ def exits_said(
             add_reasons(exits, rows, of_reasons, at, unknown)
     else:
         exits = Exits(exits_of_living(rows, sheet.titles[at], at))
+    add_yes(exits, rows, sheet.titles[at], at)
     add_days_of_sales(exits, rows, sheet.titles, columns)
     add_sales_to(exits, rows, sheet, at, unknown)
     add_exit_days(exits, rows, sheet, columns, unknown, report)

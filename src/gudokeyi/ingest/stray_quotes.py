@@ -1,5 +1,6 @@
-"""Quotation marks alone in cells of a text file, which people write for the cell above: two of them read as a text with
-all that stands between them, be it the rest of a row or whole rows."""
+"""Quotation marks alone in cells of a text file, which people write for the cell above, or that begin a name in one row
+and end one in a later: two of them read as a text with all that stands between them, be it the rest of a row or whole
+rows."""
 from __future__ import annotations
 
 import csv
@@ -43,6 +44,31 @@ def with_marks_doubled(text: str, separator: str, titles: int) -> Doubled | None
         # it can't be read as it stands, and is told so
         return None
     return Doubled("".join(lines), first, rows) if rows else None
+
+
+def with_rows_parted(text: str, separator: str, titles: int) -> Doubled | None:
+    """The text without a mark in one line and the next mark in a later one, between which whole rows stand, as
+    `"Tasso` and `Ursa"`: each line has as many cells as there are titles."""
+    lines = io.StringIO(text, newline="").readlines()
+    reader = csv.reader(lines, delimiter=separator, strict=True)
+    begins, row, first, rows = 0, 1, 0, 0
+    try:
+        for _ in reader:
+            those = lines[begins : reader.line_num]
+            if len(those) > 1 and are_rows_between(those, separator, titles):
+                lines[begins : reader.line_num] = [line.replace('"', "") for line in those]
+                first, rows = first or row, rows + len(those)
+                row += len(those) - 1
+            begins, row = reader.line_num, row + 1
+    except csv.Error:
+        return None
+    return Doubled("".join(lines), first, rows) if rows else None
+
+
+def are_rows_between(lines: list[str], separator: str, titles: int) -> bool:
+    """Are lines whole rows, of which the first and the last have one mark each?"""
+    marks = [line.count('"') for line in lines]
+    return marks == [1, *[0] * (len(lines) - 2), 1] and all(line.count(separator) == titles - 1 for line in lines)
 
 
 def begins_with_end(cells: list[str], separator: str) -> bool:

@@ -282,6 +282,13 @@ NEGATED = re.compile(
 DENIED = re.compile(
     r"\b(?P<word>\w+)\.?\s*[,;:(–—-]\s*(?:nicht|noch nicht|nein|no|not|not yet|non|pas encore)\W*$", re.IGNORECASE
 )
+# of a death nobody says that it was undone
+KNOWN_DEATHS = PLAIN_EXITS - KNOWN_SALES
+UNDONE = re.compile(
+    r"\b(?:rückgängig|storniert|storno|annulliert|widerrufen|rückabgewickelt|cancell?ed|undone|reversed|"
+    r"fell through|annulée?s?)\b",
+    re.IGNORECASE,
+)
 # the signs of a death, and the letters for one, where they don't count points
 DEAD = re.compile(r"†|✝|^\+(?=\s*\d)|^\(?\+\)?$|(?<![\w.])(?<!\d )(?:PTS|R\.I\.P|RIP)(?!\w)")
 # the words for exits that are several
@@ -319,7 +326,7 @@ def is_still_there(text: str) -> bool:
     there was none, as `nicht verkauft`?"""
     if not LETTER.search(text) or DEAD.search(text):
         return False
-    if lives_besides(text) or lives_and_more(text):
+    if lives_besides(text) or lives_and_more(text) or is_undone(text):
         return True
     sold = SALE_NOT_MADE.sub(" ", text)
     rest = NO_BREEDING.sub(" ", sold)
@@ -344,6 +351,11 @@ def tells_of_itself(text: str) -> bool:
     words = [plain(word) for word in re.split(r"\W+", text) if word]
     at = next((at for at, word in enumerate(words) if word in TELLING_EXITS), len(words))
     return KNOWN_AROUND_EXITS.issuperset([*words[:at], *words[at + 1 : at + 2]])
+
+
+def is_undone(text: str) -> bool:
+    """Does it tell of an exit that was undone, as `Verkauf 2019 rückgängig`, and of no death?"""
+    return UNDONE.search(text) is not None and not has_word(text, KNOWN_DEATHS)
 
 
 def says_gone(text: str) -> bool:

@@ -138,6 +138,9 @@ class Days:
             day = kept
             basis = basis if parents or animal.id in self.likely else BirthBasis(BirthSource.NEAREST)
         day = min(max(day, low), self.high[animal.id])
+        if animal.since and animal.since.is_day and low <= animal.since.last.toordinal():
+            # a day since which an owner has it is said, and the birth was before
+            day = min(day, animal.since.last.toordinal())
         # where parents and offspring leave no day open, that of the cell holds, and the program refuses a parent
         day = min(max(day, animal.birth.first.toordinal()), animal.birth.last.toordinal())
         # a day that stays has the reason that it had, whatever is known today

@@ -229,10 +229,11 @@ def last_names(owner: str) -> set[str]:
 
 # Owners whose cell has more than a name, and names of animals that never lived.
 
-# what stands beside a name in such a cell
+# what stands beside a name in such a cell, as an address, a telephone number, or a place behind a name of two words
 MORE = re.compile(
-    r"[/→%†(;&+]|->|\d{4}|\b(?:und|and|et|c/o|feu|ex|früher|vorher|bis|ab|seit|until|since|from|depuis|jusqu\w*|dès|"
-    r"jetzt|bei|neu|neuer|gekauft|now|by|new|bought|maintenant|chez|par|nouveau|achetée?)\b",
+    r"[/→%†(;&+@]|->|\d{4}|\d\d[ /.-]+\d\d|\S\s+\S+\s*,|"
+    r"\b(?:und|and|et|c/o|feu|ex|ehemals|vormals|formerly|anciennement|früher|vorher|bis|ab|seit|until|since|from|"
+    r"depuis|jusqu\w*|dès|jetzt|bei|neu|neuer|gekauft|now|by|new|bought|maintenant|chez|par|nouveau|achetée?)\b",
     re.IGNORECASE,
 )
 WORD, A_DAY = re.compile(r"[^\W_]+"), re.compile(r"\d{1,4}[./-]\d{1,2}[./-]\d{2,4}")

@@ -18,6 +18,7 @@ from gudokeyi.ingest.animals import (
     YEARS_LATER, Castration, SheetAnimal,
 )  # fmt: skip
 from gudokeyi.ingest.days import Precision
+from gudokeyi.ingest.years_as_days import years_shown
 from gudokeyi.reconcile.findings.by_hand import YoungParent
 from gudokeyi.reconcile.findings.plausibility import (
     BirthsNearerThanUsual, BirthsTooNear, CastratedSire, ColumnsSwapped, ManyOldAsLiving, NameAndDayTwice,
@@ -277,7 +278,9 @@ class PlausibilityChecks:
         if len(old) > max(FEW_OLD, len(dated) // 50):
             self.report.add(0, "", ManyOldAsLiving(len(old), DECADES))
             return
-        for animal in old:
+        # of years that are shown as days it is told that they may be these
+        years = years_shown({one.born for one in old})
+        for animal in (one for one in old if one.born not in years):
             found = OldAsLiving(animal.born, median - animal.born.year, median)
             self.report.add(animal.line, animal.id, found)
 

@@ -10,9 +10,10 @@ from gudokeyi.domain.provenance import BirthSource
 from gudokeyi.ingest.animals import SheetAnimal
 from gudokeyi.ingest.findings.cells import BETWEEN_CELLS, IdAlone, NoId
 from gudokeyi.ingest.findings.rows import OF_OTHERS, NoteRow
+from gudokeyi.ingest.odd_texts import counts_as_living
 from gudokeyi.ingest.texts import listed, plain
-from gudokeyi.ingest.words import KNOWN_SEXES, has_word, sex_word
-from gudokeyi.reconcile.findings.sections import SectionOfBirths, SectionOfSex, SectionsOfOwners
+from gudokeyi.ingest.words import KNOWN_SEXES, TELLING_EXITS, has_word, is_still_there, sex_word
+from gudokeyi.reconcile.findings.sections import SectionOfBirths, SectionOfExits, SectionOfSex, SectionsOfOwners
 from gudokeyi.reconcile.next_book import NextBook
 
 # words for several animals of one sex
@@ -28,6 +29,16 @@ SEVERAL = {
 SEXES = {sex_word(word): sex for sex, words in SEVERAL.items() for word in listed(words)} | KNOWN_SEXES
 # words that are those of a species too: they say a sex where another row says the other one
 OF_SPECIES = {plain(word) for word in listed("dogs, dog, Ziegen, Ziege, cows, cow, Katze, chien, chèvres, chèvre")}
+# words for animals that left, and of so many words at most a heading is
+OF_EXITS = TELLING_EXITS | {
+    plain(word) for word in listed(
+        "Abgänge, Verkaufte, Verstorbene, Gestorbene, Geschlachtete, Tote, Gelöschte, Gestrichene, Ausgeschiedene, "
+        "Abgegangene, Ehemalige, ehemalige, deleted, removed, former, departed, disposals, deaths, sales, supprimé, "
+        "supprimée, supprimés, supprimées, radiés, radiées, morts, mortes, vendus, vendues, sortis, sorties, décédés, "
+        "réformés, réformées, abattus, abattues"
+    )
+}  # fmt: skip
+MOST_WORDS = 6
 # a word of fewer letters may be short for anything
 LEAST_LETTERS = 3
 WORD = re.compile(r"[^\W\d_]+")
@@ -48,6 +59,7 @@ def tell_sections(next_book: NextBook) -> None:
     rows = [one for one in next_book.animals.values() if one.line > first and one.line not in lines] if sections else []
     tell_sexes(next_book, sections, [one for one in rows if one.sex_source.is_inferred])
     tell_owners(next_book, sections, rows)
+    tell_exits(next_book, sections, [one for one in rows if counts_as_living(one)])
 
 
 def tell_owners(next_book: NextBook, sections: list[Section], rows: list[SheetAnimal]) -> None:
@@ -61,6 +73,21 @@ def tell_owners(next_book: NextBook, sections: list[Section], rows: list[SheetAn
     if found:
         (first, _), animals = found[0], sum(count for _, count in found)
         next_book.report.add(0, "", SectionsOfOwners(len(found), first.text, first.line, animals))
+
+
+def tell_exits(next_book: NextBook, sections: list[Section], living: list[SheetAnimal]) -> None:
+    """Rows that tell of exits, above animals without one."""
+    for section, behind in itertools.pairwise([*sections, None]):
+        assert section is not None
+        those = [one for one in living if is_in(one, section, behind)] if says_exits(section.text) else []
+        if those:
+            first = min(those, key=lambda one: one.line)
+            next_book.report.add(section.line, "", SectionOfExits(section.text, len(those), first.id, first.line))
+
+
+def says_exits(text: str) -> bool:
+    """Is it a heading above animals that left, as `Aus dem Herdbuch gelöscht`?"""
+    return len(WORD.findall(text)) <= MOST_WORDS and has_word(text, OF_EXITS) and not is_still_there(text)
 
 
 def tell_births(next_book: NextBook) -> None:

@@ -49,7 +49,9 @@ def leave_out_unread_sexes(
     for parent in sires.keys() & dams.keys():
         roles[parent] = role_of_both(next_book, parent, sires[parent], dams[parent])
     for id in unread:
-        if "sex" in animals[id].unread and not roles.get(id) and not next_book.book.society_records.get(id):
+        # an error value of a spreadsheet counts as empty
+        is_unread = "sex" in animals[id].unread and animals[id].cells.get(Field.SEX)
+        if is_unread and not roles.get(id) and not next_book.book.society_records.get(id):
             next_book.report.add(animals[id].line, id, SexNotKnown())
             del animals[id]
 

@@ -54,8 +54,14 @@ def renamed_ever(book: Book) -> list[tuple[str, str]]:
 
 def last_cell(book: Book, id: str) -> str:
     """What the last sheet said of the day since which the owner has an animal."""
-    cell = book.connection.execute(f"SELECT cell_since FROM cell WHERE id = ? AND {NOW}", (id,)).fetchone()
-    return str(cell[0] or "") if cell else ""
+    return last_cells(book, id)[1]
+
+
+def last_cells(book: Book, id: str) -> tuple[str, str]:
+    """The owner in the last sheet, and what it said of the day since which that one has it."""
+    cells = book.connection.execute(f"SELECT cell_owner, cell_since FROM cell WHERE id = ? AND {NOW}", (id,)).fetchone()
+    owner, since = cells or ("", "")
+    return str(owner or ""), str(since or "")
 
 
 def all_cells(book: Book, id: str) -> Iterator[tuple[str, str]]:

@@ -364,3 +364,25 @@ class TitleBelow(SheetFinding):
 
     def suggestions(self) -> tuple[Suggestion, ...]:
         return (Suggestion(f"to keep '{self.title}'", (kept_as(self.title, OwnKind.TEXT),)),)
+
+
+@dataclass(frozen=True, slots=True)
+class OtherBreeds(SheetFinding):
+    """Rows of a column of breeds that have another one than most: how many, and the first of them."""
+
+    title: str
+    count: int
+    line: int
+    text: str
+    usual: str
+
+    severity = Severity.ANIMALS
+    code = "other breeds"
+    message = Counted(
+        "'{title}' says '{text}' in line {line}, where most rows have '{usual}': the animal is taken as one of the "
+        "book's breed; if it is of another one, leave its row out",
+        "'{title}' says another breed than '{usual}', which most rows have, in {count} rows, the first is line {line} "
+        "with '{text}': these animals are taken as those of the book's breed; if they are of another one, leave their "
+        "rows out",
+        "count",
+    )

@@ -113,6 +113,27 @@ class DaysExchanged(SheetFinding):
 
 
 @dataclass(frozen=True, slots=True)
+class YearsAsDays(SheetFinding):
+    """Days of a column that may be years in cells whose format is a day: how many, and the first one."""
+
+    title: str
+    count: int
+    line: int
+    day: str
+    year: int
+
+    severity = Severity.ANIMALS
+    code = "years as days"
+    message = Counted(
+        "'{title}' has {day} in line {line}, as a spreadsheet shows {year} in a cell whose format is a day: if that "
+        "year is meant, write it into a cell whose format is text",
+        "'{title}' has {count} days of 1905, the first is {day} in line {line}, as a spreadsheet shows {year} in a cell "
+        "whose format is a day: if years are meant, write them into cells whose format is text",
+        "count",
+    )
+
+
+@dataclass(frozen=True, slots=True)
 class BirthsJoined(SheetFinding):
     """Days of births that stand in three columns: how many, and the first one."""
 

@@ -66,6 +66,23 @@ class MarksAlone(SheetFinding):
 
 
 @dataclass(frozen=True, slots=True)
+class RowsBetweenMarks(SheetFinding):
+    """Whole rows of a text file between two quotation marks, which would read as one row."""
+
+    count: int
+    line: int
+
+    severity = Severity.PARENTS
+    code = "rows between marks"
+    message = Counted(
+        "{count} row stands between two quotation marks, the first of which is in line {line}: it is read without these",
+        "{count} rows stand between two quotation marks, the first of which is in line {line}: each is read as a row of "
+        "its own, without these marks; take them out of the file",
+        "count",
+    )
+
+
+@dataclass(frozen=True, slots=True)
 class TextInLine(Told):
     """A text with its first line, and what it was before its letters were decoded twice, if they were."""
 
@@ -353,11 +370,12 @@ class WorksheetUnclear(SheetFinding):
     fit: bool
 
     code = "worksheet unclear"
-    message = Text("{path}: {maybe_count}{maybe_none_fits} ({names}): say which one is taken by --worksheet")
+    message = Text("{path}: {maybe_count}{maybe_none_fits} ({names}): say which one is taken by --worksheet{maybe_others}")
     page_message = Text("which worksheet is meant: {worksheets}?")
     parts = {
         "maybe_count": OptionalPart("{count} worksheets have titles that fit", when="fit"),
         "maybe_none_fits": OptionalPart("no worksheet has such titles", when="none_fits"),
+        "maybe_others": OptionalPart("; if others have animals too, take each of them then with --append", when="fit"),
     }
 
     def values(self) -> Mapping[str, object]:

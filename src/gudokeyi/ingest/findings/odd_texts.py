@@ -5,7 +5,7 @@ from __future__ import annotations
 from collections.abc import Mapping
 from dataclasses import dataclass
 
-from gudokeyi.domain.findings import PlausibilityWarning
+from gudokeyi.domain.findings import PlausibilityWarning, Severity
 from gudokeyi.domain.wording import AllOf, Counted, OptionalPart, Text
 from gudokeyi.ingest.findings.cells import OddId
 from gudokeyi.ingest.findings.columns import SheetFinding
@@ -14,6 +14,20 @@ from gudokeyi.ingest.findings.sheets import TextCount
 
 # so many lines of rows are told
 MOST_LINES = 9
+
+
+@dataclass(frozen=True, slots=True)
+class DeathInBirth(PlausibilityWarning):
+    """The cell of a birth tells of a death, and the animal counts as living."""
+
+    text: str
+
+    severity = Severity.FACTS
+    code = "death in birth"
+    message = Text(
+        "its birth '{text}' tells of a death, and it counts as living: if it has left, write that into a column for "
+        "exits; if it was born dead, leave its row out"
+    )
 
 
 @dataclass(frozen=True, slots=True)

@@ -1,6 +1,7 @@
 """What is found of rows that are read otherwise than cell by cell: each kind as data, and in words."""
 from __future__ import annotations
 
+import datetime
 import re
 from collections.abc import Mapping
 from dataclasses import dataclass
@@ -370,6 +371,44 @@ class SoldWithin(Finding):
     parts = {
         "maybe_before": OptionalPart(", before {before}"),
     }
+
+
+@dataclass(frozen=True, slots=True)
+class SoldThenLeft(Finding):
+    """An animal that was sold to an owner of the list, or of the book, and left later."""
+
+    owner: str
+    before: str
+    text: str
+    behind: str
+
+    what = What.INFERRED
+    severity = Severity.FACTS
+    code = "sold then left"
+    message = Text(
+        "owner {owner}{maybe_before}: '{text}' names an owner of the society, and its exit is '{behind}'"
+    )
+    parts = {
+        "maybe_before": OptionalPart(", before {before}"),
+    }
+
+
+@dataclass(frozen=True, slots=True)
+class SoldEarlier(Finding):
+    """A sale to an owner of the list, or of the book, before the day since when the row's owner has the animal."""
+
+    text: str
+    taker: str
+    owner: str
+    since: datetime.date
+
+    what = What.WARNING
+    severity = Severity.FACTS
+    code = "sold earlier"
+    message = Text(
+        "'{text}' tells of a sale before {since}, since when the row says that {owner} has it: {owner} stays its owner, "
+        "and {taker} counts as one of before; if {taker} has it, write that as its owner"
+    )
 
 
 @dataclass(frozen=True, slots=True)

@@ -39,8 +39,11 @@ LIKE_WORDS = {
         "it looks like the same animals with another id: name the column that has the book's ids by --columns, with id= "
         "and its title"
     ),
-    LooksLike.OLDER_SHEET: "it looks like an older sheet: each of its animals is in the book, and the youngest lack",
-    LooksLike.PART: "it looks like a part of the flock",
+    LooksLike.OLDER_SHEET: (
+        "it looks like an older sheet: each of its animals is in the book, and the youngest lack; if it is another part "
+        "of the list, as a second worksheet, say --append, by which the others stay"
+    ),
+    LooksLike.PART: "it looks like a part of the flock: if it is one, say --append, by which the others stay",
     LooksLike.PARENTS_BY_NAME: (
         "it looks like parents that are written by their names: name the column that has the animals' names by "
         "--columns, with name= and its title, or write the parents' ids"

@@ -55,6 +55,27 @@ class SectionsOfOwners(SheetFinding):
 
 
 @dataclass(frozen=True, slots=True)
+class SectionOfExits(SheetFinding):
+    """A row that tells of exits, above so many animals without one: the first of them, and its line."""
+
+    text: str
+    count: int
+    first: str
+    first_line: int
+
+    severity = Severity.ANIMALS
+    code = "section of exits"
+    message = Counted(
+        "'{text}' stands above {first} (line {first_line}), which counts as living: nothing is read from such a row; if "
+        "it has left, write a day, or a word such as sold, verkauft or vendu, into a column for exits",
+        "'{text}' stands above {count} animals that count as living, the first is {first} (line {first_line}): nothing "
+        "is read from such a row; if they have left, write a day, or a word such as sold, verkauft or vendu, into a "
+        "column for exits",
+        "count",
+    )
+
+
+@dataclass(frozen=True, slots=True)
 class SectionOfBirths(SheetFinding):
     """A row that says something of the rows below, where nothing shows the birth days of so many animals: the first of
     them, and its line."""
