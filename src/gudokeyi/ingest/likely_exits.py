@@ -1,5 +1,5 @@
-"""A column of days that isn't read, all of them behind the births, in a sheet without a column of exits: it may say when
-animals left."""
+"""A column of days that isn't read, all of them behind the births, in a sheet without a column of exits: it may say
+when animals left."""
 from __future__ import annotations
 
 import functools
