@@ -108,6 +108,9 @@ def test_days_that_may_be_exits(desk: Desk) -> None:
         text.replace(".03.2020", ".01.2010"), text.replace("Besitzer", "Abgang"), text.replace("03.03.2020", ""),
     ):  # fmt: skip
         assert told not in desk.take(other, "--book", "other").out, other
+    # and those that the society keeps
+    for words in ("--own", "Letzter Tag=day"), ():
+        assert told not in desk.take(text, *words, "--book", "kept").out
     assert told not in desk.take(text, "--columns", "exit=").out
     done = desk.typed(done.commands()[0])
     assert told not in done.out and "changed: exit 3" in done.out

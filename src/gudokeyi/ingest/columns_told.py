@@ -1,4 +1,4 @@
-"""The columns of a sheet, with all that is told of those which aren't read, though they have what belongs to animals."""
+"""The columns of a sheet, with all that is told of those which aren't read and have what belongs to animals."""
 from __future__ import annotations
 
 from collections.abc import Collection, Mapping

@@ -1,5 +1,5 @@
-"""Dams of embryos: of a column of carriers and one of genetic dams, as `Leihmutter` and `genetische Mutter`, the genetic
-one is the dam, and a carrier never is."""
+"""Dams of embryos: of a column of carriers and one of genetic dams, as `Leihmutter` and `genetische Mutter`, the
+genetic one is the dam, and a carrier never is."""
 from __future__ import annotations
 
 from collections.abc import Callable, Mapping, Sequence

@@ -1,5 +1,5 @@
-"""A column of days that isn't read, all of them behind the births, in a sheet without a column of exits: it may say when
-animals left."""
+"""A column of days that isn't read, all of them behind the births, in a sheet without a column of exits: it may say
+when animals left."""
 from __future__ import annotations
 
 import functools
@@ -21,13 +21,16 @@ MOST_GONE = 0.9
 OTHER_DAYS = tuple(
     word.casefold()
     for word in listed(
-        "impf, vacc, wieg, weigh, wäg, pesée, test, prüf, prob, dna, adn, kontroll, control, contrôl, scan, deck, beleg, "
-        "besam, insem, saill, cover, mating, served, tupp, lamb, lamm, kidd, kalb, calv, wurf, litter, ablamm, agnel, "
-        "mise bas, geburt, birth, born, naiss, eintrag, regist, erfass, enreg, inscri, änder, modif, update, stand, "
-        "körung, gekört, linear, prämi, bewert, beurteil, classif, schau, show, ausstell, concours, kastr, castr, geld, "
-        "schur, shear, shorn, tont, entwurm, worm, vermif, absetz, wean, sevr, chip, marke, tagged, tagging, boucl, rechnung, "
-        "invoice, factur, zahl, paid, pay, diplom, zertif, certif, ausweis, abstamm, zugang, kauf, achat, bought, purch, "
-        "acqui, entr, import, seit, since, depuis, expir, ablauf, gültig, valid, vet, tierarzt, behandl, treat, trait"
+        "impf, vacc, wieg, weigh, wäg, pesée, test, prüf, prob, dna, adn, kontroll, control, contrôl, scan, deck, "
+        "beleg, besam, insem, saill, cover, mating, served, tupp, lamb, lamm, kidd, kalb, calv, wurf, litter, "
+        "ablamm, agnel, mise bas, geburt, birth, born, naiss, eintrag, regist, erfass, enreg, inscri, änder, "
+        "modif, update, stand, körung, gekört, linear, prämi, bewert, beurteil, classif, schau, show, ausstell, "
+        "concours, kastr, castr, geld, schur, shear, shorn, tont, entwurm, worm, vermif, absetz, wean, sevr, "
+        "chip, marke, tagged, tagging, boucl, rechnung, invoice, factur, zahl, paid, pay, diplom, zertif, certif, "
+        "ausweis, abstamm, zugang, kauf, achat, bought, purch, acqui, entr, import, aufnahme, aufgenommen, "
+        "herdbuch, book, genehm, approv, agré, anerk, kör, punkt, blut, blood, sang, haar, hair, sample, foto, "
+        "photo, inspect, visit, druck, print, brief, letter, mitglied, member, seit, since, depuis, expir, "
+        "ablauf, gültig, valid, vet, tierarzt, behandl, treat, trait"
     )
 )
 

@@ -4,7 +4,6 @@ from __future__ import annotations
 
 import functools
 from collections.abc import Container
-from typing import NamedTuple
 
 from gudokeyi.domain.kinds import Field
 from gudokeyi.ingest.columns import Columns
@@ -45,14 +44,6 @@ MAY_BE_CORRECTED = (
 )  # fmt: skip
 
 
-class Said(NamedTuple):
-    """What cells of a column say: how many they are, and the first of them."""
-
-    cells: int
-    line: int
-    text: str
-
-
 def tell_marks(columns: Columns, unknown: Container[str]) -> None:
     """All of these columns that have something."""
     titles = [(at, title) for at, title in enumerate(columns.sheet.titles) if title and columns.is_free(at)]
@@ -66,8 +57,9 @@ def tell_marks(columns: Columns, unknown: Container[str]) -> None:
             columns.notes.append(kind(title, *said))
 
 
-def marked(columns: Columns, at: int, unknown: Container[str]) -> Said | None:
-    """The rows of which a column says yes, and that have no exit; counts of offspring say nothing of the row's animal."""
+def marked(columns: Columns, at: int, unknown: Container[str]) -> tuple[int, int, str] | None:
+    """The rows without an exit of which a column says yes: how many, and the line and text of the first. Counts of
+    offspring say nothing of the row's animal."""
     cells = columns.cells(at)
     said = {text for text in {*cells} if text not in unknown and text.casefold() not in KNOWN_NO and text.strip("0")}
     if any(text.isdecimal() and int(text) > 1 for text in said):
@@ -79,7 +71,7 @@ def marked(columns: Columns, at: int, unknown: Container[str]) -> Said | None:
     if not rows:
         return None
     place, text = rows[0]
-    return Said(len(rows), columns.sheet.rows[place].line, text)
+    return len(rows), columns.sheet.rows[place].line, text
 
 
 @functools.lru_cache(100_000)

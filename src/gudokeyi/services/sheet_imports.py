@@ -16,6 +16,7 @@ from gudokeyi.ingest.castrations import castration_columns
 from gudokeyi.ingest.exits_beside import columns_beside, exit_day_columns
 from gudokeyi.ingest.files import GivenFile
 from gudokeyi.ingest.findings.columns import ColumnUntitled, TitleBelow
+from gudokeyi.ingest.findings.columns_unread import MayBeExits
 from gudokeyi.ingest.genetic_dams import genetic_columns
 from gudokeyi.ingest.inferred_values import columns_of_marks
 from gudokeyi.ingest.names_for_ids import names_read
@@ -243,6 +244,7 @@ def import_sheet_into(
     complete(next_book, read.columns, import_options)
     tell_parents_named_otherwise(read.columns, next_book.animals, next_book.report)
     own = find_own_columns(book, read.columns, import_options.own)
+    leave_known_days(read, own, next_book.report)
     used = again(words, import_options) + [Option("--worksheet", read.sheet.as_before)] * bool(read.sheet.as_before)
     tell_columns_not_kept(read, own, next_book)
     lacks_own = tell_lost_own_columns(book, own, read.columns, next_book.report)
@@ -267,6 +269,14 @@ def remember_places(book: Book, read: ReadSheet, import_options: ImportOptions, 
     remember_columns(book, dict(read.columns.titles_found()), exits)
     remember_refused(book, import_options, read.columns.refused)
     remember_worksheet(book, import_options.worksheet, read.sheet.worksheets)
+
+
+def leave_known_days(read: ReadSheet, own: OwnSheetColumns, report: Report) -> None:
+    """Days that the society keeps as a column of its own aren't told as what may be exits."""
+    kept = {read.sheet.titles[at] for at in own.places.values()}
+    entries = [one for one in report.entries if isinstance(one.finding, MayBeExits) and one.finding.title in kept]
+    for one in entries:
+        report.entries.remove(one)
 
 
 def tell_columns_not_kept(read: ReadSheet, own: OwnSheetColumns, next_book: NextBook) -> None:
