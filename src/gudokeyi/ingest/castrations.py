@@ -12,12 +12,15 @@ from gudokeyi.ingest.animals import SheetAnimal
 from gudokeyi.ingest.days import SOME_YEAR, Unreadable, read_span, span_within
 from gudokeyi.ingest.exits_beside import says_day
 from gudokeyi.ingest.findings.columns import SheetFinding
+from gudokeyi.ingest.findings.rows import CastratedInRemarks
 from gudokeyi.ingest.findings.sexes import CastratedFemales, CastratedWithoutSex, CastrationsRead
 from gudokeyi.ingest.remarks import SHORT_DAY, tells_castration
 from gudokeyi.ingest.sexes import Sexes, is_castrated
 from gudokeyi.ingest.sheets import Sheet
 from gudokeyi.ingest.texts import listed, plain
-from gudokeyi.ingest.words import KNOWN_NEGATIONS, KNOWN_NO, KNOWN_NOTHING, KNOWN_YES, has_word
+from gudokeyi.ingest.words import (
+    KNOWN_CASTRATED, KNOWN_NEGATIONS, KNOWN_NEUTERED, KNOWN_NO, KNOWN_NOTHING, KNOWN_SEXES, KNOWN_YES, has_word, sex_word,
+)  # fmt: skip
 
 # their titles, and those of columns that females have cells in too
 OF_MALES = (
@@ -39,6 +42,7 @@ NOT_DONE = KNOWN_NEGATIONS | {
     )
 }  # fmt: skip
 SIGNS_ALONE = re.compile(r"\W+")
+KNOWN_SAID_CASTRATED = KNOWN_CASTRATED | KNOWN_NEUTERED
 
 
 def castration_columns(sheet: Sheet, columns: Mapping[str, int]) -> list[int]:
@@ -126,3 +130,21 @@ def column_of(sheet: Sheet, at: int, unknown: Container[str]) -> CastrationColum
 def cells_in(texts: Mapping[int, str], lines: Iterable[int]) -> list[tuple[int, str]]:
     """The cells of some lines."""
     return [(line, texts[line]) for line in lines if line in texts]
+
+
+def castrated_in_remarks(
+    sheet: Sheet, columns: Mapping[str, int], at: int, texts: Collection[str]
+) -> list[SheetFinding]:
+    """Some cells of a column that isn't read tell that an animal is castrated; it isn't told of females, nor of those
+    whose sex says so too, or another column."""
+    if not texts:
+        return []
+    cells, said = sheet.column(at), castrated_places(sheet, columns)
+    telling = [place for place, cell in enumerate(cells) if cell in texts and place not in said]
+    if Field.SEX in columns:
+        sexes = sheet.column(columns[Field.SEX])
+        others = {sex for sex in {*sexes} if KNOWN_SEXES.get(sex_word(sex)) == "F" or has_word(sex, KNOWN_SAID_CASTRATED)}
+        telling = [place for place in telling if sexes[place] not in others]
+    if not telling:
+        return []
+    return [CastratedInRemarks(sheet.titles[at], len(telling), sheet.rows[telling[0]].line, cells[telling[0]])]

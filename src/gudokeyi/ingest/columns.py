@@ -12,7 +12,7 @@ from typing import Container
 from gudokeyi.domain.kinds import Field
 from gudokeyi.domain.spelling import closest
 from gudokeyi.ingest.births_beside import TAG, parts_of_births
-from gudokeyi.ingest.castrations import castrated_places
+from gudokeyi.ingest.castrations import castrated_in_remarks
 from gudokeyi.ingest.column_detection import MOST_COMPARED, IdColumn, LikelyColumns, are_different, are_row_numbers
 from gudokeyi.ingest.days import is_span
 from gudokeyi.ingest.encodings import Letters, decoded_twice
@@ -21,7 +21,7 @@ from gudokeyi.ingest.exits_unread import ExitsUnread, codes_of_status, column_un
 from gudokeyi.ingest.findings.columns import (
     ColumnLost, ColumnsLack, ColumnUntitled, LikelierColumn, NamedColumnLacks, SheetFinding, TellsNoExits, TitleTwice,
 )  # fmt: skip
-from gudokeyi.ingest.findings.rows import CastratedInRemarks, FieldUnread, StatusUnread
+from gudokeyi.ingest.findings.rows import FieldUnread, StatusUnread
 from gudokeyi.ingest.findings.sheets import MOST_SHOWN
 from gudokeyi.ingest.many_texts import likely_among
 from gudokeyi.ingest.owners_beside import owners_beside, persons_name
@@ -36,11 +36,10 @@ from gudokeyi.ingest.titles import (
 )  # fmt: skip
 from gudokeyi.ingest.texts import plain
 from gudokeyi.ingest.words import (
-    DEAD, KNOWN_CASTRATED, KNOWN_EXITS, KNOWN_NEUTERED, KNOWN_NOTHING, KNOWN_SEXES, KNOWN_STAYS, KNOWN_STILL_THERE,
-    LETTER, TELLING_EXITS, has_word, sex_word,
+    DEAD, KNOWN_EXITS, KNOWN_NOTHING, KNOWN_SEXES, KNOWN_STAYS, KNOWN_STILL_THERE, LETTER, TELLING_EXITS, has_word,
+    sex_word,
 )  # fmt: skip
 
-KNOWN_SAID_CASTRATED = KNOWN_CASTRATED | KNOWN_NEUTERED
 
 
 @dataclass
@@ -105,6 +104,17 @@ class Columns:
         return [(name, self.title(at)) for name, at in self.in_order().items()]
 
 
+def named_columns(columns: Columns, given: Mapping[str, str], before: Mapping[str, str]) -> dict[str, str]:
+    """Finds the columns by the titles that are `given`, or of the last time; answers these titles."""
+    titles = {plain(title) for title in columns.sheet.titles}
+    named = {name: title for name, title in before.items() if not title or plain(title) in titles} | dict(given)
+    for name in TITLES:
+        # which column has the ids of a book is seen in its cells
+        if named.get(name) and (name != Field.ID or name in given):
+            name_column(columns, name, named)
+    return named
+
+
 def find_columns(
     sheet: Sheet, given: Mapping[str, str], before: Mapping[str, str], unknown: Container[str],
     ids: Collection[str] = (),
@@ -113,12 +123,7 @@ def find_columns(
     `ids` are those of the book."""
     columns = Columns(sheet)
     tell_doubles(columns)
-    titles = {plain(title) for title in sheet.titles}
-    named = {name: title for name, title in before.items() if not title or plain(title) in titles} | dict(given)
-    for name in TITLES:
-        # which column has the ids of a book is seen in its cells
-        if named.get(name) and (name != Field.ID or name in given):
-            name_column(columns, name, named)
+    named = named_columns(columns, given, before)
     # a dog and a bitch may be the animals themselves, but for where both have a column
     columns.apart = [at for at in columns_of_pair(sheet) if columns.is_free(at)]
     find_person(columns, named)
@@ -274,7 +279,7 @@ def tell_unread_statuses(columns: Columns, named: Mapping[str, str], unknown: Co
     for at in free[:MOST_COMPARED]:
         cells = columns.counts(at)
         texts = likely_among(cells)
-        tell_castrated(columns, at, telling_castrations(texts))
+        columns.notes += castrated_in_remarks(columns.sheet, columns.found, at, telling_castrations(texts))
         # a plus alone may be the result of a test
         crosses = {cell for cell in texts if is_cross(cell) and "+" not in (cell, cell.strip("()"))}
         telling = [cell for cell in texts if has_word(cell, TELLING_EXITS | KNOWN_STAYS) or cell in crosses]
@@ -285,24 +290,6 @@ def tell_unread_statuses(columns: Columns, named: Mapping[str, str], unknown: Co
             columns.exits_unread.append(column_unread(columns.sheet, columns.found, at, unknown))
         elif named.get(Field.EXIT) != "":
             columns.exits_unread.append(remarks_unread(columns.sheet, columns.found, at, telling_exits(texts)))
-
-
-def tell_castrated(columns: Columns, at: int, texts: set[str]) -> None:
-    """Some cells of a column that isn't read tell that an animal is castrated; it isn't told of females, nor of those
-    whose sex says so too, or another column."""
-    if not texts:
-        return
-    cells = columns.cells(at)
-    telling = [place for place, cell in enumerate(cells) if cell in texts]
-    said = castrated_places(columns.sheet, columns.found) if telling else set[int]()
-    telling = [place for place in telling if place not in said]
-    if Field.SEX in columns.found:
-        sexes = columns.cells(columns.found[Field.SEX])
-        others = {sex for sex in {*sexes} if KNOWN_SEXES.get(sex_word(sex)) == "F" or has_word(sex, KNOWN_SAID_CASTRATED)}
-        telling = [place for place in telling if sexes[place] not in others]
-    if telling:
-        line, text = columns.sheet.rows[telling[0]].line, cells[telling[0]]
-        columns.notes.append(CastratedInRemarks(columns.title(at), len(telling), line, text))
 
 
 def tell_other_statuses(columns: Columns, usual: list[int]) -> None:

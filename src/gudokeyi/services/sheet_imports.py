@@ -221,8 +221,7 @@ def import_sheet_into(
 ) -> tuple[Outcome, Prepared | None]:  # fmt: skip
     """What a sheet makes of a book, and the change that is to be made, none for a preview. `last` is what this process
     read of a sheet before, where it looks again and again."""
-    path = file.path
-    check_place(book, path)
+    check_place(book, file.path)
     book.read_all()
     import_options = with_settings(book, import_options)
     words = remember(book, import_options)
@@ -232,6 +231,28 @@ def import_sheet_into(
         read = read_animals(file, import_options, book, words, last)
     keep(book, read)
     read.report.entries += [Entry(0, "", found) for found in renamed]
+    next_book = next_book_of(book, read, last)
+    complete(next_book, read.columns, import_options)
+    tell_parents_named_otherwise(read.columns, next_book.animals, next_book.report)
+    own = find_own_columns(book, read.columns, import_options.own)
+    leave_known_days(read, own, next_book.report)
+    used = again(words, import_options) + [Option("--worksheet", read.sheet.as_before)] * bool(read.sheet.as_before)
+    tell_columns_not_kept(read, own, next_book)
+    lacks_own = tell_lost_own_columns(book, own, read.columns, next_book.report)
+    understood = understood_of(file.path, read, used, {} if lacks_own else titles_before(book), own)
+    remember_places(book, read, import_options, next_book.lost_exits if next_book.kept_exits else ())
+
+    def take_own() -> None:
+        take_own_values(next_book, own, read.sheet, bool(words[Remembered.MONTH_FIRST]))
+        keep_as_notes(next_book, dict(read.columns.titles_found()), read.rows.remarks())
+
+    call = import_options.call(str(file.path))
+    about = About(call, understood.lines(), understood, limits_of(words), take_own=take_own)
+    return finish(next_book, program, import_options, file, about)
+
+
+def next_book_of(book: Book, read: ReadSheet, last: LastReading | None) -> NextBook:
+    """The animals of the rows, with what these don't say and the book has."""
     call_as_now(read.animals, book, read.report)
     next_book = NextBook(
         book, read.animals, set(read.columns.found), read.report, read.rows.cells.days, in_book=read.in_book,
@@ -241,22 +262,7 @@ def import_sheet_into(
     if last and book.society_records:
         # a row that says what the book has doesn't name an animal by an id of before
         next_book.compare(last.rows_of(book), frozenset() if are_other_rows else last.same_rows(book))
-    complete(next_book, read.columns, import_options)
-    tell_parents_named_otherwise(read.columns, next_book.animals, next_book.report)
-    own = find_own_columns(book, read.columns, import_options.own)
-    leave_known_days(read, own, next_book.report)
-    used = again(words, import_options) + [Option("--worksheet", read.sheet.as_before)] * bool(read.sheet.as_before)
-    tell_columns_not_kept(read, own, next_book)
-    lacks_own = tell_lost_own_columns(book, own, read.columns, next_book.report)
-    understood = understood_of(path, read, used, {} if lacks_own else titles_before(book), own)
-    remember_places(book, read, import_options, next_book.lost_exits if next_book.kept_exits else ())
-
-    def take_own() -> None:
-        take_own_values(next_book, own, read.sheet, bool(words[Remembered.MONTH_FIRST]))
-        keep_as_notes(next_book, dict(read.columns.titles_found()), read.rows.remarks())
-
-    about = About(import_options.call(str(path)), understood.lines(), understood, limits_of(words), take_own=take_own)
-    return finish(next_book, program, import_options, file, about)
+    return next_book
 
 
 def remember_places(book: Book, read: ReadSheet, import_options: ImportOptions, lost_exits: tuple[str, ...]) -> None:
