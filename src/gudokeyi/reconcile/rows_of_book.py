@@ -36,7 +36,9 @@ class RowsOfBook:
         self.in_book, self.owners = in_book, {**book.owners}
         self.society_records, self.records, self.ids = in_book.society_records, in_book.records, in_book.ids
         self.names = {NO_OWNER: "", **{code: owner for owner, code in self.owners.items()}}
+        # by the ids; those of a sheet's rows, once some were found to be equal
         self.values: dict[str, tuple[object, ...]] = {}
+        self.are_of_rows = False
         # the rows before, and the ids of those that say something else now
         self.before, self.found_anew = before, frozenset[str]()
         if before is None:
@@ -46,7 +48,7 @@ class RowsOfBook:
 
     def take_over(self, before: RowsOfBook) -> None:
         """Values that stay what they were."""
-        self.values, before.before = before.values, None
+        self.values, self.are_of_rows, before.before = before.values, before.are_of_rows, None
         gone, codes = self.other_ids(before), {code for code, _ in self.names.items() ^ before.names.items()}
         those = self.animals_with(codes, {before.society_records[id].registration_number for id in gone})
         for id in gone:
@@ -89,6 +91,15 @@ class RowsOfBook:
         with_day = [(id, since) for id, since in zip(rows, map(SINCE_OF, rows.values())) if since and id not in others]
         others.update(id for id, since in with_day if not self.has_since(since, id))
         return {id: row for id, row in rows.items() if id in others} if others else {}
+
+    def same(self, rows: Mapping[str, SheetAnimal]) -> set[str]:
+        """The ids of the rows that say nothing else."""
+        ids = rows.keys() - self.others(rows).keys()
+        if not self.are_of_rows:
+            # these are the same objects at the next look, which compare in no time
+            self.values.update(zip(ids, map(VALUES, map(rows.__getitem__, ids))))
+            self.are_of_rows = True
+        return ids
 
     def has_since(self, since: Span, id: str) -> bool:
         return since.has(self.records[self.society_records[id].registration_number].since)

@@ -298,7 +298,7 @@ class LastReading:
                 # owners and ids alone are others: rows with none of these say what they said
                 ids = last.ids - rows_of_book.found_anew
                 rows = {id: rows[id] for id in rows_of_book.found_anew & rows.keys()}
-            ids |= rows.keys() - rows_of_book.others(rows).keys()
+            ids |= rows_of_book.same(rows)
             self.same = last = SameRows(plain.animals, rows_of_book, ids)
         return last.ids - plain.odd_ids()
 
