@@ -176,9 +176,9 @@ def test_more_titles_below(desk: Desk) -> None:
 
 def test_sum_beside_a_number(desk: Desk) -> None:
     """A row that sums up in its name, and has a number as its id, is told with the word that leaves it out; a founder
-    whose name begins so isn't where its row has a sex."""
-    rows = "1;Max;m;01.02.2010;;\n2;Eva;w;03.02.2010;;\n3;Total Eclipse;w;;;\n4;Ada;w;3.2.2013;1;2\n31;Total Tiere;;;;\n"
-    sheet = "Nr.;Name;Geschlecht;geb;Vater;Mutter\n" + rows
+    whose name begins so isn't where its row has a sex or an owner."""
+    rows = "1;Max;m;01.02.2010;;;\n2;Count B;;;;;Huber\n3;Total Eclipse;w;;;;\n4;Ada;w;3.2.2013;1;2;\n31;Total Tiere;;;;;\n"
+    sheet = "Nr.;Name;Geschlecht;geb;Vater;Mutter;Besitzer\n" + rows
     done = desk.take(sheet, "--preview")
     assert [line.split(":")[0] for line in done.out.splitlines() if LOOK in line] == ["line 6"]
     assert any("--no-animal 'Total Tiere'" in command for command in done.commands())

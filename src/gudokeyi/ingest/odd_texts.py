@@ -35,6 +35,7 @@ LETTERS = listed("RIP, PTS")
 WITH_POINTS = "r.i.p"
 SIGNS = ("†", "✝", "+")
 DEATH_SIGNS = SIGNS[:2]
+BEGINS_DEATHS = (*DEATH_SIGNS, "tot", "still", "born", "mort")
 BORN_DEAD = re.compile(
     r"\b(?:tot\W?(?:geb\w*|geboren)|still\W?(?:born|birth)|born dead|morts?\W?née?s?|mortnée?)\b", re.IGNORECASE
 )
@@ -82,8 +83,8 @@ def exits_in_sexes(title: str, animals: Mapping[str, SheetAnimal], texts: Iterab
 
 def tell_deaths_in_births(animals: Mapping[str, SheetAnimal], births: Collection[str], report: Report) -> None:
     """Of animals that count as living, and whose birth has a sign of a death, or says that they were born dead."""
-    together = "\n".join(births)
-    if not (any(sign in together for sign in DEATH_SIGNS) or BORN_DEAD.search(together)):
+    together = "\n".join(births).lower()
+    if not any(begin in together for begin in BEGINS_DEATHS):
         return
     telling = {text for text in births if any(sign in text for sign in DEATH_SIGNS) or BORN_DEAD.search(text)}
     for animal in animals.values():

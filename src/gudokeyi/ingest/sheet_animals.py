@@ -126,11 +126,12 @@ def tell_odd_ids(animals: dict[str, SheetAnimal], known: Container[str], report:
 
 def sum_of(animal: SheetAnimal, cells: list[str]) -> str:
     """The word such as `Summe` with which its id begins, or which is a cell of a row without a birth day, or begins one
-    where the row says nothing else of an animal."""
+    that is read where the row says nothing else of an animal."""
     word = first_sum(animal.id) or next((cell.strip(SIGNS) for cell in cells if plain(cell) in KNOWN_SUMS), "")
     if word or any(map(animal.cells.get, SAYS[1:])):
         return word
-    return next((cell.strip(SIGNS) for cell in cells if first_sum(cell)), "")
+    likely = next(filter(first_sum, animal.cells.values()), "")
+    return likely.strip(SIGNS) if animal.cells.get(Field.OWNER, "") in ("", likely) else ""
 
 
 # The animals of a sheet: which rows are taken, and what is seen of the sheet as a whole.
