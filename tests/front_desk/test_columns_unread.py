@@ -91,6 +91,17 @@ def test_titles_of_first_days(desk: Desk, title: str) -> None:
     assert "not read: 'Zukauf'" in alone.out and "to look at" not in alone.out
 
 
+def test_column_that_the_society_keeps(desk: Desk) -> None:
+    """It stays that where the one is lost beside which its title said no more."""
+    text = "Ohrmarke;geb;Vater;Mutter;Besitzer;Besitzer seit;Zukauf\n001;2010-02-01;;;Huber;3.4.2012;3.4.2011\n"
+    desk.take(text, "--own", "Zukauf=day")
+    done = desk.take(text.replace("Besitzer seit", "Farbe").replace("3.4.2012", "rot"))
+    assert "since from" not in done.out and "kept: 'Zukauf'" in done.out and " 0 changed" in done.last
+    done.shows("to look at: no column for since is found: it was 'Besitzer seit' at the last time; what the book has stays")
+    read = desk.take(text.replace("Besitzer seit", "Farbe"), "--columns", "since=Zukauf")
+    assert "since from 'Zukauf'" in read.out and "changed: owner since 1" in read.out
+
+
 def test_days_that_may_be_exits(desk: Desk) -> None:
     """A column of days behind the births is told where none has the exits, until that is said."""
     rows = "".join(f"00{at};0{at}.02.2010;;;;{f'0{at}.03.2020' if at < 4 else ''}\n" for at in range(1, 7))

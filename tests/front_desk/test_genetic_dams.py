@@ -26,6 +26,9 @@ def test_genetic_dam_beside_the_dams(desk: Desk, title: str) -> None:
     )
     assert "not read" not in done.out
     assert " 0 changed" in desk.take(TITLES.format("Mutter", title) + EWES + LAMBS).last
+    # a yes names nobody
+    other = desk.take(TITLES.format("Mutter", title) + EWES + LAMBS.replace("003;004", "003;ja"), "--book", "other")
+    assert " 0 added" in other.last and "is read from" not in other.out
 
 
 @pytest.mark.parametrize(

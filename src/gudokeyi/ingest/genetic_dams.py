@@ -16,6 +16,7 @@ from gudokeyi.ingest.parents_by_genes import Written
 from gudokeyi.ingest.sheets import Sheet, SheetRow, cell_of
 from gudokeyi.ingest.texts import listed, nearly, plain
 from gudokeyi.ingest.titles import BETWEEN_WORDS
+from gudokeyi.ingest.words import KNOWN_NO, KNOWN_YES
 
 # words of titles of those who carried an embryo, or brought up a young one
 CARRIERS = {
@@ -43,6 +44,7 @@ GENETIC = {
         "biologique"
     )
 }
+ANSWERS = KNOWN_YES | KNOWN_NO
 
 
 def words_of(title: str) -> set[str]:
@@ -123,6 +125,8 @@ def genetic_dams(
         dam = columns[Field.DAM]
         both = [(place, cell_of(row, dam), cell_of(row, at)) for place, row in enumerate(rows)]
         said = [one for one in both if one[2] not in unknown and nearly(one[1]) != nearly(one[2])]
+        # of a donor a column may say whether there is one
+        said = [one for one in said if one[2].isdecimal() or one[2].casefold() not in ANSWERS]
         found = {place: genetic for place, _, genetic in said}
         if said:
             place, other, genetic = said[0]

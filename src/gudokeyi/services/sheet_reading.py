@@ -43,6 +43,7 @@ from gudokeyi.reconcile.new_tags import ids_for_sure
 from gudokeyi.reconcile.rows_of_book import RowsOfBook
 from gudokeyi.store.book import Book
 from gudokeyi.store.members import members_by_code
+from gudokeyi.store.own_data import columns_now
 
 # The columns.
 
@@ -230,13 +231,13 @@ class LastReading:
 
     def columns_of(
         self, sheet: Sheet, given: Mapping[str, str], before: Mapping[str, str], none: NoneSaid,
-        unknown: UnknownParents, ids: Collection[str],
+        unknown: UnknownParents, ids: Collection[str], own: frozenset[str],
     ) -> Columns:  # fmt: skip
-        read_by = (dict(given), dict(before), none, unknown.more, unknown.known, ids)
+        read_by = (dict(given), dict(before), none, unknown.more, unknown.known, ids, own)
         for last in self.columns:
             if last.columns.sheet is sheet and last.read_by == read_by:
                 return last.columns
-        found = ColumnsRead(read_by, columns_told(sheet, given, before, none, unknown, ids))
+        found = ColumnsRead(read_by, columns_told(sheet, given, before, none, unknown, ids, own))
         self.columns = [*self.columns[-1:], found]
         return found.columns
 
@@ -330,9 +331,10 @@ def read_columns(
     ids = (last.animals_of_book(book) if last else AnimalsOfBook(book)).had_row
     before = {name: title for name, title in before.items() if name.split()[0] not in now}
     none = none_said(book, read_given(words[Remembered.COLUMNS]))
+    own = frozenset(plain(one.title) for one in columns_now(book.connection))
     if last:
-        return last.columns_of(sheet, now, before, none, unknown, ids)
-    return columns_told(sheet, now, before, none, unknown, ids)
+        return last.columns_of(sheet, now, before, none, unknown, ids, own)
+    return columns_told(sheet, now, before, none, unknown, ids, own)
 
 
 def none_said(book: Book, said: Mapping[str, str]) -> NoneSaid:
