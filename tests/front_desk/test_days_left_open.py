@@ -194,7 +194,7 @@ def test_two_days_with_two_digits_of_the_year(desk: Desk) -> None:
     assert "'12.03.17' in line 2 is read as 2017-03-12" in done.out
     assert "the first in line 6: 'verk. 3.3.24 oder 5.3.24': such an animal counts as gone" in done.out
     assert "words that tell of no exit stands in 2 of 5 cells that tell of an exit in the column 'Died'" in done.told
-    assert "the first in line 8: 'Tierarzt 4.5.25', 'Ausstellung 3.5.2024'" in done.out
+    assert "the first in line 8: 'Tierarzt 4.5.25', 'Ausstellung 3.5.2024'" in done.told
 
 
 def test_day_of_one_or_another_year(desk: Desk) -> None:

@@ -1,4 +1,4 @@
-"""Rows of a worksheet that are filled grey, as people mark what is over, or with a colour: what it means isn't known."""
+"""Rows of a worksheet that are filled grey, as people mark what is over, or with a colour that means something else."""
 from __future__ import annotations
 
 import collections
