@@ -134,8 +134,7 @@ def test_words_of_a_status_named(desk: Desk) -> None:
         "to look at: 1 of 2 cells that tell of an exit in the column 'Whereabouts' can't be read, the first in line 8: "
         "'potted': such an animal counts as gone; write days as 2001-03-01 or 01.03.2001, a word such as sold, verkauft "
         "or vendu where the day isn't known, and nothing or alive, lebt or vivant where the animal hasn't left; or name "
-        "another column by --columns; if 'potted' tells of no exit, say --unknown potted; if no column tells of exits, "
-        "say --columns exit="
+        "another column by --columns; if 'potted' tells of no exit, say --unknown potted"
     )
     assert "1 of 2 cells that tell of an exit in the column 'Left on' can't be read, the first in line 10: 'Hof'" in done.told
     for title, line in ("Whereabouts", 9), ("Left on", 11):

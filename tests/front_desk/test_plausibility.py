@@ -219,7 +219,7 @@ def test_exits_withdrawn(desk: Desk) -> None:
     done.shows(first.format(3))
     assert not done.commands()
     desk.good("undo")
-    done = desk.take(TITLES + "\n".join(empty))
+    done = desk.take(TITLES + "\n".join(empty), "--anyway")
     done.shows(first.format(6))
     desk.typed(done.commands()[0])
     assert ([row["exit"] for row in desk.table("book/ids.csv")], desk.commands()) == exits

@@ -112,7 +112,8 @@ class Unread:
     def told(self, cells: Cells) -> CellsUnread:
         """What is told of cells that can't be read; of sexes of which none can what the animals' offspring say too."""
         if cells.field is not Field.SEX or cells.count < cells.said or cells.more or len(cells.texts) < 2:
-            return CellsUnread(cells, cells.title != self.titles[cells.field])
+            title = self.titles[cells.field]
+            return CellsUnread(cells, title if cells.title != title else "")
         parents = self.parents()
         sexes = (UnknownSex(one.text, one.count, *parents.get(one.text, (0, 0))) for one in cells.texts)
         return SexesUnknown(cells, sexes=(*sexes,))

@@ -212,10 +212,10 @@ def sexes_of_all(sexes: Mapping[str, str]) -> tuple[Suggestion, ...]:
 
 @dataclass(frozen=True, slots=True)
 class CellsUnread(SheetFinding):
-    """Cells of a column that can't be read, which may be one beside that of the exits."""
+    """Cells of a column that can't be read, which may be one beside that of the exits: that one's title then."""
 
     cells: Cells
-    is_beside: bool = False
+    beside: str = ""
 
     code = "cells unread"
     message = Text("{cells} can't be read, the first in line {cells_line}: {cells_texts}{maybe_cells_more}: {advice}")
@@ -245,7 +245,7 @@ class CellsUnread(SheetFinding):
             return sexes_that_may_be(word)
         found = (tells_of_no_exit(word),) if field is Field.EXIT else ()
         # where most is read the column is the right one
-        if field in OPTIONAL and 2 * self.cells.count >= self.cells.said and not self.is_beside:
+        if field in OPTIONAL and 2 * self.cells.count >= self.cells.said and not self.beside:
             found += (Suggestion(f"if no column tells of {OPTIONAL_WORDS[field]}", (column(field, ""),)),)
         return found
 
