@@ -23,13 +23,13 @@ SAID = {
         "„Käufer“ sagt „Zoo“, und „Status“ sagt „aktiv“: das Tier gilt als lebend, bei seinem Besitzer",
         "die Spalte „Kastriert am“ sagt von 1 männlichen Tier, dass es kastriert ist, was sein Geschlecht nicht sagt:",
         "die Spalte „Kastriert am“ sagt von 1 weiblichen Tier, dass es kastriert ist, „1.2.2020“ in Zeile 3: es bleibt",
-        "„Farbe“ steht unter diesen Titeln, und nicht unter denen in Zeile 1: diese Spalte wird nicht gelesen, mit 1",
+        "„Farbe“ steht unter diesen Titeln, aber nicht unter denen in Zeile 1: diese Spalte wird nicht gelesen; sie",
     ),
     "fr": (
         "« Käufer » dit « Zoo », et « Status » dit « aktiv » : l'animal compte comme vivant, chez son propriétaire",
         "la colonne « Kastriert am » dit de 1 mâle qu'il est castré, ce que son sexe ne dit pas : il compte comme",
         "la colonne « Kastriert am » dit de 1 femelle qu'elle est castrée, « 1.2.2020 », ligne 3 : elle reste une",
-        "« Farbe » est parmi ces titres, et non parmi ceux de la ligne 1 : cette colonne n'est pas lue, avec 1 cellule",
+        "« Farbe » est parmi ces titres, mais pas parmi ceux de la ligne 1 : cette colonne n'est pas lue ; elle a 1",
     ),
 }
 IN_OTHER_ORDER = {

@@ -13,8 +13,8 @@ LOST = "Ohrmarke;geb;Vater;Mutter\n001;2001-01-01;;\n002;2001-02-01;;\n"
 BACK = "Ohrmarke;geb;Vater;Mutter;Abgang\n001;2001-01-01;;;\n002;2001-02-01;;;3.5.2025\n"
 SAID_NONE = {
     "en": "'Abgang' isn't read as exit, since it was said of an earlier list that no column is that; it has 1 cell, '3.5",
-    "de": "„Abgang“ wird nicht als Abgang gelesen, weil es bei einer früheren Liste hieß, keine Spalte sei das; sie hat 1",
-    "fr": "« Abgang » n'est pas lue comme Sortie, car il a été dit d'une liste antérieure qu'aucune colonne ne l'est",
+    "de": "„Abgang“ wird nicht als Abgang gelesen, weil bei einer früheren Liste gesagt wurde, dass es keine solche",
+    "fr": "« Abgang » n'est pas lue comme Sortie, car il a été dit d'une liste antérieure qu'elle n'avait pas de telle",
 }
 
 TITLES = (
@@ -39,24 +39,24 @@ SAID = {
         "'Besitzer 2' isn't read, and has 'Meier' in line 3: the owner is 'Huber', as 'Besitzer 1' has it",
     ),
     "de": (
-        "keine Spalte mit Abgängen gefunden, und „Letzter Tag“ wird nicht gelesen, deren 3 Tage alle nach den Geburten",
-        "die Mutter von 1 Tier wird aus „genetische Mutter“ gelesen, „003“ in Zeile 6: „002“ in „Mutter“ hat es ausgetragen",
+        "keine Spalte mit Abgängen gefunden, und die Spalte „Letzter Tag“ wird nicht gelesen, deren 3 Tage alle nach den",
+        "die Mutter von 1 Tier wird aus „genetische Mutter“ gelesen, „003“ in Zeile 6: „002“ in „Mutter“ hat das Tier",
         "1 Zeile hat keine Mutter in „Mutter“, und „003“ in „Leihmutter“, in Zeile 7: wer ein Tier austrägt, ist nicht",
-        "„Vater gemäss DNA“ wird nicht gelesen und sagt in 1 Zeile anderes als „Vater“ (Vater): „004“ und nicht „001“",
-        "die Spalte „totgeboren“ wird nicht gelesen und hat „x“ in Zeile 7: wenn dieses Tier tot geboren ist",
+        "„Vater gemäss DNA“ wird nicht gelesen und sagt in 1 Zeile etwas anderes als „Vater“ (Vater): „004“ und nicht",
+        "die Spalte „totgeboren“ wird nicht gelesen und hat „x“ in Zeile 7: das Tier gilt als lebend; ist es tot geboren",
         "die Spalte „ungültig“ wird nicht gelesen und hat „x“ in Zeile 8: die Zeile wird wie alle anderen übernommen",
         "„korrigiertes Geburtsdatum“ wird nicht gelesen und sagt „09.02.2013“ und nicht „08.02.2013“ in Zeile 9",
         "„Besitzer 2“ wird nicht gelesen und hat „Meier“ in Zeile 3: der Besitzer ist „Huber“, wie es in „Besitzer 1“ steht",
     ),
     "fr": (
-        "aucune colonne de sorties n'est trouvée, et « Letzter Tag » n'est pas lue, dont les 3 jours sont tous après",
-        "la mère de 1 animal est lue dans « genetische Mutter », « 003 », ligne 6 : « 002 » dans « Mutter » l'a porté",
+        "aucune colonne de sorties n'est trouvée, et la colonne « Letzter Tag », dont les 3 jours sont tous après les",
+        "la mère de 1 animal est lue dans « genetische Mutter », « 003 », ligne 6 : « 002 » dans « Mutter » a porté",
         "1 ligne n'a pas de mère dans « Mutter », et « 003 » dans « Leihmutter », ligne 7 : qui porte un animal",
         "« Vater gemäss DNA » n'est pas lue, et dit autre chose que « Vater » (Père) dans 1 ligne : « 004 » et non",
-        "la colonne « totgeboren » n'est pas lue, et a « x », ligne 7 : si cet animal est mort-né",
+        "la colonne « totgeboren » n'est pas lue, et a « x », ligne 7 : l'animal compte comme vivant ; s'il est mort-né",
         "la colonne « ungültig » n'est pas lue, et a « x », ligne 8 : la ligne est prise comme toutes les autres",
         "« korrigiertes Geburtsdatum » n'est pas lue, et dit « 09.02.2013 » et non « 08.02.2013 », ligne 9",
-        "« Besitzer 2 » n'est pas lue, et a « Meier », ligne 3 : le propriétaire est « Huber », comme l'a « Besitzer 1 »",
+        "« Besitzer 2 » n'est pas lue, et a « Meier », ligne 3 : le propriétaire est « Huber », comme le dit",
     ),
 }
 

@@ -80,7 +80,7 @@ def test_exit_that_vanishes(empty_site: Site, language: str, told: str) -> None:
 
 @pytest.mark.parametrize(("language", "told"), [
     ("en", "since when the row says that Kunz has it"),
-    ("de", "und seit da gehört das Tier nach der Zeile Kunz"),
+    ("de", "und seit diesem Tag gehört das Tier laut der Zeile Kunz"),
     ("fr", "et depuis ce jour la ligne dit que l'animal est à Kunz"),
 ])  # fmt: skip
 def test_sale_before_the_owner_of_now(empty_site: Site, language: str, told: str) -> None:

@@ -21,15 +21,15 @@ SAID = {
     ),
     "de": (
         "die Spalte „Verkauf“ wird nicht als Abgang gelesen, da in keiner ihrer Zellen ein Datum steht, und 1 Zelle darin",
-        "die Spalte „lebend“ sagt „x“ von einigen Tieren, und nichts von 1 ohne Abgang, in Zeile 4: es gilt auch als",
-        "in 1 Zelle der Spalte „Abgang“ steht, was Programme für kein Datum schreiben, „31.12.9999“ in Zeile 5: sie gilt",
-        "die Spalte „Status“ wird nicht gelesen, da nichts sagt, welche Tiere nach ihren 4 Zellen abgegangen sind: L, T",
+        "die Spalte „lebend“ sagt „x“ von einigen Tieren, und nichts von 1 Tier ohne Abgang, in Zeile 4: auch dieses",
+        "in 1 Zelle der Spalte „Abgang“ steht, was Programme schreiben, wenn es kein Datum gibt, „31.12.9999“ in Zeile 5:",
+        "die Spalte „Status“ wird nicht gelesen, da aus ihren 4 Zellen nicht hervorgeht, welche Tiere abgegangen sind: L",
     ),
     "fr": (
         "la colonne « Verkauf » n'est pas lue comme sortie, car aucune de ses cellules n'a de date, et 1 de ses cellules",
-        "la colonne « lebend » dit « x » de quelques animaux, et rien de 1 sans sortie, ligne 4 : il compte aussi comme",
+        "la colonne « lebend » dit « x » de quelques animaux, et rien de 1 animal sans sortie, ligne 4 : il compte",
         "1 cellule de la colonne « Abgang » contient ce que des programmes écrivent quand il n'y a pas de date, « 31.12.9999",
-        "la colonne « Status » n'est pas lue, car rien ne dit quels animaux sont sortis d'après ses 4 cellules : L, T",
+        "la colonne « Status » n'est pas lue, car ses 4 cellules ne montrent pas quels animaux sont sortis : L, T",
     ),
 }
 

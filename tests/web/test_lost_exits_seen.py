@@ -18,12 +18,12 @@ SAID = {
         "the column 'Gestorben am' tells of no exit, and 7 animals that had left would count as living again, the first are",
     ),
     "de": (
-        "keine Spalte „Gestorben am“ gefunden, aus der letztes Mal die Abgänge gelesen wurden, und „Verkauft am“ sagt",
-        "die Spalte „Gestorben am“ sagt von keinem Abgang, und 7 abgegangene Tiere würden wieder als lebend zählen, zuerst",
+        "keine Spalte „Gestorben am“ gefunden, aus der beim letzten Mal die Abgänge gelesen wurden, und „Verkauft am“ nennt",
+        "die Spalte „Gestorben am“ nennt keinen Abgang, und 7 abgegangene Tiere würden wieder als lebend zählen, zuerst",
     ),
     "fr": (
-        "aucune colonne « Gestorben am », où les sorties étaient lues la dernière fois, n'est trouvée, et « Verkauft am »",
-        "la colonne « Gestorben am » ne dit aucune sortie, et 7 animaux qui étaient sortis compteraient de nouveau comme",
+        "la colonne « Gestorben am », où les sorties étaient lues la dernière fois, n'est pas trouvée, et « Verkauft am »",
+        "la colonne « Gestorben am » n'indique aucune sortie, et 7 animaux qui étaient sortis compteraient de nouveau comme",
     ),
 }
 

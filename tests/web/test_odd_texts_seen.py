@@ -102,7 +102,7 @@ MORE = BREEDS + (
 )
 MORE_SAID = {
     "en": ("tells of a death", "a cell whose format is a day", "has the name Huber Hans in it", "animals that count as living"),
-    "de": ("spricht von einem Tod", "in einer Zelle im Datumsformat", "Huber Hans, 079 123 45 67", "die als lebend zählen"),
+    "de": ("spricht von einem Tod", "in einer Zelle im Datumsformat", "Huber Hans, 079 123 45 67", "die als lebend gelten"),
     "fr": ("parle d'une mort", "dans une cellule au format date", "Huber Hans, 079 123 45 67", "qui comptent comme vivants"),
 }  # fmt: skip
 

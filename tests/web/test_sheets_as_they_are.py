@@ -213,7 +213,7 @@ def test_new_tags_of_a_family(empty_site: Site, language: str) -> None:
         ("fr", "2 lignes, d'abord la 5, sont masquées : elles sont prises comme toutes"),
         ("en", "the text of 1 cell is struck through, 'w' in line 8 of the column 'Geschlecht', and is read like all others"),
         ("de", "der Text von 1 Zelle ist durchgestrichen, „w“ in Zeile 8 der Spalte „Geschlecht“; er wird wie alle gelesen"),
-        ("fr", "le texte de 1 cellule est barré, « w » en ligne 8 de la colonne « Geschlecht » ; il est lu comme tous"),
+        ("fr", "le texte de 1 cellule est barré, « w » à la ligne 8 de la colonne « Geschlecht » ; il est lu"),
     ],
 )
 def test_grey_rows(empty_site: Site, language: str, told: str) -> None:
