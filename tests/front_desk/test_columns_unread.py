@@ -78,7 +78,7 @@ def test_titles_of_owners(desk: Desk, title: str) -> None:
     assert [row["owner"] for row in desk.listed("list", "--columns", "owner")] == ["Meier", "Huber", "Huber"]
 
 
-@pytest.mark.parametrize("title", ["Date entrée", "Eingang", "Zukauf am", "Purchased", "Bought on", "Entry date", "Ankauf"])
+@pytest.mark.parametrize("title", ["Date achat", "Zukauf am", "Purchased", "Bought on", "Ankauf"])
 def test_titles_of_first_days(desk: Desk, title: str) -> None:
     rows = OWNED.format(owner="Meier", day="3.4.2012")
     desk.take(f"Ohrmarke;Geschlecht;geb;Vater;Mutter;Besitzer;{title}\n{rows}")
@@ -89,6 +89,15 @@ def test_titles_of_first_days(desk: Desk, title: str) -> None:
     assert "since from 'Besitzer seit'" in done.out and "not read: 'Zukauf'" in done.out
     alone = desk.take(f"Ohrmarke;Geschlecht;geb;Vater;Mutter;Besitzer;Zukauf\n{rows.replace('3.4.2012', 'ja')}", "--book", "yes")
     assert "not read: 'Zukauf'" in alone.out and "to look at" not in alone.out
+
+
+@pytest.mark.parametrize("title", ["Eingang", "Entry date", "Date entrée"])
+def test_days_of_entries(desk: Desk, title: str) -> None:
+    """They may be those of a report or of a herd book, and are no owner's."""
+    rows = OWNED.format(owner="Meier", day="3.4.2012")
+    done = desk.take(f"Ohrmarke;Geschlecht;geb;Vater;Mutter;Besitzer;{title}\n{rows}")
+    assert f"not read: '{title}'" in done.out and "since 2012" not in desk.good("show", "001").out
+    assert "to look at" not in done.out
 
 
 def test_column_that_the_society_keeps(desk: Desk) -> None:
@@ -148,6 +157,8 @@ def test_marks_of_rows(desk: Desk, title: str, text: str, said: str) -> None:
     assert told in desk.take(LITTER.format(title, "", text)).out
     for exit, other in (("03.02.2013", text), ("", "nein"), ("", "0"), ("", "2"), ("", "-")):
         assert "isn't read, and has" not in desk.take(LITTER.format(title, exit, other), "--book", f"b{other}").out
+    counts = LITTER.format(title, "", "1").replace("2010;;;;", "2010;;;;0")
+    assert "isn't read, and has" not in desk.take(counts, "--book", "counts").out
 
 
 @pytest.mark.parametrize(

@@ -31,6 +31,14 @@ def test_genetic_dam_beside_the_dams(desk: Desk, title: str) -> None:
     assert " 0 added" in other.last and "is read from" not in other.out
 
 
+@pytest.mark.parametrize("title", ["Spender", "Donor"])
+def test_donor_of_a_prize(desk: Desk, title: str) -> None:
+    """Who is written like no animal is no dam."""
+    done = desk.take(TITLES.format("Mutter", title) + EWES + LAMBS.replace("003;004", "003;Migros"))
+    assert desk.parents()["006"][1] == "003" and " 0 added" in done.last
+    assert f"not read: '{title}'" in done.out and "carried" not in done.out
+
+
 @pytest.mark.parametrize(
     ("carrier", "genetic"),
     [
@@ -70,7 +78,7 @@ def test_parent_by_a_test(desk: Desk, title: str) -> None:
     done = desk.take(text)
     done.shows(
         f"to look at: '{title}' isn't read, and has another sire than 'Vater' in 1 row: '005' and not '001', in line 7: "
-        "where the test is right, write that into 'Vater'"
+        f"where '{title}' is right, write that into 'Vater'"
     )
     assert desk.parents()["006"] == ("001", "002")
     lacking = desk.take(text.replace("001;002;005", ";002;005"), "--book", "lacking")

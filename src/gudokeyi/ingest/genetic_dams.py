@@ -67,7 +67,14 @@ def genetic_columns(sheet: Sheet, columns: Mapping[str, int]) -> list[int]:
     if Field.DAM not in columns:
         return []
     free = [at for at, title in enumerate(sheet.titles) if title and at not in columns.values()]
-    return [at for at in free if is_genetic_dam(sheet.titles[at])][:1]
+    return [at for at in free if is_genetic_dam(sheet.titles[at]) and names_animals(sheet, columns, at)][:1]
+
+
+def names_animals(sheet: Sheet, columns: Mapping[str, int], at: int) -> bool:
+    """A donor may be of money or of a prize: does the title name a dam, or any cell an animal?"""
+    if names_parent(sheet.titles[at], Field.DAM):
+        return True
+    return any(map(Written(sheet, columns).has, {*sheet.column(at)} - {""}))
 
 
 # Which column has the dams.
@@ -105,7 +112,7 @@ def tell_carriers(columns: Columns, unknown: Container[str]) -> None:
         return
     of_dams = [columns.cells(at) for at in [dams, *genetic_columns(sheet, columns.found)]]
     lack = [all(dam in unknown for dam in cells) for cells in zip(*of_dams)]
-    written = Written(columns)
+    written = Written(sheet, columns.found)
     for at in carriers:
         both = zip(sheet.rows, lack, columns.cells(at))
         said = [(row.line, text) for row, lacks, text in both if lacks and text not in unknown and written.has(text)]
@@ -125,8 +132,11 @@ def genetic_dams(
         dam = columns[Field.DAM]
         both = [(place, cell_of(row, dam), cell_of(row, at)) for place, row in enumerate(rows)]
         said = [one for one in both if one[2] not in unknown and nearly(one[1]) != nearly(one[2])]
-        # of a donor a column may say whether there is one
+        # of a donor a column may say whether there is one, or who gave something else
         said = [one for one in said if one[2].isdecimal() or one[2].casefold() not in ANSWERS]
+        if said and not names_parent(sheet.titles[at], Field.DAM):
+            written = Written(sheet, columns)
+            said = [one for one in said if written.has(one[2])]
         found = {place: genetic for place, _, genetic in said}
         if said:
             place, other, genetic = said[0]

@@ -27,7 +27,7 @@ OTHER_DAYS = tuple(
         "modif, update, stand, körung, gekört, linear, prämi, bewert, beurteil, classif, schau, show, ausstell, "
         "concours, kastr, castr, geld, schur, shear, shorn, tont, entwurm, worm, vermif, absetz, wean, sevr, "
         "chip, marke, tagged, tagging, boucl, rechnung, invoice, factur, zahl, paid, pay, diplom, zertif, certif, "
-        "ausweis, abstamm, zugang, kauf, achat, bought, purch, acqui, entr, import, aufnahme, aufgenommen, "
+        "ausweis, abstamm, zugang, kauf, achat, bought, purch, acqui, entr, eingang, import, aufnahme, aufgenommen, "
         "herdbuch, book, genehm, approv, agré, anerk, kör, punkt, blut, blood, sang, haar, hair, sample, foto, "
         "photo, inspect, visit, druck, print, brief, letter, mitglied, member, seit, since, depuis, expir, "
         "ablauf, gültig, valid, vet, tierarzt, behandl, treat, trait"

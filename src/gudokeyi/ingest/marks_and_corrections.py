@@ -62,7 +62,8 @@ def marked(columns: Columns, at: int, unknown: Container[str]) -> tuple[int, int
     offspring say nothing of the row's animal."""
     cells = columns.cells(at)
     said = {text for text in {*cells} if text not in unknown and text.casefold() not in KNOWN_NO and text.strip("0")}
-    if any(text.isdecimal() and int(text) > 1 for text in said):
+    counts = [int(text) for text in {*cells} if text.isdecimal()]
+    if any(count > 1 for count in counts) or 0 in counts and all(map(str.isdecimal, said)):
         return None
     rows = [(place, text) for place, text in enumerate(cells) if text in said]
     if (of := columns.found.get(Field.EXIT)) is not None:

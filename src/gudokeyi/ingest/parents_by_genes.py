@@ -2,6 +2,7 @@
 from __future__ import annotations
 
 import itertools
+from collections.abc import Mapping
 from typing import Container
 
 from gudokeyi.domain.kinds import Field, Role
@@ -9,6 +10,7 @@ from gudokeyi.ingest.columns import Columns
 from gudokeyi.ingest.findings.columns import ParentsBeside
 from gudokeyi.ingest.findings.dams import GenesDiffer
 from gudokeyi.ingest.parent_titles import MOST_ALIKE, names_parent
+from gudokeyi.ingest.sheets import Sheet
 from gudokeyi.ingest.texts import listed, nearly, plain, shape
 from gudokeyi.ingest.titles import BETWEEN_WORDS, KNOWN_TITLES
 
@@ -25,10 +27,8 @@ OF_TESTS = {
 class Written:
     """How parents are written in a sheet: as ids, or names, of its rows, or as others written like these ids."""
 
-    def __init__(self, columns: Columns) -> None:
-        ids, names = (
-            columns.cells(columns.found[name]) if name in columns.found else [] for name in (Field.ID, Field.NAME)
-        )
+    def __init__(self, sheet: Sheet, columns: Mapping[str, int]) -> None:
+        ids, names = (sheet.column(columns[name]) if name in columns else [] for name in (Field.ID, Field.NAME))
         self.called = dict(itertools.zip_longest(map(nearly, ids), names, fillvalue="")) if ids else dict[str, str]()
         self.names, self.shapes = {*names} - {""}, {*map(shape, ids)}
 
@@ -55,7 +55,7 @@ def tells_of_test(title: str) -> bool:
 
 def tell(columns: Columns, name: Field, beside: int, unknown: Container[str]) -> None:
     """Rows in which another parent stands than that which is read."""
-    read, written = columns.found[name], Written(columns)
+    read, written = columns.found[name], Written(columns.sheet, columns.found)
     both = zip(columns.sheet.rows, columns.cells(read), columns.cells(beside))
     said = [(row.line, other, text) for row, other, text in both if text not in unknown and written.has(text)]
     lacking = [(line, text) for line, other, text in said if other in unknown]

@@ -83,8 +83,8 @@ TITLES = {
     "Zugangsdatum, Zugang am, Zugang, erworben am, Besitzer ab, propriétaire depuis, depuis, depuis le, date d'achat, "
     "date de transfert, date de mutation, date d'acquisition, acheté le, achetée le, acquis le, acquise le, mutation "
     "le, date acquired, acquired on, purchased, purchased on, bought on, date bought, Zukaufsdatum, Zukauf am, "
-    "zugekauft am, Ankaufsdatum, Ankauf am, angekauft am, Zukauf, Ankauf, Eingangsdatum, Eingang am, Eingang, "
-    "date achat, achat le, date d'entrée, date entrée, entrée le, entré le, entrée, date of entry, entry date, since 1, "
+    "zugekauft am, Ankaufsdatum, Ankauf am, angekauft am, Zukauf, Ankauf, "
+    "date achat, achat le, since 1, "
     "owner since 1, owner 1 since, seit 1, Besitzer seit 1, Besitzer 1 seit, depuis 1, propriétaire depuis 1, "
     "propriétaire 1 depuis",
     Field.EXIT: "exit date, date of exit, Abgangsdatum, Abgang am, abgegangen am, date de sortie, date left, "
@@ -116,7 +116,7 @@ DOUBTFUL_EXITS = (
     "Lebenszustand, situation"
 )
 # titles whose columns say on which days animals came, or whether one was bought at all
-DOUBTFUL_DAYS = "Zukauf, Ankauf, Eingang, entrée"
+DOUBTFUL_DAYS = "Zukauf, Ankauf"
 # Columns that a sheet has to have; `--columns sire=` says that there is none.
 NEEDED = (Field.ID, Field.BIRTH, Field.SIRE, Field.DAM)
 

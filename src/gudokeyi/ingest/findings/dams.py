@@ -78,9 +78,9 @@ class GenesDiffer(SheetFinding):
     code = "genes differ"
     message = Counted(
         "'{beside}' isn't read, and has another {field} than '{title}' in {count} row: '{text}' and not '{other}', in line "
-        "{line}: where the test is right, write that into '{title}'",
+        "{line}: where '{beside}' is right, write that into '{title}'",
         "'{beside}' isn't read, and has another {field} than '{title}' in {count} rows: first '{text}' and not '{other}', "
-        "in line {line}: where the test is right, write that into '{title}'",
+        "in line {line}: where '{beside}' is right, write that into '{title}'",
         "count",
     )
 
