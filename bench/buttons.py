@@ -6,9 +6,10 @@
 PROGRAM is the built herdbook. A book is made of last year's list, in a new folder below FOLDER, and this year's list is
 looked at in it: some animals are gone, some are new, some were sold, left or are written otherwise, and some cells are
 wrong. Each button is pressed behind a look without it. Printed are the seconds of the processor of the look that it
-leads to, of the front desk and of the program: the least, the median and the most of the runs.
+leads to, of the front desk and of the program: of the first press, of which less is known than of others, and the
+least, the median and the most of all.
 
-The status is 1 where the median of one is above 2 seconds. """
+The status is 1 where the first press of one takes more than 2 seconds. """
 from __future__ import annotations
 
 import argparse
@@ -156,15 +157,16 @@ def main() -> int:
         subprocess.run(words, cwd=room, check=True, stdout=subprocess.DEVNULL)
         looking = Looking(room / "book", now)
         print(f"{'first look':20} {looking.look({}, {}):6.2f} s", flush=True)
-        medians = []
+        first_presses = []
         for button in given.buttons.split(","):
             runs = []
             for _ in range(given.runs):
                 looking.look({}, {})
                 runs.append(looking.look(*BUTTONS[button]))
-            medians.append(statistics.median(runs))
-            print(f"{button:20} {min(runs):6.2f} {medians[-1]:6.2f} {max(runs):6.2f} s", flush=True)
-    return 1 if max(medians) > MOST_SECONDS else 0
+            first_presses.append(runs[0])
+            all_runs = f"{min(runs):6.2f} {statistics.median(runs):6.2f} {max(runs):6.2f} s"
+            print(f"{button:20} {runs[0]:6.2f}   {all_runs}", flush=True)
+    return 1 if max(first_presses) > MOST_SECONDS else 0
 
 
 if __name__ == "__main__":
