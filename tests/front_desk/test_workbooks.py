@@ -237,6 +237,11 @@ def test_colored_rows(desk: Desk, workbook: openpyxl.Workbook, color: openpyxl.s
             cell.fill = RED if at == 8 else fill
     save(desk, workbook)
     assert f"1 row has {told}, line 8: nothing" in desk.good("import", "sheet.xlsx", "--book", "green").out
+    for at in range(9, 16):
+        for cell in sheet[at]:
+            cell.fill = RED
+    save(desk, workbook)
+    assert f"8 rows have {told}, the first is line 8" in desk.good("import", "sheet.xlsx", "--book", "red").out
     for at in range(1, 40):
         for cell in sheet[at]:
             cell.fill = openpyxl.styles.PatternFill("solid", fgColor=f"FF00{at // 3:02}FF")

@@ -39,7 +39,7 @@ BEGINNING, LEAST = 5, 3
 # an apostrophe by which a spreadsheet knows a text; names such as `'t Hof`, and quoted ones, have one of their own
 APOSTROPHE = re.compile(rf"{TEXT}(?=\w)(?!(?i:[stnk])[ -][^\W\d])(?!.*{TEXT}$)")
 # so great a part of the rows at most is marked by grey, and by other colours
-MOST_GREY, MOST_COLORED = 0.4, 0.1
+MOST_MARKED = 0.4
 Score = Callable[[list[str]], int]
 
 
@@ -164,13 +164,13 @@ def column_of(rows: list[SheetRow], at: int) -> list[str]:
 def marked_by_grey(grey: list[int], line: int, rows: int) -> list[int]:
     """The grey lines below that of the titles; none where so many rows are grey that it marks none, as every second."""
     below = [one for one in grey if one > line]
-    return below if len(below) <= MOST_GREY * rows else []
+    return below if len(below) <= MOST_MARKED * rows else []
 
 
 def marked_by_color(colored: Mapping[int, int], line: int, rows: int) -> list[int]:
     """The lines below that of the titles that have a fill that few rows have; none where many have such fills."""
     below = {one: fill for one, fill in colored.items() if one > line}
-    counts, most = collections.Counter(below.values()), max(1, MOST_COLORED * rows)
+    counts, most = collections.Counter(below.values()), max(1, MOST_MARKED * rows)
     few = sorted(one for one, fill in below.items() if counts[fill] <= most)
     return few if len(few) <= most else []
 
