@@ -36,6 +36,13 @@ def test_days_of_several_columns(desk: Desk) -> None:
     assert " 0 changed" in desk.take(sheet).last
 
 
+def test_second_column_of_one_title(desk: Desk) -> None:
+    sheet = f"{BEGIN}Abgang;Abgang 2\n" + rows(("1.1.2020;", ";3.3.2021"))
+    done = desk.take(sheet)
+    assert "the column 'Abgang 2' has an exit in 1 row where 'Abgang' has none: it is taken from there" in done.out
+    assert [reason(desk, id)[0] for id in "12"] == ["2020-01-01", "2021-03-03"]
+
+
 def test_days_under_their_titles(desk: Desk) -> None:
     """A day with two digits of the year is told under the title of the column in which it stands, and so is one that
     can't be read, and a word without a day."""

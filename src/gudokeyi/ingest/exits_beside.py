@@ -4,6 +4,7 @@ from __future__ import annotations
 
 import functools
 import itertools
+import string
 from collections.abc import Iterable, Mapping, Sequence
 from dataclasses import dataclass, field
 from typing import Container
@@ -51,12 +52,14 @@ class Exits:
 
 
 def exit_columns(sheet: Sheet, columns: Mapping[str, int]) -> list[int]:
-    """The columns that name exits beside that of these."""
+    """The columns that name exits beside that of these, as `Abgang 2` too."""
     if Field.EXIT not in columns:
         return []
     usual = {*KNOWN_TITLES[Field.EXIT]} - KNOWN_DOUBTFUL
     free = [at for at, title in enumerate(sheet.titles) if title and at not in columns.values()]
-    return [at for at in free if names_exits_alone(sheet.titles[at]) or plain(sheet.titles[at]) in usual]
+    named = ((at, plain(sheet.titles[at])) for at in free)
+    those = {at for at, title in named if title in usual or title.rstrip(string.digits) in usual}
+    return [at for at in free if at in those or names_exits_alone(sheet.titles[at])]
 
 
 def exit_day_columns(sheet: Sheet, columns: Mapping[str, int]) -> list[int]:
