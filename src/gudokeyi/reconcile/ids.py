@@ -97,9 +97,9 @@ class NearIds:
 # Ids that animals had before theirs were corrected.
 
 
-def call_as_now(animals: dict[str, SheetAnimal], book: Book, report: Report) -> bool:
+def call_as_now(animals: dict[str, SheetAnimal], book: Book, report: Report) -> None:
     """Rows with ids that animals of the book had before theirs were corrected are these animals, unless the sheet has a
-    row with the id of now too; so are parents with such ids that no row has. Answers whether there may be any."""
+    row with the id of now too; so are parents with such ids that no row has."""
     renamed = {former: id for former, id in book.new_tags.items() if former not in book.society_records}
     now = (ids_now(book) if book.society_records else {}) | renamed
     now = {former: id for former, id in now.items() if former not in animals or id not in animals}
@@ -113,7 +113,6 @@ def call_as_now(animals: dict[str, SheetAnimal], book: Book, report: Report) -> 
         for role, parent in offspring.parents():
             if parent in now:
                 offspring.set_parent(role, now[parent])
-    return bool(now or book.new_tags)
 
 
 # Ids that are used again for other animals, born years apart, or weeks apart with another name: the row is left out,
