@@ -14,7 +14,7 @@ OF_SEXES, OF_ALL = "inferred_sex", ("inferred", "erschlossen", "déduit")
 KNOWN_MARKS = {*map(plain, (OF_SEXES, *OF_ALL))}
 
 
-def columns_of_marks(sheet: Sheet, columns: Mapping[str, int]) -> list[int]:
+def columns_of_inferred_values(sheet: Sheet, columns: Mapping[str, int]) -> list[int]:
     """Such columns beside one of sexes."""
     titles = enumerate(sheet.titles) if Field.SEX in columns else ()
     return [at for at, title in titles if plain(title) in KNOWN_MARKS and at not in columns.values()]
@@ -22,7 +22,7 @@ def columns_of_marks(sheet: Sheet, columns: Mapping[str, int]) -> list[int]:
 
 def lines_of_inferred_sexes(sheet: Sheet, columns: Mapping[str, int], sex_of: Callable[[str], str]) -> set[int]:
     """The lines of such rows. A sex that was written anew since isn't the inferred one."""
-    marks = columns_of_marks(sheet, columns)
+    marks = columns_of_inferred_values(sheet, columns)
     if not marks:
         return set()
     at = columns[Field.SEX]

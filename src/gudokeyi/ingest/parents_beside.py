@@ -14,7 +14,7 @@ from gudokeyi.ingest.findings.columns import ParentsBeside, ParentsFromOther
 from gudokeyi.ingest.findings.rows import ParentNamedOtherwise
 from gudokeyi.ingest.names_for_ids import names_for_ids
 from gudokeyi.ingest.parent_titles import PARENTS, columns_of_parent
-from gudokeyi.ingest.sex_marks import columns_of_marks
+from gudokeyi.ingest.sex_marks import columns_of_sex_marks
 
 if TYPE_CHECKING:
     from gudokeyi.ingest.columns import Columns
@@ -37,7 +37,7 @@ def tell_parents_beside(columns: Columns, unknown: Container[str]) -> None:
     sheet, found = columns.sheet, columns.found
     for name in (one for one in PARENTS if one in columns.found):
         read = {sheet.rows[place].line for place in names_for_ids(sheet.rows, sheet, found, name, unknown)}
-        marks = [] if Field.SEX in found else columns_of_marks(sheet, found.values())
+        marks = [] if Field.SEX in found else columns_of_sex_marks(sheet, found.values())
         for at in (at for at in columns.of_parent(name) if at not in marks):
             both = zip(columns.sheet.rows, columns.cells(columns.found[name]), columns.cells(at))
             lacking = [(row.line, beside) for row, id, beside in both if id in unknown and beside not in unknown]

@@ -8,7 +8,7 @@ from gudokeyi.ingest.sheets import Sheet
 from gudokeyi.ingest.words import COUNTED_SEXES, KNOWN_SEXES, KNOWN_YES, sex_word
 
 
-def columns_of_marks(sheet: Sheet, read: Collection[int]) -> list[int]:
+def columns_of_sex_marks(sheet: Sheet, read: Collection[int]) -> list[int]:
     """That of males and that of females, which aren't read, where most rows have a mark in one of them."""
     titles = enumerate(sheet.titles)
     sexes = [(at, KNOWN_SEXES.get(sex_word(title), COUNTED_SEXES.get(title))) for at, title in titles if at not in read]
@@ -26,7 +26,7 @@ def is_mark(cell: str) -> bool:
 
 
 def marks_told(sheet: Sheet, read: Collection[int]) -> list[SexMarksUnread]:
-    if not (places := columns_of_marks(sheet, read)):
+    if not (places := columns_of_sex_marks(sheet, read)):
         return []
     cells = zip(sheet.rows, *map(sheet.column, places))
     lines = [row.line for row, *marks in cells if any(marks)]

@@ -18,7 +18,7 @@ from gudokeyi.ingest.files import GivenFile
 from gudokeyi.ingest.findings.columns import ColumnUntitled, TitleBelow
 from gudokeyi.ingest.findings.columns_unread import MayBeExits
 from gudokeyi.ingest.genetic_dams import genetic_columns
-from gudokeyi.ingest.inferred_values import columns_of_marks
+from gudokeyi.ingest.inferred_values import columns_of_inferred_values
 from gudokeyi.ingest.names_for_ids import names_read
 from gudokeyi.ingest.owners_beside import first_names_column
 from gudokeyi.ingest.parents_beside import tell_parents_named_otherwise
@@ -329,7 +329,7 @@ def places_beside(read: ReadSheet) -> list[int]:
     """The columns that are read beside those of fields."""
     sheet, found = read.sheet, read.columns.found
     beside = [*columns_beside(sheet, found), *year_column(sheet, found), *castration_columns(sheet, found)]
-    beside += [*reasons_beside(sheet.titles, found), *columns_of_marks(sheet, found)]
+    beside += [*reasons_beside(sheet.titles, found), *columns_of_inferred_values(sheet, found)]
     beside += genetic_columns(sheet, found)
     return [*beside, *names_read(sheet, found, read.rows.unknown)]
 
