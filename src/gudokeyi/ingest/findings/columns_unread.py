@@ -106,9 +106,9 @@ class DeletedRows(SheetFinding):
 
 
 @dataclass(frozen=True, slots=True)
-class CorrectionsUnread(SheetFinding):
-    """A column that isn't read, and corrects another one: in how many rows it has another text, the first of them, and
-    what is read there, empty for nothing; `is_full` where it has no fewer cells."""
+class SaysOtherwise(SheetFinding):
+    """A column that isn't read, and says otherwise than the one that is: in how many rows, the first of them, and what
+    is read there, empty for nothing; `is_full` where it has no fewer cells."""
 
     field: Field
     title: str
@@ -120,6 +120,16 @@ class CorrectionsUnread(SheetFinding):
     is_full: bool
 
     decides_much = True
+
+    def suggestions(self) -> tuple[Suggestion, ...]:
+        likely = Suggestion(f"if '{self.beside}' is the one", (column(self.field, self.beside),))
+        return (likely,) if self.is_full else ()
+
+
+@dataclass(frozen=True, slots=True)
+class CorrectionsUnread(SaysOtherwise):
+    """Such a column that corrects the other one."""
+
     code = "corrections unread"
     message = Counted(
         "'{beside}' isn't read, and says '{text}'{maybe_other} in line {line}: where it is right, write that into '{title}'",
@@ -128,10 +138,6 @@ class CorrectionsUnread(SheetFinding):
         "count",
     )
     parts = {"maybe_other": OptionalPart(" and not '{other}'")}
-
-    def suggestions(self) -> tuple[Suggestion, ...]:
-        likely = Suggestion(f"if '{self.beside}' is the one", (column(self.field, self.beside),))
-        return (likely,) if self.is_full else ()
 
 
 @dataclass(frozen=True, slots=True)

@@ -8,6 +8,7 @@ from gudokeyi.domain.findings import Severity, Suggestion
 from gudokeyi.domain.kinds import Field
 from gudokeyi.domain.wording import Counted, OptionalPart
 from gudokeyi.ingest.findings.columns import SheetFinding, column
+from gudokeyi.ingest.findings.columns_unread import SaysOtherwise
 
 
 @dataclass(frozen=True, slots=True)
@@ -60,20 +61,9 @@ class CarriersAlone(SheetFinding):
 
 
 @dataclass(frozen=True, slots=True)
-class GenesDiffer(SheetFinding):
-    """Another column has parents by a test of genes, which isn't read: in so many rows another one than that which is;
-    the first of them, and what is read there; `is_full` where it has no fewer of them."""
+class GenesDiffer(SaysOtherwise):
+    """Such a column that has parents by a test of genes."""
 
-    field: Field
-    title: str
-    beside: str
-    count: int
-    line: int
-    text: str
-    other: str
-    is_full: bool
-
-    decides_much = True
     severity = Severity.PARENTS
     code = "genes differ"
     message = Counted(
@@ -83,7 +73,3 @@ class GenesDiffer(SheetFinding):
         "in line {line}: where '{beside}' is right, write that into '{title}'",
         "count",
     )
-
-    def suggestions(self) -> tuple[Suggestion, ...]:
-        likely = Suggestion(f"if '{self.beside}' is the one", (column(self.field, self.beside),))
-        return (likely,) if self.is_full else ()
