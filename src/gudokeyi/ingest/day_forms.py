@@ -354,13 +354,6 @@ class DayForms:
         year = self.year_near(found["year"])
         return month_of(year, int(found["month"]))._replace(text=text) if self.today.year - year <= LONG_AGO else None
 
-    def can_read(self, text: str) -> bool:
-        """Is it such a day?"""
-        try:
-            return self.read(text) is not None
-        except Unreadable:
-            return False
-
 
 def days_of(first: datetime.date, last: datetime.date, text: str = "") -> Span:
     """A few days, of which it is one."""

@@ -8,7 +8,7 @@ from collections.abc import Collection, Iterator
 
 from gudokeyi.domain.changes import Change, StoredFinding
 from gudokeyi.store.animal_rows import COLUMNS, AnimalRow
-from gudokeyi.store.state import ANIMALS, names_after
+from gudokeyi.store.state import names_after
 
 
 def renamed_by(connection: sqlite3.Connection, number: int) -> tuple[dict[int, str], dict[int, str]]:
@@ -25,11 +25,6 @@ def rows_of_owner_codes(connection: sqlite3.Connection, owner_codes: list[int], 
     asked = f"SELECT {COLUMNS} FROM animal WHERE herd = ? AND since < ? AND (until IS NULL OR until > ?)"
     for owner_code in owner_codes:
         yield from map(AnimalRow._make, connection.execute(asked, (owner_code, number, number)))
-
-
-def rows_by_id(connection: sqlite3.Connection, column: str, number: int) -> dict[str, AnimalRow]:
-    rows = connection.execute(f"SELECT {COLUMNS} FROM {ANIMALS.name} WHERE {column} = ?", (number,))
-    return {row.id: row for row in map(AnimalRow._make, rows)}
 
 
 def names_around(connection: sqlite3.Connection, number: int) -> dict[str, str]:
