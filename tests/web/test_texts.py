@@ -32,6 +32,7 @@ from gudokeyi.domain.wording import Counted, Told, names_in
 from gudokeyi.ingest.findings.sheets import Cells, CellsUnread, TextCount
 from gudokeyi.ingest.messages import Where
 from gudokeyi.locale import HERE as CATALOGUES, PO
+from gudokeyi.reconcile import kinds_of_findings
 from gudokeyi.reconcile.findings.animals import BirthDayInferred, OwnerRenamed, SexInferred
 from gudokeyi.reconcile.findings.by_hand import CommandRefused, ValueChanged
 from gudokeyi.reconcile.findings.plausibility import ExitsWithdrawn
@@ -148,6 +149,7 @@ def in_tables() -> Iterator[str]:
     yield from (sheet.BOOK_CHANGED, sheet.READ_OTHERWISE, login.WRONG_LOGIN, login.WRONG_PASSWORD, login.MANY)
     yield from (*change_messages.DID.values(), change_messages.EMPTY_AGAIN)
     yield from (*changes.FIELDS.values(), *changes.DAYS.values(), changes.REFUSED)
+    yield from (heading for _, _, heading in kinds_of_findings.PLACES.values())
     yield from (*findings.FOLDED.values(), findings.LIMIT, findings.LIMIT_OF_SEVERAL, findings.LEAVE_OUT_LINE)
     yield from (findings.TAKE_LINE, *settings.LABELS.values())
     yield from (

@@ -6,25 +6,20 @@ import collections
 import contextlib
 import itertools
 import math
-import textwrap
 from collections.abc import Iterable, Iterator, Sequence
 from dataclasses import dataclass, replace
 
 from gudokeyi.domain.findings import (
     DROP_GONE, Call, Entry, Finding, ImportRefused, Report, Severity, StrictlyRefused, Suggestion, What,
 )  # fmt: skip
-from gudokeyi.domain.kinds import Field
 from gudokeyi.domain.messages import MOST_NAMED, Mistake, some_of
 from gudokeyi.domain.refusals import Refusal
 from gudokeyi.domain.wording import SEXES
-from gudokeyi.ingest.findings.cells import CellLeftOut, ErrorValue
-from gudokeyi.ingest.findings.exits import ExitsWithoutDay
-from gudokeyi.ingest.findings.sheets import CellsUnread, ErrorCells
 from gudokeyi.reconcile.findings.parents import WRONG, ParentRefused
 from gudokeyi.reconcile.findings.by_hand import YoungParent
-from gudokeyi.reconcile.findings.own_columns import OwnCells, OwnCellUnread
+from gudokeyi.reconcile.findings.own_columns import OwnCells
 from gudokeyi.reconcile.findings.plausibility import BirthsNearerThanUsual, BirthsTooNear
-from gudokeyi.reconcile.findings.same_animals import IdsExchanged
+from gudokeyi.reconcile.kinds_of_findings import animals_in, fields_summed_up, heading_of, is_summed_up, place_of
 from gudokeyi.reconcile.outcome import Outcome
 from gudokeyi.store.exports import COMMANDS
 
@@ -153,70 +148,54 @@ def pieces_of(group: int, entries: list[Entry], call: Call) -> Iterator[Piece]:
             yield Piece(1 + place, group, [sentence.text, *commands], sentence.entries)
 
 
-# in short a sentence takes so many rows at most, behind so many letters for the number of entries, and so much is
-# suggested
-MOST_ROWS, INDENT, MOST_SUGGESTED = 3, 5, 2
-IN_SHORT = "what may be wrong: of each kind how many there are, and the first of them; more of each stands below"
+# in short a kind has a row, behind so many letters for the number of animals, and so much is suggested
+INDENT, MOST_SUGGESTED = 6, 2
+IN_SHORT = "what may be wrong, by kind, with the number of animals or rows; all of it stands below"
 
 
 def in_short(groups: list[list[Entry]], room: int) -> list[str]:
-    """For each of several kinds how many entries it has, the first of them, and what may be typed: in as many rows as
-    let all have room."""
-    if len(groups) < 2:
+    """For each of several kinds its heading, of how many animals it tells, where the first stands, and what may be
+    typed, in as many rows as there is room for."""
+    kinds = collections.defaultdict[str, list[list[Entry]]](list)
+    for entries in groups:
+        kinds[heading_of(entries[0].finding)].append(entries)
+    if len(kinds) < 2:
         return []
-    firsts = [(len(entries), next(sentences_of(entries))) for entries in groups]
-    # the heading has two rows
-    left = room - 4
-    for rows in range(MOST_ROWS, 0, -1):
-        pieces = [piece for at, first in enumerate(firsts) for piece in pieces_in_short(at, *first, rows)]
-        if sum(rows_of(piece.lines) for piece in pieces) <= left:
-            break
-    those = fitting(pieces, left)
-    more = len(groups) - len({piece.group for piece in those})
+    pieces = [piece for at, (heading, those) in enumerate(kinds.items()) for piece in kind_in_short(at, heading, those)]
+    # the heading, and what there is more
+    those = fitting(pieces, room - 4)
+    more = len(kinds) - len({piece.group for piece in those})
     lines = [line for piece in those for line in piece.lines]
     return [IN_SHORT, *lines, *[f"and {more} more kinds"] * bool(more), ""]
 
 
-def pieces_in_short(group: int, entries: int, first: GroupMessage, rows: int) -> Iterator[Piece]:
-    sentence = textwrap.shorten(first.text, rows * LETTERS - INDENT, placeholder=" ..")
-    yield Piece(0, group, [f"{entries:>{INDENT - 2}}  {sentence}"], entries)
+def kind_in_short(group: int, heading: str, those: list[list[Entry]]) -> Iterator[Piece]:
+    entries = [entry for one in those for entry in one]
+    first = entries[0]
+    animals = animals_in(entries)
+    yield Piece(0, group, [f"{animals or '':>{INDENT - 2}}  {heading or first.words()}{place_in_short(first)}"], 0)
     # nothing has to be undone of what isn't taken yet
-    suggested = [replace(one, undoes=False).words() for one in first.suggestions[:MOST_SUGGESTED]]
+    suggestions = [one for entries in those for one in next(sentences_of(entries)).suggestions]
+    suggested = [replace(one, undoes=False).words() for one in [*dict.fromkeys(suggestions)][:MOST_SUGGESTED]]
     yield Piece(1, group, [" " * INDENT + "; ".join(suggested)] if suggested else [], 0)
 
 
-def fields_summed_up(report: Report) -> set[Field | type[ErrorCells]]:
-    """The fields whose cells that can't be read are told in one sentence."""
-    findings = [entry.finding for entry in report.entries]
-    sums = {one.cells.field for one in findings if isinstance(one, (CellsUnread, ExitsWithoutDay))}
-    return sums | {ErrorCells for one in findings if isinstance(one, ErrorCells)}
-
-
-def is_summed_up(finding: Finding, summed_up: set[Field | type[ErrorCells]]) -> bool:
-    # one finding for each of the society's own columns sums up those of its cells
-    if isinstance(finding, OwnCellUnread):
-        return True
-    if isinstance(finding, ErrorValue):
-        return ErrorCells in summed_up
-    return isinstance(finding, CellLeftOut) and finding.summed_up_as() in summed_up
+def place_in_short(entry: Entry) -> str:
+    """Where the first of a kind stands."""
+    title = getattr(entry.finding, "title", "")
+    where = [f"line {entry.line}"] * bool(entry.line) + [entry.id] * bool(entry.id) + [f"'{title}'"] * bool(title)
+    return f" ({', '.join(where)})" if where else ""
 
 
 def grouped(report: Report) -> list[list[Entry]]:
     """What may be wrong, by kind and theme, the greatest harm first; of what much hangs on each by itself."""
     groups: dict[object, list[Entry]] = {}
-    summed_up = fields_summed_up(report)
+    summed_up = fields_summed_up(report.entries)
     for entry in report.in_order():
         if entry.finding.does() is not Severity.NONE and not is_summed_up(entry.finding, summed_up):
             theme = id(entry) if entry.finding.comes_first() else entry.finding.theme()
             groups.setdefault((type(entry.finding), theme), []).append(entry)
-    return sorted(groups.values(), key=lambda entries: order_of(entries[0].finding))
-
-
-def order_of(finding: Finding) -> tuple[bool, Severity, bool]:
-    """What is left out comes before what is taken as it stands, but for what explains why rows are left out; before all
-    else what much hangs on."""
-    is_taken = finding.what is not What.LEFT_OUT and not isinstance(finding, IdsExchanged)
-    return not finding.comes_first(), finding.does(), is_taken
+    return sorted(groups.values(), key=lambda entries: place_of(entries[0].finding))
 
 
 # What is printed of an import: a screen that begins with what may be wrong, what does most harm first. All that was

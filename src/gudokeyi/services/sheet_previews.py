@@ -14,7 +14,6 @@ from gudokeyi.domain.kinds import Field
 from gudokeyi.domain.messages import Mistake
 from gudokeyi.ingest.columns import Columns
 from gudokeyi.ingest.files import read_file
-from gudokeyi.ingest.findings.cells import OddRow
 from gudokeyi.ingest.messages import SheetFault
 from gudokeyi.ingest.owners_beside import first_names_column
 from gudokeyi.ingest.sheets import Sheet as Sheet, SheetRow
@@ -22,6 +21,9 @@ from gudokeyi.ingest.texts import plain
 from gudokeyi.reconcile.findings.animals import KeptByHand, KeptFromBook, OwnValueWritten
 from gudokeyi.reconcile.findings.by_hand import NewAnimal
 from gudokeyi.reconcile.import_options import ImportOptions, remember, with_settings
+from gudokeyi.reconcile.kinds_of_findings import (
+    Harm, KindFound as KindFound, kind_of as kind_of, kinds_found as kinds_found, place_of,
+)  # fmt: skip
 from gudokeyi.reconcile.outcome import Outcome
 from gudokeyi.reconcile.own_sheet_columns import kind_said
 from gudokeyi.services.sheet_reading import LastReading, read_columns
@@ -113,9 +115,9 @@ def others_of(
     return tuple((title, kinds.get(plain(title), "")) for title in [*titles][:MOST_OTHERS])
 
 
-def severity_of(entry: Entry) -> tuple[bool, Severity, bool]:
-    """The greatest harm comes first, of it rows that may be no animals; and before all else what much hangs on."""
-    return not entry.finding.comes_first(), entry.finding.does(), not isinstance(entry.finding, OddRow)
+def harm_of(entry: Entry) -> tuple[bool, tuple[Harm, bool, int]]:
+    """The greatest harm comes first, and what is as the sheet says it behind all that may be wrong."""
+    return entry.finding.does() is Severity.NONE, place_of(entry.finding)
 
 
 # What a sheet would change, animal by animal: so it is seen of which of them a look holds no more, since others changed

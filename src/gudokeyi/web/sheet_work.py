@@ -32,7 +32,7 @@ from gudokeyi.services.recent import may_be_wrong
 from gudokeyi.services.prepared_changes import Prepared, save
 from gudokeyi.services.sheet_reading import LastReading
 from gudokeyi.services.sheet_previews import (
-    ColumnsView, Sheet, animals_otherwise, cells_of, changes_by_animal, columns_shown, severity_of,
+    ColumnsView, KindFound, Sheet, animals_otherwise, cells_of, changes_by_animal, columns_shown, harm_of, kinds_found,
 )  # fmt: skip
 from gudokeyi.web.forms import SHEET_FIELDS, made_by, owners_of
 from gudokeyi.web.views.findings import Days, days_of, first_of_each, totals_of
@@ -111,6 +111,8 @@ class Look:
     again: tuple[Entry, ...] = ()
     # of each line of which something is told that may be wrong, its cells with their titles
     cells: Mapping[int, tuple[tuple[str, str], ...]] = field(default_factory=dict)
+    # all of it summed up, the greatest harm first
+    kinds: tuple[KindFound, ...] = ()
 
     @property
     def asks_letters(self) -> bool:
@@ -159,7 +161,7 @@ def looked_at(folder: pathlib.Path, path: pathlib.Path, chosen: Chosen, again: C
         except Mistake as mistake:
             return look_of(seen, columns, mistake)
         STATE.keep_journal(book)
-    entries, understood = sorted(outcome.report.in_order(), key=severity_of), outcome.understood
+    entries, understood = sorted(outcome.report.in_order(), key=harm_of), outcome.understood
     asked = tuple(entry for entry in entries if entry.id in again)
     shown = tuple(first_of_each(entries))
     lines = {entry.line for entry in shown if may_be_wrong(entry)}
@@ -168,7 +170,7 @@ def looked_at(folder: pathlib.Path, path: pathlib.Path, chosen: Chosen, again: C
         days_of(entry.finding for entry in entries), understood.rows if understood else 0,
         sum(entry.part is ROW for entry in entries), understood.remembered if understood else (), outcome.after,
         changes_of(outcome, chosen), asked,
-        cells_of(sheet, lines) if sheet else {},
+        cells_of(sheet, lines) if sheet else {}, tuple(kinds_found(entries)),
     )  # fmt: skip
 
 

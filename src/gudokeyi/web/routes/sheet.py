@@ -23,7 +23,7 @@ from gudokeyi.web.language import gettext, ngettext, on_page, page_language, wit
 from gudokeyi.web.served_book import Answer, ServedBook, served_book
 from gudokeyi.web.sheet_work import LOOKING, Asked, Chosen, Imported, Look, Seen, imported, looked_at, seen_of
 from gudokeyi.web.views.findings import (
-    Proposed, choose as choose_suggested, field_of, groups_of, kind_kept, labels_of, proposed, suggestions_of,
+    Proposed, choose as choose_suggested, field_of, groups_of, kind_kept, kinds_of, labels_of, proposed, suggestions_of,
 )  # fmt: skip
 from gudokeyi.web.views.own_columns import kinds
 from gudokeyi.web.workers import TAKING, Job, Key, Stage
@@ -134,7 +134,7 @@ def look(token: str) -> Answer:
         kept=kept_of(found),
         wrong={name: sentence_in(sentence, words) for name, sentence in wrong.items()},
         faults=[] if is_read else sentences, guards=sentences if is_read else [],
-        groups=groups, has_choices=any(line.choices for group in groups for line in group.lines),
+        groups=groups, summed_up=[] if upload.again else kinds_of(found.kinds, groups, words), has_choices=any(line.choices for group in groups for line in group.lines),
         remembered=[label for one in found.remembered for label in labels_of(one, words)],
         drop_gone=dropped_by(found) if not upload.again else None,
         solutions=proposed(suggestions_of(found.obstacles), words),

@@ -4,7 +4,7 @@ from __future__ import annotations
 
 import collections
 from collections.abc import Iterable, Iterator, Mapping, Sequence
-from dataclasses import dataclass
+from dataclasses import dataclass, replace
 from typing import NamedTuple
 
 from gudokeyi.domain.changes import Option
@@ -19,6 +19,7 @@ from gudokeyi.render.page_wording import MessageView, sentence_of
 from gudokeyi.services.imports import (
     CASTRATED_MALE, BirthsNearerThanUsual, BirthsTooNear, IdUsedAgain, YoungParent, parts_of, read_given, read_sexes,
 )  # fmt: skip
+from gudokeyi.services.sheet_previews import KindFound, kind_of
 from gudokeyi.web.files import Upload
 from gudokeyi.web.forms import BETWEEN
 
@@ -212,6 +213,17 @@ class Line:
     sentence: MessageView
     choices: list[Proposed]
     each: tuple[Line, ...] = ()
+    # the place on the page where the first of its kind stands
+    anchor: str = ""
+
+
+class KindLine(NamedTuple):
+    """A kind of what is found: its heading, of how many animals or rows it tells, 0 where nothing says, and the place
+    on the page where the first of it stands, empty where none does."""
+
+    heading: str
+    animals: int
+    anchor: str
 
 
 class Group(NamedTuple):
@@ -230,13 +242,34 @@ def groups_of(
     has what may be chosen for it."""
     found = []
     counts = totals or totals_of(entries)
+    anchors = set[str]()
     for what in ORDER:
         own = [entry for entry in entries if what in places_of(entry)]
-        lines = list(folded(own[:MOST_SHOWN], words, days))
+        lines = [*anchored_once(folded(own[:MOST_SHOWN], words, days), anchors)]
         if own:
             more = max(counts[what], len(own)) - len(own[:MOST_SHOWN])
             found.append(Group(what, name_of(what, words), len(lines) + more, lines))
     return found
+
+
+def anchored_once(lines: Iterable[Line], anchors: set[str]) -> Iterator[Line]:
+    """The lines, of which the first of each kind alone has an anchor; `anchors` are those that others have."""
+    for line in lines:
+        yield replace(line, anchor="") if line.anchor in anchors else line
+        anchors.add(line.anchor)
+
+
+def kinds_of(kinds: Sequence[KindFound], groups: Sequence[Group], words: PageLanguage) -> list[KindLine]:
+    """What is found, summed up, where there is so much that this helps."""
+    if len(kinds) < FEW:
+        return []
+    anchors = {line.anchor for group in groups for line in group.lines}
+    found = [(kind, anchor_of(kind.place)) for kind in kinds]
+    return [KindLine(words.gettext(kind.heading), kind.animals, to if to in anchors else "") for kind, to in found]
+
+
+def anchor_of(place: int) -> str:
+    return f"kind-{place}"
 
 
 def folded(entries: Sequence[Entry], words: PageLanguage, days: Days | None) -> Iterator[Line]:
@@ -259,7 +292,8 @@ def line_of_all(entries: Sequence[Entry], words: PageLanguage, days: Days | None
     values = map(words.count, (len(entries), finding.limit, least, most))
     sentence = MessageView(words.gettext(FOLDED[type(finding)], *values))
     choices = line_of(by_days[least], words, days).choices
-    return Line(0, "", sentence, choices, tuple(line_of(entry, words, days) for entry in entries))
+    each = tuple(line_of(entry, words, days) for entry in entries)
+    return Line(0, "", sentence, choices, each, each[0].anchor)
 
 
 def bounded(entry: Entry) -> BirthsTooNear | YoungParent:
@@ -269,7 +303,8 @@ def bounded(entry: Entry) -> BirthsTooNear | YoungParent:
 
 def line_of(entry: Entry, words: PageLanguage, days: Days | None) -> Line:
     choices = [] if days is None else proposed_for(entry, days, words)
-    return Line(entry.line, entry.id, sentence_of(entry.finding, words), choices)
+    _, place, _ = kind_of(entry.finding)
+    return Line(entry.line, entry.id, sentence_of(entry.finding, words), choices, anchor=anchor_of(place))
 
 
 def places_of(entry: Entry) -> tuple[What, ...]:
