@@ -43,7 +43,9 @@ OPPOSITE = {
 USUAL_BOOK = pathlib.Path("book")
 
 COLUMNS, OWN = "--columns", "--own"
-ANYWAY, LEAVE_OUT, DROP_GONE, PREVIEW = map(Option, ("--anyway", "--leave-out", "--drop-gone", "--preview"))
+ANYWAY, LEAVE_OUT, DROP_GONE, PREVIEW, APPEND = map(
+    Option, ("--anyway", "--leave-out", "--drop-gone", "--preview", "--append")
+)
 
 
 def columns(titles: Mapping[str, str]) -> Option:

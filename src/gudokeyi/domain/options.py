@@ -144,7 +144,7 @@ AS_STORED = (
 ON_PAGE = (
     "unknown", "known", "sexes", "no-animal", "animal", "new-tag", "owner", "breed", "country", "day", "youngest",
     "apart",
-    "worksheet", "month-first", "day-first", "drop-gone", "anyway",
+    "worksheet", "month-first", "day-first", "append", "drop-gone", "anyway",
 )  # fmt: skip
 
 PLAN = by_name(

@@ -24,6 +24,7 @@ from gudokeyi.ingest.findings.columns import SheetFinding
 from gudokeyi.ingest.findings.exits import Remark
 from gudokeyi.ingest.findings.files import Apostrophes, MarksAlone, RowsBetweenMarks
 from gudokeyi.ingest.messages import SheetFault
+from gudokeyi.ingest.other_worksheets import OtherIds
 from gudokeyi.ingest.shown_cells import Shown
 from gudokeyi.ingest.stray_quotes import with_marks_doubled, with_rows_parted
 from gudokeyi.ingest.struck_texts import NOTHING_STRUCK, Struck
@@ -114,6 +115,8 @@ class Sheet:
     # the worksheets of a workbook, and the one that is taken since it was named before
     worksheets: tuple[str, ...] = ()
     as_before: str = ""
+    # the ids of animals on the others
+    other_ids: OtherIds = field(default_factory=dict)
     # the lines of rows that are filled grey
     grey: list[int] = field(default_factory=list)
     # and of the few that have another fill of their own
@@ -196,6 +199,7 @@ class FileRead:
     days: Mapping[int, list[int]] = field(default_factory=dict)
     worksheets: tuple[str, ...] = ()
     as_before: str = ""
+    other_ids: OtherIds = field(default_factory=dict)
 
 
 def read_file_of_workbook(file: GivenFile, score: Score, worksheet: str, before: NamedBefore) -> FileRead:
@@ -204,7 +208,7 @@ def read_file_of_workbook(file: GivenFile, score: Score, worksheet: str, before:
     return FileRead(
         rows, found.how, found.faults, found.unread, found.tops, best_worksheet, found.title, found.formulas,
         found.grey, found.colored, found.hidden, found.struck, found.shown, found.days, found.titles,
-        found.title * found.as_before,
+        found.title * found.as_before, found.other_ids,
     )  # fmt: skip
 
 
@@ -254,7 +258,7 @@ def read_sheet(file: GivenFile, score: Score, worksheet: str = "", before: Named
         as_before=read.as_before, grey=marked_by_grey(read.grey, line, len(below)),
         colored=marked_by_color(read.colored, line, len(below)), hidden=read.hidden,
         struck=read.struck._replace(cells=ordered.places(read.struck.cells)), shown=ordered.places(read.shown),
-        days=ordered.columns(read.days), other_orders=ordered.moved, added=ordered.added,
+        days=ordered.columns(read.days), other_ids=read.other_ids, other_orders=ordered.moved, added=ordered.added,
     )  # fmt: skip
 
 

@@ -3,6 +3,7 @@ they are made, since a file of few bytes may ask for very many."""
 from __future__ import annotations
 
 import datetime
+import contextlib
 import importlib
 import io
 import itertools
@@ -22,11 +23,11 @@ from gudokeyi.domain.messages import Mistake
 from gudokeyi.ingest.files import MOST_CELLS, MOST_ROWS
 from gudokeyi.ingest.fills import filled_lines
 from gudokeyi.ingest.findings.columns import SheetFinding
-from gudokeyi.ingest.findings.files import (
-    DigitsLost, FormulasWithoutValue, NotesAtCells, StruckWithin, WorksheetLacks, WorksheetUnclear,
-)  # fmt: skip
+from gudokeyi.ingest.findings.files import DigitsLost, FormulasWithoutValue, NotesAtCells, StruckWithin
+from gudokeyi.ingest.findings.worksheets import WorksheetLacks, WorksheetUnclear
 from gudokeyi.ingest.messages import SheetFault
 from gudokeyi.ingest.number_formats import number_text
+from gudokeyi.ingest.other_worksheets import OtherIds, are_titles_of_animals, ids_below
 from gudokeyi.ingest.shown_cells import Shown, shown_cells
 from gudokeyi.ingest.struck_texts import Place, Struck, StruckText, number_of, struck_texts
 from gudokeyi.ingest.texts import clean
@@ -202,6 +203,8 @@ class Worksheet(NamedTuple):
     # the titles of all worksheets, and whether it was chosen since it was named before
     titles: tuple[str, ...]
     as_before: bool
+    # the ids of animals on others
+    other_ids: OtherIds
 
 
 class NamedBefore(NamedTuple):
@@ -232,7 +235,7 @@ def read_workbook(
     return Worksheet(
         rows, how, faults(texts), formulas(values, texts), unread(values, struck), *filled_lines(values, rows),
         hidden_lines(values), struck_through(values, struck), shown_cells(values), days_of(values), titles[at], tops,
-        tuple(titles), as_before,
+        tuple(titles), as_before, ids_of_others(path, shown, title, most),
     )  # fmt: skip
 
 
@@ -310,6 +313,18 @@ def tops_of(path: pathlib.Path, workbook: Any, most: int, named: str) -> Tops:
     if named or len(titles) == 1:
         return {named or titles[0]: []}
     return {sheet.title: [cells for _, cells in as_texts(path, sheet, most)] for sheet in workbook.worksheets}
+
+
+def ids_of_others(path: pathlib.Path, workbook: Any, taken: str, most: int) -> OtherIds:
+    """The ids on the worksheets that aren't read and have titles of animals in one of their first rows."""
+    found = {}
+    for sheet in workbook.worksheets:
+        # one with too many cells keeps the other from nothing
+        with contextlib.suppress(Mistake):
+            tops = [cells for _, cells in as_texts(path, sheet, most)] if sheet.title != taken else []
+            if any(map(are_titles_of_animals, tops)):
+                found[sheet.title] = ids_below([cells for _, cells in as_texts(path, sheet)])
+    return found
 
 
 def best_of(tops: Tops, score: Score) -> tuple[list[str], int]:

@@ -42,6 +42,7 @@ HEADINGS: Mapping[Harm, Mapping[str, tuple[str, ...]]] = {
         "It isn't clear which worksheet is meant": ("worksheet unclear", "worksheet lacks"),
     },
     Harm.ANIMALS: {
+        "Animals on other worksheets aren't read": ("worksheet unread",),
         "The ids are read from another column than before": ("ids moved", "ids from other"),
         "The ids only count the rows of the sheet": ("ids count rows",),
         "Animals that had left count as living again": ("exits withdrawn",),

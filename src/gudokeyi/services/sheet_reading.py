@@ -25,6 +25,7 @@ from gudokeyi.ingest.columns_said_none import NoneSaid
 from gudokeyi.ingest.columns_told import columns_told
 from gudokeyi.ingest.exits_beside import columns_beside
 from gudokeyi.ingest.files import GivenFile
+from gudokeyi.ingest.findings.worksheets import WorksheetUnread
 from gudokeyi.ingest.genetic_dams import genetic_columns
 from gudokeyi.ingest.names_for_ids import names_columns
 from gudokeyi.ingest.rows_as_meant import Notes, as_meant, marks_in, member_numbered
@@ -361,6 +362,14 @@ def sexes_of_book(sheet: Sheet, columns: Mapping[str, int], in_book: AnimalsOfBo
     return in_book.given_sexes if has_letter_beside_females(texts) else {}
 
 
+def tell_other_worksheets(sheet: Sheet, animals: Container[str], book: Book, report: Report) -> None:
+    """Worksheets that aren't read, with animals that neither the one which is read nor the book has."""
+    for title, ids in sheet.other_ids.items():
+        new = [id for id in ids if not any(id in those for those in (animals, book.society_records, book.new_tags))]
+        if new:
+            report.add(0, "", WorksheetUnread(title, len(new), new[0]))
+
+
 def read_animals(
     file: GivenFile, import_options: ImportOptions, book: Book, words: RememberedWords, last: LastReading | None = None
 ) -> ReadSheet:
@@ -381,6 +390,7 @@ def read_animals(
         raise ImportRefused(*faults)
     for finding in [*columns.notes, *rows.notes]:
         report.add(0, "", finding)
+    tell_other_worksheets(sheet, animals, book, report)
     if not animals:
         raise ImportRefused(NoRowTaken(str(file.path)), entries=report.entries[:MOST_NAMED])
     return ReadSheet(sheet, columns, rows, animals, report, in_book)

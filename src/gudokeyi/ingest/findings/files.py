@@ -1,4 +1,4 @@
-"""What is found of a sheet's file, its letters and its worksheets: each kind as data, and in words."""
+"""What is found of a sheet's file and its letters: each kind as data, and in words."""
 from __future__ import annotations
 
 from collections.abc import Mapping
@@ -8,7 +8,7 @@ from gudokeyi.domain.changes import Option
 from gudokeyi.domain.findings import Obstacle, Severity, Suggestion
 from gudokeyi.domain.kinds import Field
 from gudokeyi.domain.messages import Some
-from gudokeyi.domain.wording import Counted, Joined, OptionalPart, Quoted, Text, Told
+from gudokeyi.domain.wording import Counted, Joined, OptionalPart, Text, Told
 from gudokeyi.ingest.findings.columns import SheetFinding
 from gudokeyi.ingest.findings.sheets import MOST_SHOWN
 
@@ -359,49 +359,6 @@ class HiddenRows(SheetFinding):
         "left, write exits",
         "count",
     )
-
-
-@dataclass(frozen=True, slots=True)
-class WorksheetUnclear(SheetFinding):
-    """Several worksheets have titles that fit, or none has."""
-
-    path: str
-    worksheets: tuple[str, ...]
-    fit: bool
-
-    code = "worksheet unclear"
-    message = Text("{path}: {maybe_count}{maybe_none_fits} ({names}): say which one is taken by --worksheet{maybe_others}")
-    page_message = Text("which worksheet is meant: {worksheets}?")
-    parts = {
-        "maybe_count": OptionalPart("{count} worksheets have titles that fit", when="fit"),
-        "maybe_none_fits": OptionalPart("no worksheet has such titles", when="none_fits"),
-        "maybe_others": OptionalPart("; if others have animals too, take each of them then with --append", when="fit"),
-    }
-
-    def values(self) -> Mapping[str, object]:
-        return {"count": len(self.worksheets), "none_fits": not self.fit, "names": Quoted(self.worksheets)}
-
-    def suggestions(self) -> tuple[Suggestion, ...]:
-        return tuple(Suggestion(f"for '{title}'", (Option("--worksheet", title),)) for title in self.worksheets)
-
-
-@dataclass(frozen=True, slots=True)
-class WorksheetLacks(SheetFinding):
-    """The worksheet that is named isn't there."""
-
-    path: str
-    named: str
-    worksheets: tuple[str, ...]
-
-    code = "worksheet lacks"
-    message = Text("{path} has no worksheet '{named}', which --worksheet names: it has {names}")
-    page_message = Text("there is no worksheet '{named}'; there are: {worksheets}")
-
-    def values(self) -> Mapping[str, object]:
-        return {"names": Quoted(self.worksheets)}
-
-    def suggestions(self) -> tuple[Suggestion, ...]:
-        return WorksheetUnclear(self.path, self.worksheets, False).suggestions()
 
 
 @dataclass(frozen=True, slots=True)

@@ -5,7 +5,7 @@ import enum
 from collections.abc import Mapping
 from dataclasses import dataclass
 
-from gudokeyi.domain.findings import ANYWAY, LEAVE_OUT, Obstacle, Suggestion, columns
+from gudokeyi.domain.findings import ANYWAY, APPEND, LEAVE_OUT, Obstacle, Suggestion, columns
 from gudokeyi.domain.kinds import Field
 from gudokeyi.domain.messages import Worded
 from gudokeyi.domain.wording import Counted, OptionalPart, Quoted, Text
@@ -102,6 +102,11 @@ class ManyGone(Guard):
         "had_row",
     )
     page_message = message
+
+    def suggestions(self) -> tuple[Suggestion, ...]:
+        is_part = self.like in (LooksLike.OLDER_SHEET, LooksLike.PART)
+        part = Suggestion("if it is a part of the list, as another worksheet", (APPEND,))
+        return (part,) * is_part + Guard.suggestions(self)
 
 
 @dataclass(frozen=True, slots=True)
