@@ -68,7 +68,8 @@ def test_what_is_no_exit(desk: Desk, title: str) -> None:
     text = TITLES.replace("Abgang", title) + rows + f"100;;w;2.2.2009;;;Huber;{beside}verkauft (gedeckt)\n"
     done = desk.take(text)
     name = title.rpartition(";")[2]
-    told = f"{len(NO_EXITS)} cells of the column '{name}' tell of something else than exits, the first in line 2: 'retired 2019', "
+    told = f"{len(NO_EXITS)} cells of the column '{name}' tell of something other than exits, the first in line 2: "
+    told += "'retired 2019', "
     assert told in done.out.partition("rows below the titles")[0] and "and 7 more" in done.out
     assert [one["id"] for one in desk.table("book/ids.csv") if one["exit"]] == ["100"]
     assert not [line for line in desk.commands() if line.startswith("exit")]
@@ -93,7 +94,8 @@ def test_what_is_said_of_a_living_animal(desk: Desk, title: str) -> None:
     text = TITLES.replace("Abgang", title) + rows.replace("; lame", ", lame")
     done, name = desk.take(text), title.rpartition(";")[2]
     kept = [cell.replace(";", ",") for cell in LIVES_AND_MORE]
-    assert f"{len(kept)} cells of the column '{name}' tell of something else than exits, the first in line 2: " in done.out
+    told = f"{len(kept)} cells of the column '{name}' tell of something other than exits, the first in line 2: "
+    assert told in done.out
     assert {id: those for id, those in notes(desk).items() if those} == {
         f"{at:03}": {f"{name}: {cell}"} for at, cell in enumerate(kept, 1)
     }

@@ -120,7 +120,7 @@ def test_several_and_all_of_a_text(desk: Desk) -> None:
         "to look at: a part of the text is struck through in 3 cells: 'Moreau frères Mlle Garnier Anaïs' at G3 is read "
         "as 'Mlle Garnier Anaïs', and the others alike",
         "to look at: the text of 1 cell is struck through, 'Lola' in line 5 of the column 'Nom', and is read like all "
-        "others: if it isn't right any more, write what is, or nothing; if the animal has left, write an exit",
+        "others: if it is no longer right, write what is, or nothing; if the animal has left, write an exit",
     } <= {*told.splitlines()}
 
 
@@ -157,7 +157,7 @@ def test_days_for_texts(desk: Desk) -> None:
     sheet["B4"].number_format, sheet["G3"] = "mmm-yy", "Huber"
     found.save(desk.room / "sheet.xlsx")
     told = desk.good("import", "sheet.xlsx").told
-    made = "which spreadsheets make of texts such as 3/12: if it is another, write it as text"
+    made = "which spreadsheets make of texts such as 3/12: if something else is meant, write that as text"
     assert {one for one in told.splitlines() if made in one} == {
         f"line 2: 2026-12-03: to look at: its id is the day 2026-12-03, {made}",
         f"line 4: 103: to look at: its name is the day 1968-05, {made}",

@@ -57,7 +57,7 @@ def test_likelier_column_comes_later(desk: Desk) -> None:
     """What the book remembers of the other columns is used again, and a likelier one is told."""
     desk.take("id;birth;sire;dam;Abgang\na;2001-01-01;;;01.02.2010\n")
     done = desk.take("id;birth;sire;dam;Abgangsdatum;Abgang\na;2001-01-01;;;;01.02.2010\n")
-    done.shows("to look at: exit is read from 'Abgang', as at the last time, and 'Abgangsdatum' isn't")
+    done.shows("to look at: exit is read from 'Abgang', as last time, and 'Abgangsdatum' isn't")
     assert done.commands() == [f"{CALLED} import sheet.csv --columns exit=Abgangsdatum"]
     assert sum(line.startswith("exit") for line in desk.commands()) == 1
     desk.typed(done.commands()[0])
@@ -72,8 +72,8 @@ def test_column_that_is_lost(desk: Desk) -> None:
     for _ in range(2):
         done = desk.take(now)
         done.shows(
-            "to look at: no column for owner is found: it was 'owner' at the last time; what the book has stays",
-            "to look at: no column for sex is found: it was 'sex' at the last time; what the book has stays",
+            "to look at: no column for owner is found: last time it was 'owner'; the book keeps what it has",
+            "to look at: no column for sex is found: last time it was 'sex'; the book keeps what it has",
         )
         assert [one.partition("--columns ")[2] for one in done.commands()] == [
             "sex=Nature", "sex=", "'owner=Owner or breeder'", "owner=",
@@ -116,8 +116,8 @@ def test_ids_that_count_rows(desk: Desk) -> None:
     """Where no parent shows which column has the ids, and another one may have them."""
     done = desk.take("Nr;Kürzel;birth;sire;dam\n1;DE4;2001-01-01;;\n2;DE3;2002-01-01;;\n3;DE9;2003-01-01;;\n")
     done.shows(
-        "to look at: the ids are read from 'Nr', which only counts the rows: in a list that is sorted otherwise each number "
-        "would be another animal's"
+        "to look at: the ids are read from 'Nr', which only counts the rows: in a list that is sorted differently each "
+        "number would be another animal's"
     )
     desk.write("sheet.csv", "Nr;Kürzel;birth;sire;dam\n1;DE4;2001-01-01;;\n2;DE3;2002-01-01;;\n")
     assert "only counts the rows" not in desk.typed(done.commands()[0].replace("import", "take --book other")).out

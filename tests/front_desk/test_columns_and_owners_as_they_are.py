@@ -64,7 +64,7 @@ def test_exits_in_remarks(desk: Desk) -> None:
     done = desk.take(titles + pair + rows)
     done.tells(
         "to look at: the column 'Bemerkungen' isn't read for exits, and 1 cell of it tells that an animal left which has "
-        "no exit: 'gestorben 2021' in line 5; the animal counts as living: if it left, write that into the column for "
+        "no exit: 'gestorben 2021' in line 5; the animal counts as living: if it left, enter that in the column for "
         "exits"
     )
 
@@ -156,7 +156,7 @@ def test_parents_beside_their_ids(desk: Desk) -> None:
     beside = "which isn't read"
     assert beside not in desk.take(titles + rows).out
     one = f"to look at: 1 row has nothing in 'Sire Reg No', and 'Ash' in 'Sire Name', {beside}, in line 5: this parent counts "
-    desk.take(titles + rows + young).tells(f"{one}as unknown; write it into 'Sire Reg No'")
+    desk.take(titles + rows + young).tells(f"{one}as unknown; enter it in 'Sire Reg No'")
     done = desk.take(titles + rows + young + "e5;Elm;f;2015-02-03;Rex;;Briar;b2\nf6;Fay;f;2016-02-03;Ash;a1;Briar;b2\n")
     assert f"2 rows have nothing in 'Sire Reg No', and a parent in 'Sire Name', {beside}, the first 'Ash' in line 5" in done.told
 

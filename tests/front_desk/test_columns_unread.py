@@ -106,7 +106,7 @@ def test_column_that_the_society_keeps(desk: Desk) -> None:
     desk.take(text, "--own", "Zukauf=day")
     done = desk.take(text.replace("Besitzer seit", "Farbe").replace("3.4.2012", "rot"))
     assert "since from" not in done.out and "kept: 'Zukauf'" in done.out and " 0 changed" in done.last
-    done.shows("to look at: no column for since is found: it was 'Besitzer seit' at the last time; what the book has stays")
+    done.shows("to look at: no column for since is found: last time it was 'Besitzer seit'; the book keeps what it has")
     read = desk.take(text.replace("Besitzer seit", "Farbe"), "--columns", "since=Zukauf")
     assert "since from 'Zukauf'" in read.out and "changed: owner since 1" in read.out
 
@@ -117,8 +117,8 @@ def test_days_that_may_be_exits(desk: Desk) -> None:
     text = "Ohrmarke;geb;Vater;Mutter;Besitzer;Letzter Tag\n" + rows
     done = desk.take(text)
     done.shows(
-        "to look at: no column of exits is found, and 'Letzter Tag' isn't read, whose 3 days are all behind the births, "
-        "the first '01.03.2020' in line 2: animals that left then count as living"
+        "to look at: no column of exits is found, and 'Letzter Tag' isn't read, whose 3 days are all later than the "
+        "births, the first '01.03.2020' in line 2: animals that left then count as living"
     )
     assert words_of(done.commands()) == ["'exit=Letzter Tag'", "exit="]
     told = "no column of exits is found"
@@ -166,9 +166,9 @@ def test_marks_of_rows(desk: Desk, title: str, text: str, said: str) -> None:
     [
         ("korrigiertes Geburtsdatum", "14.3.2013", "'14.3.2013' and not '03.02.2013' in line 4: where it is right, write that"),
         ("corrected DOB", "14/3/2013", "'14/3/2013' and not '03.02.2013' in line 4: where it is right, write that"),
-        ("Geburtsdatum neu", "2012", "'2012' and not '03.02.2013' in line 4: where it is right, write that into 'geb'"),
-        ("Vater (korrigiert)", "009", "'009' and not '001' in line 4: where it is right, write that into 'Vater'"),
-        ("correct sex", "m", "'m' and not 'w' in line 4: where it is right, write that into 'Geschlecht'"),
+        ("Geburtsdatum neu", "2012", "'2012' and not '03.02.2013' in line 4: where it is right, enter that in 'geb'"),
+        ("Vater (korrigiert)", "009", "'009' and not '001' in line 4: where it is right, enter that in 'Vater'"),
+        ("correct sex", "m", "'m' and not 'w' in line 4: where it is right, enter that in 'Geschlecht'"),
     ],
 )  # fmt: skip
 def test_corrections_beside(desk: Desk, title: str, text: str, said: str) -> None:
@@ -199,7 +199,7 @@ def test_second_owners(desk: Desk, titles: str) -> None:
     done = desk.take(TWICE.format(titles))
     done.shows(
         f"to look at: '{second}' isn't read, and has 2 owners, the first 'Meier' in line 2: the owner is 'Huber', as "
-        f"'{first}' has it; where an animal has gone to the second one, write that one into '{first}'"
+        f"'{first}' has it; where an animal has gone to the second one, enter that one in '{first}'"
     )
     assert [row["owner"] for row in desk.listed("list", "--columns", "owner")] == ["Huber"] * 3
     assert "since 2011-02-03" in desk.good("show", "001").out

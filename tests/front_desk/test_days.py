@@ -175,7 +175,7 @@ def test_month_first(desk: Desk) -> None:
     desk.copy_to(desk.room.parent / "taken back").typed(done.commands()[0])
     born = {"a": "2001-12-25", "b": "2004-12-05", "c": "2004-04-05"}
     assert desk.born() == born
-    assert "as at the last time: --month-first" in desk.take(sheet).out
+    assert "as last time: --month-first" in desk.take(sheet).out
     assert desk.born() == born
 
 
@@ -208,7 +208,7 @@ def test_one_day_in_the_other_order(desk: Desk) -> None:
 
 def test_no_day_shows_the_order(desk: Desk) -> None:
     done = desk.take(TITLES + "a;F;03/04/2001;;;\nb;F;05/05/2004;;;\n")
-    told = "1 day with / could have the month first, and no day of the sheet shows whether"
+    told = "1 day with / could have the month first, and no day in the sheet shows which"
     assert told in done.out
     assert told not in desk.take(TITLES + "a;F;03/04/2001;;;\nb;F;25/05/2004;;;\n").out
 

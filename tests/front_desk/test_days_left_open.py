@@ -147,7 +147,7 @@ def test_told_and_inferred(desk: Desk) -> None:
     done.tells(
         f"to look at: one of several days in 3 cells {in_column} '12/13.06.2019' in line 2 is read as 2019-06-12 to "
         "2019-06-13, and the others alike",
-        f"to look at: a day that isn't sure in 1 cell {in_column} '1/4/2019 (est.)' in line 4 is read as 2019-04-01",
+        f"to look at: a day that isn't certain in 1 cell {in_column} '1/4/2019 (est.)' in line 4 is read as 2019-04-01",
         f"to look at: a day and a text in 1 cell {in_column} '14/08/2018 (vet)' in line 7 is read as 2018-08-14",
         f"to look at: a text with a month, a week or a season in 1 cell {in_column} 'late June 2017' in line 8 is read as "
         "2017-06",

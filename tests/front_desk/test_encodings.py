@@ -41,7 +41,7 @@ def test_windows_letters_stay(desk: Desk) -> None:
 def test_letters_decoded_twice(desk: Desk, encoding: str) -> None:
     twice = SHEET.replace("Müller", "MÃ¼ller").replace("Süße", "S\ufffd")
     done = desk.take(twice.encode(encoding, errors="ignore"))
-    assert "letters were decoded twice in 1 text: 'MÃ¼ller' for 'Müller' (line 2): save the sheet anew" in done.out
+    assert "letters were decoded twice in 1 text: 'MÃ¼ller' for 'Müller' (line 2): save the sheet again" in done.out
     assert ("letters are lost in 1 text: 'S\ufffd' (line 3)" in done.out) == (encoding == "utf-8")
 
 
@@ -78,7 +78,7 @@ def test_doubtful_letters(desk: Desk, data: bytes, word: str) -> None:
     """Words that are none in the encoding of Windows are told where it isn't sure how they were written."""
     sheet = SHEET.replace("Ä1", "A1").replace("Müller", "Max").encode().replace("Süße".encode(), data)
     desk.take(sheet).shows(
-        f"to look at: letters may be decoded wrongly, the first in '{word}' in line 3: if they are, save the sheet anew "
+        f"to look at: letters may be decoded wrongly, the first in '{word}' in line 3: if they are, save the sheet again "
         "from the spreadsheet in which the letters are right, as CSV in UTF-8"
     )
 
@@ -115,7 +115,7 @@ def test_titles_decoded_twice(desk: Desk) -> None:
     done = desk.take("id;birth;sire;dam;PropriÃ©taire\na;2001;;;Groß\n")
     done.shows(
         "to look at: letters were decoded twice in 1 text: 'PropriÃ©taire' for 'Propriétaire' (line 1): save the sheet "
-        "anew from the spreadsheet in which the letters are right, as CSV in UTF-8"
+        "again from the spreadsheet in which the letters are right, as CSV in UTF-8"
     )
 
 

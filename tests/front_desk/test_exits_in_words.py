@@ -10,7 +10,7 @@ def without_day(word: str) -> str:
     """What is told of exits without a day, behind the texts."""
     return (
         "such an animal counts as gone, on a day that isn't known unless the book has it; where you know the day, "
-        f"write it as 01.03.2001, or behind the word, as {word} 01.03.2001"
+        f"write it as 01.03.2001, or after the word, as {word} 01.03.2001"
     )
 
 
@@ -119,8 +119,8 @@ def test_words_that_deny_an_exit(desk: Desk, cell: str, left: str) -> None:
     is_gone = bool(days) or animal["exit"].startswith("day unknown")
     assert is_gone == (left not in ("", "stays"))
     assert days == [left] if left[:2] == "20" else not days or left == "doubt"
-    assert ("tells of something else than an exit, in line 3" in done.out) == (left == "stays")
-    told = f"line 3: b: to look at: '{cell}' tells of an exit that isn't sure, or after which the animal came back"
+    assert ("tells of something other than an exit, in line 3" in done.out) == (left == "stays")
+    told = f"line 3: b: to look at: '{cell}' tells of an exit that isn't certain, or after which the animal came back"
     assert (told in done.out) == (left == "doubt")
     assert "tells of no exit" not in done.out or cell[:2] not in ("ge", "sc", "ab")
 
@@ -158,7 +158,7 @@ def test_sale_that_was_undone(desk: Desk, cell: str) -> None:
     """The animal stays with its owner, and that is told."""
     sheet = f"id;sex;born;sire;dam;owner;exit\na;M;2001-01-01;;;Huber;\nb;F;2001-01-01;;;Kunz;{cell}\n"
     done = desk.take(sheet)
-    assert f"tells of something else than an exit, in line 3: '{cell}': the animal stays" in done.out
+    assert f"tells of something other than an exit, in line 3: '{cell}': the animal stays" in done.out
     assert not any(row["exit"] for row in desk.table("book/ids.csv")) and "exit," not in "\n".join(desk.commands())
     assert desk.transfer_days() == []
     desk.take(sheet.replace(cell, f"{cell}, gestorben 2020"), "--book", "dead")

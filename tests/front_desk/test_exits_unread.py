@@ -24,7 +24,7 @@ def test_no_days_in_such_a_column(desk: Desk) -> None:
         "to look at: the column 'Verkauft am' has exits in 4 rows where 'Gestorben am' has none: they are taken from there",
         "line 8: 7: to look at: 'Gestorben am' says '1.6.2023', and 'Verkauft am' says '£350': the animal counts as gone, "
         "on the day of the first",
-        "to look at: 1 cell of the column 'Verkauft am' tells of something else than an exit, in line 9: 'ausgeliehen "
+        "to look at: 1 cell of the column 'Verkauft am' tells of something other than an exit, in line 9: 'ausgeliehen "
         "2020': the animal stays, and what the cell says is kept as a note; if it has left, write a day, or a word such "
         "as sold, verkauft or vendu",
     )
@@ -81,7 +81,7 @@ def test_exits_of_other_columns(desk: Desk) -> None:
     done = desk.take(BEGIN + "Gestorben am;Verkauft am;Verkauft an;Bemerkung\n" + rows((";;;brav",) * 2, *cells))
     done.shows(
         "to look at: the column 'Bemerkung' isn't read for exits, and 1 cell of it tells that an animal left which has no "
-        "exit: 'verendet' in line 7; the animal counts as living: if it left, write that into the column for exits"
+        "exit: 'verendet' in line 7; the animal counts as living: if it left, enter that in the column for exits"
     )
     assert done.told.count("isn't read for exits") == done.told.count("counts as living") == 2
     assert exits(desk) == {"3": "'Verkauft'", "4": "day unknown: 'verkauft an Metzger'"}

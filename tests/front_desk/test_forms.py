@@ -174,7 +174,7 @@ def test_lines_and_cells(desk: Desk) -> None:
     done = desk.take('id;birth;sire;dam\n="007";2001;;;\na;"2003\n";007;;\nb;x;;;\nc;2002;;;x\nd;2002;;;\n')
     done.tells(
         "line 4: b: its birth day is left out: 'x' is no day: write it as 2001-03-01 or 01.03.2001, or 03.2001 or 2001 alone",
-        "line 5: c: the row is left out: it has 5 cells, and there are 4 titles: is there a separator too many?",
+        "line 5: c: the row is left out: it has 5 cells, and there are 4 titles: is there one separator too many?",
     )
     assert desk.parents() == {"007": ("", ""), "a": ("007", ""), "b": ("", ""), "d": ("", "")}
 

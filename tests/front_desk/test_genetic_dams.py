@@ -52,8 +52,8 @@ def test_carrier_is_no_dam(desk: Desk, carrier: str, genetic: str) -> None:
     done = desk.take(text)
     assert [desk.parents()[id][1] for id in ("005", "006")] == ["", "004"]
     done.shows(
-        f"to look at: 1 row has no dam in '{genetic}', and '002' in '{carrier}', in line 6: who carries an animal isn't its "
-        f"dam, which counts as unknown; write the dam into '{genetic}'"
+        f"to look at: 1 row has no dam in '{genetic}', and '002' in '{carrier}', in line 6: the animal that carried "
+        f"the embryo isn't the dam, which counts as unknown; enter the dam in '{genetic}'"
     )
     [said] = [one for one in done.commands() if f"dam={carrier}" in one]
     if carrier == "Leihmutter":
@@ -78,7 +78,7 @@ def test_parent_by_a_test(desk: Desk, title: str) -> None:
     done = desk.take(text)
     done.shows(
         f"to look at: '{title}' isn't read, and has another sire than 'Vater' in 1 row: '005' and not '001', in line 7: "
-        f"where '{title}' is right, write that into 'Vater'"
+        f"where '{title}' is right, enter that in 'Vater'"
     )
     assert desk.parents()["006"] == ("001", "002")
     lacking = desk.take(text.replace("001;002;005", ";002;005"), "--book", "lacking")

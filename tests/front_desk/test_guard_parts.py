@@ -139,7 +139,7 @@ def test_what_a_sheet_looks_like() -> None:
     first, others = [*map(row, range(30))], [row(at, "b", 5000) for at in range(30)]
     assert guards(60, [*first, *others[1:]]).like() is LooksLike.PART
     assert guards(60, [*first, *others]).like() is LooksLike.ANOTHER_FLOCK
-    # the youngest lack, of which one was born with the youngest of the sheet
+    # the youngest are missing, of which one was born with the youngest of the sheet
     assert guards(60, first).like() is LooksLike.OLDER_SHEET
     assert guards(60, map(row, range(30, 60))).like() is LooksLike.PART
     one = guards(31, first)

@@ -83,7 +83,8 @@ def test_older_sheet(taken: Desk) -> None:
     without = taken.write("youngest.csv", sheet(by_age[15:]))
     taken.wrong(f"{told}a part of the flock", "import", without)
     refused(
-        taken, sheet(by_age[:45]), f"{told}an older sheet: each of its animals is in the book, and the youngest lack"
+        taken, sheet(by_age[:45]),
+        f"{told}an older sheet: each of its animals is in the book, and the youngest are missing",
     )
 
 
@@ -128,7 +129,7 @@ def test_columns_sorted_apart(taken: Desk, field: int, what: str) -> None:
     refused(
         taken, sheet(shifted(6, field)),
         f"6 of 60 animals have other {what} than in the book, the first are A20 (line 22), A21 (line 23), A22 (line "
-        "24): it looks like a sheet in which some columns were sorted without the others",
+        "24): it looks like a sheet some of whose columns were sorted without the others",
     )  # fmt: skip
 
 
@@ -202,7 +203,7 @@ def test_few_of_many(desk: Desk) -> None:
 def test_ids_written_otherwise(taken: Desk) -> None:
     rows = [row.replace("A", "a ") for row in flock("A")]
     refused(
-        taken, sheet(rows), "it looks like the same animals, whose ids are written otherwise in case, blanks or zeros"
+        taken, sheet(rows), "it looks like the same animals, whose ids differ in case, blanks or zeros"
     )
 
 
@@ -234,8 +235,8 @@ def test_parents_by_name_without_names(desk: Desk) -> None:
         for at in range(40)
     ]
     text = sheet(rows, "Ohrmarke;Geburtsdatum;Vater;Mutter")
-    refused(desk, text, "76 of 80 parents have no row, the first are 'Sire of a', 'Dam of a', 'Sire of b': it looks like "
-            "parents that are written by their names")  # fmt: skip
+    told = "76 of 80 parents have no row, the first are 'Sire of a', 'Dam of a', 'Sire of b': the parents seem to be "
+    refused(desk, text, f"{told}written by their names")
     # once they are in the book they aren't asked for again
     assert " 0 new, 0 changed" in desk.take(text).last
 

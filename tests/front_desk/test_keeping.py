@@ -133,8 +133,8 @@ def test_column_of_breeders(desk: Desk, title: str) -> None:
     done = desk.good("import", "sheet.csv")
     assert "  breeder       Huber\n" in desk.good("show", "X").out
     told = (
-        f"to look at: the column '{title}' isn't kept, with 'Garside' in line 3: as the breeder of an animal the owner of "
-        "its dam at its birth is printed"
+        f"to look at: the column '{title}' isn't kept, with 'Garside' in line 3: certificates name the owner of the "
+        f"dam at the birth as the breeder"
     )
     done.shows(told, "  to have the breeders of the list:")
     assert told not in desk.good("import", "sheet.csv", "--preview", "--own", f"{title}=none").out

@@ -102,7 +102,7 @@ def test_faulty_rows(desk: Desk) -> None:
             "'cat': write M or F, or say which sex each word is by --sexes; if 'cat' is male, say --sexes cat=m; if "
             "'cat' is female, say --sexes cat=f"
         ),
-        "line 9: h: the row is left out: it has 9 cells, and there are 8 titles: is there a separator too many?",
+        "line 9: h: the row is left out: it has 9 cells, and there are 8 titles: is there one separator too many?",
         "line 10: i: its cell for a stored embryo is left out: 'maybe' isn't known: write 1 or nothing",
         (
             "to look at: 1 of 2 cells that say something in the column 'embryo' can't be read, the first in line 10: "

@@ -29,7 +29,7 @@ def test_wethers(desk: Desk, male: str, female: str, letter: str) -> None:
     done = desk.take(sheet)
     told = (
         f"to look at: '{letter}' (2 animals) of the column 'Sex' is read as a castrated male, as for wether or Wallach, since "
-        f"females are written otherwise there: '{female}' (2 animals)"
+        f"females are written differently there: '{female}' (2 animals)"
     )
     assert told in done.out and "words for sexes" not in done.told
     assert sexes_of(desk, "UK002", "UK003", "UK004", "UK005") == ["male", *["male, castrated"] * 2, "female"]
@@ -158,7 +158,8 @@ def test_letter_beside_widder(desk: Desk, parents: str, wanted: str) -> None:
     rows += f"DE105,Eva,Aue,2019-03-02{parents or ',,'}\n"
     done = desk.take(GERMAN_TITLES.format(sex="Geschlecht") + rows)
     assert sexes_of(desk, "DE103") == [wanted]
-    told = f"'w' (1 animal) of the column 'Geschlecht' is {OF_WEIBLICH}, though females are written otherwise there too: 'Aue'"
+    told = f"'w' (1 animal) of the column 'Geschlecht' is {OF_WEIBLICH}, though females are written differently there "
+    told += "too: 'Aue'"
     assert (told in done.out) == (wanted == "female") and ("'w' as 'Widder'" in done.out) == (wanted == "male")
 
 
@@ -168,8 +169,8 @@ def test_marks_in_two_columns(desk: Desk, male: str, female: str) -> None:
     titles, sex = f"Ohrmarke;Name;{male};{female};Geburt;Vater;Mutter{{}}\n", ";Geschlecht"
     rows = "1;Ada;;x;01.03.2015;;{}\n2;Bert;x;;02.03.2015;;{}\n3;Cora;;x;03.03.2018;2;1{}\n"
     told = (
-        f"to look at: no sex is read: the columns '{male}' and '{female}' have 3 marks for it, the first in line 2, and "
-        "words of one column alone are read, as m and f: each sex is inferred; write such a column"
+        f"to look at: no sex is read: the columns '{male}' and '{female}' have 3 marks for it, the first in line 2, but "
+        "sexes are read from one column with words such as m and f: each sex is inferred; give the list such a column"
     )
     done = desk.take(titles.format("") + rows.format("", "", ""), "--preview")
     done.shows(told)

@@ -11,8 +11,8 @@ BOTH = BEGIN + "Gestorben am;Verkauft am\n" + rows(PARENTS, *CALVES)
 # the same without the first column
 SOLD = BEGIN + "Verkauft am\n" + rows(("", "2.2.2020"), "", "", "", "5.5.2021")
 LOST = (
-    "to look at: no column 'Gestorben am' is found, from which exits were read at the last time, and 'Verkauft am' tells of "
-    "no exit of 4 animals that had left, the first are 1 (line 2), 3 (line 4), 4 (line 5): what the book has stays"
+    "to look at: no column 'Gestorben am' is found, from which exits were read last time, and 'Verkauft am' tells of "
+    "no exit of 4 animals that had left, the first are 1 (line 2), 3 (line 4), 4 (line 5): the book keeps what it has"
 )
 
 
@@ -29,7 +29,7 @@ def test_first_column_of_exits_lost(desk: Desk) -> None:
         done = desk.take(SOLD)
         done.shows(LOST)
         assert " 0 new, 0 changed" in done.last and "count as living again" not in done.told
-        assert "columns as at the last time" not in done.out
+        assert "columns as last time" not in done.out
         # the sale has no word as why where it is the first column
         assert exits(desk).keys() >= {"4", "5"} and [day for day, _ in days(desk)] == [day for day, _ in of_days]
     assert days(desk)[4] == ("2021-04-04", "Wolf")
@@ -51,8 +51,9 @@ def test_other_columns_of_exits_lost(desk: Desk) -> None:
     died = BEGIN + "Gestorben am\n" + rows(("1.1.2020", ""), "3.3.2021", "tot", "4.4.2021 (Wolf)", "")
     for _ in range(2):
         desk.take(died).shows(
-            "to look at: no column 'Verkauft am' is found, from which exits were read at the last time, and 'Gestorben am' "
-            "tells of no exit of 2 animals that had left, the first are 2 (line 3), 6 (line 7): what the book has stays"
+            "to look at: no column 'Verkauft am' is found, from which exits were read last time, and 'Gestorben am' "
+            "tells of no exit of 2 animals that had left, the first are 2 (line 3), 6 (line 7): the book keeps what it "
+            "has"
         )
         assert days(desk) == before
     neither = BEGIN + "Geschlachtet am\n" + rows(("", ""), "", "", "", "7.7.2022")
@@ -60,7 +61,7 @@ def test_other_columns_of_exits_lost(desk: Desk) -> None:
         assert "'Geschlachtet am' tells of no exit of 5 animals that had left" in desk.take(neither).told
         assert [day for day, _ in days(desk)] == [*(day for day, _ in before[:5]), "2022-07-07"]
     assert "is found" not in desk.take(BOTH).told and days(desk) == before
-    assert "columns as at the last time" in desk.take(BOTH).out
+    assert "columns as last time" in desk.take(BOTH).out
     done = desk.take(died, "--columns", "exit=Gestorben am")
     assert "2 animals that had left count as living again" in done.told and "is found" not in desk.take(died).told
 
@@ -70,7 +71,7 @@ def test_column_of_exits_with_another_title(desk: Desk) -> None:
     desk.take(BOTH)
     done = desk.take(BOTH.replace("Gestorben am", "Todesdatum"))
     assert "is found" not in done.told and " 0 new, 0 changed" in done.last
-    assert "columns as at the last time" in desk.take(BOTH.replace("Gestorben am", "Todesdatum")).out
+    assert "columns as last time" in desk.take(BOTH.replace("Gestorben am", "Todesdatum")).out
 
 
 def test_column_of_exits_emptied(desk: Desk) -> None:

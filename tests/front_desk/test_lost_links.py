@@ -26,7 +26,7 @@ REFUSED = [
     (
         "a1 0 0\nb A1 0\n",
         "1 parent has no line, and an animal that has one differs in capitals, blanks, signs, zeros, look-alike "
-        "letters or the form of a number alone: A1",
+        "letters or the form of a number: A1",
     ),
     ("7 0 0\n9 0 0\n8 007 9\n", "007 (of 8 in line 3; is 7 meant?)"),
     # as pandas, R and spreadsheets write numbers beside empty cells, and long ones
@@ -184,7 +184,7 @@ def test_ids_without_their_beginning_or_end(form: str, parent: str) -> None:
     rows = "".join(f"{id} 0 0\n" for id in ids) + "".join(
         f'"{form.format(at)}" {id} 0\n' for at, id in enumerate(ids[5:], 70)
     )
-    told = f"1 parent has no line, and is an id without what many ids begin or end with: {parent} (of y in line 96; is "
+    told = f"1 parent has no line, and lacks what many ids begin or end with: {parent} (of y in line 96; is "
     assert doubted(f"{rows}y {parent} 0\n")[0].startswith(f"{told}{form.format(12)} meant?). To take founders")
     few = "".join(f"X{at + 100}Z 0 0\n" for at in range(1000))
     assert doubted(f"{few}{rows}y {parent} 0\n") == []
@@ -192,7 +192,7 @@ def test_ids_without_their_beginning_or_end(form: str, parent: str) -> None:
 
 def test_answer_about_ids_without_their_beginning(desk: Desk) -> None:
     rows = "".join(f"DE{at} 0 0\n" for at in range(10, 30)) + "".join(f"DE{at + 30} DE{at} 0\n" for at in range(10, 30))
-    told = "1 parent has no line, and is an id without what many ids begin or end with: 12 (of y in line 41; is DE12 meant?)"
+    told = "1 parent has no line, and lacks what many ids begin or end with: 12 (of y in line 41; is DE12 meant?)"
     done = desk.wrong(told, "import", "--pedigree", desk.write("cut.txt", f"{rows}y 12 0\n"))
     assert " 1 added, " in desk.typed(done.commands()[0]).last
 

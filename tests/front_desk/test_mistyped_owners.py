@@ -251,6 +251,6 @@ def test_owner_with_an_address(desk: Desk, cell: str) -> None:
     done = desk.take("Ohrmarke;Geschlecht;geb;Besitzer\n" + rows, "--columns", "sire=,dam=")
     done.shows(
         f"line 5: 004: to look at: the owner of 1 animal is written '{cell}', which has the name Huber Hans in it, and "
-        "becomes an owner of its own: write the name alone of the one who has the animal"
+        "becomes an owner of its own: write only the name of the one who has the animal"
     )
     assert "Kunz" not in done.told

@@ -101,7 +101,7 @@ def test_named_parent_with_another_name(desk: Desk) -> None:
     assert desk.parents()["L1"] == ("R1", "")
     near = sheet.replace("R1,Max", "07,").replace("Max", "7")
     desk.take(near, "--book", "near")
-    told = "line 3: L1: inferred: its sire '7' is 07, whose id differs in case, blanks or zeros alone"
+    told = "line 3: L1: inferred: its sire '7' is 07, whose id differs only in case, blanks or zeros"
     assert told in desk.take(near + "007,,M,2002-01-01,,\n", "--book", "near").told
 
 
@@ -192,7 +192,7 @@ def test_parent_without_a_row_in_capitals(desk: Desk, name: str, other: str) -> 
     for _ in range(2):
         done = desk.take(CAPITALS.format(name, other, "DE100"))
         done.tells(
-            f"line 6: DE105: inferred: its sire '{other}' is {name}, whose id differs in case, blanks or zeros alone: if "
+            f"line 6: DE105: inferred: its sire '{other}' is {name}, whose id differs only in case, blanks or zeros: if "
             "another is meant, give that one a row"
         )
         assert desk.parents()["DE102"][0] == desk.parents()["DE105"][0] == name
@@ -249,7 +249,7 @@ def test_names_where_ids_lack(desk: Desk) -> None:
         )
         done.shows(
             "to look at: 1 row has nothing in 'Sire IAR no.', and 'Zar' in 'Sire Name', which isn't read, in line 7: this "
-            "parent counts as unknown; write it into 'Sire IAR no.'"
+            "parent counts as unknown; enter it in 'Sire IAR no.'"
         )
         assert f" {added} added" in done.last and "nothing in 'Dam IAR no.'" not in done.told
         parents = desk.parents()

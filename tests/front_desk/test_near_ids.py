@@ -16,7 +16,7 @@ def test_parent_written_otherwise(desk: Desk) -> None:
     calves += "c4;;F;2004-01-04;DE 007;DE 8\nc5;;F;2004-01-05;DE 0070;DE 80\nc6;;F;2004-01-06;de 8;de 007\n"
     done = desk.take(TITLES + FLOCK + calves)
     done.tells(
-        "line 4: c1: inferred: its sire 'de007' is DE 007, whose id differs in case, blanks or zeros alone: if another "
+        "line 4: c1: inferred: its sire 'de007' is DE 007, whose id differs only in case, blanks or zeros: if another "
         "is meant, give that one a row"
     )
     assert desk.parents()["c1"] == desk.parents()["c2"] == ("DE 007", "DE 8")
@@ -46,7 +46,7 @@ def test_row_that_comes_later(desk: Desk) -> None:
 def test_rows_that_are_alike(desk: Desk) -> None:
     """They are told at each taking."""
     told = (
-        "line 4: de 08: to look at: its id differs from DE 8 (line 3) in case, blanks or zeros alone: are they one "
+        "line 4: de 08: to look at: its id differs from DE 8 (line 3) only in case, blanks or zeros: are they one "
         "animal?"
     )
     for _ in range(2):
@@ -64,7 +64,7 @@ def test_ids_that_are_like_one_filed_by_hand(desk: Desk) -> None:
     rows = "a7;Ada;F;2002-01-01;;\nc1;;F;2005-01-01;;Ada\nc2;;F;2005-01-02;;de09\n"
     desk.take(TITLES + FLOCK + rows)
     assert desk.parents()["c1"] == ("", "Ada") and desk.parents()["c2"] == ("", "DE 9")
-    told = "its id differs from DE 9 (in the book) in case, blanks or zeros alone: are they one animal?"
+    told = "its id differs from DE 9 (in the book) only in case, blanks or zeros: are they one animal?"
     desk.take(TITLES + FLOCK + rows + "de 9;;F;2002-01-02;;\n").tells(f"line 7: de 9: to look at: {told}")
     # one that is filed by hand now
     assert desk.good("birth", "DE 09", "--sex", "f", "--day", "2002-01-02", "--anyway").err == f"gudokeyi: DE 09: {told}\n"
@@ -144,9 +144,9 @@ def test_birth_after_offspring(desk: Desk) -> None:
         )
         done.tells(
             "line 3: DE 8: the row is left out: born 2012-03-02, it would be younger than its offspring c2, born "
-            "2003-01-01; the book has born 2001-03-02: if the day is mistyped, mend it; if the tag was used again, give "
-            "this animal an id of its own, also where its offspring name it; if it is the same animal, born on this "
-            "day, say --anyway"
+            "2003-01-01; the book has born 2001-03-02: if the day is mistyped, correct it; if the tag was used again, "
+            "give this animal an id of its own, also where its offspring name it; if it is the same animal, born on "
+            "this day, say --anyway"
         )
         assert (desk.born()["DE 8"], desk.parents()["c2"]) == ("2001-03-02", ("DE 007", "DE 8"))
         assert "another animal" not in done.out and " 0 gone" in done.last

@@ -144,7 +144,7 @@ def test_id_like_a_day(desk: Desk) -> None:
     # with a zero it is told which it is
     done = desk.take(TITLES + OF_YEARS.format("3/12", "03/12"), "--book", "two")
     done.tells(
-        "line 6: 1/14: inferred: its dam '03/12' is 3/12, whose id differs in case, blanks or zeros alone: if another "
+        "line 6: 1/14: inferred: its dam '03/12' is 3/12, whose id differs only in case, blanks or zeros: if another "
         "is meant, give that one a row"
     )
 

@@ -24,12 +24,12 @@ def test_ids_unlike_others(desk: Desk) -> None:
     unlike += "--no-animal"
     done.tells(
         "line 33: 00420003 (alt: 00410001): to look at: is this row one animal? Its id has 00420003 and 00410001 in "
-        "it. It is taken as one: give each animal a row of its own, and write one id into its cell"
+        "it. It is taken as one: give each animal a row of its own, and write only one id in its cell"
     )
     assert told(done) == [
         f"line 32: 00420001/02: to look at: {unlike} 00420001/02",
         f"line 34: gez. Huber: to look at: {unlike} 'gez. Huber'",
-        f"line 35: 420004: to look at: its id has fewer digits than {OTHERS}: did a spreadsheet take its zeros?",
+        f"line 35: 420004: to look at: its id has fewer digits than {OTHERS}: did a spreadsheet drop its zeros?",
     ]
     again = desk.take(rows)
     assert not told(again) and "Its id has" not in again.told
@@ -42,7 +42,7 @@ def test_letters_of_other_alphabets(desk: Desk) -> None:
     done = desk.take(TITLES + rows + "К" + "A031a;m;2001-01-30;;\n")
     assert told(done) == [
         "line 30: КA031a: to look at: its id has a letter of another alphabet that looks like one of nearly all "
-        "others, such as KA001b: write it anew"
+        "others, such as KA001b: type it again"
     ]
 
 

@@ -44,7 +44,7 @@ def test_sums_that_are_left_out(desk: Desk) -> None:
     assert desk.numbers().keys() == {"a", "b"} and "2 left out (2 rows)" in done.last
     done = desk.take(sheet.replace("Summe: 2", "SUMME 3"))
     assert (
-        "as at the last time: --no-animal Total, --no-animal Summe" in done.out and "2 left out (2 rows)" in done.last
+        "as last time: --no-animal Total, --no-animal Summe" in done.out and "2 left out (2 rows)" in done.last
     )
     done = desk.take(sheet, "--animal", "Total")
     assert desk.numbers().keys() == {"a", "b", "9"} and "1 left out (1 row)" in done.last
@@ -111,7 +111,9 @@ def test_rows_like_titles(desk: Desk) -> None:
         assert "repeats" not in done.out and " 3 animals" in done.last
     titles = "Ohrmarke;Besitzer;Geschlecht;Geburt;Vater;Mutter;Name"
     done = desk.take(f"{FIRST_TITLES}{rows}{titles}\nc;Huber;w;3.3.2019;b;a;Cora;tot\n")
-    done.shows("line 5: c: the row is left out: it has 9 cells, and there are 8 titles: is there a separator too many?")
+    done.shows(
+        "line 5: c: the row is left out: it has 9 cells, and there are 8 titles: is there one separator too many?"
+    )
 
 
 NOT_AMONG = (
@@ -161,7 +163,7 @@ def test_cells_above_titles_below(desk: Desk) -> None:
     titles, rows = "Ohrmarke;Geburt;Vater;Mutter", "a;1.3.2015;;\nb;2.3.2015;;;x\n"
     done = desk.take(f"{titles}\n{rows}{titles};Farbe\nc;3.3.2019;;a;rot\n")
     done.tells(
-        "line 3: b: the row is left out: it has 6 cells, and there are 5 titles: is there a separator too many?",
+        "line 3: b: the row is left out: it has 6 cells, and there are 5 titles: is there one separator too many?",
         NOT_AMONG,
     )
     assert desk.parents() == {"a": ("", ""), "c": ("", "a")}

@@ -20,8 +20,8 @@ def test_exit_in_a_name(desk: Desk, name: str) -> None:
     """It is told of an animal that counts as living, and not of one that has an exit."""
     rows = f"a1;{name};f;2019-03-24;;;X;{{}}\na2;Eva;f;2019-03-02;;;X;\n"
     desk.take(TITLES + rows.format("")).shows(
-        f"line 2: a1: to look at: its name '{name}' {TELLS}: if it has left, write that into the column for exits, and "
-        "here the name alone"
+        f"line 2: a1: to look at: its name '{name}' {TELLS}: if it has left, enter that in the column for exits, and "
+        f"here only the name"
     )
     for exit in "2022-03-12", "verkauft":
         assert "its name" not in desk.take(TITLES + rows.format(exit), "--book", f"of {exit}").told
@@ -43,7 +43,7 @@ def test_exit_in_a_sex(desk: Desk, sex: str, is_told: bool) -> None:
     done = desk.take(TITLES + rows.format(""))
     told = (
         f"to look at: 1 cell of the column 'sex' seems to tell of an exit besides the sex, '{sex}' in line 2, and its "
-        "animal counts as living: if it has left, write that into the column for exits, and here the sex alone"
+        "animal counts as living: if it has left, enter that in the column for exits, and here only the sex"
     )
     assert (told in done.out) == is_told and "F" in desk.numbers()["a1"]
     assert "of an exit besides" not in desk.take(TITLES + rows.format("2022-03-12")).told
@@ -65,7 +65,7 @@ def test_exit_in_an_id(desk: Desk, id: str) -> None:
     for options in ("--preview",), ():
         done = desk.take(TITLES + rows.format(""), *options)
         done.shows(
-            f"{told}, which counts as living: if it has left, write that into the column for exits, and here the id alone"
+            f"{told}, which counts as living: if it has left, enter that in the column for exits, and here only the id"
         )
         assert " 0 new, 0 changed, 0 inferred, 0 left out, 0 added, 0 gone" in done.last
     desk.take(TITLES + rows.format("2022-04-03")).tells(told)
@@ -119,7 +119,7 @@ def test_two_animals_in_a_row(desk: Desk, id: str) -> None:
     """Also where the second id has its last digits alone, in a short list."""
     desk.take(TITLES + FOUR.format(f'"{id}"', "")).shows(
         f"line 4: {id}: to look at: is this row one animal? Its id has DE103 and DE104 in it. It is taken as one: give "
-        "each animal a row of its own, and write one id into its cell"
+        "each animal a row of its own, and write only one id in its cell"
     )
 
 
@@ -143,7 +143,7 @@ def test_two_ids_in_a_cell(desk: Desk, id: str, parts: str) -> None:
     rows = f"DE 01 07 00400001;Rosl;f;2015-03-02;;;X;\n{id};Max;m;2021-03-02;;;X;\n"
     rows += "DE 01 07 00400004;Ute;f;2015-03-02;;;X;\n"
     done = desk.take(TITLES + rows)
-    done.shows(f"line 3: {told}a row of its own, and write one id into its cell")
+    done.shows(f"line 3: {told}a row of its own, and write only one id in its cell")
     more = "".join(f"DE 01 07 004001{at:02};A;f;2015-03-02;;;X;\n" for at in range(40))
     done = desk.take(TITLES + rows + more, "--book", "long")
     assert told in done.out and "unlike nearly all others" not in done.out
@@ -201,7 +201,7 @@ def test_exchanged_days(desk: Desk) -> None:
     desk.take(days(*EXCHANGED)).shows(
         "to look at: a spreadsheet seems to have exchanged day and month in 'birth': none of its 3 days is later in a "
         "month than the 12th, and each of the 2 that it kept as text is, such as 17/03/2020 in line 3. 2020-05-03 in "
-        "line 2 may be 2020-03-05: write these days anew, where the spreadsheet has the day first"
+        "line 2 may be 2020-03-05: type these days again, where the spreadsheet has the day first"
     )
 
 

@@ -54,7 +54,7 @@ def test_taken_over(old_desk: Desk) -> None:
 def test_taken_after_it(old_desk: Desk) -> None:
     """What it remembers is used, and the animal that was dropped gets its number again."""
     done = old_desk.take(SHEET)
-    assert "as at the last time: --columns id=Tag,sex=S,owner=Hof (the book remembers these)" in done.out
+    assert "as last time: --columns id=Tag,sex=S,owner=Hof (the book remembers these)" in done.out
     assert " 7 animals, 1 new, 0 changed," in done.last
     assert old_desk.numbers()["g"] == "SKUGBRF000000000003"
     assert old_desk.text("book/old/ids.csv") == FILES["ids.csv"]

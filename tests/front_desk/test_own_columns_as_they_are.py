@@ -33,7 +33,7 @@ def as_cut(count: int, text: str) -> str:
     many = f"{count} cells of the column 'Chip' are left out, the first in line 2"
     begins = many if count > 1 else "1 cell of the column 'Chip' is left out, in line 2"
     return (
-        f"{begins}: '{text}' is a long number that the spreadsheet has cut; what the book has stays: give the column "
+        f"{begins}: '{text}' is a long number that the spreadsheet has cut; the book keeps what it has: give the column "
         "the format text, or number without decimals, save the sheet again, and take that"
     )
 
@@ -41,7 +41,7 @@ def as_cut(count: int, text: str) -> str:
 @pytest.mark.parametrize("kind", ["text", "number", "choice"])
 @pytest.mark.parametrize("cut", ["9.8102E+14", "9,81E+14", "9.8102e+14"])
 def test_numbers_that_are_cut(desk: Desk, kind: str, cut: str) -> None:
-    """They are told in one line with their count, what the book has stays, and a new animal gets none."""
+    """They are told in one line with their count, the book keeps what it has, and a new animal gets none."""
     desk.take(dogs("Chip", CHIPS), "--own", f"Chip={kind}")
     done = desk.take(dogs("Chip", [cut] * 31))
     assert values(desk, "Chip") == [*CHIPS, ""]
@@ -61,7 +61,7 @@ def test_numbers_that_are_cut(desk: Desk, kind: str, cut: str) -> None:
      ("yes-no", "ja", "write yes or no")],
 )  # fmt: skip
 def test_many_cells_that_cannot_be_read(desk: Desk, kind: str, good: str, advice: str) -> None:
-    """They are told in one line with the first of them; the report has each, and what the book has stays."""
+    """They are told in one line with the first of them; the report has each, and the book keeps what it has."""
     desk.take(dogs("Weight", [good] * 3), "--own", f"Weight={kind}")
     before = values(desk, "Weight")[0]
     cells = [good, *(f"ca. {at} kg" for at in range(40)), ""]

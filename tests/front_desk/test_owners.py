@@ -259,9 +259,9 @@ def test_owners_that_are_alike(desk: Desk) -> None:
     for _ in range(2):
         done = desk.take(TITLES + PARENTS + "\n".join(rows))
         done.shows(
-            "to look at: the owners 'Groß A' (1 animal) and 'Groß, A.' (1 animal) and 'gross a' (1 animal) differ in "
-            "case, accents, umlauts, blanks or signs alone: if they are one, write the name alike in all rows, and take "
-            "the sheet again"
+            "to look at: the owners 'Groß A' (1 animal) and 'Groß, A.' (1 animal) and 'gross a' (1 animal) differ only "
+            "in case, accents, umlauts, blanks or signs: if they are one, write the name the same way in all rows, and "
+            "take the sheet again"
         )
         assert done.out.count("differ in case") == 2
     assert "differ in case" not in desk.take(TITLES + PARENTS).out

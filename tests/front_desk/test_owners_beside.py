@@ -50,7 +50,8 @@ def test_first_names_of_others(desk: Desk) -> None:
     rows = "A1;Meier;Hans;{0};2010;;\nA2;Egli;Leo;{0};2010;;\nA3;Egli;Rita;Huber;2010;;\n"
     done = desk.take("Id;Züchter;Vorname;Besitzer;Birth;Sire;Dam\n" + rows.format("Meier"))
     told = "'Meier' in 'Besitzer' stands beside 'Hans' in line 2 and 'Leo' in line 3, in 'Vorname', which isn't read: "
-    told += "they count as one owner; if 'Vorname' has the owners' first names, put it behind 'Besitzer'\n"
+    told += "they count as one owner; if 'Vorname' has the owners' first names, move that column to right after "
+    told += "'Besitzer'\n"
     assert done.out.startswith(f"to look at: {told}")
     assert owners_listed(desk) == ["Meier", "Meier", "Huber"]
     farms = desk.take("Id;Name;Vorname;Betrieb;Birth;Sire;Dam\n" + rows.format("Hof Süd"), "--book", "farms")
@@ -67,13 +68,13 @@ def test_keepers(desk: Desk, title: str, keeper: str) -> None:
     done = desk.take(sheet.format(rows))
     done.shows(
         f"to look at: 1 row has nothing in '{title}', and 'Huber' in '{keeper}', in line 3: no owner is taken from "
-        f"there; if it is the owner, write it into '{title}'"
+        f"there; if it is the owner, enter it in '{title}'"
     )
     assert owners_listed(desk) == ["Huber", "", "Huber"]
     done = desk.take(sheet.format(rows + "A4;Egli;?;2010;;\nA5;-;;2010;;\nA6;;;2010;;\n"))
     done.shows(
         f"to look at: 2 rows have nothing in '{title}', and a name in '{keeper}', the first 'Huber' in line 3, the "
-        f"others in 5: no owner is taken from there; if they are the owners, write them into '{title}'"
+        f"others in 5: no owner is taken from there; if they are the owners, enter them in '{title}'"
     )
     done = desk.typed(done.commands()[0])
     assert owners_listed(desk)[:4] == ["Huber", "Huber", "Meier", "Egli"] and "no owner is taken" not in done.out

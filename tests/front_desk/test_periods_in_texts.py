@@ -47,7 +47,7 @@ def test_births_within_periods(desk: Desk) -> None:
                "line 6 is read as 2020-05-01 to 2020-06-30, and the others alike")  # fmt: skip
     done.tells("to look at: one of several days in 1 cell of the column 'birth': '??.04.2019' in line 5 is read as "
                "2019-04-01 to 2019-04-30")  # fmt: skip
-    assert "'??.04.2019' tells of an exit that isn't sure" not in done.told
+    assert "'??.04.2019' tells of an exit that isn't certain" not in done.told
     born = desk.born()
     for id, cell in zip("3456", cells):
         first, last = PERIODS[cell]

@@ -35,7 +35,7 @@ def test_young_parents(desk: Desk) -> None:
     # the limit stays with the book
     done = desk.take(TITLES + rows)
     assert "to look at" not in done.out
-    done.shows("columns as at the last time")
+    done.shows("columns as last time")
     done = desk.take(TITLES + rows, "--youngest", "300")
     done.tells(
         "line 4: c: to look at: its dam d (line 3) was 149 days old at its birth, less than 300; if that can be, say "

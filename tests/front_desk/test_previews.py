@@ -49,9 +49,9 @@ def test_many_refusals_of_one_cause(desk: Desk) -> None:
     done = desk.take(TITLES + rows)
     done.tells(
         "line 2: s: it isn't male (refusal 5): it is left out as the sire of 10 animals (lines 3, 4, 5, 6, 7, 8, 9, "
-        "10, 11 and 1 more): if it is, mend its sex",
+        "10, 11 and 1 more): if it is, correct its sex",
         "line 13: t: it isn't male (refusal 5): it is left out as the sire of 3 animals (lines 14, 15, 16): if it is, "
-        "mend its sex",
+        "correct its sex",
     )
     assert done.out.count("refusal 5") == 2
     assert sum(row["what"] == "left out" for row in desk.table("book/report.csv")) == 13

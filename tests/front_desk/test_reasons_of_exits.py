@@ -104,7 +104,7 @@ def test_reasons_beside_a_status(desk: Desk) -> None:
     assert "status from 'Motif de sortie'; not read: 'Statut'\n" in done.out and told in done.out
     done.shows(
         "to look at: the column 'Statut' isn't read for exits, and 1 cell of it tells that an animal left which has no "
-        "exit: 'Sortie' in line 7; the animal counts as living: if it left, write that into the column for exits"
+        "exit: 'Sortie' in line 7; the animal counts as living: if it left, enter that in the column for exits"
     )
 
 
@@ -159,7 +159,7 @@ def test_state_that_is_no_exit(desk: Desk, titles: str) -> None:
     rows = "".join(f"a{at};M;2001-01-01;;;{beside}{cell}\n" for at, cell in enumerate(cells))
     rows += "p;M;2001-01-01;;;2010-01-01;Endorsed\n" if beside else ""
     done = desk.take(f"id;sex;birth;sire;dam;{titles}\n" + rows)
-    told = "5 cells of the column 'Status' tell of something else than exits, the first in line 2: 'Not for export'"
+    told = "5 cells of the column 'Status' tell of something other than exits, the first in line 2: 'Not for export'"
     assert told in done.told
     living = {one["id"] for one in desk.listed("list", "--living")}
     assert living == {"a0", "a1", "a2", "a3", "a4", "a7", "a8"}
@@ -244,7 +244,7 @@ def test_cross_in_another_status(desk: Desk) -> None:
     told = desk.take(HORSES.replace("Propriétaire;", "Propriétaire;Statut;") + rows, "--columns", "status=Motif de sortie")
     told.shows(
         "to look at: the column 'Statut' isn't read for exits, and 1 cell of it tells that an animal left which has no "
-        "exit: '† 03/2026' in line 3; the animal counts as living: if it left, write that into the column for exits"
+        "exit: '† 03/2026' in line 3; the animal counts as living: if it left, enter that in the column for exits"
     )
 
 

@@ -29,7 +29,7 @@ def test_exits(desk: Desk, text: str) -> None:
     done = desk.take(TITLES + PAIR + rows + OTHERS)
     done.tells(
         f"to look at: {OF_EXITS}1 cell of it tells that an animal left which has no exit: '{text}' in line 4; the animal "
-        "counts as living: if it left, write that into the column for exits"
+        "counts as living: if it left, enter that in the column for exits"
     )
     assert OF_SEXES not in done.told
 
@@ -96,7 +96,7 @@ def test_castrated(desk: Desk, text: str) -> None:
     done = desk.take(TITLES + PAIR + rows + said)
     done.tells(
         f"to look at: {OF_SEXES}2 cells of it tell that animals are castrated whose sexes don't, the first is '{text}' in "
-        "line 4; they count as not castrated: if one is, write that into the column for sexes, as male castrated"
+        "line 4; they count as not castrated: if one is, enter that in the column for sexes, as male castrated"
     )
     assert OF_EXITS not in done.told
     mended = desk.take(TITLES + PAIR + rows.replace(",m,", ",male castrated,"))

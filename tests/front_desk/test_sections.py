@@ -31,7 +31,7 @@ def test_section_without_an_id(desk: Desk) -> None:
         "line 2: the row is left out: it has no id; it says 'Böcke'",
         "line 5: the row is left out: it has no id; it says 'Hof Süd'",
         "to look at: 'Hof Süd' in line 5 stands above animals without an owner (1): nothing is read from such a row; "
-        "if it names their owner, write that into a column for the owners",
+        "if it names their owner, enter that in a column for the owners",
         "line 2: to look at: 'Böcke' stands above 2 animals whose rows say no sex, and they count as female, the "
         "first is A 2 (line 3): nothing is read from such a row; write male into a column for the sex",
     )
@@ -43,7 +43,7 @@ def test_sections_of_owners(desk: Desk) -> None:
     done = desk.take(f"id;name;birth;sire;dam;owner\n{rows}")
     done.shows(
         "to look at: 2 rows, the first is 'Hof Süd' in line 2, stand above animals without an owner (3): nothing is "
-        "read from such rows; if they name their owners, write these into a column for the owners"
+        "read from such rows; if they name their owners, enter these in a column for the owners"
     )
     owned = rows.replace("2015-03-02;;;", "2015-03-02;;;Huber")
     assert "without an owner" not in desk.take(f"id;name;birth;sire;dam;owner\n{owned}", "--book", "other").told
@@ -70,11 +70,11 @@ def test_sections_of_a_litter(desk: Desk) -> None:
     rows = "A101;Foo;2012-05-13;;\nA102;Bar;2012-05-13;;\n{};;;;\nA103;Baz;;;\n"
     litter = "Litter whelped 14th June 2022 - Sire: Foo Dam: Bar"
     done = desk.take("id;name;birth;sire;dam\n" + rows.format(litter))
-    lost = "; what it says of the rows below isn't read: write their days, parents and owners into their own cells"
+    lost = "; what it says of the rows below isn't read: enter their days, parents and owners in their own cells"
     done.shows(f"line 4: the row is left out: '{litter}' {LEFT_OUT}{lost}")
     done.shows(
         f"line 4: to look at: '{litter}' stands above A103 (line 5), of which nothing shows the birth day: it gets "
-        "1900-01-01, the earliest that a book can have; write its day into its own cell"
+        "1900-01-01, the earliest that a book can have; enter its day in its own cell"
     )
     done = desk.take("id;name;birth;sire;dam\n" + rows.format("--- Jahrgang 2020 ---"), "--book", "other")
     done.shows(f"line 4: the row is left out: '--- Jahrgang 2020 ---' {LEFT_OUT}")
@@ -87,7 +87,7 @@ def test_section_of_exits(desk: Desk, heading: str) -> None:
     done = desk.take(f"id;name;birth;sire;dam;exit\n{rows}", "--preview")
     done.shows(
         f"line 3: to look at: '{heading}' stands above A 3 (line 5), which counts as living: nothing is read from such a "
-        "row; if it has left, write a day, or a word such as sold, verkauft or vendu, into a column for exits"
+        "row; if it has left, enter a day, or a word such as sold, verkauft or vendu, in a column for exits"
     )
     done = desk.take(f"id;name;birth;sire;dam;exit\n{rows.replace(heading, 'Zu verkaufen')}", "--preview")
     assert "counts as living: nothing is read" not in done.told

@@ -24,7 +24,7 @@ def test_remembered(desk: Desk) -> None:
     before = desk.commands()
     done = desk.take(sheet)
     done.tells(
-        "as at the last time: --columns id=Tag,sex=S, --unknown fremd, --sexes Bk=m,Schf=f (the book "
+        "as last time: --columns id=Tag,sex=S, --unknown fremd, --sexes Bk=m,Schf=f (the book "
         "remembers these)"
     )
     assert desk.commands() == before

@@ -38,7 +38,7 @@ def test_words(desk: Desk, sentence: NotSuch, most: int, words: list[str]) -> No
 
 
 def test_sheet(desk: Desk) -> None:
-    """A cell that is too long is left out, and of a long id the row; what the book has stays."""
+    """A cell that is too long is left out, and of a long id the row; the book keeps what it has."""
     desk.take(SHEET)
     long = {"name": "n" * 121, "owner": "o" * 201, "sire": "s" * 121, "dam": "d" * 61}
     row = f"a,{long['name']},F,2001-01-01,{long['sire']},{long['dam']},{long['owner']}\n"
@@ -67,8 +67,8 @@ def test_unseen(desk: Desk) -> None:
     unless the book has the animal by this id."""
     odd = "id,name,sex,born,sire,dam,owner\na,Be\x1blla,F,2001-01-01,,,Mi\u202ell\nb\u2066,Ben,M,2001-01-02,,,Mill\n"
     done = desk.take(odd)
-    done.tells("to look at: 2 cells have signs that no one sees, the first in line 2: they are read without them")
-    done.tells("line 3: the row is left out: its id 'b' has a sign within that no one sees: write it by hand")
+    done.tells("to look at: 2 cells have invisible characters, the first in line 2: they are read without them")
+    done.tells("line 3: the row is left out: its id 'b' has an invisible character in it: type it again")
     listed = desk.listed("list", "--columns", "id,name,owner")
     assert [(row["id"], row["name"], row["owner"]) for row in listed] == [("a", "Bella", "Mill")]
     rows, unseen = [SheetRow(2, ["b", ""]), SheetRow(3, ["c", "b"])], {(2, 0): "b\x7f", (3, 1): "b\x7f"}
@@ -93,7 +93,7 @@ def test_unseen_in_free_texts(desk: Desk, tmp_path: pathlib.Path) -> None:
             desk.wrong(told, *words)
         column = OwnColumn(1, text, OwnKind.TEXT)
         for one in column, column._replace(title="Colour", kind=OwnKind.CHOICE, choices=("red", text)):
-            with pytest.raises(InvalidValue, match="has a sign within that no one sees"):
+            with pytest.raises(InvalidValue, match="has an invisible character in it"):
                 checked(one, [])
     desk.wrong(NotSuch.UNSEEN.said(text="x" * 60 + "…"), "note", "a", "x" * 100 + "\x1b")
     desk.wrong(NotSuch.LONG_SETTING.said(letters=2_001, most=2_000), "settings", "--address", "x" * 2_001)

@@ -67,7 +67,7 @@ def test_names_of_parents_beside(desk: Desk, title: str) -> None:
         "meant, write the id of that one",
         f"to look at: 3 rows have nothing in 'Mutter', and a parent in '{title}', which isn't read, the first 'Rosl' "
         f"in line "
-        "6, the others in 7, 8: these parents count as unknown; write them into 'Mutter'",
+        "6, the others in 7, 8: these parents count as unknown; enter them in 'Mutter'",
     )
 
 
@@ -87,7 +87,7 @@ def test_parents_by_words_for_sexes(desk: Desk, titles: str) -> None:
     for _ in range(2):
         done = desk.take(f"Id;Name;Sex;Birth;{titles}\n{rows}")
         told = [f"nothing in '{of_sire}', and 'Rex' in '{sire}'", f"nothing in '{of_dam}', and 'Lady' in '{dam}'"]
-        assert all(one in done.told for one in told) and "as at the last time, and" not in done.told
+        assert all(one in done.told for one in told) and "as last time, and" not in done.told
         told = [line for line in done.report if f"its sire A1 is 'Pat', and '{sire}' has 'Ruby', which is A3" in line]
         assert len(told) == 1 and desk.parents()["A4"] == desk.parents()["A6"] == ("A1", "A2")
 

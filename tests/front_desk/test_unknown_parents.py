@@ -75,7 +75,7 @@ def test_words_for_no_owner() -> None:
 
 
 def test_error_values(desk: Desk) -> None:
-    """They are empty in any cell, and told; what the book has stays."""
+    """They are empty in any cell, and told; the book keeps what it has."""
     rows = "s;M;2001-01-01;;\n" + "".join(f"a{at};F;2004-01-01;s;\n" for at, _ in enumerate(ERRORS))
     rows += "".join(f"c{at};F;2005-01-01;;a0\n" for at in range(20))
     desk.take(TITLES + rows)
@@ -92,7 +92,7 @@ def test_error_values(desk: Desk) -> None:
     # a number of signs tells of something else
     done.shows(
         "to look at: 1 cell of 'dam' is '####', in line 16: the column was too narrow when the sheet was saved; it "
-        "counts as empty, and what the book has stays; widen the column, save the sheet again, and take that"
+        "counts as empty, and the book keeps what it has; widen the column, save the sheet again, and take that"
     )
     assert " 15 left out (15 cells)" in done.last
 
@@ -127,7 +127,7 @@ def test_narrow_columns(desk: Desk) -> None:
     """What a spreadsheet shows where a column is too narrow is mended there."""
     rows = "".join(f"a{at};F;########;;\n" for at in range(3)) + "b;F;2001-01-01;;\n"
     desk.wrong(
-        "3 of 4 cells of the column 'birth' (birth) are signs # alone, since the column was too narrow when the sheet "
+        "3 of 4 cells of the column 'birth' (birth) show only # signs, since the column was too narrow when the sheet "
         "was "
         "saved: widen it, save the sheet again, and take that", "import", desk.write("sheet.csv", TITLES + rows)
     )  # fmt: skip

@@ -29,9 +29,9 @@ def test_inferred(desk: Desk, text: str, wanted: str) -> None:
     for _ in range(2):
         done = desk.take(sheet)
         done.tells(
-            f"to look at: 2 cells of the column 'Geschlecht' have a sex that isn't sure, the first '{text}' in line 4: it is "
-            "inferred, and taken where nothing else says the sex",
-            f"line 4: a3: inferred: sex {sex}, and its cell isn't sure: '{text}'",
+            f"to look at: 2 cells of the column 'Geschlecht' have a sex that isn't certain, the first '{text}' in line 4: "
+            "it is inferred, and taken where nothing else says the sex",
+            f"line 4: a3: inferred: sex {sex}, and its cell isn't certain: '{text}'",
         )
         shown = sex_of(desk, "a3")
         assert shown.startswith(sex) and "inferred" in shown and ("castrated" in shown) == ("castrated" in wanted)
@@ -43,9 +43,9 @@ def test_other_sources(desk: Desk) -> None:
     """A parent is of the sex of its role, and what the book has given stays."""
     rows = "a3,m?,2017-03-13,a2,a1\na4,w,2017-03-13,a2,a1\na5,m,2020-03-13,a2,a3\n"
     done = desk.take(TITLES + PAIR + rows)
-    done.tells("line 4: a3: inferred: sex female, since it is a dam, and its cell isn't sure: 'm?'")
+    done.tells("line 4: a3: inferred: sex female, since it is a dam, and its cell isn't certain: 'm?'")
     done = desk.take(TITLES + PAIR + rows.replace("a4,w", "a4,M castré?"))
-    done.tells("line 5: a4: inferred: sex female, as in the book, and its cell isn't sure: 'M castré?'")
+    done.tells("line 5: a4: inferred: sex female, as in the book, and its cell isn't certain: 'M castré?'")
     assert desk.parents()["a5"] == ("a2", "a3")
     assert sex_of(desk, "a4") == "female" and sex_of(desk, "a3").startswith("female")
 

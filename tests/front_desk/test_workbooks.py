@@ -54,12 +54,12 @@ def test_two_worksheets_fit(desk: Desk, workbook: openpyxl.Workbook) -> None:
     assert "1 animal" in desk.typed(done.commands()[2]).last
     # the one that was named is taken again, and told, unless another one came that fits
     done = desk.good("import", "sheet.xlsx")
-    assert "as at the last time: --worksheet 'Stand 2019' (the book remembers these)" in done.out
+    assert "as last time: --worksheet 'Stand 2019' (the book remembers these)" in done.out
     assert " 0 changed" in done.last
     assert "the worksheet 'Stand 2019' of an .xlsx file; not read: 'Deckblatt', 'Tiere'" in done.out
     done = desk.good("import", "sheet.xlsx", "--worksheet", "Tiere")
     assert "--worksheet" not in done.out and " 1 new" in done.last
-    assert "as at the last time: --worksheet Tiere" in desk.good("import", "sheet.xlsx").out
+    assert "as last time: --worksheet Tiere" in desk.good("import", "sheet.xlsx").out
     another = workbook.create_sheet("Stand 2020")
     for row in workbook["Tiere"].values:
         another.append(row)
@@ -125,8 +125,8 @@ def test_what_cells_show_besides(desk: Desk, workbook: openpyxl.Workbook) -> Non
     save(desk, workbook)
     done = desk.good("import", "sheet.xlsx")
     done.tells(
-        "to look at: 1 cell has a note, which isn't read: 'laut Probe nicht der Vater' at D3; write into cells what "
-        "the book is to have"
+        "to look at: 1 cell has a note, which isn't read: 'laut Probe nicht der Vater' at D3; write in cells what the "
+        "book is to have"
     )
     assert "struck through" not in done.told
     for cell in sheet[3]:
@@ -135,7 +135,8 @@ def test_what_cells_show_besides(desk: Desk, workbook: openpyxl.Workbook) -> Non
     sheet["A2"].comment = openpyxl.comments.Comment("neu", "Huber")
     save(desk, workbook)
     desk.good("import", "sheet.xlsx").tells(
-        "to look at: 2 cells have a note, which isn't read, the first 'neu' at A2; write into cells what the book is to have",
+        "to look at: 2 cells have a note, which isn't read, the first 'neu' at A2; write in cells what the book is to "
+        "have",
         "to look at: text is struck through in 1 row, line 3, which is taken like all others: if its animal has left, "
         "write an exit",
     )
@@ -231,7 +232,7 @@ def test_colored_rows(desk: Desk, workbook: openpyxl.Workbook, color: openpyxl.s
     told = "a fill of another colour than the others"
     said = f"2 rows have {told}, the first is line 7: nothing is read from it; if it means something, as that animals have"
     done = desk.good("import", "sheet.xlsx")
-    assert done.out.count(told) == 1 and f"to look at: {said} left, write that into a column" in done.out
+    assert done.out.count(told) == 1 and f"to look at: {said} left, enter that in a column" in done.out
     for at in range(1, 40):
         for cell in sheet[at]:
             cell.fill = RED if at == 8 else fill
@@ -274,7 +275,7 @@ def test_names_like_truth_values(desk: Desk, workbook: openpyxl.Workbook) -> Non
         sheet.cell(at, 7, embryo)
     save(desk, workbook)
     done = desk.good("import", "sheet.xlsx")
-    made = "which spreadsheets make of some words: if it is another, write it as text"
+    made = "which spreadsheets make of some words: if something else is meant, write that as text"
     done.tells(f"line 2: B1: to look at: its name is TRUE, {made}")
     assert sum(made in sentence for sentence in done.report) == 1
     assert [row["name"] for row in desk.table("book/ids.csv")] == ["TRUE", "True Love"]

@@ -25,7 +25,7 @@ SAID = (
     "1 cell of the column 'Mère' has a mark for the cell above, and nothing stands there: dito in line 6",
     "an animal is called 'Idem', so 1 cell of the column 'Mère', in line 7, means that one",
     "one of several days in 1 cell of the column 'Né(e) le': '31.05./01.06.2020' in line 6 is read as 2020-05-31 to 2020-",
-    "a day that isn't sure in 1 cell of the column 'Né(e) le': '1/4/2021 (est.)' in line 7 is read as 2021-04-01",
+    "a day that isn't certain in 1 cell of the column 'Né(e) le': '1/4/2021 (est.)' in line 7 is read as 2021-04-01",
     "its name is the day 03-déc., which spreadsheets make of texts such as 3/12",
     "'EN COURS' reads like no id, but as if the animal had none yet",
     "'Éleveur' stands where 1 animal has its owner, and doesn't look like a name",

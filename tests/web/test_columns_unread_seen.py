@@ -29,7 +29,8 @@ ROWS = (
 )
 SAID = {
     "en": (
-        "no column of exits is found, and 'Letzter Tag' isn't read, whose 3 days are all behind the births, the first '03.",
+        "no column of exits is found, and 'Letzter Tag' isn't read, whose 3 days are all later than the births, the "
+        "first '03.",
         "the dam of 1 animal is read from 'genetische Mutter', '003' in line 6: '002' in 'Mutter' carried it",
         "1 row has no dam in 'Mutter', and '003' in 'Leihmutter', in line 7: who carries an animal isn't its dam",
         "'Vater gemäss DNA' isn't read, and has another sire than 'Vater' in 1 row: '004' and not '001', in line 6",

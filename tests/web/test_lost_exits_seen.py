@@ -14,7 +14,7 @@ LOST = TITLES.format("Verkauft am") + ROWS.format(*[""] * 6, "3.3.2021")
 EMPTY = TITLES.format("Gestorben am;Verkauft am") + ROWS.format(*[";"] * 7)
 SAID = {
     "en": (
-        "no column 'Gestorben am' is found, from which exits were read at the last time, and 'Verkauft am' tells of no exit",
+        "no column 'Gestorben am' is found, from which exits were read last time, and 'Verkauft am' tells of no exit",
         "the column 'Gestorben am' tells of no exit, and 7 animals that had left would count as living again, the first are",
     ),
     "de": (

@@ -30,7 +30,7 @@ def test_row_of_a_total(empty_site: Site, total: str) -> None:
     # the next year the total stands elsewhere
     address, page = look_at(site, text + "190;;w;2015-01-01;001;002;Huber\n" + total + "\n")
     assert "Animals with a row 13 of these new 1 of these in the book already 12" in shown(page)
-    assert "As at the last time: Rows that are no animals:" in shown(page)
+    assert "As last time: Rows that are no animals:" in shown(page)
     page = press(site, address, page, "It is an animal: take line 15")
     assert "Animals with a row 14" in shown(page) and "this row looks like a total" in shown(page)
 

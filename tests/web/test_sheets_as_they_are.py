@@ -281,7 +281,7 @@ def test_id_unlike_others(empty_site: Site, language: str) -> None:
     rows = "".join(f"00410{at:03};;w;01.02.2010;;;Huber Hans;;\n" for at in range(1, 30))
     address, page = look_at(empty_site, f"{TITLES}{rows}gez. Huber;;;03.01.2024;;;;;\n410777;;w;01.02.2010;;;;;\n")
     told = shown(part(page, "May be wrong", language))
-    fewer = "its id has fewer digits than nearly all others, such as {usual}: did a spreadsheet take its zeros?"
+    fewer = "its id has fewer digits than nearly all others, such as {usual}: did a spreadsheet drop its zeros?"
     said = words.gettext(fewer).format(usual="00410001").replace("\u00a0", " ")
     assert said in told and told.count("00410001") == 2
     page = press(empty_site, address, page, words.gettext("Leave out line {}", "31"))
@@ -294,7 +294,7 @@ def test_id_unlike_others(empty_site: Site, language: str) -> None:
 @pytest.mark.parametrize(
     "language, words",
     [
-        ("en", ("tell of something else than exits", "has 'alte Marke 003'", "did that one get a new tag?")),
+        ("en", ("tell of something other than exits", "has 'alte Marke 003'", "did that one get a new tag?")),
         ("de", ("etwas anderes als einen Abgang", "hat „alte Marke 003“", "hat dieses eine neue Marke?")),
         ("fr", ("disent autre chose qu'une sortie", "a « alte Marke 003 »", "celui-ci a-t-il une nouvelle boucle ?")),
     ],

@@ -53,7 +53,7 @@ class NotSuch(Message):
     LONG_NAME = "a name has {most} letters at most, and this one has {letters:,}: write a shorter one"
     LONG_SETTING = "a setting has {most} letters at most, and this one has {letters:,}: write a shorter one"
     LONG_OWNER = "an owner's name has {most} letters at most, and this one has {letters:,}: write a shorter one"
-    UNSEEN = "'{text}' has a sign within that no one sees: write it by hand, and don't copy it"
+    UNSEEN = "'{text}' has an invisible character in it: type it instead of copying it"
     # a birth
     NO_ID = "an animal needs an id: write one"
     NO_ANIMALS_ID = "'{word}' is a word for an unknown parent: give the animal another id"
@@ -83,8 +83,8 @@ class Mating(Message):
     NONE_SO_OLD = "none is so old: ask for fewer days by --minimum-age, or for all by --minimum-age 0"
     # what a plan assumes
     ASSUMED_AGE = (
-        "assumed: parents are {days:,} days old at least, as nineteen of twenty of the book's {parents:,} were at their "
-        "first offspring (left out: {count}); --minimum-age says otherwise"
+        "assumed: parents are {days:,} days old at least, as nineteen of twenty of the book's {parents:,} were at "
+        "their first offspring (left out: {count}); --minimum-age says otherwise"
     )
     ASSUMED_YEAR = (
         "assumed: parents are {days:,} days old at least (left out: {count}); --minimum-age says otherwise"

@@ -86,7 +86,7 @@ MOST_LETTERS = 60
 SHORTENED = re.compile(r"\d{1,2}(?:\.|er|st|nd|rd|th)", re.IGNORECASE)
 # how far the first may lie before the last: a number farther away may be another one
 DAYS_BEFORE = [datetime.timedelta(days) for days in range(1, 8)]
-# a day that isn't sure; `est né` is French
+# a day that isn't certain; `est né` is French
 UNSURE = re.compile(
     r"[?~≈±]|\bc\.(?= ?\d)|\b(?:est(?! n[ée])|estd|estim\w*|approx\w*|about|around|circa|ca|ungefähr|ungef|etwa|"
     r"geschätzt|gesch|schätzungsweise|vermutlich|verm|wahrscheinlich|wahrsch|vielleicht|evtl|eventuell|vers|environ|"

@@ -20,12 +20,12 @@ class ImportFault(Message):
     NEW_TAG_IS_THERE = "--new-tag {word}: the book has another animal with the id {now}"
     REFUSED_ON = "{where}{command} on {day} is refused: {refusal} (refusal {number})"
     REFUSED = "{where}{command} is refused: {refusal} (refusal {number})"
-    NOTHING_TAKEN = "nothing is taken (refused: {count}): mend these rows, and take the sheet again"
+    NOTHING_TAKEN = "nothing is taken (refused: {count}): correct these rows, and take the sheet again"
     PARENT_REFUSED = "{where}{refusal} (refusal {number})"
     SHEET_TOO_LARGE = (
-        "the sheet and the book have {animals:,} animals together, and a book holds at most {most:,}: leave out animals "
-        "that aren't ancestors of any other, and take the rest with --drop-gone. To leave out ancestors, such as the "
-        "oldest animals, changes coefficients"
+        "the sheet and the book have {animals:,} animals together, and a book holds at most {most:,}: leave out "
+        "animals that aren't ancestors of any other, and take the rest with --drop-gone. To leave out ancestors, such "
+        "as the oldest animals, changes coefficients"
     )
     PEDIGREE_TOO_LARGE = (
         "the pedigree and the book have {animals:,} animals together, and a book holds at most {most:,}: name those "
@@ -34,12 +34,12 @@ class ImportFault(Message):
     )
     TOO_DEEP = "{where}a path of parents would be longer than {most} steps, which is the limit (refusal 10)"
     LONGEST_PATH = (
-        "the longest path has {steps} steps, {more} more than {most}, from {youngest} up to {oldest}; its oldest animal "
-        "is {top}"
+        "the longest path has {steps} steps, {more} more than {most}, from {youngest} up to {oldest}; its oldest "
+        "animal is {top}"
     )
     LONGEST_PATHS = (
-        "the longest path has {steps} steps, {more} more than {most}, from {youngest} up to {oldest}; its oldest {more} "
-        "animals are {top}"
+        "the longest path has {steps} steps, {more} more than {most}, from {youngest} up to {oldest}; its oldest "
+        "{more} animals are {top}"
     )
     TO_CUT = (
         "set the parents of this animal to unknown, and no path is too long: {cut}. That changes coefficients: an "

@@ -56,7 +56,7 @@ class Understood:
 
     def lines(self) -> list[str]:
         read = ", ".join(one.words() for one in self.columns)
-        columns = "columns as at the last time" if self.as_before else f"columns: {read}"
+        columns = "columns as last time" if self.as_before else f"columns: {read}"
         kept = some_of([f"'{title}'" for title in self.kept], MOST_TITLES)
         untitled = [f"column {letters} (without a title)" for letters in self.untitled]
         titles = some_of([f"'{title}'" for title in self.not_read] + untitled, MOST_TITLES)
@@ -68,7 +68,7 @@ class Understood:
             options = ", ".join(
                 f"{one.option} {shlex.quote(one.word)}" if one.word else one.option for one in self.remembered
             )
-            lines.append(f"as at the last time: {options} (the book remembers these)")
+            lines.append(f"as last time: {options} (the book remembers these)")
         return lines
 
 

@@ -82,7 +82,7 @@ def sentence_of_all(entries: list[Entry]) -> str:
     )
     return (
         f"{where}{found.parent}: {WRONG[found.refusal]} (refusal {found.refusal}){source}: it is left out as the "
-        f"{found.role} of {len(entries)} animals (lines {lines}{more}): if it is, mend its sex"
+        f"{found.role} of {len(entries)} animals (lines {lines}{more}): if it is, correct its sex"
     )
 
 

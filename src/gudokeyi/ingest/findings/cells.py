@@ -27,7 +27,7 @@ class TooManyCells(RowLeftOut):
 
     code = "too many cells"
     message = Text(
-        "the row is left out: it has {cells} cells, and there are {titles} titles: is there a separator too many?"
+        "the row is left out: it has {cells} cells, and there are {titles} titles: is there one separator too many?"
     )
 
 
@@ -72,7 +72,7 @@ class UnseenInId(RowLeftOut):
     seen: str
 
     code = "unseen in id"
-    message = Text("the row is left out: its id '{seen}' has a sign within that no one sees: write it by hand")
+    message = Text("the row is left out: its id '{seen}' has an invisible character in it: type it again")
 
 
 @dataclass(frozen=True, slots=True)
@@ -187,7 +187,7 @@ class IdWithFewerDigits(OddId):
     usual: str
 
     code = "id with fewer digits"
-    message = Text("its id has fewer digits than nearly all others, such as {usual}: did a spreadsheet take its zeros?")
+    message = Text("its id has fewer digits than nearly all others, such as {usual}: did a spreadsheet drop its zeros?")
 
 
 @dataclass(frozen=True, slots=True)
@@ -198,7 +198,8 @@ class IdOfOtherAlphabet(OddId):
 
     code = "id of another alphabet"
     message = Text(
-        "its id has a letter of another alphabet that looks like one of nearly all others, such as {usual}: write it anew"
+        "its id has a letter of another alphabet that looks like one of nearly all others, such as {usual}: type it "
+        "again"
     )
 
 
@@ -210,8 +211,8 @@ class IdToCome(OddId):
 
     code = "id to come"
     message = Text(
-        "'{text}' reads like no id, but as if the animal had none yet, and is taken for its id: write one of its own "
-        "until it has one, or the next such animal counts as this one"
+        "'{text}' doesn't read like an id, but as if the animal had none yet, and is taken as its id: give it a "
+        "provisional one of its own, or the next such animal counts as this one"
     )
 
     def suggestions(self) -> tuple[Suggestion, ...]:
@@ -229,8 +230,8 @@ class DittoForText(Finding):
     severity = Severity.ANIMALS
     code = "ditto for text"
     message = Text(
-        "its {field} is '{text}', which stands for the cell above in other columns, and is taken as it is written: each "
-        "animal has its own: write that"
+        "its {field} is '{text}', which in other columns stands for the cell above, and is taken as it is written: "
+        "each animal has its own, so write that"
     )
 
     def suggestions(self) -> tuple[Suggestion, ...]:
@@ -248,8 +249,8 @@ class DayForText(Finding):
     severity = Severity.ANIMALS
     code = "day for text"
     message = Text(
-        "its {field} is the day {text}, which spreadsheets make of texts such as 3/12: if it is another, write it as "
-        "text"
+        "its {field} is the day {text}, which spreadsheets make of texts such as 3/12: if something else is meant, "
+        "write that as text"
     )
 
 
@@ -263,7 +264,9 @@ class TruthValue(Finding):
     what = What.WARNING
     severity = Severity.FACTS
     code = "truth value"
-    message = Text("its {field} is {text}, which spreadsheets make of some words: if it is another, write it as text")
+    message = Text(
+        "its {field} is {text}, which spreadsheets make of some words: if something else is meant, write that as text"
+    )
 
 
 class CellLeftOut(LeftOut):

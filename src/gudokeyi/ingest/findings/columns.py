@@ -64,7 +64,7 @@ class TellsNoExits(SheetFinding):
 
 @dataclass(frozen=True, slots=True)
 class LikelierColumn(SheetFinding):
-    """A column is read as at the last time, and the sheet has one besides whose title is likelier."""
+    """A column is read as last time, and the sheet has one besides whose title is likelier."""
 
     field: Field
     title: str
@@ -72,7 +72,7 @@ class LikelierColumn(SheetFinding):
 
     decides_much = True
     code = "likelier column"
-    message = Text("{field} is read from '{title}', as at the last time, and '{other}' isn't")
+    message = Text("{field} is read from '{title}', as last time, and '{other}' isn't")
 
     def suggestions(self) -> tuple[Suggestion, ...]:
         return (Suggestion(f"if '{self.other}' is the one", (column(self.field, self.other),)),)
@@ -251,7 +251,7 @@ class ColumnLost(SheetFinding):
     decides_much = True
     code = "column lost"
     message = Text(
-        "no column for {field} is found: it was '{title}' at the last time; what the book has stays"
+        "no column for {field} is found: last time it was '{title}'; the book keeps what it has"
     )
 
     def suggestions(self) -> tuple[Suggestion, ...]:
@@ -272,7 +272,7 @@ class IdsCountRows(SheetFinding):
     severity = Severity.ANIMALS
     code = "ids count rows"
     message = Text(
-        "the ids are read from '{title}', which only counts the rows: in a list that is sorted otherwise each number "
+        "the ids are read from '{title}', which only counts the rows: in a list that is sorted differently each number "
         "would be another animal's"
     )
 
@@ -296,9 +296,9 @@ class ParentsBeside(SheetFinding):
     code = "parents beside"
     message = Counted(
         "{count} row has nothing in '{title}', and '{text}' in '{beside}', which isn't read, in line {line}: this "
-        "parent counts as unknown; write it into '{title}'",
+        "parent counts as unknown; enter it in '{title}'",
         "{count} rows have nothing in '{title}', and a parent in '{beside}', which isn't read, the first '{text}' in "
-        "line {line}{maybe_others}{maybe_more}: these parents count as unknown; write them into '{title}'",
+        "line {line}{maybe_others}{maybe_more}: these parents count as unknown; enter them in '{title}'",
         "count",
     )
     parts = {

@@ -51,8 +51,8 @@ class MayBeExits(SheetFinding):
     decides_much = True
     code = "may be exits"
     message = Text(
-        "no column of exits is found, and '{title}' isn't read, whose {count} days are all behind the births, the first "
-        "'{text}' in line {line}: animals that left then count as living"
+        "no column of exits is found, and '{title}' isn't read, whose {count} days are all later than the births, the "
+        "first '{text}' in line {line}: animals that left then count as living"
     )
 
     def suggestions(self) -> tuple[Suggestion, ...]:
@@ -75,10 +75,10 @@ class StillbornUnread(SheetFinding):
     decides_much = True
     code = "stillborn unread"
     message = Counted(
-        "the column '{title}' isn't read, and has '{text}' in line {line}: if that animal was born dead, write so into the "
-        "column for exits, with its birth day: it counts as living",
-        "the column '{title}' isn't read, and has {count} cells, the first '{text}' in line {line}: if these animals were "
-        "born dead, write so into the column for exits, with their birth days: they count as living",
+        "the column '{title}' isn't read, and has '{text}' in line {line}: if that animal was born dead, enter that "
+        "in the column for exits, with its birth day: it counts as living",
+        "the column '{title}' isn't read, and has {count} cells, the first '{text}' in line {line}: if these animals "
+        "were born dead, enter that in the column for exits, with their birth days: they count as living",
         "count",
     )
 
@@ -97,10 +97,11 @@ class DeletedRows(SheetFinding):
     severity = Severity.ANIMALS
     code = "deleted rows"
     message = Counted(
-        "the column '{title}' isn't read, and has '{text}' in line {line}: the row is taken like all others; if it doesn't "
-        "hold, take it out of the list, and if its animal has left, write an exit",
-        "the column '{title}' isn't read, and has {count} cells, the first '{text}' in line {line}: these rows are taken "
-        "like all others; if one doesn't hold, take it out of the list, and if its animal has left, write an exit",
+        "the column '{title}' isn't read, and has '{text}' in line {line}: the row is taken like all others; if it no "
+        "longer applies, take it out of the list, and if its animal has left, write an exit",
+        "the column '{title}' isn't read, and has {count} cells, the first '{text}' in line {line}: these rows are "
+        "taken like all others; if one no longer applies, take it out of the list, and if its animal has left, write "
+        "an exit",
         "count",
     )
 
@@ -132,9 +133,10 @@ class CorrectionsUnread(SaysOtherwise):
 
     code = "corrections unread"
     message = Counted(
-        "'{beside}' isn't read, and says '{text}'{maybe_other} in line {line}: where it is right, write that into '{title}'",
-        "'{beside}' isn't read, and says otherwise than '{title}' in {count} rows, first '{text}'{maybe_other} in line "
-        "{line}: where it is right, write that into '{title}'",
+        "'{beside}' isn't read, and says '{text}'{maybe_other} in line {line}: where it is right, enter that in "
+        "'{title}'",
+        "'{beside}' isn't read, and differs from '{title}' in {count} rows, first '{text}'{maybe_other} in line "
+        "{line}: where it is right, enter that in '{title}'",
         "count",
     )
     parts = {"maybe_other": OptionalPart(" and not '{other}'")}
@@ -155,10 +157,10 @@ class SecondOwnersUnread(SheetFinding):
     decides_much = True
     code = "second owners unread"
     message = Counted(
-        "'{beside}' isn't read, and has '{text}' in line {line}: {maybe_other}{maybe_nobody}; if the animal has gone to "
-        "'{text}', write that into '{title}'",
-        "'{beside}' isn't read, and has {count} owners, the first '{text}' in line {line}: {maybe_other}{maybe_nobody}; "
-        "where an animal has gone to the second one, write that one into '{title}'",
+        "'{beside}' isn't read, and has '{text}' in line {line}: {maybe_other}{maybe_nobody}; if the animal has gone "
+        "to '{text}', enter that in '{title}'",
+        "'{beside}' isn't read, and has {count} owners, the first '{text}' in line {line}: "
+        "{maybe_other}{maybe_nobody}; where an animal has gone to the second one, enter that one in '{title}'",
         "count",
     )
     parts = {

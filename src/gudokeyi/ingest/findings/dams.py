@@ -49,10 +49,10 @@ class CarriersAlone(SheetFinding):
     severity = Severity.PARENTS
     code = "carriers alone"
     message = Counted(
-        "{count} row has no dam in '{title}', and '{text}' in '{beside}', in line {line}: who carries an animal isn't its "
-        "dam, which counts as unknown; write the dam into '{title}'",
-        "{count} rows have no dam in '{title}', and something in '{beside}', the first '{text}' in line {line}: who "
-        "carries an animal isn't its dam, which counts as unknown; write the dams into '{title}'",
+        "{count} row has no dam in '{title}', and '{text}' in '{beside}', in line {line}: the animal that carried the "
+        "embryo isn't the dam, which counts as unknown; enter the dam in '{title}'",
+        "{count} rows have no dam in '{title}', and something in '{beside}', the first '{text}' in line {line}: the "
+        "animal that carried the embryo isn't the dam, which counts as unknown; enter the dams in '{title}'",
         "count",
     )
 
@@ -67,9 +67,9 @@ class GenesDiffer(SaysOtherwise):
     severity = Severity.PARENTS
     code = "genes differ"
     message = Counted(
-        "'{beside}' isn't read, and has another {field} than '{title}' in {count} row: '{text}' and not '{other}', in line "
-        "{line}: where '{beside}' is right, write that into '{title}'",
-        "'{beside}' isn't read, and has another {field} than '{title}' in {count} rows: first '{text}' and not '{other}', "
-        "in line {line}: where '{beside}' is right, write that into '{title}'",
+        "'{beside}' isn't read, and has another {field} than '{title}' in {count} row: '{text}' and not '{other}', in "
+        "line {line}: where '{beside}' is right, enter that in '{title}'",
+        "'{beside}' isn't read, and has another {field} than '{title}' in {count} rows: first '{text}' and not "
+        "'{other}', in line {line}: where '{beside}' is right, enter that in '{title}'",
         "count",
     )

@@ -32,7 +32,7 @@ READINGS = {
     DayReading.SERIAL: "a spreadsheet's number for a day",
     DayReading.WITHIN: "a day and a text",
     DayReading.ONE_OF: "one of several days",
-    DayReading.UNSURE: "a day that isn't sure",
+    DayReading.UNSURE: "a day that isn't certain",
     DayReading.PERIOD_WITHIN: "a text with a month, a week or a season",
     DayReading.YEAR_ALONE: "a text of which the year alone can be read",
     DayReading.OTHER_ORDER: "day and month in the other order than elsewhere",
@@ -81,8 +81,8 @@ class NoDays(SheetFinding):
     severity = Severity.FACTS
     code = "no days"
     message = Counted(
-        "{count} cell of the column '{title}' has what programs write for no day, '{text}' in line {line}: it counts as "
-        "empty",
+        "{count} cell of the column '{title}' has what programs write for no day, '{text}' in line {line}: it counts "
+        "as empty",
         "{count} cells of the column '{title}' have what programs write for no day, the first '{text}' in line {line}: "
         "they count as empty",
         "count",
@@ -108,7 +108,7 @@ class DaysExchanged(SheetFinding):
     message = Text(
         "a spreadsheet seems to have exchanged day and month in '{title}': none of its {count} days is later in a "
         "month than the 12th, and each of the {texts} that it kept as text is, such as {text} in line {text_line}. "
-        "{day} in line {line} may be {after}: write these days anew, where the spreadsheet has the day first"
+        "{day} in line {line} may be {after}: type these days again, where the spreadsheet has the day first"
     )
 
 
@@ -126,9 +126,9 @@ class YearsAsDays(SheetFinding):
     code = "years as days"
     message = Counted(
         "'{title}' has {day} in line {line}, as a spreadsheet shows {year} in a cell whose format is a day: if that "
-        "year is meant, write it into a cell whose format is text",
-        "'{title}' has {count} days of 1905, the first is {day} in line {line}, as a spreadsheet shows {year} in a cell "
-        "whose format is a day: if years are meant, write them into cells whose format is text",
+        "year is meant, enter it in a cell whose format is text",
+        "'{title}' has {count} days of 1905, the first is {day} in line {line}, as a spreadsheet shows {year} in a "
+        "cell whose format is a day: if years are meant, enter them in cells whose format is text",
         "count",
     )
 
@@ -164,7 +164,8 @@ class BirthYearsRead(SheetFinding):
     code = "birth years read"
     message = Counted(
         "the column '{title}' has the year of a birth in {count} row where '{of_births}' has none: it is taken there",
-        "the column '{title}' has the years of births in {count} rows where '{of_births}' has none: they are taken there",
+        "the column '{title}' has the years of births in {count} rows where '{of_births}' has none: they are taken "
+        "there",
         "count",
     )
 

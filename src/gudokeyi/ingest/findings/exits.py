@@ -48,7 +48,7 @@ class ExitsWithoutDay(SheetFinding):
     message = Text(
         "an exit without a day stands in {cells}, the first in line {cells_line}: {cells_texts}{maybe_cells_more}: "
         "such an animal counts as gone, on a day that isn't known unless the book has it; where you know the day, "
-        "write it as 01.03.2001, or behind the word, as {word} 01.03.2001",
+        "write it as 01.03.2001, or after the word, as {word} 01.03.2001",
         "cells_count",
     )
     parts = {
@@ -90,8 +90,8 @@ class ExitInDoubt(Finding):
     severity = Severity.FACTS
     code = "exit in doubt"
     message = Text(
-        "'{text}' tells of an exit that isn't sure, or after which the animal came back: it counts as gone; if it is "
-        "there, write nothing or alive, lebt or vivant"
+        "'{text}' tells of an exit that isn't certain, or after which the animal came back: it counts as gone; if it "
+        "is there, write nothing or alive, lebt or vivant"
     )
 
 
@@ -168,12 +168,12 @@ class NoExits(SheetFinding):
     severity = Severity.FACTS
     code = "no exits"
     message = Counted(
-        "{count} cell of the column '{title}' tells of something else than an exit, in line {line}: {said}: the animal "
-        "stays, and what the cell says is kept as a note; if it has left, write a day, or a word such as sold, verkauft "
-        "or vendu",
-        "{count} cells of the column '{title}' tell of something else than exits, the first in line {line}: "
-        "{said}{maybe_more}: these animals stay, and what the cells say is kept as notes; if one has left, write a day, "
-        "or a word such as sold, verkauft or vendu",
+        "{count} cell of the column '{title}' tells of something other than an exit, in line {line}: {said}: the "
+        "animal stays, and what the cell says is kept as a note; if it has left, write a day, or a word such as sold, "
+        "verkauft or vendu",
+        "{count} cells of the column '{title}' tell of something other than exits, the first in line {line}: "
+        "{said}{maybe_more}: these animals stay, and what the cells say is kept as notes; if one has left, write a "
+        "day, or a word such as sold, verkauft or vendu",
         "count",
     )
     parts = {

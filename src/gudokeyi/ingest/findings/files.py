@@ -33,12 +33,12 @@ class StrayBytes(SheetFinding):
     code = "stray bytes"
     message = Counted(
         (
-            "{path}: line {line}, byte {place} of the line, behind '{behind}': the byte {byte:02X} isn't UTF-8, as the "
-            "rest of the file is{maybe_more}: write this letter anew, and save the sheet as CSV in UTF-8"
+            "{path}: line {line}, byte {place} of the line, after '{behind}': the byte {byte:02X} isn't UTF-8, as the "
+            "rest of the file is{maybe_more}: type this letter again, and save the sheet as CSV in UTF-8"
         ),
         (
-            "{path}: line {line}, byte {place} of the line, behind '{behind}': the byte {byte:02X} isn't UTF-8, as the "
-            "rest of the file is{maybe_more}: write this letter anew, and save the sheet as CSV in UTF-8"
+            "{path}: line {line}, byte {place} of the line, after '{behind}': the byte {byte:02X} isn't UTF-8, as the "
+            "rest of the file is{maybe_more}: type this letter again, and save the sheet as CSV in UTF-8"
         ),
         "more",
     )
@@ -75,9 +75,10 @@ class RowsBetweenMarks(SheetFinding):
     severity = Severity.PARENTS
     code = "rows between marks"
     message = Counted(
-        "{count} row stands between two quotation marks, the first of which is in line {line}: it is read without these",
-        "{count} rows stand between two quotation marks, the first of which is in line {line}: each is read as a row of "
-        "its own, without these marks; take them out of the file",
+        "{count} row stands between two quotation marks, the first of which is in line {line}: it is read without "
+        "these",
+        "{count} rows stand between two quotation marks, the first of which is in line {line}: each is read as a row "
+        "of its own, without these marks; take them out of the file",
         "count",
     )
 
@@ -104,9 +105,9 @@ class DecodedTwice(SheetFinding):
     severity = Severity.ANIMALS
     code = "decoded twice"
     message = Counted(
-        "letters were decoded twice in {count} text: {first}: save the sheet anew from the spreadsheet in which "
+        "letters were decoded twice in {count} text: {first}: save the sheet again from the spreadsheet in which "
         "the letters are right, as CSV in UTF-8",
-        "letters were decoded twice in {count} texts: {first}: save the sheet anew from the spreadsheet in which "
+        "letters were decoded twice in {count} texts: {first}: save the sheet again from the spreadsheet in which "
         "the letters are right, as CSV in UTF-8",
         "count",
     )
@@ -126,8 +127,8 @@ class LettersOfMac(SheetFinding):
 
     code = "letters of mac"
     message = Text(
-        "the letters are read as an older Mac writes them (Mac Roman), as '{word}' in line {line}, which would be "
-        "'{as_windows}' else: if they are wrong, save the sheet as CSV in UTF-8"
+        "the letters are read as an older Mac writes them (Mac Roman), as '{word}' in line {line}, which would "
+        "otherwise be '{as_windows}': if they are wrong, save the sheet as CSV in UTF-8"
     )
 
 
@@ -141,8 +142,8 @@ class LettersDoubtful(SheetFinding):
     severity = Severity.ANIMALS
     code = "letters doubtful"
     message = Text(
-        "letters may be decoded wrongly, the first in '{word}' in line {line}: if they are, save the sheet anew from the "
-        "spreadsheet in which the letters are right, as CSV in UTF-8"
+        "letters may be decoded wrongly, the first in '{word}' in line {line}: if they are, save the sheet again from "
+        "the spreadsheet in which the letters are right, as CSV in UTF-8"
     )
 
 
@@ -153,8 +154,8 @@ class LettersLost(SheetFinding):
     severity = Severity.ANIMALS
     code = "letters lost"
     message = Counted(
-        "letters are lost in {count} text: {first}: write them anew",
-        "letters are lost in {count} texts: {first}: write them anew",
+        "letters are lost in {count} text: {first}: type them again",
+        "letters are lost in {count} texts: {first}: type them again",
         "count",
     )
 
@@ -191,9 +192,9 @@ class DigitsLost(SheetFinding):
     code = "digits lost"
     message = Counted(
         "the worksheet '{worksheet}' has {count} number of more than 15 digits, of which a spreadsheet loses the "
-        "last, the first in the cell {cell}: give the column the format text, and write these anew",
+        "last, the first in the cell {cell}: give the column the format text, and type these again",
         "the worksheet '{worksheet}' has {count} numbers of more than 15 digits, of which a spreadsheet loses the "
-        "last, the first in the cell {cell}: give the column the format text, and write these anew",
+        "last, the first in the cell {cell}: give the column the format text, and type these again",
         "count",
     )
 
@@ -225,8 +226,8 @@ class NotesAtCells(SheetFinding):
 
     code = "notes at cells"
     message = Counted(
-        "{count} cell has a note, which isn't read: '{text}' at {cell}; write into cells what the book is to have",
-        "{count} cells have a note, which isn't read, the first '{text}' at {cell}; write into cells what the book is "
+        "{count} cell has a note, which isn't read: '{text}' at {cell}; write in cells what the book is to have",
+        "{count} cells have a note, which isn't read, the first '{text}' at {cell}; write in cells what the book is "
         "to have",
         "count",
     )
@@ -277,10 +278,10 @@ class StruckCells(SheetFinding):
     severity = Severity.ANIMALS
     code = "struck cells"
     message = Counted(
-        "the text of {count} cell is struck through, {cells}, and is read like all others: if it isn't right any more, "
+        "the text of {count} cell is struck through, {cells}, and is read like all others: if it is no longer right, "
         "write what is, or nothing; if the animal has left, write an exit",
-        "the texts of {count} cells are struck through, {cells}{maybe_more}, and are read like all others: if one "
-        "isn't right any more, write what is, or nothing; if an animal has left, write an exit",
+        "the texts of {count} cells are struck through, {cells}{maybe_more}, and are read like all others: if one is "
+        "no longer right, write what is, or nothing; if an animal has left, write an exit",
         "count",
     )
     parts = {"maybe_more": OptionalPart(" and {more} more")}
@@ -337,9 +338,9 @@ class ColoredRows(SheetFinding):
     code = "colored rows"
     message = Counted(
         "{count} row has a fill of another colour than the others, line {line}: nothing is read from it; if it means "
-        "something, as that an animal has left, write that into a column",
-        "{count} rows have a fill of another colour than the others, the first is line {line}: nothing is read from it; "
-        "if it means something, as that animals have left, write that into a column",
+        "something, as that an animal has left, enter that in a column",
+        "{count} rows have a fill of another colour than the others, the first is line {line}: nothing is read from "
+        "it; if it means something, as that animals have left, enter that in a column",
         "count",
     )
 

@@ -25,7 +25,7 @@ class DeathInBirth(PlausibilityWarning):
     severity = Severity.FACTS
     code = "death in birth"
     message = Text(
-        "its birth '{text}' tells of a death, and it counts as living: if it has left, write that into a column for "
+        "its birth '{text}' tells of a death, and it counts as living: if it has left, enter that in a column for "
         "exits; if it was born dead, leave its row out"
     )
 
@@ -38,8 +38,8 @@ class NameTellsOfExit(PlausibilityWarning):
 
     code = "name tells of exit"
     message = Text(
-        "its name '{name}' seems to tell of an exit, and it counts as living: if it has left, write that into the "
-        "column for exits, and here the name alone"
+        "its name '{name}' seems to tell of an exit, and it counts as living: if it has left, enter that in the "
+        "column for exits, and here only the name"
     )
 
 
@@ -55,7 +55,7 @@ class IdTellsOfExit(PlausibilityWarning):
     message = Text("its id '{written}' seems to tell of an exit, and is taken as {id}{maybe_living}")
     parts = {
         "maybe_living": OptionalPart(
-            ", which counts as living: if it has left, write that into the column for exits, and here the id alone",
+            ", which counts as living: if it has left, enter that in the column for exits, and here only the id",
             when="is_living",
         ),
     }
@@ -72,11 +72,11 @@ class SexTellsOfExit(SheetFinding):
 
     code = "sex tells of exit"
     message = Counted(
-        "{count} cell of the column '{title}' seems to tell of an exit besides the sex, '{text}' in line {line}, and its "
-        "animal counts as living: if it has left, write that into the column for exits, and here the sex alone",
-        "{count} cells of the column '{title}' seem to tell of exits besides the sexes, the first '{text}' in line {line}, "
-        "and their animals count as living: if they have left, write that into the column for exits, and here the sexes "
-        "alone",
+        "{count} cell of the column '{title}' seems to tell of an exit besides the sex, '{text}' in line {line}, and "
+        "its animal counts as living: if it has left, enter that in the column for exits, and here only the sex",
+        "{count} cells of the column '{title}' seem to tell of exits besides the sexes, the first '{text}' in line "
+        "{line}, and their animals count as living: if they have left, enter that in the column for exits, and here "
+        "only the sexes",
         "count",
     )
 
@@ -90,7 +90,7 @@ class TwoIds(OddId):
     code = "two ids"
     message = Text(
         "is this row one animal? Its id has {each} in it. It is taken as one: give each animal a row of its own, and "
-        "write one id into its cell"
+        "write only one id in its cell"
     )
 
     def values(self) -> Mapping[str, object]:
@@ -129,8 +129,8 @@ class NoNames(SheetFinding):
 
     code = "no names"
     message = Counted(
-        "{count} cell of the column '{title}' says that there is no name, {said} in line {line}: its animal counts as one "
-        "without a name; leave the cell empty, or write the name",
+        "{count} cell of the column '{title}' says that there is no name, {said} in line {line}: its animal counts as "
+        "one without a name; leave the cell empty, or write the name",
         "{count} cells of the column '{title}' say that there is no name, the first in line {line}: {said}: their "
         "animals count as ones without a name; leave the cells empty, or write the names",
         "count",

@@ -26,9 +26,9 @@ class OwnersBeside(SheetFinding):
     code = "owners beside"
     message = Counted(
         "{count} row has nothing in '{title}', and '{text}' in '{beside}', in line {line}: no owner is taken from "
-        "there; if it is the owner, write it into '{title}'",
+        "there; if it is the owner, enter it in '{title}'",
         "{count} rows have nothing in '{title}', and a name in '{beside}', the first '{text}' in line {line}"
-        "{maybe_others}{maybe_more}: no owner is taken from there; if they are the owners, write them into '{title}'",
+        "{maybe_others}{maybe_more}: no owner is taken from there; if they are the owners, enter them in '{title}'",
         "count",
     )
     parts = {
@@ -64,10 +64,10 @@ class OwnersOfOneName(SheetFinding):
     code = "owners of one name"
     message = Counted(
         "'{owner}' in '{title}' stands beside '{first}' in line {line} and '{other}' in line {other_line}, in "
-        "'{beside}', which isn't read: they count as one owner; if '{beside}' has the owners' first names, put it "
-        "behind '{title}'",
+        "'{beside}', which isn't read: they count as one owner; if '{beside}' has the owners' first names, move that "
+        "column to right after '{title}'",
         "{count} owners in '{title}' stand beside several names in '{beside}', which isn't read, as '{owner}' beside "
         "'{first}' in line {line} and '{other}' in line {other_line}: each counts as one owner; if '{beside}' has "
-        "the owners' first names, put it behind '{title}'",
+        "the owners' first names, move that column to right after '{title}'",
         "count",
     )

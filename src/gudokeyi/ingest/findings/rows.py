@@ -41,7 +41,7 @@ class NoteRow(RowLeftOut):
     )
     parts = {
         "maybe_of_others": OptionalPart(
-            "; what it says of the rows below isn't read: write their days, parents and owners into their own cells",
+            "; what it says of the rows below isn't read: enter their days, parents and owners in their own cells",
             when="is_of_others",
         ),
     }
@@ -221,11 +221,11 @@ class ExitsInRemarks(SheetFinding):
     severity = Severity.FACTS
     code = "exits in remarks"
     message = Counted(
-        "the column '{title}' isn't read for exits, and {count} cell of it tells that an animal left which has no exit: "
-        "'{text}' in line {line}; the animal counts as living: if it left, write that into the column for exits",
-        "the column '{title}' isn't read for exits, and {count} cells of it tell that animals left which have no exit, the "
-        "first is '{text}' in line {line}; these animals count as living: if one left, write that into the column for "
-        "exits",
+        "the column '{title}' isn't read for exits, and {count} cell of it tells that an animal left which has no "
+        "exit: '{text}' in line {line}; the animal counts as living: if it left, enter that in the column for exits",
+        "the column '{title}' isn't read for exits, and {count} cells of it tell that animals left which have no "
+        "exit, the first is '{text}' in line {line}; these animals count as living: if one left, enter that in the "
+        "column for exits",
         "count",
     )
 
@@ -240,8 +240,8 @@ class ExitColumnUnread(ExitsInRemarks):
         "something of an animal that has no exit: '{text}' in line {line}; the animal counts as living: if it left, "
         "write the day there",
         "the column '{title}' isn't read for exits, since none of its cells has a day, and {count} cells of it say "
-        "something of animals that have no exit, the first is '{text}' in line {line}; these animals count as living: if "
-        "one left, write the day there",
+        "something of animals that have no exit, the first is '{text}' in line {line}; these animals count as living: "
+        "if one left, write the day there",
         "count",
     )
 
@@ -254,10 +254,10 @@ class LivingUnmarked(ExitsInRemarks):
     severity = Severity.ANIMALS
     code = "living unmarked"
     message = Counted(
-        "the column '{title}' says '{text}' of some animals, and nothing of {count} that has no exit, in line {line}: it "
-        "counts as living too; if it has left, write no, nein or non there, or the day of its exit",
-        "the column '{title}' says '{text}' of some animals, and nothing of {count} that have no exit, the first in line "
-        "{line}: they count as living too; if one has left, write no, nein or non there, or the day of its exit",
+        "the column '{title}' says '{text}' of some animals, and nothing of {count} that has no exit, in line {line}: "
+        "it counts as living too; if it has left, write no, nein or non there, or the day of its exit",
+        "the column '{title}' says '{text}' of some animals, and nothing of {count} that have no exit, the first in "
+        "line {line}: they count as living too; if one has left, write no, nein or non there, or the day of its exit",
         "count",
     )
 
@@ -303,12 +303,12 @@ class CastratedInRemarks(SheetFinding):
     severity = Severity.FACTS
     code = "castrated in remarks"
     message = Counted(
-        "the column '{title}' isn't read for sexes, and {count} cell of it tells that an animal is castrated whose sex "
-        "doesn't: '{text}' in line {line}; it counts as not castrated: if it is, write that into the column for sexes, as "
-        "male castrated",
-        "the column '{title}' isn't read for sexes, and {count} cells of it tell that animals are castrated whose sexes "
-        "don't, the first is '{text}' in line {line}; they count as not castrated: if one is, write that into the column "
-        "for sexes, as male castrated",
+        "the column '{title}' isn't read for sexes, and {count} cell of it tells that an animal is castrated whose "
+        "sex doesn't: '{text}' in line {line}; it counts as not castrated: if it is, enter that in the column for "
+        "sexes, as male castrated",
+        "the column '{title}' isn't read for sexes, and {count} cells of it tell that animals are castrated whose "
+        "sexes don't, the first is '{text}' in line {line}; they count as not castrated: if one is, enter that in the "
+        "column for sexes, as male castrated",
         "count",
     )
 
@@ -406,8 +406,8 @@ class SoldEarlier(Finding):
     severity = Severity.FACTS
     code = "sold earlier"
     message = Text(
-        "'{text}' tells of a sale before {since}, since when the row says that {owner} has it: {owner} stays its owner, "
-        "and {taker} counts as one of before; if {taker} has it, write that as its owner"
+        "'{text}' tells of a sale before {since}, since when the row says that {owner} has it: {owner} stays its "
+        "owner, and {taker} counts as an earlier owner; if {taker} has it, write that as its owner"
     )
 
 
@@ -422,8 +422,8 @@ class OwnerSold(Finding):
     severity = Severity.FACTS
     code = "owner sold"
     message = Text(
-        "its owner is written '{text}': {owner} is taken as its owner; if that isn't so, write the name alone of the one "
-        "who has it"
+        "its owner is written '{text}': {owner} is taken as its owner; if that isn't so, write only the name of the "
+        "one who has it"
     )
 
 
@@ -442,8 +442,8 @@ class ParentNamedOtherwise(Finding):
     severity = Severity.PARENTS
     code = "parent named otherwise"
     message = Text(
-        "its {role} {parent} is '{name}', and '{title}' has '{text}', which is {which}: {parent} is taken; if another is "
-        "meant, write the id of that one"
+        "its {role} {parent} is '{name}', and '{title}' has '{text}', which is {which}: {parent} is taken; if another "
+        "is meant, write the id of that one"
     )
 
     def values(self) -> Mapping[str, object]:

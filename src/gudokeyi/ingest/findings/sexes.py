@@ -94,8 +94,8 @@ class SexMarksUnread(SheetFinding):
     severity = Severity.ANIMALS
     code = "sex marks unread"
     message = Text(
-        "no sex is read: the columns '{male}' and '{female}' have {count} marks for it, the first in line {line}, and words "
-        "of one column alone are read, as m and f: each sex is inferred; write such a column"
+        "no sex is read: the columns '{male}' and '{female}' have {count} marks for it, the first in line {line}, but "
+        "sexes are read from one column with words such as m and f: each sex is inferred; give the list such a column"
     )
 
 
@@ -119,9 +119,9 @@ class SexesUnsure(SheetFinding):
 
     code = "sexes unsure"
     message = Counted(
-        "{count} cell of the column '{title}' has a sex that isn't sure, '{text}' in line {line}: it is inferred, and "
-        "taken where nothing else says the sex",
-        "{count} cells of the column '{title}' have a sex that isn't sure, the first '{text}' in line {line}: it is "
+        "{count} cell of the column '{title}' has a sex that isn't certain, '{text}' in line {line}: it is inferred, "
+        "and taken where nothing else says the sex",
+        "{count} cells of the column '{title}' have a sex that isn't certain, the first '{text}' in line {line}: it is "
         "inferred, and taken where nothing else says the sex",
         "count",
     )
@@ -181,8 +181,8 @@ class CastratedLetter(SheetFinding):
     decides_much = True
     code = "castrated letter"
     message = Text(
-        "{letter} of the column '{title}' is read as a castrated male, as for wether or Wallach, since females are written otherwise "
-        "there: {females}"
+        "{letter} of the column '{title}' is read as a castrated male, as for wether or Wallach, since females are "
+        "written differently there: {females}"
     )
 
     def suggestions(self) -> tuple[Suggestion, ...]:
@@ -200,8 +200,8 @@ class FemaleLetter(SheetFinding):
     decides_much = True
     code = "female letter"
     message = Text(
-        "{letter} of the column '{title}' is read as female, as for weiblich, though females are written otherwise there "
-        "too: {females}"
+        "{letter} of the column '{title}' is read as female, as for weiblich, though females are written differently "
+        "there too: {females}"
     )
 
     def suggestions(self) -> tuple[Suggestion, ...]:

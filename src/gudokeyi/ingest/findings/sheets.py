@@ -75,8 +75,8 @@ class OneWrongOrder(SheetFinding):
 
     code = "one wrong order"
     message = Text(
-        "{wrong} has the {is_first} first, and {others} others have the {is_second} first, as {right}: write this day as "
-        "2001-03-01 or 01.03.2001, or all days where the others are wrong"
+        "{wrong} has the {is_first} first, and {others} others have the {is_second} first, as {right}: write this day "
+        "as 2001-03-01 or 01.03.2001, or all days where the others are wrong"
     )
 
     def values(self) -> Mapping[str, object]:
@@ -93,9 +93,9 @@ class NoOrderShown(SheetFinding):
     decides_much = True
     code = "no order shown"
     message = Counted(
-        "{count} day with / could have the month first, and no day of the sheet shows whether: the day is read "
+        "{count} day with / could have the month first, and no day in the sheet shows which: the day is read "
         "first",
-        "{count} days with / could have the month first, and no day of the sheet shows whether: the day is read "
+        "{count} days with / could have the month first, and no day in the sheet shows which: the day is read "
         "first",
         "count",
     )
@@ -265,9 +265,9 @@ class ErrorCells(SheetFinding):
     code = "error cells"
     message = Counted(
         "{count} cell with an error of the spreadsheet in {all_titles}, the first in line {line}: {first}: each "
-        "counts as empty, and what the book has stays; mend the formulas, and take the sheet again",
+        "counts as empty, and the book keeps what it has; correct the formulas, and take the sheet again",
         "{count} cells with an error of the spreadsheet in {all_titles}, the first in line {line}: {first}: each "
-        "counts as empty, and what the book has stays; mend the formulas, and take the sheet again",
+        "counts as empty, and the book keeps what it has; correct the formulas, and take the sheet again",
         "count",
     )
 
@@ -286,7 +286,7 @@ class ErrorColumn(SheetFinding):
 
     code = "error column"
     message = Text(
-        "{count} of {filled} cells of the column '{title}' ({field}) show an error of the spreadsheet: mend its "
+        "{count} of {filled} cells of the column '{title}' ({field}) show an error of the spreadsheet: correct its "
         "formulas, save the sheet, and take that"
     )
 
@@ -298,9 +298,10 @@ class NarrowCells(ErrorCells):
     code = "narrow cells"
     message = Counted(
         "{count} cell of {all_titles} is '{text}', in line {line}: the column was too narrow when the sheet was "
-        "saved; it counts as empty, and what the book has stays; widen the column, save the sheet again, and take that",
+        "saved; it counts as empty, and the book keeps what it has; widen the column, save the sheet again, and take "
+        "that",
         "{count} cells of {all_titles} are '{text}', the first in line {line}: the column was too narrow when the "
-        "sheet was saved; they count as empty, and what the book has stays; widen the column, save the sheet again, "
+        "sheet was saved; they count as empty, and the book keeps what it has; widen the column, save the sheet again, "
         "and take that",
         "count",
     )
@@ -315,22 +316,22 @@ class NarrowColumn(ErrorColumn):
 
     code = "narrow column"
     message = Text(
-        "{count} of {filled} cells of the column '{title}' ({field}) are signs # alone, since the column was too "
+        "{count} of {filled} cells of the column '{title}' ({field}) show only # signs, since the column was too "
         "narrow when the sheet was saved: widen it, save the sheet again, and take that"
     )
 
 
 @dataclass(frozen=True, slots=True)
 class UnseenDropped(SheetFinding):
-    """Cells that have signs that no one sees, which are read without them."""
+    """Cells that have invisible characters, which are read without them."""
 
     count: int
     line: int
 
     code = "unseen dropped"
     message = Counted(
-        "{count} cell has signs that no one sees, in line {line}: it is read without them",
-        "{count} cells have signs that no one sees, the first in line {line}: they are read without them",
+        "{count} cell has invisible characters, in line {line}: it is read without them",
+        "{count} cells have invisible characters, the first in line {line}: they are read without them",
         "count",
     )
 

@@ -114,7 +114,7 @@ class SexInferred(Finding):
 
 @dataclass(frozen=True, slots=True)
 class SexUnsure(Finding):
-    """A cell has a sex that isn't sure."""
+    """A cell has a sex that isn't certain."""
 
     sex: str
     source: SexSource
@@ -122,7 +122,7 @@ class SexUnsure(Finding):
 
     what = What.INFERRED
     code = "sex unsure"
-    message = Text("sex {sex}{maybe_source}, and its cell isn't sure: '{text}'")
+    message = Text("sex {sex}{maybe_source}, and its cell isn't certain: '{text}'")
     parts = {"maybe_source": OptionalPart(", {why}")}
 
     def values(self) -> Mapping[str, object]:
@@ -367,7 +367,7 @@ class OwnersOtherwise(PlausibilityWarning):
     code = "owners otherwise"
     message = Text(
         "the owners {names} differ in the order of first and last name, in a title or an article, or in how Familie or "
-        "and is written: if they are one, write the name alike in all rows, and take the sheet again"
+        "and is written: if they are one, write the name the same way in all rows, and take the sheet again"
     )
 
     def values(self) -> Mapping[str, object]:
@@ -386,17 +386,17 @@ class OwnerOfBookAlike(PlausibilityWarning):
 
     code = "owner of book alike"
     message = Counted(
-        "the owner '{before}' of {animals} animal of the book differs from '{now}' in case, accents, umlauts, blanks "
-        "or signs alone: are they one?{maybe_joined}",
-        "the owner '{before}' of {animals} animals of the book differs from '{now}' in case, accents, umlauts, blanks "
-        "or signs alone: are they one?{maybe_joined}",
+        "the owner '{before}' of {animals} animal of the book differs from '{now}' only in case, accents, umlauts, "
+        "blanks or signs: are they one?{maybe_joined}",
+        "the owner '{before}' of {animals} animals of the book differs from '{now}' only in case, accents, umlauts, "
+        "blanks or signs: are they one?{maybe_joined}",
         "animals",
     )
     page_message = Counted(
-        "the owner '{before}' of {animals} animal of the book differs from '{now}' in case, accents, umlauts, blanks "
-        "or signs alone: are they one?{maybe_joined_on_page}",
-        "the owner '{before}' of {animals} animals of the book differs from '{now}' in case, accents, umlauts, blanks "
-        "or signs alone: are they one?{maybe_joined_on_page}",
+        "the owner '{before}' of {animals} animal of the book differs from '{now}' only in case, accents, umlauts, "
+        "blanks or signs: are they one?{maybe_joined_on_page}",
+        "the owner '{before}' of {animals} animals of the book differs from '{now}' only in case, accents, umlauts, "
+        "blanks or signs: are they one?{maybe_joined_on_page}",
         "animals",
     )
     parts = {
@@ -415,14 +415,14 @@ class OwnerOfBookAlike(PlausibilityWarning):
 
 @dataclass(frozen=True, slots=True)
 class OwnersAlike(PlausibilityWarning):
-    """Owners of the sheet whose names differ in case, accents, umlauts, blanks or signs alone."""
+    """Owners of the sheet whose names differ only in case, accents, umlauts, blanks or signs."""
 
     spellings: tuple[Spelling, ...]
 
     code = "owners alike"
     message = Text(
-        "the owners {names} differ in case, accents, umlauts, blanks or signs alone: if they are one, write the "
-        "name alike in all rows, and take the sheet again"
+        "the owners {names} differ only in case, accents, umlauts, blanks or signs: if they are one, write the name "
+        "the same way in all rows, and take the sheet again"
     )
 
     def values(self) -> Mapping[str, object]:

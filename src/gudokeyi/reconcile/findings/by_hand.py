@@ -103,7 +103,7 @@ class IdsAlike(PlausibilityWarning):
     severity = Severity.ANIMALS
     code = "ids alike"
     message = Text(
-        "its id differs from {other} ({maybe_line}{maybe_of_book}) in case, blanks or zeros alone: are they one animal?"
+        "its id differs from {other} ({maybe_line}{maybe_of_book}) only in case, blanks or zeros: are they one animal?"
     )
     parts = {
         "maybe_line": OptionalPart("line {line}"),

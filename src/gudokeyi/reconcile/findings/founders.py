@@ -50,9 +50,9 @@ class ManyWithoutLine(Obstacle):
     code = "many without line"
     message = Counted(
         "{lacking} of {parents} parents has no line, though others have: {told}. To take founders in their place "
-        "changes coefficients: do lines lack, or are ids written otherwise?",
+        "changes coefficients: are lines missing, or are ids written differently?",
         "{lacking} of {parents} parents have no line, though others have: {told}. To take founders in their place "
-        "changes coefficients: do lines lack, or are ids written otherwise?",
+        "changes coefficients: are lines missing, or are ids written differently?",
         "lacking",
     )
 
@@ -90,9 +90,9 @@ class ParentsCut(Obstacle):
 
     code = "parents cut"
     message = Counted(
-        "{parents} parent has no line, and is an id without what many ids begin or end with: {told}. To take "
+        "{parents} parent has no line, and lacks what many ids begin or end with: {told}. To take "
         "founders in their place changes coefficients: write whole ids",
-        "{parents} parents have no line, and are ids without what many ids begin or end with: {told}. To take "
+        "{parents} parents have no line, and lack what many ids begin or end with: {told}. To take "
         "founders in their place changes coefficients: write whole ids",
         "parents",
     )

@@ -20,8 +20,8 @@ class OwnColumnLost(SheetFinding):
 
     code = "own column lost"
     message = Text(
-        "no column '{title}' is found, which the book keeps and an earlier sheet had: what the book has "
-        "stays{maybe_likely}"
+        "no column '{title}' is found, which the book keeps and an earlier sheet had: the book keeps what it "
+        "has{maybe_likely}"
     )
     parts = {"maybe_likely": OptionalPart("; if '{likely}' is the one, give it that title")}
 
@@ -40,10 +40,10 @@ class ExitsOfLostColumn(SheetFinding):
     severity = Severity.ANIMALS
     code = "exits of lost column"
     message = Counted(
-        "no column '{title}' is found, from which exits were read at the last time, and '{other}' tells of no exit of "
-        "{animals} animal that had left, {first}: what the book has stays",
-        "no column '{title}' is found, from which exits were read at the last time, and '{other}' tells of no exit of "
-        "{animals} animals that had left, the first are {first}: what the book has stays",
+        "no column '{title}' is found, from which exits were read last time, and '{other}' tells of no exit of "
+        "{animals} animal that had left, {first}: the book keeps what it has",
+        "no column '{title}' is found, from which exits were read last time, and '{other}' tells of no exit of "
+        "{animals} animals that had left, the first are {first}: the book keeps what it has",
         "animals",
     )
 

@@ -36,29 +36,28 @@ class LooksLike(Worded):
 LIKE_WORDS = {
     LooksLike.ANOTHER_FLOCK: "it looks like the sheet of another flock: name its book by --book",
     LooksLike.ANOTHER_ID: (
-        "it looks like the same animals with another id: name the column that has the book's ids by --columns, with id= "
-        "and its title"
+        "it looks like the same animals with another id: name the column that has the book's ids by --columns, with "
+        "id= and its title"
     ),
     LooksLike.OLDER_SHEET: (
-        "it looks like an older sheet: each of its animals is in the book, and the youngest lack; if it is another part "
-        "of the list, as a second worksheet, say --append, by which the others stay"
+        "it looks like an older sheet: each of its animals is in the book, and the youngest are missing; if it is "
+        "another part of the list, as a second worksheet, say --append, by which the others stay"
     ),
     LooksLike.PART: "it looks like a part of the flock: if it is one, say --append, by which the others stay",
     LooksLike.PARENTS_BY_NAME: (
-        "it looks like parents that are written by their names: name the column that has the animals' names by "
+        "the parents seem to be written by their names: name the column that has the animals' names by "
         "--columns, with name= and its title, or write the parents' ids"
     ),
     LooksLike.PARENTS_BY_ANOTHER_ID: (
         "it looks like another id than that of the column that is read: name the one in which the parents' cells are "
         "found by --columns, with id= and its title, or the parents' columns"
     ),
-    LooksLike.IDS_AND_MORE: "it looks like cells that have an id and a name: write the ids alone into the parents' columns",
+    LooksLike.IDS_AND_MORE: "the cells seem to have both an id and a name: write only the ids in the parents' columns",
     LooksLike.IDS_OTHERWISE: (
-        "it looks like the same animals, whose ids are written otherwise in case, blanks or zeros: write them as in the "
-        "book"
+        "it looks like the same animals, whose ids differ in case, blanks or zeros: write them as in the book"
     ),
     LooksLike.SORTED_APART: (
-        "it looks like a sheet in which some columns were sorted without the others, or like that of another flock: "
+        "it looks like a sheet some of whose columns were sorted without the others, or like that of another flock: "
         "compare these rows with the book"
     ),
 }
@@ -166,8 +165,8 @@ class ExitsEmptied(Guard):
 
     code = "exits emptied"
     message = Counted(
-        "the column '{title}' tells of no exit, and {animals} animal that had left would count as living again, {first}: "
-        "was it emptied?",
+        "the column '{title}' tells of no exit, and {animals} animal that had left would count as living again, "
+        "{first}: was it emptied?",
         "the column '{title}' tells of no exit, and {animals} animals that had left would count as living again, the "
         "first are {first}: was it emptied?",
         "animals",
@@ -213,11 +212,12 @@ class LettersUnsaid(Obstacle):
 
     code = "letters unsaid"
     message = Text(
-        "each animal gets a number that begins with its breed and country, which nobody said yet: say them once by --breed "
-        "and --country, three letters each, as --breed SKU --country DEU"
+        "each animal gets a number that begins with its breed and country, which nobody said yet: say them once by "
+        "--breed and --country, three letters each, as --breed SKU --country DEU"
     )
     page_message = Text(
-        "each animal gets a number that begins with its breed and country, which nobody said yet: write both, and look anew"
+        "each animal gets a number that begins with its breed and country, which nobody said yet: write both, and look "
+        "anew"
     )
 
 
@@ -256,9 +256,9 @@ class LinksLost(Obstacle):
 
     code = "links lost"
     message = Counted(
-        "{links} link can't stand in a book, and to leave a link out changes coefficients: mend the lines, or take "
+        "{links} link can't stand in a book, and to leave a link out changes coefficients: correct the lines, or take "
         "the pedigree without",
-        "{links} links can't stand in a book, and to leave a link out changes coefficients: mend the lines, or "
+        "{links} links can't stand in a book, and to leave a link out changes coefficients: correct the lines, or "
         "take the pedigree without",
         "links",
     )
@@ -320,12 +320,12 @@ class ParentsAlike(Obstacle):
     message = Counted(
         (
             "{parents} parent has no line, and an animal that has one differs in capitals, blanks, signs, zeros, "
-            "look-alike letters or the form of a number alone: {told}. To take a founder in its place changes "
+            "look-alike letters or the form of a number: {told}. To take a founder in its place changes "
             "coefficients: {maybe_are_numbers}{maybe_are_words}"
         ),
         (
             "{parents} parents have no line, and an animal that has one differs in capitals, blanks, signs, zeros, "
-            "look-alike letters or the form of a number alone: {told}. To take a founder in its place changes "
+            "look-alike letters or the form of a number: {told}. To take a founder in its place changes "
             "coefficients: {maybe_are_numbers}{maybe_are_words}"
         ),
         "parents",
@@ -334,7 +334,7 @@ class ParentsAlike(Obstacle):
         "maybe_are_numbers": OptionalPart(
             "write them as whole numbers, without a point or an exponent", when="are_numbers"
         ),
-        "maybe_are_words": OptionalPart("write them alike", when="are_words"),
+        "maybe_are_words": OptionalPart("write them the same way", when="are_words"),
     }
 
     def values(self) -> Mapping[str, object]:

@@ -118,7 +118,7 @@ class OwnAdvice(Worded):
 
 
 OWN_ADVICE: dict[enum.Enum, str] = {
-    OwnAdvice.TEXT: "write shorter texts, without signs that no one sees",
+    OwnAdvice.TEXT: "write shorter texts, without invisible characters",
     OwnAdvice.NUMBER: "write numbers alone, as 12.5, or keep the column as text",
     OwnAdvice.DAY: "write days as 2001-03-01 or 01.03.2001, or keep the column as text",
     OwnAdvice.YES_OR_NO: "write yes or no, or keep the column as text",
@@ -179,10 +179,10 @@ class OwnNumbersCut(LeftOut, OwnCells):
     code = "own numbers cut"
     message = Counted(
         "{count} cell of the column '{title}' is left out, in line {line}: '{text}' is a long number that the "
-        "spreadsheet has cut; what the book has stays: give the column the format text, or number without decimals, "
+        "spreadsheet has cut; the book keeps what it has: give the column the format text, or number without decimals, "
         "save the sheet again, and take that",
         "{count} cells of the column '{title}' are left out, the first in line {line}: '{text}' is a long number that "
-        "the spreadsheet has cut; what the book has stays: give the column the format text, or number without "
+        "the spreadsheet has cut; the book keeps what it has: give the column the format text, or number without "
         "decimals, save the sheet again, and take that",
         "count",
     )
@@ -206,9 +206,9 @@ class OwnDaysAmongTexts(PlausibilityWarning):
     code = "own days among texts"
     message = Counted(
         "{count} cell of the column '{title}' reads like a day: '{text}' in line {line}; a spreadsheet makes a day of "
-        "a text such as 5/4: if it is none, give the column the format text, and write it anew",
+        "a text such as 5/4: if it is none, give the column the format text, and type it again",
         "{count} cells of the column '{title}' read like days, the first '{text}' in line {line}; a spreadsheet makes "
-        "days of texts such as 5/4: if these are none, give the column the format text, and write them anew",
+        "days of texts such as 5/4: if these are none, give the column the format text, and type them again",
         "count",
     )
 
@@ -225,10 +225,10 @@ class BreedersNotKept(SheetFinding):
     severity = Severity.FACTS
     code = "breeders not kept"
     message = Counted(
-        "the column '{title}' isn't kept, with '{text}' in line {line}: as the breeder of an animal the owner of its dam "
-        "at its birth is printed",
-        "the column '{title}' isn't kept, with {count} other breeders, the first '{text}' in line {line}: as the breeder "
-        "of an animal the owner of its dam at its birth is printed",
+        "the column '{title}' isn't kept, with '{text}' in line {line}: certificates name the owner of the dam at the "
+        "birth as the breeder",
+        "the column '{title}' isn't kept, with {count} other breeders, the first '{text}' in line {line}: "
+        "certificates name the owner of the dam at the birth as the breeder",
         "count",
     )
 

@@ -55,7 +55,7 @@ class FoundByNearId(Finding):
     what = What.INFERRED
     code = "found by near id"
     message = Text(
-        "its {role} '{written}' is {id}, whose id differs in case, blanks or zeros alone: if another is meant, "
+        "its {role} '{written}' is {id}, whose id differs only in case, blanks or zeros: if another is meant, "
         "give that one a row"
     )
 

@@ -35,10 +35,10 @@ class OwnerIsNoName(PlausibilityWarning):
 
     code = "owner is no name"
     message = Counted(
-        "'{owner}' stands where {count} animal has its owner, and doesn't look like a name: an owner of this name is made; "
-        "write who has the animal, or nothing where nobody knows",
-        "'{owner}' stands where {count} animals have their owner, and doesn't look like a name: an owner of this name is "
-        "made; write who has them, or nothing where nobody knows",
+        "'{owner}' stands where {count} animal has its owner, and doesn't look like a name: an owner of this name is "
+        "made; write who has the animal, or nothing where nobody knows",
+        "'{owner}' stands where {count} animals have their owner, and doesn't look like a name: an owner of this name "
+        "is made; write who has them, or nothing where nobody knows",
         "count",
     )
 
@@ -53,10 +53,10 @@ class OwnerOfSeveral(PlausibilityWarning):
 
     code = "owner of several"
     message = Counted(
-        "the owner of {count} animal is written '{owner}', which has the name {which} in it, and becomes an owner of its "
-        "own: write the name alone of the one who has the animal",
-        "the owner of {count} animals is written '{owner}', which has the name {which} in it, and becomes an owner of its "
-        "own: write the name alone of the one who has them",
+        "the owner of {count} animal is written '{owner}', which has the name {which} in it, and becomes an owner of "
+        "its own: write only the name of the one who has the animal",
+        "the owner of {count} animals is written '{owner}', which has the name {which} in it, and becomes an owner of "
+        "its own: write only the name of the one who has them",
         "count",
     )
 
@@ -76,8 +76,8 @@ class OwnerWithMore(PlausibilityWarning):
 
     code = "owner with more"
     message = Text(
-        "the owner '{owner}' may be {which}, with an initial or a first name more: if they are one, write the name "
-        "alike in all rows, and take the sheet again"
+        "the owner '{owner}' may be {which}, with an additional initial or first name: if they are one, write the name "
+        "the same way in all rows, and take the sheet again"
     )
 
     def values(self) -> Mapping[str, object]:
@@ -102,8 +102,8 @@ class OwnerWithInitial(PlausibilityWarning):
 
     code = "owner with initial"
     message = Text(
-        "the owner '{owner}' may be {which}, whose first name begins so: if they are one, write the name alike in all "
-        "rows, and take the sheet again"
+        "the owner '{owner}' may be {which}, whose first name begins with that initial: if they are one, write the "
+        "name the same way in all rows, and take the sheet again"
     )
 
     def values(self) -> Mapping[str, object]:
@@ -117,7 +117,9 @@ class BornDead(PlausibilityWarning):
     name: str
 
     code = "born dead"
-    message = Text("its name '{name}' says that it was born dead, and it is taken as a living animal: leave its row out")
+    message = Text(
+        "its name '{name}' says that it was born dead, and it is taken as a living animal: leave its row out"
+    )
 
 
 @dataclass(frozen=True, slots=True)
@@ -159,7 +161,7 @@ class BirthsNearerThanUsual(PlausibilityWarning):
     code = "births nearer than usual"
     message = Text(
         "its dam {dam} bore {other}{maybe_line} {days} days before, where nearly all births of one dam are {usual} "
-        "days apart and more: is a day or the dam another?"
+        "days apart and more: is one of the days wrong, or the dam?"
     )
     parts = {
         "maybe_line": OptionalPart(" (line {line})"),
@@ -181,7 +183,8 @@ class OldParent(PlausibilityWarning):
     severity = Severity.PARENTS
     code = "old parent"
     message = Text(
-        "its {role} {parent}{maybe_line} would have been {years} years old at its birth: is one of the birth days wrong?"
+        "its {role} {parent}{maybe_line} would have been {years} years old at its birth: is one of the birth days "
+        "wrong?"
     )
     parts = {
         "maybe_line": OptionalPart(" (line {line})"),
@@ -273,8 +276,8 @@ class NewTagBesideRow(PlausibilityWarning):
     code = "new tag beside row"
     message = Text(
         "{former} (line {line}) has its name and its birth day too: did that one get {now} as its new tag? If so, take "
-        "line {line} with {former} out, and import the sheet again with --new-tag {former}={now}; if this one is taken, "
-        "undo it first"
+        "line {line} with {former} out, and import the sheet again with --new-tag {former}={now}; if this one is "
+        "taken, undo it first"
     )
     page_message = Text(
         "{former} (line {line}) has its name and its birth day too: did that one get {now} as its new tag? If so, take "
@@ -292,8 +295,8 @@ class RowOfFormerId(PlausibilityWarning):
     severity = Severity.ANIMALS
     code = "row of former id"
     message = Text(
-        "its former id {former} has a row too, line {line}, with its name and its birth day: take line {line} out, else "
-        "{former} is another animal"
+        "its former id {former} has a row too, line {line}, with its name and its birth day: take line {line} out, or "
+        "{former} counts as another animal"
     )
 
 
@@ -320,8 +323,8 @@ class OldAsLiving(PlausibilityWarning):
 
     code = "old as living"
     message = Text(
-        "born {born}, it counts as living; half of the living animals were born in {median} or later, {years} years after "
-        "it: has it left?"
+        "born {born}, it counts as living; half of the living animals were born in {median} or later, {years} years "
+        "after it: has it left?"
     )
 
 
@@ -334,8 +337,8 @@ class ManyOldAsLiving(PlausibilityWarning):
 
     code = "many old as living"
     message = Text(
-        "{animals} animals without an exit were born {years} years and more before half of the living ones: does the "
-        "column of exits lack theirs?"
+        "{animals} animals without an exit were born {years} years and more before half of the living ones: are their "
+        "exits missing in that column?"
     )
 
 
@@ -351,9 +354,9 @@ class ExitsWithdrawn(PlausibilityWarning):
     severity = Severity.ANIMALS
     code = "exits withdrawn"
     message = Counted(
-        "{animals} animal that had left counts as living again, {first}: does the column of exits lack it?",
-        "{animals} animals that had left count as living again, the first are {first}: does the column of exits "
-        "lack theirs?",
+        "{animals} animal that had left counts as living again, {first}: is its exit missing in that column?",
+        "{animals} animals that had left count as living again, the first are {first}: are their exits missing in "
+        "that column?",
         "animals",
     )
 

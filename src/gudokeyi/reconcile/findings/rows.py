@@ -29,7 +29,7 @@ class BornAfterOffspring(LeftOut):
     code = "born after offspring"
     message = Text(
         "the row is left out: born {born_here}, it would be younger than its offspring {offspring}, born "
-        "{offspring_born}; the book has born {born_there}: if the day is mistyped, mend it; if the tag was used "
+        "{offspring_born}; the book has born {born_there}: if the day is mistyped, correct it; if the tag was used "
         "again, give this animal an id of its own, also where its offspring name it"
     )
 
@@ -67,7 +67,7 @@ class LineAfterOffspring(BornAfterOffspring):
     code = "line after offspring"
     message = Text(
         "the line is left out: born {born_here}, it would be younger than its offspring {offspring}, born "
-        "{offspring_born}; the book has born {born_there}: if the day is mistyped, mend it; if these are two "
+        "{offspring_born}; the book has born {born_there}: if the day is mistyped, correct it; if these are two "
         "animals, give this animal an id of its own, also where its offspring name it"
     )
 

@@ -55,8 +55,8 @@ class SexOfAnother(PlausibilityWarning):
     severity = Severity.ANIMALS
     code = "sex of another"
     message = Text(
-        "its sex is '{word}', and the book has it as {maybe_castrated}{maybe_female}: it is taken as the sheet says; if "
-        "the row has the id of another animal, mend that, and if the word is wrong, mend the word"
+        "its sex is '{word}', and the book has it as {maybe_castrated}{maybe_female}: it is taken as the sheet says; "
+        "if the row has the id of another animal, correct that, and if the word is wrong, correct the word"
     )
     parts = {
         "maybe_castrated": OptionalPart("a castrated male", when="was_castrated"),
@@ -128,8 +128,8 @@ class IdsWithApostrophe(SheetFinding):
     message = Counted(
         "{count} id of the book has an apostrophe, by which a spreadsheet knows a text, before it: {before} is {now} "
         "from now on",
-        "{count} ids of the book have an apostrophe, by which a spreadsheet knows a text, before them: they are without "
-        "it from now on, as {before} is {now}",
+        "{count} ids of the book have an apostrophe, by which a spreadsheet knows a text, before them: they are "
+        "without it from now on, as {before} is {now}",
         "count",
     )
 
@@ -150,7 +150,7 @@ class IdsExchanged(PlausibilityWarning):
     message = Text(
         "did it exchange its id with {other} (line {line})? Each has the name, the birth day and the parents of the "
         "other: until now '{name}' was {other}, and '{other_name}' {id}{maybe_taken}; if the ids are exchanged in the "
-        "sheet alone, mend both lines, and take it again"
+        "sheet alone, correct both lines, and take it again"
     )
     parts = {
         "maybe_taken": OptionalPart(

@@ -25,9 +25,9 @@ class SectionOfSex(SheetFinding):
     code = "section of sex"
     message = Counted(
         "'{text}' stands above {first} (line {first_line}), whose row says no sex, and it counts as {sex}: nothing is "
-        "read from such a row; write {said} into a column for the sex",
+        "read from such a row; enter {said} in a column for the sex",
         "'{text}' stands above {count} animals whose rows say no sex, and they count as {sex}, the first is {first} "
-        "(line {first_line}): nothing is read from such a row; write {said} into a column for the sex",
+        "(line {first_line}): nothing is read from such a row; enter {said} in a column for the sex",
         "count",
     )
 
@@ -47,9 +47,9 @@ class SectionsOfOwners(SheetFinding):
     code = "sections of owners"
     message = Counted(
         "'{text}' in line {line} stands above animals without an owner ({animals}): nothing is read from such a row; "
-        "if it names their owner, write that into a column for the owners",
+        "if it names their owner, enter that in a column for the owners",
         "{count} rows, the first is '{text}' in line {line}, stand above animals without an owner ({animals}): "
-        "nothing is read from such rows; if they name their owners, write these into a column for the owners",
+        "nothing is read from such rows; if they name their owners, enter these in a column for the owners",
         "count",
     )
 
@@ -66,11 +66,11 @@ class SectionOfExits(SheetFinding):
     severity = Severity.ANIMALS
     code = "section of exits"
     message = Counted(
-        "'{text}' stands above {first} (line {first_line}), which counts as living: nothing is read from such a row; if "
-        "it has left, write a day, or a word such as sold, verkauft or vendu, into a column for exits",
-        "'{text}' stands above {count} animals that count as living, the first is {first} (line {first_line}): nothing "
-        "is read from such a row; if they have left, write a day, or a word such as sold, verkauft or vendu, into a "
-        "column for exits",
+        "'{text}' stands above {first} (line {first_line}), which counts as living: nothing is read from such a row; "
+        "if it has left, enter a day, or a word such as sold, verkauft or vendu, in a column for exits",
+        "'{text}' stands above {count} animals that count as living, the first is {first} (line {first_line}): "
+        "nothing is read from such a row; if they have left, enter a day, or a word such as sold, verkauft or vendu, "
+        "in a column for exits",
         "count",
     )
 
@@ -88,8 +88,8 @@ class SectionOfBirths(SheetFinding):
     code = "section of births"
     message = Counted(
         "'{text}' stands above {first} (line {first_line}), of which nothing shows the birth day: it gets 1900-01-01, "
-        "the earliest that a book can have; write its day into its own cell",
+        "the earliest that a book can have; enter its day in its own cell",
         "'{text}' stands above {count} animals of which nothing shows the birth days, the first is {first} (line "
-        "{first_line}): they get 1900-01-01, the earliest that a book can have; write their days into their own cells",
+        "{first_line}): they get 1900-01-01, the earliest that a book can have; enter their days in their own cells",
         "count",
     )

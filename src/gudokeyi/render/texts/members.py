@@ -38,7 +38,7 @@ OF_FINDINGS: dict[enum.Enum, str] = {
     DayReading.SERIAL: "a spreadsheet's number for a day",
     DayReading.WITHIN: "a day and a text",
     DayReading.ONE_OF: "one of several days",
-    DayReading.UNSURE: "a day that isn't sure",
+    DayReading.UNSURE: "a day that isn't certain",
     DayReading.PERIOD_WITHIN: "a text with a month, a week or a season",
     DayReading.YEAR_ALONE: "a text of which the year alone can be read",
     DayReading.OTHER_ORDER: "day and month in the other order than elsewhere",
@@ -60,21 +60,20 @@ OF_FINDINGS: dict[enum.Enum, str] = {
     SexSource.INVENTED: "invented",
     LooksLike.ANOTHER_FLOCK: "it looks like the sheet of another flock",
     LooksLike.ANOTHER_ID: "it looks like the same animals with another id: choose the column that has the book's ids",
-    LooksLike.OLDER_SHEET: "it looks like an older sheet: each of its animals is in the book, and the youngest lack",
+    LooksLike.OLDER_SHEET: "it looks like an older sheet: each of its animals is in the book, and the youngest are missing",
     LooksLike.PART: "it looks like a part of the flock",
-    LooksLike.PARENTS_BY_NAME: "it looks like parents that are written by their names: choose the column that has the animals' names",
+    LooksLike.PARENTS_BY_NAME: "the parents seem to be written by their names: choose the column that has the animals' names",
     LooksLike.PARENTS_BY_ANOTHER_ID: (
         "it looks like another id than that of the column that is read: choose the one in which the parents' cells are "
         "found"
     ),
-    LooksLike.IDS_AND_MORE: "it looks like cells that have an id and a name: write the ids alone into the parents' columns",
+    LooksLike.IDS_AND_MORE: "the cells seem to have both an id and a name: write only the ids in the parents' columns",
     LooksLike.SORTED_APART: (
-        "it looks like a sheet in which some columns were sorted without the others, or like that of another flock: "
+        "it looks like a sheet some of whose columns were sorted without the others, or like that of another flock: "
         "compare these rows with the book"
     ),
     LooksLike.IDS_OTHERWISE: (
-        "it looks like the same animals, whose ids are written otherwise in case, blanks or zeros: write them as in "
-        "the book"
+        "it looks like the same animals, whose ids differ in case, blanks or zeros: write them as in the book"
     ),
     Changed.NAMES_AND_BIRTH_DAYS: "names and birth days",
     Changed.BIRTH_DAYS: "birth days",
@@ -84,8 +83,8 @@ OF_FINDINGS: dict[enum.Enum, str] = {
     Advice.SEX: "write M or F",
     Advice.BIRTH: "write days as 2001-03-01 or 01.03.2001, or 03.2001 or 2001 alone; or choose another column",
     Advice.EXIT: (
-        "such an animal counts as gone; write days as 2001-03-01 or 01.03.2001, a word such as sold where the day isn't "
-        "known, and nothing or alive where the animal hasn't left; or choose another column"
+        "such an animal counts as gone; write days as 2001-03-01 or 01.03.2001, a word such as sold where the day "
+        "isn't known, and nothing or alive where the animal hasn't left; or choose another column"
     ),
     Advice.SINCE: "write days as 2001-03-01 or 01.03.2001; or choose another column",
     Advice.EMBRYO: "write 1 or nothing; or choose another column",

@@ -16,7 +16,7 @@ SENTENCES: dict[Message, str] = {
     BookFault.CLOSED: "the book's file can't be written: nothing is changed. Whoever opened the desk has to be allowed to",
     BookFault.OTHER: "the book's file can't be used: nothing is changed",
     BookFault.UNSURE: (
-        "the book's file can't be written or read any more. Whether change {change} is in it can't be seen now: mend "
+        "the book's file can't be written or read any more. Whether change {change} is in it can't be seen now: repair "
         "the disk, and look at the history"
     ),
     BookFault.CANT_BE_READ: "the book's file can't be read ({error}): whoever opened the desk has to be allowed to",
