@@ -160,11 +160,11 @@ def test_struck_cells(desk: Desk, workbook: openpyxl.Workbook) -> None:
     sheet["F1"], sheet["F3"], sheet["G3"], sheet["H3"] = "Besitzer", "Huber", "Meier", datetime.date(2020, 5, 1)
     sheet["F3"].font = openpyxl.styles.Font(strike=True)
     save(desk, workbook)
-    advice = "right any more, write what is, or nothing; if"
+    advice = "no longer right, write what is, or nothing; if"
     done = desk.good("import", "sheet.xlsx")
     done.shows(
         "to look at: the text of 1 cell is struck through, 'Huber' in line 3 of the column 'Besitzer', and is read like "
-        f"all others: if it isn't {advice} the animal has left, write an exit"
+        f"all others: if it is {advice} the animal has left, write an exit"
     )
     assert "in 1 row" not in done.told
     assert {"id": "C2", "owner": "Huber"} in desk.listed("list", "--columns", "id,owner")
@@ -175,7 +175,7 @@ def test_struck_cells(desk: Desk, workbook: openpyxl.Workbook) -> None:
     desk.good("import", "sheet.xlsx").shows(
         "to look at: the texts of 4 cells are struck through, 'Vater' in line 1 of the column 'Vater', 'Huber' in line "
         "3 of the column 'Besitzer', '2020-05-01' in line 3 of the column 'H' and 1 more, and are read like all others: "
-        f"if one isn't {advice} an animal has left, write an exit"
+        f"if one is {advice} an animal has left, write an exit"
     )
 
 
@@ -299,3 +299,39 @@ def test_animals_of_two_worksheets(desk: Desk, workbook: openpyxl.Workbook) -> N
     assert refused.status == 1 and "say --append, by which the others stay" in refused.err
     desk.good("import", "sheet.xlsx", "--worksheet", "Abgänge", "--append")
     assert len(desk.ids()) == count
+
+
+def test_worksheet_with_other_animals(desk: Desk, workbook: openpyxl.Workbook) -> None:
+    """One that isn't read is told where it has animals that neither the other one nor the book has, with the command
+    that takes them; one that has the same ones isn't, nor one of other things."""
+    gone, people = workbook.create_sheet("Abgänge"), workbook.create_sheet("Mitglieder")
+    for row in [TITLES, ROWS[0], ["X7", "w", "1.2.2005", None, None], ["X8", "m", "1.3.2005", None, "X7"]]:
+        gone.append(row)
+    workbook["Tiere"]["F1"] = "Name"
+    for row in [["Nr", "Name", "Besitzer"], [7, "Huber", "ja"], [8, "Meier", "ja"]]:
+        people.append(row)
+    save(desk, workbook)
+    done = desk.good("import", "sheet.xlsx")
+    told = (
+        "to look at: the worksheet 'Abgänge' isn't read, and has 2 animals that are neither on this one nor in the book, "
+        "the first is X7: one worksheet is read at a time; to take them too, import the file again for that one"
+    )
+    done.shows(told)
+    assert "'Mitglieder' isn't read, and" not in done.told
+    [command] = [one for one in done.commands() if "--append" in one]
+    assert "4 animals, 2 new" in desk.typed(command.partition(" && ")[2] or command).last
+    assert "isn't read, and has" not in desk.good("import", "sheet.xlsx", "--worksheet", "Tiere", "--append").told
+
+
+def test_worksheet_that_is_part(desk: Desk, workbook: openpyxl.Workbook) -> None:
+    """A second worksheet that lacks most animals of the book is refused, with the command that adds it."""
+    part = workbook.create_sheet("Abgänge")
+    part.append(TITLES)
+    for sheet, count in (workbook["Tiere"], 30), (part, 4):
+        for at in range(count):
+            sheet.append([f"X{at}", "w", f"{1 + at % 28}.02.2010", None, None])
+    save(desk, workbook)
+    desk.good("import", "sheet.xlsx", "--worksheet", "Tiere")
+    refused = desk.run("import", "sheet.xlsx", "--worksheet", "Abgänge")
+    [command] = [one for one in refused.commands() if "--append" in one]
+    assert "32 animals, 0 new" in desk.typed(command).last
