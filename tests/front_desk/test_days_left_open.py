@@ -190,8 +190,8 @@ def test_two_days_with_two_digits_of_the_year(desk: Desk) -> None:
     done = desk.take(TITLES.replace("\n", ";Died\n") + "".join(rows), *OPTIONS)
     left = [line.split(",")[2] for line in desk.commands() if line.startswith("exit")]
     assert desk.born()["A3"] == "2020-04-03" and sorted(left) == ["2024-04-03", "2024-05-03", "2025-05-04"]
-    assert "can't be read, the first in line 3: 'Dez. 19/Jan. 20'" in done.out
-    assert "'12.03.17' in line 2 is read as 2017-03-12" in done.out
+    assert "can't be read, the first in line 3: 'Dez. 19/Jan. 20'" in done.told
+    assert "'12.03.17' in line 2 is read as 2017-03-12" in done.told
     assert "the first in line 6: 'verk. 3.3.24 oder 5.3.24': such an animal counts as gone" in done.out
     assert "words that tell of no exit stands in 2 of 5 cells that tell of an exit in the column 'Died'" in done.told
     assert "the first in line 8: 'Tierarzt 4.5.25', 'Ausstellung 3.5.2024'" in done.told
@@ -202,7 +202,7 @@ def test_day_of_one_or_another_year(desk: Desk) -> None:
     rows = "A1;Foo;f;3.4.2020 oder 2021;;;X;\nA2;Bar;f;1.2.2018;;;X;3.4.2020 oder 2021\n"
     rows += "A3;Baz;f;2.2.2018;;;X;verk. 3.4.2020 - 2021\nA4;Qux;f;3.2.2018;;;X;2018 - 3.4.2020\n"
     done = desk.take(TITLES.replace("\n", ";Exit\n") + rows, *OPTIONS)
-    done.shows(
+    done.tells(
         "to look at: one of several days in 1 cell of the column 'Whelped': '3.4.2020 oder 2021' in line 2 is read as "
         "2020-04-03 to 2021-04-03",
     )

@@ -1,8 +1,15 @@
 """What is told before a sheet is taken: refused exits, the numbers of a first taking, and previews."""
 from __future__ import annotations
 
+import importlib
+from dataclasses import is_dataclass
+
 from front_desk.desk import Desk
 from front_desk.test_owners import PARENTS, TITLES
+from gudokeyi.domain.findings import KINDS, Severity
+from gudokeyi.reconcile.kinds_of_findings import PLACES
+from gudokeyi.reconcile.stored_findings import modules_of_findings
+from gudokeyi.render.import_reports import IN_SHORT
 
 
 def test_exit_that_is_refused(desk: Desk) -> None:
@@ -124,25 +131,40 @@ MANY_KINDS = (
 
 def test_preview_in_short(desk: Desk) -> None:
     """A preview that is longer than a screen begins with how the sheet was read, and with a line for each kind of what
-    may be wrong: first what decides how it is read, and then the gravest; all of it stands below, as in a shorter
+    may be wrong, under a heading of its own and the greatest harm first; all of it stands below, as in a shorter
     one."""
-    done = desk.take(MANY_KINDS, "--preview")
-    lines = done.out.splitlines()
+    lines = desk.take(MANY_KINDS, "--preview").out.splitlines()
     assert lines[0].startswith("sheet.csv: ") and lines[1].startswith("columns: ")
-    [heading] = [at for at, line in enumerate(lines) if line.startswith("what may be wrong: of each kind how many")]
-    short, below = lines[heading + 1 : lines.index("")], lines[lines.index("") + 1 :]
-    assert sum(-(-len(line) // 80) for line in lines[: lines.index("")]) <= 50
-    kinds = [line for line in short if line[:5].strip()]
-    assert len(kinds) >= 12 and all(line[:3].strip().isdecimal() for line in kinds)
-    firsts = [line[5:].removesuffix(" ..") for line in kinds]
-    assert [one for one in firsts if not any(line.startswith(one) for line in below)] == []
-    words = "'Bemerkung' isn't read", "the row is left out", "Weide has no row", "'Hubre Hans'"
-    places = [firsts.index(next(one for one in firsts if word in one)) for word in words]
-    assert places == sorted(places) and places[0] < 4
-    assert "     if it means an unknown parent, say --unknown Weide" in short
-    assert sum(int(line[:3]) for line in kinds) > len(kinds)
+    heading, end = lines.index(IN_SHORT), lines.index("")
+    assert sum(-(-len(line) // 80) for line in lines[:end]) <= 50 and "to look at: " in "\n".join(lines[end:])
+    short = lines[heading + 1 : end]
+    kinds = [(line[:6].strip(), line[6:].partition(" (")[0]) for line in short if line[6] != " "]
+    places = [[place for _, place, one in PLACES.values() if one == heading][0] for _, heading in kinds]
+    assert len(kinds) >= 10 and places == sorted(places)
+    assert ("4", "Rows left out: the sex can't be read") in kinds
+    assert "        if it means an unknown parent, say --unknown Weide" in short
+
+
+def test_counts_of_kinds(desk: Desk) -> None:
+    """A kind counts animals, also where one sentence tells of several of them."""
+    titles, rows = "id;sex;born;sire;dam;exit\n", "".join(f"a{at};F;2001-01-01;;;\n" for at in range(9))
+    desk.take(titles + "s;M;1999-01-01;;;\n" + rows.replace(";;;", ";s;;2010-01-01"))
+    rows = rows.replace(";;;", ";s;;") + "".join(f"b{at};F;2001-13-01;Weide;;\n" for at in range(30))
+    short = desk.take(titles + "s;M;1999-01-01;;;2005-01-01\n" + rows, "--preview").out.split("\n\n")[0]
+    assert "   9  Animals that had left count as living again\n" in short
+    assert "  30  Words that may stand for unknown parents\n" in short and "  30  Birth days aren't certain (line" in short
+
+
+def test_each_kind_has_a_heading() -> None:
+    """What may be wrong is summed up under a heading, whatever it is."""
+    for module in modules_of_findings():
+        importlib.import_module(module)
+    kinds = {code for code, kind in KINDS.items() if kind.severity is not Severity.NONE and is_dataclass(kind)}
+    assert kinds - PLACES.keys() == set()
+    unknown = PLACES.keys() - KINDS.keys()
+    assert [code for code in unknown if not any(code.startswith(f"{kind} ") for kind in KINDS)] == []
 
 
 def test_preview_that_has_room(desk: Desk) -> None:
     done = desk.take(MANY_KINDS[:300].rpartition("\n")[0], "--preview")
-    assert "differ in case" in done.out and "of each kind" not in done.out and done.out.startswith("to look at: ")
+    assert "differ only in case" in done.out and IN_SHORT not in done.out and done.out.startswith("to look at: ")

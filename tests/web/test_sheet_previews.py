@@ -2,12 +2,14 @@
 for unknown parents, and births that are near one another."""
 from __future__ import annotations
 
+import io
 import re
 
+import openpyxl
 import pytest
 
 from web.looks import PAIR, TITLES, Says, buttons_of, calves, look_at, part, press
-from web.site import Site, shown
+from web.site import HOST, Site, shown
 from gudokeyi.domain.settings import LANGUAGES
 
 
@@ -156,7 +158,7 @@ def test_many_births_near_one_another(empty_site: Site, language: str) -> None:
         31,
         35,
     ) in shown(found)
-    assert len(re.findall("<li>", found)) == 5 and len(re.findall("<tr>", found)) == 2
+    assert len(re.findall("<li>", found)) == 5 and len(re.findall("<tr\\b", found)) == 2
 
 
 def test_owner_with_a_letter_more(empty_site: Site) -> None:
@@ -193,3 +195,63 @@ def test_cells_like_names(empty_site: Site) -> None:
     site.take(address)
     with site.desk.opened() as book:
         assert book and book.society_records["201"].castrated and not book.society_records["202"].castrated
+
+
+@pytest.mark.parametrize("language", LANGUAGES)
+def test_kinds_summed_up(empty_site: Site, language: str) -> None:
+    """Above all that is found each kind stands in a line, with the number of its animals and a link to the first; what
+    stops, loses or changes animals comes first, and rows that repeat the titles last."""
+    site, says = empty_site, Says(language)
+    site.get(f"/language/{language}")
+    rows = "001;Max;m;2001-01-01;;;Huber\n" + TITLES + "200;;w;2012-01-01;Weide;;Huber\n201;;w;2012-13-01;Weide;;Huber\n"
+    _, page = look_at(site, TITLES + PAIR + calves(9) + rows)
+    table = re.search(r'<table class="tally kinds">.*?</table>', page, re.DOTALL)
+    assert table
+    found = re.findall(r'<a href="#(kind-[0-9]+)">(.*?)</a></th><td class="number">([0-9]+)</td>', table[0])
+    assert [(shown(heading), count) for _, heading, count in found] == [
+        (says("Rows left out: another row has the same id"), "1"),
+        (says("Words that may stand for unknown parents"), "2"),
+        (says("Birth days aren't certain"), "1"),
+        (says("Rows that repeat the titles are left out"), "1"),
+    ]
+    assert all(page.count(f'id="{anchor}"') == 1 for anchor, _, _ in found)
+
+
+def test_few_kinds_not_summed_up(empty_site: Site) -> None:
+    _, page = look_at(empty_site, TITLES + PAIR + calves(9) + "001;Max;m;2001-01-01;;;Huber\n")
+    assert "tally kinds" not in page
+
+
+def test_order_of_lines(empty_site: Site) -> None:
+    """What may be wrong stands in the order of the harm: what is lost, parents, and notes."""
+    rows = TITLES + "201;;w;2012-01-01;201;;Huber\n001;Max;m;2001-01-01;;;Huber\n"
+    _, page = look_at(empty_site, TITLES + PAIR + calves(9) + rows)
+    told = shown(part(page, "Left out"))
+    places = [told.index(one) for one in ("has this id too", "its own ancestor", "repeats")]
+    assert places == sorted(places)
+
+
+def test_worksheets_of_animals(empty_site: Site) -> None:
+    """A second worksheet with animals is told, and a button reads it as new rows, before or after the other one."""
+    site, workbook, file = empty_site, openpyxl.Workbook(), io.BytesIO()
+    titles = TITLES.strip().split(";")
+    workbook.active.title = "Tiere"
+    for row in [titles, *(line.split(";") for line in (PAIR + calves(9)).splitlines())]:
+        workbook.active.append(row)
+    other = workbook.create_sheet("Abgänge")
+    for row in [titles[:6], ["300", "Ina", "w", "2010-01-01", "001", "002"]]:
+        other.append(row)
+    workbook.save(file)
+    address = site.drop("herde.xlsx", file.getvalue())
+    page = site.page(address)
+    assert "the worksheet 'Abgänge' isn't read, and has 1 animal that is neither on this one nor in the book, 300" in shown(page)
+    site.take(address)
+    address = site.drop("herde.xlsx", file.getvalue())
+    [form] = [one for one in re.findall(r'<form class="choice".*?</form>', site.page(address), re.DOTALL) if "Abgänge" in one]
+    assert shown(form) == "Worksheet: Abgänge; The sheet has new rows only"
+    fields = {name: re.findall(rf'name="{name}" value="([^"]*)"', form) for name in ("csrf_token", "option", "word")}
+    site.client.post(f"{address}/suggested", data=fields, headers={"Host": HOST})
+    page = site.take(address)
+    with site.desk.opened() as book:
+        assert book and len(book.society_records) == 13
+    assert "isn't read, and has" not in shown(site.page(site.drop("herde.xlsx", file.getvalue())))

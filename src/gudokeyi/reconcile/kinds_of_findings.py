@@ -8,13 +8,13 @@ from dataclasses import dataclass
 
 from gudokeyi.domain.findings import Entry, Finding, Severity, What
 from gudokeyi.domain.kinds import Field
-from gudokeyi.ingest.findings.cells import CellLeftOut, ErrorValue
+from gudokeyi.ingest.findings.cells import CellLeftOut, DayLeftOut, ErrorValue
 from gudokeyi.ingest.findings.exits import ExitsWithoutDay
 from gudokeyi.ingest.findings.sheets import CellsUnread, ErrorCells
 from gudokeyi.reconcile.findings.by_hand import ValueChanged
 from gudokeyi.reconcile.findings.own_columns import OwnCellUnread
 
-# The kinds in the order of the harm that they do, by codes, and of what is changed by the names of its values too.
+# The kinds in the order of the harm that they do, by codes, of some with a field or a value too.
 
 
 class Harm(enum.IntEnum):
@@ -123,6 +123,7 @@ HEADINGS: Mapping[Harm, Mapping[str, tuple[str, ...]]] = {
             "name tells of exit", "id tells of exit", "sex tells of exit", "death in birth", "born dead",
         ),
         "It isn't certain whether animals have left": ("exit in doubt", "buyer disagrees", "status disagrees"),
+        "Exits can't be read, and the animals count as gone": ("cells unread exit", "day left out exit"),
         "A day beside other words counts as an exit": ("exits in other words",),
         "What stands for exits says something else, and the animals stay": ("no exits",),
         "Coloured or hidden rows are taken like all others": ("grey rows", "colored rows", "hidden rows"),
@@ -190,8 +191,17 @@ NO_KIND = (Harm.NOTES, len(PLACES), "")
 
 
 def kind_of(finding: Finding) -> tuple[Harm, int, str]:
-    code = f"{finding.code} {finding.name}" if isinstance(finding, ValueChanged) else finding.code
-    return PLACES.get(code, NO_KIND)
+    of_field = f"{finding.code} {field_of(finding)}"
+    return PLACES.get(of_field) or PLACES.get(finding.code, NO_KIND)
+
+
+def field_of(finding: Finding) -> str:
+    """The field or value by which a kind is another one, empty for most."""
+    if isinstance(finding, CellsUnread):
+        return finding.cells.field
+    if isinstance(finding, ValueChanged):
+        return finding.name
+    return finding.field if isinstance(finding, DayLeftOut) else ""
 
 
 def heading_of(finding: Finding) -> str:

@@ -177,7 +177,7 @@ def kind_in_short(group: int, heading: str, those: list[list[Entry]]) -> Iterato
     # nothing has to be undone of what isn't taken yet
     suggestions = [one for entries in those for one in next(sentences_of(entries)).suggestions]
     suggested = [replace(one, undoes=False).words() for one in [*dict.fromkeys(suggestions)][:MOST_SUGGESTED]]
-    yield Piece(1, group, [" " * INDENT + "; ".join(suggested)] if suggested else [], 0)
+    yield Piece(1, group, [" " * (INDENT + 2) + "; ".join(suggested)] if suggested else [], 0)
 
 
 def place_in_short(entry: Entry) -> str:
