@@ -213,8 +213,8 @@ def test_ids_to_come(desk: Desk) -> None:
     rows = "".join(f"{id};A{at};m;1.2.2019;;\n" for at, id in enumerate((*TO_COME, *IDS)))
     for _ in range(2):
         lines = desk.take(IN_GERMAN + rows).report
-        found = [one for one in lines if "reads like no id, but as if the animal had none yet" in one]
-        assert len(found) == len(TO_COME) and all(any(f"'{id}' reads" in one for one in found) for id in TO_COME)
+        found = [one for one in lines if "doesn't read like an id, but as if the animal had none yet" in one]
+        assert len(found) == len(TO_COME) and all(any(f"'{id}' doesn't read" in one for one in found) for id in TO_COME)
     # words for an unknown animal are no ids either
     done = desk.take(f"{IN_GERMAN}{rows}fehlt;Q;m;1.2.2019;;\nNone;Q;m;1.2.2019;;\n")
     assert sum("is a word for an unknown animal: give it another id" in one for one in done.report) == 2
@@ -230,7 +230,7 @@ def test_marks_for_the_cell_above(desk: Desk) -> None:
     others = "".join(f"DE {at};B{at};w;1.2.2018;;\n" for at in range(100, 130))
     for _ in range(2):
         done = desk.take(IN_GERMAN + rows + others)
-        told = "which stands for the cell above in other columns, and is taken as it is written"
+        told = "which in other columns stands for the cell above, and is taken as it is written"
         found = [one.partition(f", {told}")[0] for one in done.report if told in one]
         assert [one.split("its ")[1] for one in found] == ["id is '\"'", "id is 'Dito'", "name is '\"'", "name is 'dito'"]
         assert "unlike nearly all others" not in done.told

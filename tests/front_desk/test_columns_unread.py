@@ -164,8 +164,8 @@ def test_marks_of_rows(desk: Desk, title: str, text: str, said: str) -> None:
 @pytest.mark.parametrize(
     ("title", "text", "said"),
     [
-        ("korrigiertes Geburtsdatum", "14.3.2013", "'14.3.2013' and not '03.02.2013' in line 4: where it is right, write that"),
-        ("corrected DOB", "14/3/2013", "'14/3/2013' and not '03.02.2013' in line 4: where it is right, write that"),
+        ("korrigiertes Geburtsdatum", "14.3.2013", "'14.3.2013' and not '03.02.2013' in line 4: where it is right, enter that"),
+        ("corrected DOB", "14/3/2013", "'14/3/2013' and not '03.02.2013' in line 4: where it is right, enter that"),
         ("Geburtsdatum neu", "2012", "'2012' and not '03.02.2013' in line 4: where it is right, enter that in 'geb'"),
         ("Vater (korrigiert)", "009", "'009' and not '001' in line 4: where it is right, enter that in 'Vater'"),
         ("correct sex", "m", "'m' and not 'w' in line 4: where it is right, enter that in 'Geschlecht'"),

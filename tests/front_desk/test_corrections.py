@@ -99,7 +99,7 @@ WRONG = [
     (["A1", "--id", " "], "an animal needs an id"),
     (["A1", "--id", "NN"], "'NN' is a word for an unknown parent"),
     (["A1", "--id", "x" * 61], "an id has 60 letters at most"),
-    (["A1", "--name", "Anna"], "the book has all of it so already"),
+    (["A1", "--name", "Anna"], "the book has all of it already"),
     (["A1"], "correct needs what is to be otherwise"),
     (["A1", "--castrated", "yes"], "a female can't be castrated"),
     (["A1", "--reason", "died"], "a reason is written, and no exit"),

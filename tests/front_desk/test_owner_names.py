@@ -119,7 +119,7 @@ def test_owner_of_the_book_alike(desk: Desk) -> None:
     first = owners_sheet("bert Mai", "Huber", "Huber", "Huber")
     desk.take(first)
     later = first.replace("a1;", "a5;").replace("bert", "Bert")
-    told = "to look at: the owner 'bert Mai' of 1 animal of the book differs from 'Bert Mai' in case, accents, umlauts"
+    told = "to look at: the owner 'bert Mai' of 1 animal of the book differs from 'Bert Mai' only in case, accents, umlauts"
     done = desk.take(later, "--preview")
     assert told in done.out
     [command] = [one for one in done.commands() if "--owner" in one]
@@ -144,7 +144,7 @@ def test_owner_of_the_book_without_animals(desk: Desk) -> None:
 def test_owners_in_other_capitals(desk: Desk) -> None:
     """Two of whom the book has both are told with what makes one of them, though the sheet has both too."""
     sheet = owners_sheet("Bert Mai", "bert mai", "Bert Mai", "Bert Maï")
-    told = "to look at: the owner 'bert mai' of 1 animal of the book differs from 'Bert Mai' in case, accents, umlauts"
+    told = "to look at: the owner 'bert mai' of 1 animal of the book differs from 'Bert Mai' only in case, accents, umlauts"
     assert "differs from" not in desk.take(sheet).told
     [joined] = [line for line in desk.take(sheet).out.splitlines() if line.startswith(told)]
     desk.typed(joined.partition("are they one? ")[2].removesuffix(" makes one of them"))

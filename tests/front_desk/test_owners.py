@@ -227,7 +227,7 @@ def test_owner_is_written_otherwise(desk: Desk) -> None:
     renamed = TITLES + PARENTS.replace("Meier", "Meyer")
     done = desk.good("import", desk.write("sheet.csv", renamed), "--preview")
     told = "to look at: the 2 animals of 'Meier' are now of 'Meyer', whom the book didn't have: is it the same owner?"
-    done.shows(told, "  if the name is only written otherwise:")
+    done.shows(told, "  if the name is only spelled differently:")
     assert done.commands() == [f"{CALLED} import sheet.csv --preview --owner Meier=Meyer"]
     some = desk.write("some.csv", TITLES + PARENTS.replace("Meier", "Meyer", 1))
     assert "are now of" not in desk.good("import", some, "--preview").out
@@ -263,5 +263,5 @@ def test_owners_that_are_alike(desk: Desk) -> None:
             "in case, accents, umlauts, blanks or signs: if they are one, write the name the same way in all rows, and "
             "take the sheet again"
         )
-        assert done.out.count("differ in case") == 2
-    assert "differ in case" not in desk.take(TITLES + PARENTS).out
+        assert done.out.count("differ only in case") == 2
+    assert "differ only in case" not in desk.take(TITLES + PARENTS).out

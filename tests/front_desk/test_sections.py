@@ -18,7 +18,7 @@ def test_sections_of_a_sex(desk: Desk, male: str, female: str) -> None:
     done.shows(
         f"line 2: to look at: '{male}' stands above A 4 (line 4), whose row says no sex, and it counts as female: "
         f"nothing is "
-        "read from such a row; write male into a column for the sex"
+        "read from such a row; enter male in a column for the sex"
     )
     assert f"'{female}' stands above" not in done.told
 
@@ -33,7 +33,7 @@ def test_section_without_an_id(desk: Desk) -> None:
         "to look at: 'Hof Süd' in line 5 stands above animals without an owner (1): nothing is read from such a row; "
         "if it names their owner, enter that in a column for the owners",
         "line 2: to look at: 'Böcke' stands above 2 animals whose rows say no sex, and they count as female, the "
-        "first is A 2 (line 3): nothing is read from such a row; write male into a column for the sex",
+        "first is A 2 (line 3): nothing is read from such a row; enter male in a column for the sex",
     )
 
 

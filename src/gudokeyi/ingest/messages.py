@@ -17,16 +17,16 @@ class SheetFault(Message):
         "that you need. To leave out ancestors, such as the oldest animals, changes coefficients"
     )
     TOO_MANY_CELLS = (
-        "{path} has more than {most:,} cells, or some far from the others: delete the rows and columns without animals, "
-        "and save it again"
+        "{path} has more than {most:,} cells, or some far from the others: delete the rows and columns without "
+        "animals, and save it again"
     )
     MANY_COLUMNS = (
-        "{path} has {columns:,} columns with {letters:,} letters in their titles, and a page shows {most:,} columns and "
-        "{most_letters:,} letters at most: delete columns that the book doesn't need, and shorten titles"
+        "{path} has {columns:,} columns with {letters:,} letters in their titles, and a page shows {most:,} columns "
+        "and {most_letters:,} letters at most: delete columns that the book doesn't need, and shorten titles"
     )
     LONG_CELL = "line {line}: a cell has more than {most:,} letters: shorten it. Is a quotation mark missing?"
     TOO_SLOW = (
-        "to look at it would take more than {seconds} seconds: is it the right file? Leave out what isn't about "
+        "looking at it would take more than {seconds} seconds: is it the right file? Leave out what isn't about "
         "animals"
     )
     TOO_LARGE = "{path} has {size:,} MB, and {most:,} MB are read at most: is it the right file?"
@@ -44,7 +44,8 @@ class SheetFault(Message):
     # options
     COLUMN_OPTION = "--columns {part}: write FIELD=TITLE, where FIELD is one of {fields}"
     SEX_OPTION = (
-        "--sexes {part}: write WORD=m for males, WORD=f for females and WORD=mc for castrated males, as --sexes Aue=f,Bk=m"
+        "--sexes {part}: write WORD=m for males, WORD=f for females and WORD=mc for castrated males, as --sexes "
+        "Aue=f,Bk=m"
     )
 
 

@@ -12,7 +12,7 @@ class ImportFault(Message):
     OWNER_LACKS = "--owner {word}: the book has no owner '{before}': its owners are {owners}"
     NO_OWNERS = "--owner {word}: no animal of the book has an owner yet"
     OWNER_IS_THERE = (
-        "--owner {word}: the book has '{name}' too, as another owner: undo the taking that brought it, and then say "
+        "--owner {word}: the book has '{name}' too, as another owner: undo the import that brought it, and then say "
         "this again"
     )
     NEW_TAG_OPTION = "--new-tag {word}: write OLD=NEW, as --new-tag 012=345"
@@ -70,11 +70,11 @@ class CorrectionFault(Message):
     EXIT_OF_PARENT = "{animal}: the exit on {day}: {refusal} (refusal {number}): {offspring}, born {born}"
     NOT_CORRECTED = "nothing is changed: correct what stands against it first, or what was written here"
     # what isn't asked of the register
-    AS_IT_IS = "the book has all of it so already: nothing is changed"
+    AS_IT_IS = "the book has all of it already: nothing is changed"
     ID_TAKEN = "the book has another animal with the id {id}{called}: write another one"
     ID_DROPPED = "an animal that isn't in the book any more had the id {id}: write another one"
     NO_OWNER_DAY = "the day is missing since which {owner} has it: write one"
-    OWNER_TWICE = "{owner} stands twice one after the other: leave out one of both"
+    OWNER_TWICE = "{owner} stands twice one after the other: leave out one of the two"
     DAY_WITHOUT_OWNER = "the day {day} stands without an owner: write who has it since then"
     NO_MALE_CASTRATED = "a female can't be castrated in the book: choose male, or leave castrated out"
     NO_EXIT_REASON = "a reason is written, and no exit: say that it left, or leave the reason out"

@@ -57,7 +57,7 @@ class CarriersAlone(SheetFinding):
     )
 
     def suggestions(self) -> tuple[Suggestion, ...]:
-        return (Suggestion("if they are dams where no other one stands", (column(Field.DAM, self.beside),)),)
+        return (Suggestion("if they are the dams where no other is given", (column(Field.DAM, self.beside),)),)
 
 
 @dataclass(frozen=True, slots=True)

@@ -295,7 +295,7 @@ class OwnerRespelt(PlausibilityWarning):
 
     def suggestions(self) -> tuple[Suggestion, ...]:
         option = Option("--owner", f"{self.before}={self.now}")
-        return (Suggestion("if the name is only written otherwise", (option,), undoes=True),)
+        return (Suggestion("if the name is only spelled differently", (option,), undoes=True),)
 
 
 @dataclass(frozen=True, slots=True)
@@ -410,7 +410,7 @@ class OwnerOfBookAlike(PlausibilityWarning):
 
     def suggestions(self) -> tuple[Suggestion, ...]:
         option = Option("--owner", f"{self.before}={self.now}")
-        return (Suggestion("if the name is only written otherwise", (option,), undoes=True),) * self.is_new
+        return (Suggestion("if the name is only spelled differently", (option,), undoes=True),) * self.is_new
 
 
 @dataclass(frozen=True, slots=True)

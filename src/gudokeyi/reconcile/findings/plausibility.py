@@ -85,7 +85,7 @@ class OwnerWithMore(PlausibilityWarning):
 
     def suggestions(self) -> tuple[Suggestion, ...]:
         option = Option("--owner", f"{self.before}={self.now}")
-        is_renamed = (Suggestion("if the name is only written otherwise", (option,), undoes=True),)
+        is_renamed = (Suggestion("if the name is only spelled differently", (option,), undoes=True),)
         return is_renamed if self.before else ()
 
 

@@ -89,7 +89,7 @@ SENTENCES: dict[Message, str] = {
     ImportFault.OWNER_OPTION: "owners: '{word}' isn't written as OLD=NEW, as Meier=Meyer",
     ImportFault.OWNER_LACKS: "owners: the book has no owner '{before}': its owners are {owners}",
     ImportFault.NO_OWNERS: "owners: no animal of the book has an owner yet",
-    ImportFault.OWNER_IS_THERE: "owners: the book has '{name}' too, as another owner: undo the taking that brought it, and then say this again",
+    ImportFault.OWNER_IS_THERE: "owners: the book has '{name}' too, as another owner: undo the import that brought it, and then say this again",
     ImportFault.NEW_TAG_OPTION: "new tags: {word}: write OLD=NEW, as 012=345",
     ImportFault.NEW_TAG_LACKS: "new tags: the book has no animal with the id {before}",
     ImportFault.NEW_TAG_IS_THERE: "new tags: the book has another animal with the id {now}",
