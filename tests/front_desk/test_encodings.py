@@ -16,7 +16,7 @@ SHEET = "Ohrmarke;Name;Geschlecht;Geburtsdatum;Vater;Mutter\nÄ1;Müller;m;01.03
 def test_stray_byte(desk: Desk) -> None:
     """A sheet that is UTF-8 but for a byte isn't taken: its line and its place are told."""
     sheet = desk.write("sheet.csv", SHEET.encode().replace("Süße".encode(), b"S\xfc\xc3\x9fe"))
-    desk.wrong("sheet.csv: line 3, byte 5 of the line, behind 'B2;S': the byte FC isn't UTF-8", "import", sheet)
+    desk.wrong("sheet.csv: line 3, byte 5 of the line, after 'B2;S': the byte FC isn't UTF-8", "import", sheet)
 
 
 def test_stray_byte_with_other_obstacles(desk: Desk) -> None:
@@ -46,8 +46,8 @@ def test_letters_decoded_twice(desk: Desk, encoding: str) -> None:
 
 
 OF_MAC = (
-    "to look at: the letters are read as an older Mac writes them (Mac Roman), as '{}' in line {}, which would be '{}' "
-    "else: if they are wrong, save the sheet as CSV in UTF-8"
+    "to look at: the letters are read as an older Mac writes them (Mac Roman), as '{}' in line {}, which would otherwise "
+    "be '{}': if they are wrong, save the sheet as CSV in UTF-8"
 )
 
 

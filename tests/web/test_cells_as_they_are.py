@@ -27,7 +27,7 @@ SAID = (
     "one of several days in 1 cell of the column 'Né(e) le': '31.05./01.06.2020' in line 6 is read as 2020-05-31 to 2020-",
     "a day that isn't certain in 1 cell of the column 'Né(e) le': '1/4/2021 (est.)' in line 7 is read as 2021-04-01",
     "its name is the day 03-déc., which spreadsheets make of texts such as 3/12",
-    "'EN COURS' reads like no id, but as if the animal had none yet",
+    "'EN COURS' doesn't read like an id, but as if the animal had none yet",
     "'Éleveur' stands where 1 animal has its owner, and doesn't look like a name",
 )
 IN_OTHERS = {

@@ -45,13 +45,13 @@ HEADINGS: Mapping[Harm, Mapping[str, tuple[str, ...]]] = {
         "Animals on other worksheets aren't read": ("worksheet unread",),
         "The ids are read from another column than before": ("ids moved", "ids from other"),
         "The ids only count the rows of the sheet": ("ids count rows",),
+        "Animals may have exchanged their ids": ("ids exchanged",),
         "Animals that had left count as living again": ("exits withdrawn",),
         "Animals of the book have no row in this sheet": ("row is gone",),
         "Ids stand for another animal in the book or in another row": (
             "id used again", "id of another", "tag of another",
         ),
         "Birth days of the book move by years": ("birth moved by years",),
-        "Animals may have exchanged their ids": ("ids exchanged",),
         "Animals of the book have another sex now": ("sex of another",),
         "Sexes don't fit the offspring": ("sex against offspring",),
         "Rows left out: another row has the same id": ("id again", "line again"),
@@ -191,8 +191,8 @@ NO_KIND = (Harm.NOTES, len(PLACES), "")
 
 
 def kind_of(finding: Finding) -> tuple[Harm, int, str]:
-    of_field = f"{finding.code} {field_of(finding)}"
-    return PLACES.get(of_field) or PLACES.get(finding.code, NO_KIND)
+    codes = f"{finding.code} {field_of(finding)}", finding.code
+    return next((PLACES[code] for code in codes if code in PLACES), NO_KIND)
 
 
 def field_of(finding: Finding) -> str:
