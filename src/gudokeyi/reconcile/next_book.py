@@ -11,7 +11,7 @@ from typing import NamedTuple, TypeVar
 
 from gudokeyi.domain.animals import NO_FIELDS, SocietyRecord
 from gudokeyi.domain.collections import made
-from gudokeyi.domain.commands import Command, RegisterRecord, birth, day_text, parents
+from gudokeyi.domain.commands import Command, RegisterRecord, birth, day_text, lines_of, parents
 from gudokeyi.domain.findings import Finding, Report
 from gudokeyi.domain.kinds import Field, Role, Standing
 from gudokeyi.ingest.animals import (
@@ -292,6 +292,15 @@ class ToldOfAnimals(NamedTuple):
     def exits_in(self, places: Sequence[int]) -> Iterator[Values]:
         """The same in another order."""
         return exits_of([*in_places(self.numbers, places)], [*in_places(self.left, places)])
+
+    @property
+    def without_parents(self) -> tuple[object, ...]:
+        """What is told of animals but for their parents."""
+        return self[: self._fields.index("sires")]
+
+    def lines_without_parents(self) -> bytes:
+        """The births without parents, and the exits."""
+        return lines_of(self.births_alone()) + lines_of(self.exits())
 
     def count_exits(self) -> int:
         return len(self.left) - self.left.count(None)
