@@ -231,14 +231,12 @@ def asked_about(
 ) -> list[tuple[str, Refusal]]:
     """The ids of the offspring at some places whose parents the program refuses, one after the other, where all those
     of whom it is told are filed without, by the lines `alone`; these and their exits are filed in any order."""
-    ids, numbers, sires, dams = told.ids, told.numbers, told.sires, told.dams
-    asked = [at for at in places if sires[at] or dams[at]]
-    links = [("parents", numbers[at], "", number_of(sires[at]), number_of(dams[at]), "", "", "") for at in asked]
-    text = HEADER + alone + lines_of(links)
-    first = len(ids) + told.count_exits()
+    asked = told.with_parents(places)
+    text = HEADER + alone + lines_of(told.links(asked, number_of))
+    first = len(told.ids) + told.count_exits()
     refused = program.file_text(text, first + len(asked))
     # an exit may be refused too: that is told when the book itself is filed
-    return [(ids[asked[place - first]], refusal) for place, refusal in refused.items() if place >= first]
+    return [(told.ids[asked[place - first]], refusal) for place, refusal in refused.items() if place >= first]
 
 
 def leave_out_parents(next_book: NextBook, program: Herdbook, faults: list[Fault]) -> None:

@@ -9,10 +9,10 @@ from typing import NamedTuple
 
 from gudokeyi.domain.pedigree_order import in_order
 from gudokeyi.ingest.animals import BIRTH_OF, DAM_OF, SIRE_OF, SheetAnimal, ancestors_among, parents_of_all
-from gudokeyi.ingest.days import Span
+from gudokeyi.ingest.days import Precision, Span
 from gudokeyi.reconcile.last_found import changed_ids
 
-FIRST, LAST = operator.attrgetter("first"), operator.attrgetter("last")
+FIRST, LAST, PRECISION = map(operator.attrgetter, ("first", "last", "precision"))
 
 
 class Births(NamedTuple):
@@ -32,8 +32,16 @@ class Births(NamedTuple):
         """The animals with a parent that may not be older by the days of both: in each cycle there is one."""
         last = dict(zip(self.ids, map(LAST, self.births)))
         last[""] = datetime.date.min
-        all_values = zip(self.ids, map(FIRST, self.births), self.sires, self.dams)
-        return [id for id, first, sire, dam in all_values if last[sire] >= first or last[dam] >= first]
+        first = [*map(FIRST, self.births)]
+        by_sires, by_dams = (
+            map(operator.ge, map(last.__getitem__, parents), first) for parents in (self.sires, self.dams)
+        )
+        return [*itertools.compress(self.ids, map(operator.or_, by_sires, by_dams))]
+
+    def undated(self) -> list[str]:
+        """The animals without a day."""
+        are_open = map(operator.is_not, map(PRECISION, self.births), itertools.repeat(Precision.DAY))
+        return [*itertools.compress(self.ids, are_open)]
 
     def with_offspring(self, ids: Set[str]) -> set[str]:
         """Some animals and all that have one of them as a parent."""
@@ -50,7 +58,7 @@ class UndatedOrder(NamedTuple):
 
     @classmethod
     def of(cls, animals: dict[str, SheetAnimal], by: Births) -> UndatedOrder:
-        undated = {id: animal for id, animal in animals.items() if not animal.has_day()}
+        undated = {id: animals[id] for id in by.undated()}
         younger = by.not_surely_older()
         # these stand in one order, whether the others do or not
         some = with_ancestors(animals, {*undated, *younger})
@@ -78,7 +86,7 @@ def comes_to_them(animals: dict[str, SheetAnimal], animal: SheetAnimal) -> bool:
 def with_ancestors(animals: dict[str, SheetAnimal], ids: set[str]) -> dict[str, SheetAnimal]:
     """Some animals and their ancestors, in the order of all."""
     found = ids | ancestors_among(map(animals.__getitem__, ids), animals)
-    return {id: animal for id, animal in animals.items() if id in found}
+    return dict(itertools.compress(animals.items(), map(found.__contains__, animals)))
 
 
 def by_age(animals: dict[str, SheetAnimal]) -> list[str]:
