@@ -6,7 +6,7 @@ import collections
 import functools
 import itertools
 import operator
-from collections.abc import Mapping, Set
+from collections.abc import Callable, Mapping, Set
 
 from gudokeyi.domain.animals import SocietyRecord
 from gudokeyi.domain.commands import RegisterRecord
@@ -204,10 +204,13 @@ def is_another(animal: SheetAnimal, in_book: SocietyRecord) -> bool:
 # The numbers of animals: those of the book stay, and new ones go on from them.
 
 
+SEX_OF_NUMBER: Callable[[str], str] = operator.itemgetter(slice(6, 7))
+
+
 def numbers_before(ids: list[str], numbers: Mapping[str, str]) -> tuple[list[str], list[str]]:
     """The numbers that animals have or had in the book, empty for new ones, and the sexes that these say."""
     found = [numbers.get(id, "") for id in ids]
-    return found, [number[6:7] for number in found]
+    return found, [*map(SEX_OF_NUMBER, found)]
 
 
 def numbers_begin(next_book: NextBook, breed: str, country: str) -> str:

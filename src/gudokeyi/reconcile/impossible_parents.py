@@ -1,9 +1,7 @@
 """Parents that can't be: those that the program refuses, of each cycle one, and paths that are too long."""
 from __future__ import annotations
 
-import datetime
 import itertools
-import operator
 from collections.abc import Callable, Sequence
 
 from gudokeyi.domain.animals import SocietyRecord
@@ -14,19 +12,15 @@ from gudokeyi.domain.messages import MessageText, Mistake, Some, why
 from gudokeyi.domain.pedigree_order import in_order, longest_paths, offspring_by_parent, round_from
 from gudokeyi.domain.refusals import Refusal
 from gudokeyi.engine.program import Herdbook
-from gudokeyi.ingest.animals import (
-    BIRTH_OF, DAM_OF, ID_OF, SIRE_OF, SheetAnimal, ancestors_among, parents_of_all,
-)  # fmt: skip
-from gudokeyi.ingest.days import Span
+from gudokeyi.ingest.animals import DAM_OF, ID_OF, SIRE_OF, SheetAnimal, parents_of_all
 from gudokeyi.ingest.messages import Where
 from gudokeyi.reconcile.findings.parents import DayFact, OwnAncestor, ParentRefused
 from gudokeyi.reconcile.last_found import Kept, LastFound, NothingKept
 from gudokeyi.reconcile.messages import ImportFault
 from gudokeyi.reconcile.next_book import NextBook, ToldOfAnimals, in_places
 from gudokeyi.reconcile.parents import take_back
+from gudokeyi.reconcile.undated_order import Births, UndatedOrder
 from gudokeyi.store.book import Book
-
-FIRST, LAST = operator.attrgetter("first"), operator.attrgetter("last")
 
 # Animals that would be their own ancestors: of each cycle one parent is left out.
 
@@ -45,34 +39,17 @@ def cut_cycles(
     """Leaves out one parent of each animal that would be its own ancestor: of a cycle a link that the book doesn't
     have, one whose days can't be, or else that of the latest row. Answers the animals without a day, parents before
     their offspring."""
-    those = animals.values()
-    by = [*animals], [*map(BIRTH_OF, those)], [*map(SIRE_OF, those)], [*map(DAM_OF, those)]
-    undated = (found or NothingKept()).of(Kept.UNDATED, by, lambda: undated_in_order(animals, *by[1:]))
-    if undated is not None:
-        return undated
+    by = Births.of(animals)
+
+    def again(before: Births, last: UndatedOrder) -> UndatedOrder | None:
+        return last.again(animals, before, by)
+
+    undated = (found or NothingKept()).of(Kept.UNDATED, by, lambda: UndatedOrder.of(animals, by), again)
+    if undated.order is not None:
+        return undated.order
     order = in_order(parents_of_all(animals))
     cut_all(animals, animals.keys() - order, report, in_book)
     return [id for id in in_order(parents_of_all(animals)) if not animals[id].has_day()]
-
-
-def undated_in_order(
-    animals: dict[str, SheetAnimal], births: list[Span], sires: list[str], dams: list[str]
-) -> list[str] | None:
-    """The animals without a day, parents before their offspring; None where any would be its own ancestor."""
-    undated = {id: animal for id, animal in animals.items() if not animal.has_day()}
-    younger = not_surely_older(animals, births, sires, dams)
-    if not younger:
-        return by_age(undated)
-    # these stand in one order, whether the others do or not
-    some = with_ancestors(animals, {*undated, *younger})
-    order = in_order(parents_of_all(some))
-    return [id for id in order if id in undated] if len(order) == len(some) else None
-
-
-def with_ancestors(animals: dict[str, SheetAnimal], ids: set[str]) -> dict[str, SheetAnimal]:
-    """Some animals and their ancestors, in the order of all."""
-    found = ids | ancestors_among(map(animals.__getitem__, ids), animals)
-    return {id: animal for id, animal in animals.items() if id in found}
 
 
 def cut_all(animals: dict[str, SheetAnimal], left: set[str], report: Report, in_book: InBook) -> None:
@@ -84,25 +61,6 @@ def cut_all(animals: dict[str, SheetAnimal], left: set[str], report: Report, in_
         animals[offspring].set_parent(role, "")
         report.add(animals[offspring].line, offspring, OwnAncestor(role, parent, path))
         left -= set(in_order(parents_of_all({id: animals[id] for id in left})))
-
-
-def not_surely_older(
-    animals: dict[str, SheetAnimal], births: list[Span], sires: list[str], dams: list[str]
-) -> list[str]:
-    """The animals with a parent that may not be older by the days of both: in each cycle there is one."""
-    last = dict(zip(animals, map(LAST, births)))
-    last[""] = datetime.date.min
-    all_values = zip(animals, map(FIRST, births), sires, dams)
-    return [id for id, first, sire, dam in all_values if last[sire] >= first or last[dam] >= first]
-
-
-def by_age(animals: dict[str, SheetAnimal]) -> list[str]:
-    """Animals whose parents are older: the founders in their order, and behind them the others by age."""
-    if not animals:
-        return []
-    founders = [id for id, animal in animals.items() if not animal.sire and not animal.dam]
-    born = {id: animal.birth.first for id, animal in animals.items() if animal.sire or animal.dam}
-    return founders + sorted(born, key=born.__getitem__)
 
 
 def find_cycle(animals: dict[str, SheetAnimal], left: set[str]) -> list[Link]:
@@ -249,7 +207,8 @@ def all_refused_parents(next_book: NextBook, program: Herdbook) -> list[Fault]:
     told, places = next_book.told_of_all(), next_book.places
 
     def found() -> list[tuple[str, Refusal]]:
-        return asked_about(program, told, places, next_book.numbers.__getitem__)
+        alone = next_book.last_found.of(Kept.WITHOUT_PARENTS, told.without_parents, told.lines_without_parents)
+        return asked_about(program, told, alone, places, next_book.numbers.__getitem__)
 
     refused = next_book.last_found.of(Kept.FAULTS, told, found)
     return [(next_book.animals[id], refusal) for id, refusal in refused]
@@ -261,25 +220,23 @@ def refused_parents(next_book: NextBook, program: Herdbook, progeny: Sequence[Sh
     told = ToldOfAnimals.of([next_book.animals[id] for id in ids if id])
 
     def found() -> list[tuple[str, Refusal]]:
-        return asked_about(program, told, range(len(progeny)), next_book.number_of)
+        return asked_about(program, told, told.lines_without_parents(), range(len(progeny)), next_book.number_of)
 
     refused = next_book.last_found.of(Kept.FAULTS_OF_SOME, (*told, len(progeny)), found)
     return [(next_book.animals[id], refusal) for id, refusal in refused]
 
 
 def asked_about(
-    program: Herdbook, told: ToldOfAnimals, places: Sequence[int], number_of: Callable[[str], str]
+    program: Herdbook, told: ToldOfAnimals, alone: bytes, places: Sequence[int], number_of: Callable[[str], str]
 ) -> list[tuple[str, Refusal]]:
     """The ids of the offspring at some places whose parents the program refuses, one after the other, where all those
-    of whom it is told are filed without; these and their exits are filed in any order."""
-    ids, numbers, sires, dams = told.ids, told.numbers, told.sires, told.dams
-    asked = [at for at in places if sires[at] or dams[at]]
-    links = [("parents", numbers[at], "", number_of(sires[at]), number_of(dams[at]), "", "", "") for at in asked]
-    text = HEADER + lines_of(told.births_alone()) + lines_of(told.exits()) + lines_of(links)
-    first = len(ids) + told.count_exits()
+    of whom it is told are filed without, by the lines `alone`; these and their exits are filed in any order."""
+    asked = told.with_parents(places)
+    text = HEADER + alone + lines_of(told.links(asked, number_of))
+    first = len(told.ids) + told.count_exits()
     refused = program.file_text(text, first + len(asked))
     # an exit may be refused too: that is told when the book itself is filed
-    return [(ids[asked[place - first]], refusal) for place, refusal in refused.items() if place >= first]
+    return [(told.ids[asked[place - first]], refusal) for place, refusal in refused.items() if place >= first]
 
 
 def leave_out_parents(next_book: NextBook, program: Herdbook, faults: list[Fault]) -> None:

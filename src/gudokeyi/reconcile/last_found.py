@@ -4,7 +4,9 @@ from __future__ import annotations
 
 import collections
 import enum
-from collections.abc import Callable, Collection, Sequence
+import itertools
+import operator
+from collections.abc import Callable, Collection, Sequence, Set
 from typing import TypeVar, cast
 
 from gudokeyi.ingest.animals import ParentsOutside
@@ -45,6 +47,8 @@ class Kept(enum.Enum):
     # which commands the program refuses
     REFUSED = enum.auto()
     REFUSED_ANEW = enum.auto()
+    # the births without parents, and the exits, as it is told of them
+    WITHOUT_PARENTS = enum.auto()
     # whose parents it refuses, of all and of some of them, and whether it refuses any
     FAULTS = enum.auto()
     FAULTS_OF_SOME = enum.auto()
@@ -55,6 +59,11 @@ class Kept(enum.Enum):
     YOUNG_PARENTS = enum.auto()
     BIRTHS_OF_DAMS = enum.auto()
     TWICE = enum.auto()
+
+
+By = TypeVar("By", bound=FoundBy)
+# what comes of something that was found before by other values, none where too much is otherwise
+FindAgain = Callable[[By, Value], Value | None]
 
 
 # a look asks for some kinds twice: with parents that can't be, and once these are left out
@@ -73,15 +82,20 @@ class LastFound:
         # whether the program refused the parents of any
         self.are_parents_refused = False
 
-    def of(self, what: Kept, by: FoundBy, find: Callable[[], Value]) -> Value:
+    def of(
+        self, what: Kept, by: By, find: Callable[[], Value], again: FindAgain[By, Value] | None = None
+    ) -> Value:
+        """What was found by the same; else what comes of it `again`, where few of the values are others, or is found
+        anew."""
         last = self.kept[what]
         for one in last:
             if one[0] == by:
                 last.remove(one)
                 last.append(one)
                 return cast(Value, one[1])
+        found = again(cast(By, last[-1][0]), cast(Value, last[-1][1])) if again and last else None
+        found = find() if found is None else found
         del last[: len(last) + 1 - MOST_KEPT]
-        found = find()
         last.append((by, found))
         return found
 
@@ -103,8 +117,37 @@ class NothingKept(LastFound):
 
     keeps = False
 
-    def of(self, what: Kept, by: FoundBy, find: Callable[[], Value]) -> Value:
+    def of(
+        self, what: Kept, by: By, find: Callable[[], Value], again: FindAgain[By, Value] | None = None
+    ) -> Value:
         return find()
 
     def by_name(self, ids: Sequence[str], names: Sequence[str]) -> IdsByName:
         return IdsByName(ids, names)
+
+
+# more than one of so many that are otherwise aren't few
+FEW = 10
+Columns = Sequence[Sequence[object]]
+
+
+def changed_ids(before: Columns, now: Columns) -> set[str] | None:
+    """The ids of the animals of which some values are others, or that aren't among both, in columns of which the first
+    are the ids; none where these aren't few, or where animals stand in another order."""
+    ids_before, ids = cast(tuple[Sequence[str], Sequence[str]], (before[0], now[0]))
+    changed = set[str]()
+    if ids_before != ids:
+        changed = {*ids_before} ^ {*ids}
+        before, now = (without(changed, columns) for columns in (before, now))
+        if before[0] != now[0]:
+            return None
+    for was, values in zip(before[1:], now[1:]):
+        if was != values:
+            changed.update(itertools.compress(cast(Sequence[str], now[0]), map(operator.ne, was, values)))
+    return changed if FEW * len(changed) <= len(ids) else None
+
+
+def without(ids: Set[object], columns: Columns) -> Columns:
+    """Columns without the values of some animals."""
+    stay = [*map(operator.not_, map(ids.__contains__, columns[0]))]
+    return [[*itertools.compress(values, stay)] for values in columns]

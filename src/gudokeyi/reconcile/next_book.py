@@ -6,12 +6,13 @@ import collections
 import datetime
 import functools
 import itertools
+import operator
 from collections.abc import Callable, Collection, Iterable, Iterator, Mapping, Sequence, Set
 from typing import NamedTuple, TypeVar
 
 from gudokeyi.domain.animals import NO_FIELDS, SocietyRecord
 from gudokeyi.domain.collections import made
-from gudokeyi.domain.commands import Command, RegisterRecord, birth, day_text, parents
+from gudokeyi.domain.commands import Command, RegisterRecord, birth, day_text, lines_of, parents
 from gudokeyi.domain.findings import Finding, Report
 from gudokeyi.domain.kinds import Field, Role, Standing
 from gudokeyi.ingest.animals import (
@@ -292,6 +293,26 @@ class ToldOfAnimals(NamedTuple):
     def exits_in(self, places: Sequence[int]) -> Iterator[Values]:
         """The same in another order."""
         return exits_of([*in_places(self.numbers, places)], [*in_places(self.left, places)])
+
+    def with_parents(self, places: Sequence[int]) -> list[int]:
+        """Those of some places at which animals have a parent."""
+        have_some = map(operator.add, in_places(self.sires, places), in_places(self.dams, places))
+        return [*itertools.compress(places, have_some)]
+
+    def links(self, places: Sequence[int], number_of: Callable[[str], str]) -> Iterator[Values]:
+        """The parents of animals at some places, by the numbers of ids."""
+        numbers, sires, dams = (in_places(values, places) for values in (self.numbers, self.sires, self.dams))
+        parents = map(number_of, sires), map(number_of, dams)
+        return zip(itertools.repeat("parents"), numbers, NOTHING, *parents, NOTHING, NOTHING, NOTHING)
+
+    @property
+    def without_parents(self) -> tuple[object, ...]:
+        """What is told of animals but for their parents."""
+        return self[: self._fields.index("sires")]
+
+    def lines_without_parents(self) -> bytes:
+        """The births without parents, and the exits."""
+        return lines_of(self.births_alone()) + lines_of(self.exits())
 
     def count_exits(self) -> int:
         return len(self.left) - self.left.count(None)

@@ -8,8 +8,8 @@ import datetime
 import functools
 import itertools
 import operator
-from collections.abc import Callable, Collection, Iterable, Mapping, Sequence
-from typing import TYPE_CHECKING
+from collections.abc import Callable, Collection, Iterable, Iterator, Mapping, Sequence
+from typing import TYPE_CHECKING, Any, NamedTuple, TypeVar
 
 from gudokeyi.domain.findings import Entry, Finding, Report
 from gudokeyi.domain.kinds import Field, Role
@@ -25,7 +25,7 @@ from gudokeyi.reconcile.findings.plausibility import (
     NewTagBesideRow, OldAsLiving, OldParent, RowOfFormerId, SireLeftLongBefore,
 )  # fmt: skip
 from gudokeyi.reconcile.findings.same_animals import NewTag
-from gudokeyi.reconcile.last_found import FoundBy, Kept, LastFound, NothingKept
+from gudokeyi.reconcile.last_found import Kept, LastFound, NothingKept, changed_ids
 from gudokeyi.reconcile.limits import OLDEST, Limits
 from gudokeyi.store.book import Book
 from gudokeyi.store.former_ids import ids_now
@@ -34,6 +34,9 @@ if TYPE_CHECKING:
     from gudokeyi.reconcile.next_book import NextBook
     from gudokeyi.reconcile.outcome import Understood
 
+Value = TypeVar("Value")
+# the place of the dams among the values by which births are told of
+DAMS = 3
 # births of one litter or of twins may be so many days from one another
 LITTER = 3
 # of so many births behind another one of their dam it is seen how far they are apart: all but one of so many are as far
@@ -52,17 +55,34 @@ FEW_OLD = 3
 FEW_OLD_ONES = 10
 
 
-def values_of(animals: Sequence[SheetAnimal], *values: Callable[[SheetAnimal], object]) -> FoundBy:
-    """Some values of animals, beside those by which all of them are told of."""
-    all_values: Iterable[Callable[[SheetAnimal], object]] = (ID_OF, LINE_OF, BORN_OF, *values)
-    return tuple([*map(value, animals)] for value in all_values)
-
-
 def may_be_begotten_before(animal: SheetAnimal, castration: Castration | None) -> bool:
     """Leaves its day of birth open that it was begotten before its sire was castrated?"""
     if castration is None or castration.last is None:
         return False
     return animal.birth.first <= castration.last + LONGEST_CARRIED
+
+
+class ToldBy(NamedTuple):
+    """By what is told of all animals: some of their values, of which the first are their ids, and the limits."""
+
+    values: tuple[list[Any], ...]
+    limits: object
+
+    def changed_since(self, before: ToldBy) -> set[str] | None:
+        """The ids of the animals that are otherwise; none where these aren't few, or the limits are others."""
+        return changed_ids(before.values, self.values) if before.limits == self.limits else None
+
+    def dams_of(self, ids: Collection[str]) -> set[str]:
+        """The dams of some, where these are told by."""
+        return {*itertools.compress(self.values[DAMS], map(ids.__contains__, self.values[0]))}
+
+
+class BirthsOfDams(NamedTuple):
+    """How many days are between the litters of each dam with several births, how many are usual, and what is told."""
+
+    between: dict[str, list[int]]
+    usual: int
+    entries: dict[str, list[Entry]]
 
 
 class PlausibilityChecks:
@@ -102,51 +122,60 @@ class PlausibilityChecks:
 
     def tell_families(self, book: Book) -> None:
         """What is told of parents, offspring, and animals that are there twice."""
-        limits, of_young, of_dams = self.limits, self.told_by(SIRE_OF, DAM_OF, LEFT_OF), self.told_by(DAM_OF, EMBRYO_OF)
-        self.tell_found(Kept.YOUNG_PARENTS, (*of_young, limits.youngest), self.look_at_young)
-        self.tell_found(Kept.BIRTHS_OF_DAMS, (*of_dams, limits.apart, limits.is_apart_said), self.look_at_dams)
+        self.tell_young_parents()
+        self.tell_births_of_dams()
         self.look_at_castrated()
         self.tell_twice(book)
 
-    def told_by(self, *values: Callable[[SheetAnimal], object]) -> FoundBy:
+    def told_by(self, limits: object, *values: Callable[[SheetAnimal], object]) -> ToldBy:
         """Some values of all animals, beside those by which all of them are told of: days that are inferred tell
         nothing."""
         if not self.last.keeps:
-            return ()
-        return [*self.animals], *map(self.all_of, (LINE_OF, BIRTH_OF, *values))
+            return ToldBy((), limits)
+        return ToldBy(([*self.animals], *map(self.all_of, (LINE_OF, BIRTH_OF, *values))), limits)
 
-    def tell_found(self, what: Kept, by: FoundBy, look: Callable[[], None]) -> None:
-        """Tells what a look tells of all animals, which is kept for the next one if anything is."""
-        if not self.last.keeps:
-            look()
-            return
-
-        def found() -> list[Entry]:
-            told_before = len(self.report.entries)
-            look()
-            return self.report.cut_off(told_before)
-
-        self.report.entries += self.last.of(what, by, found)
+    def told(self, look: Callable[[Value], None], at: Value) -> list[Entry]:
+        """What a look tells, which the report hasn't then."""
+        told_before = len(self.report.entries)
+        look(at)
+        return self.report.cut_off(told_before)
 
     @functools.cached_property
     def dated(self) -> list[SheetAnimal]:
         return [animal for animal in self.animals.values() if animal.birth.precision is Precision.DAY]
 
-    @functools.cached_property
-    def borne(self) -> list[SheetAnimal]:
-        """Those of them that were born by their dam."""
-        return [animal for animal in self.dated if animal.dam and not animal.embryo]
+    def tell_young_parents(self) -> None:
+        """Parents that were young at a birth, or very old, and sires that left long before."""
+        by = self.told_by(self.limits.youngest, SIRE_OF, DAM_OF, LEFT_OF)
 
-    @functools.cached_property
-    def days(self) -> dict[str, int]:
-        """Those of all births."""
-        return dict(zip(self.animals, map(datetime.date.toordinal, map(BORN_OF, self.animals.values()))))
+        def again(before: ToldBy, entries: list[Entry]) -> list[Entry] | None:
+            changed = by.changed_since(before)
+            if changed is None:
+                return None
+            some = changed | {*self.offspring_of(changed)}
+            return [one for one in entries if one.id not in some] + self.told(self.look_at_young, some)
 
-    def look_at_young(self) -> None:
-        left = {id: animal.left for id, animal in self.animals.items() if animal.left}
-        for animal in self.likely_too_young(self.dated, self.days, left):
+        found = self.last.of(Kept.YOUNG_PARENTS, by, lambda: self.told(self.look_at_young, self.animals), again)
+        self.report.entries += found
+
+    def offspring_of(self, ids: Collection[str]) -> Iterator[str]:
+        """The ids of those that have one of these as a parent, some twice."""
+        for parents in map(self.all_of, (SIRE_OF, DAM_OF)) if ids else ():
+            yield from itertools.compress(self.animals, map(ids.__contains__, parents))
+
+    def look_at_young(self, ids: Collection[str]) -> None:
+        family = self.animals if ids is self.animals else self.with_parents(ids)
+        days = dict(zip(family, map(datetime.date.toordinal, map(BORN_OF, family.values()))))
+        dated = [animal for id, animal in family.items() if id in ids and animal.birth.precision is Precision.DAY]
+        left = {id: animal.left for id, animal in family.items() if animal.left}
+        for animal in self.likely_too_young(dated, days, left):
             if animal.line or animal.id in self.filed:
-                self.look_at_parents(animal, self.days, left)
+                self.look_at_parents(animal, days, left)
+
+    def with_parents(self, ids: Iterable[str]) -> dict[str, SheetAnimal]:
+        """Those animals that are there, and their parents."""
+        some = [*filter(None, map(self.animals.get, ids))]
+        return {id: self.animals[id] for one in some for id in (one.id, one.sire, one.dam) if id}
 
     def likely_too_young(
         self, dated: Sequence[SheetAnimal], days: Mapping[str, int], left: Mapping[str, datetime.date]
@@ -188,28 +217,62 @@ class PlausibilityChecks:
             found = YoungParent(role, id, parent.line, days, self.limits.youngest)
             self.report.add(offspring.line, offspring.id, found)
 
-    def look_at_dams(self) -> None:
-        born, progeny = self.days, collections.defaultdict[str, list[SheetAnimal]](list)
-        for animal in self.borne:
-            progeny[animal.dam].append(animal)
-        by_age, limit = operator.attrgetter("born", "line"), self.limits.apart
-        several = {dam: its for dam, its in progeny.items() if len(its) > 1}
-        between = {dam: days_between([born[animal.id] for animal in its]) for dam, its in several.items()}
+    def tell_births_of_dams(self) -> None:
+        """Births of one dam that are too near to one another, or nearer than is usual."""
+        by = self.told_by((self.limits.apart, self.limits.is_apart_said), DAM_OF, EMBRYO_OF)
+
+        def again(before: ToldBy, found: BirthsOfDams) -> BirthsOfDams | None:
+            changed = by.changed_since(before)
+            return None if changed is None else self.births_again(found, before.dams_of(changed) | by.dams_of(changed))
+
+        found = self.last.of(Kept.BIRTHS_OF_DAMS, by, self.births_of_dams, again)
+        self.report.entries += itertools.chain.from_iterable(found.entries.values())
+
+    def births_of_dams(self) -> BirthsOfDams:
+        progeny = several_births(filter(is_borne, self.animals.values()))
+        between = self.between_births(progeny)
         usual = 0 if self.limits.is_apart_said else self.usual(between.values())
-        for dam, its in several.items():
-            if not any(days < limit or 2 * days < usual for days in between[dam]):
+        return BirthsOfDams(between, usual, self.told_of_dams(progeny, between, usual))
+
+    def births_again(self, before: BirthsOfDams, dams: Collection[str]) -> BirthsOfDams | None:
+        """The same where these dams have other births; none where another distance is usual therefore."""
+        of_these = itertools.compress(self.animals.values(), map(dams.__contains__, self.all_of(DAM_OF)))
+        progeny = several_births(filter(is_borne, of_these))
+        found = self.between_births(progeny)
+        between = {dam: days for dam, days in before.between.items() if dam not in dams} | found
+        if not self.limits.is_apart_said and self.usual(between.values()) != before.usual:
+            return None
+        others = {dam: told for dam, told in before.entries.items() if dam not in dams}
+        return BirthsOfDams(between, before.usual, others | self.told_of_dams(progeny, found, before.usual))
+
+    def between_births(self, progeny: Mapping[str, Sequence[SheetAnimal]]) -> dict[str, list[int]]:
+        """The days between litters, by the dam."""
+        return {dam: days_between([animal.born.toordinal() for animal in its]) for dam, its in progeny.items()}
+
+    def told_of_dams(
+        self, progeny: Mapping[str, list[SheetAnimal]], between: Mapping[str, Sequence[int]], usual: int
+    ) -> dict[str, list[Entry]]:
+        """What is told of births that are nearer than the limit, or than half of what is usual."""
+        limit, found = self.limits.apart, dict[str, list[Entry]]()
+        for dam, its in progeny.items():
+            if any(days < limit or 2 * days < usual for days in between[dam]):
+                found[dam] = self.told(lambda births: self.look_at_births(dam, births, usual), its)
+        return found
+
+    def look_at_births(self, dam: str, births: list[SheetAnimal], usual: int) -> None:
+        """The births of one dam, one after the other."""
+        limit = self.limits.apart
+        births.sort(key=operator.attrgetter("born", "line"))
+        for before, offspring in zip(births, births[1:]):
+            days = (offspring.born - before.born).days
+            if days <= LITTER or not (self.is_new(offspring) or self.is_new(before)):
                 continue
-            its.sort(key=by_age)
-            for before, offspring in zip(its, its[1:]):
-                days = born[offspring.id] - born[before.id]
-                if days <= LITTER or not (self.is_new(offspring) or self.is_new(before)):
-                    continue
-                if days < limit:
-                    found = BirthsTooNear(dam, before.id, before.line, days, limit)
-                    self.report.add(offspring.line, offspring.id, found)
-                elif 2 * days < usual:
-                    likely = BirthsNearerThanUsual(dam, before.id, before.line, days, usual)
-                    self.report.add(offspring.line, offspring.id, likely)
+            if days < limit:
+                found = BirthsTooNear(dam, before.id, before.line, days, limit)
+                self.report.add(offspring.line, offspring.id, found)
+            elif 2 * days < usual:
+                likely = BirthsNearerThanUsual(dam, before.id, before.line, days, usual)
+                self.report.add(offspring.line, offspring.id, likely)
 
     def look_at_castrated(self) -> None:
         """Castrated males that have offspring, but for such as may have been begotten before."""
@@ -225,7 +288,7 @@ class PlausibilityChecks:
 
     def tell_twice(self, book: Book) -> None:
         """Animals with one name and birth day, which may be one, but for those of which that is told already."""
-        twice = self.last.of(Kept.TWICE, self.told_by(NAME_OF), self.find_twice)
+        twice = self.last.of(Kept.TWICE, self.told_by((), NAME_OF), self.find_twice)
         have_rows = [pair for pair in twice if self.animals[pair[0]].line]
         told = self.new_tags_told() if len(have_rows) < len(twice) else set()
         former = former_ids(book) if have_rows else {}
@@ -283,6 +346,19 @@ class PlausibilityChecks:
         for animal in (one for one in old if one.born not in years):
             found = OldAsLiving(animal.born, median - animal.born.year, median)
             self.report.add(animal.line, animal.id, found)
+
+
+def is_borne(animal: SheetAnimal) -> bool:
+    """Was it born by its dam, on a day that is known?"""
+    return bool(animal.dam) and animal.birth.precision is Precision.DAY and not animal.embryo
+
+
+def several_births(borne: Iterable[SheetAnimal]) -> dict[str, list[SheetAnimal]]:
+    """The offspring of each dam that has several."""
+    progeny = collections.defaultdict[str, list[SheetAnimal]](list)
+    for animal in borne:
+        progeny[animal.dam].append(animal)
+    return {dam: its for dam, its in progeny.items() if len(its) > 1}
 
 
 def former_ids(book: Book) -> dict[str, str]:
