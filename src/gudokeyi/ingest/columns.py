@@ -289,7 +289,8 @@ def tell_unread_statuses(columns: Columns, named: Mapping[str, str], unknown: Co
         elif at in of_exits:
             columns.exits_unread.append(column_unread(columns.sheet, columns.found, at, unknown))
         elif named.get(Field.EXIT) != "":
-            columns.exits_unread.append(remarks_unread(columns.sheet, columns.found, at, telling_exits(texts)))
+            told = telling_exits(texts, columns.title(at))
+            columns.exits_unread.append(remarks_unread(columns.sheet, columns.found, at, told))
 
 
 def tell_other_statuses(columns: Columns, usual: list[int]) -> None:
