@@ -78,7 +78,10 @@ def test_titles_of_owners(desk: Desk, title: str) -> None:
     assert [row["owner"] for row in desk.listed("list", "--columns", "owner")] == ["Meier", "Huber", "Huber"]
 
 
-@pytest.mark.parametrize("title", ["Date achat", "Zukauf am", "Purchased", "Bought on", "Ankauf"])
+@pytest.mark.parametrize(
+    "title",
+    ["Date achat", "Zukauf am", "Purchased", "Bought on", "Ankauf", "gekauft", "Erwerbsdatum", "Date purchased", "Acheté(e)"],
+)
 def test_titles_of_first_days(desk: Desk, title: str) -> None:
     rows = OWNED.format(owner="Meier", day="3.4.2012")
     desk.take(f"Ohrmarke;Geschlecht;geb;Vater;Mutter;Besitzer;{title}\n{rows}")
@@ -91,13 +94,48 @@ def test_titles_of_first_days(desk: Desk, title: str) -> None:
     assert "not read: 'Zukauf'" in alone.out and "to look at" not in alone.out
 
 
-@pytest.mark.parametrize("title", ["Eingang", "Entry date", "Date entrée"])
+@pytest.mark.parametrize("title", ["gekauft", "Purchased", "Acheté"])
+def test_bought_at_all(desk: Desk, title: str) -> None:
+    """A column that says whether an animal was bought has no days."""
+    done = desk.take(f"Ohrmarke;Geschlecht;geb;Vater;Mutter;Besitzer;{title}\n{OWNED.format(owner='Meier', day='ja')}")
+    assert f"not read: '{title}'" in done.out and "to look at" not in done.told
+
+
+@pytest.mark.parametrize("title", ["Eingang", "Zugang", "Zugangsdatum", "Entry date", "Date entrée"])
 def test_days_of_entries(desk: Desk, title: str) -> None:
-    """They may be those of a report or of a herd book, and are no owner's."""
+    """They may be those of a report or of a herd book, and are no owner's until somebody says so."""
     rows = OWNED.format(owner="Meier", day="3.4.2012")
-    done = desk.take(f"Ohrmarke;Geschlecht;geb;Vater;Mutter;Besitzer;{title}\n{rows}")
+    text = f"Ohrmarke;Geschlecht;geb;Vater;Mutter;Besitzer;{title}\n{rows}"
+    done = desk.take(text)
     assert f"not read: '{title}'" in done.out and "since 2012" not in desk.good("show", "001").out
-    assert "to look at" not in done.out
+    told = f"'{title}' isn't read, and "
+    done.shows(
+        f"to look at: {told}its day '3.4.2012' in line 2 is behind the birth: it may be that since when the owner has the "
+        "animal, or that of an entry into a herd book"
+    )
+    assert words_of(done.commands()) == [f"'since={title}'" if " " in title else f"since={title}", "since="]
+    assert told not in desk.take(text, "--own", f"{title}=day", "--book", "kept").told
+    assert told not in desk.take(text, "--columns", "since=", "--book", "none").told
+    done = desk.typed(done.commands()[0])
+    assert told not in done.out and "since 2012-04-03" in desk.good("show", "001").out
+
+
+def test_days_of_entries_at_births(desk: Desk) -> None:
+    """Those of births and before, words, and those of a list with owners' first days aren't told."""
+    titles = "Ohrmarke;Geschlecht;geb;Vater;Mutter;Besitzer;Eingang"
+    for at, day in enumerate(["1.2.2010", "1.2.2009", "Herdbuch", "350"]):
+        done = desk.take(f"{titles}\n{OWNED.format(owner='Meier', day=day)}", "--book", str(at))
+        assert "not read: 'Eingang'" in done.out and "to look at" not in done.told
+    done = desk.take(f"{titles};Besitzer seit\n{OWNED.format(owner='Meier', day='3.4.2012;3.4.2013')}")
+    assert "since from 'Besitzer seit'" in done.out and "'Eingang' isn't read, and" not in done.told
+
+
+def test_days_of_entries_that_were_read(desk: Desk) -> None:
+    """A column that a book's last sheet read stays the one."""
+    text = f"Ohrmarke;Geschlecht;geb;Vater;Mutter;Besitzer;Zugang\n{OWNED.format(owner='Meier', day='3.4.2012')}"
+    desk.take(text, "--columns", "since=Zugang")
+    done = desk.take(text)
+    assert "'Zugang' isn't read" not in done.told and " 0 changed" in done.last
 
 
 def test_column_that_the_society_keeps(desk: Desk) -> None:

@@ -16,7 +16,7 @@ from gudokeyi.ingest.castrations import castration_columns
 from gudokeyi.ingest.exits_beside import columns_beside, exit_day_columns
 from gudokeyi.ingest.files import GivenFile
 from gudokeyi.ingest.findings.columns import ColumnUntitled, TitleBelow
-from gudokeyi.ingest.findings.columns_unread import MayBeExits
+from gudokeyi.ingest.findings.columns_unread import EntryDaysUnread, MayBeExits
 from gudokeyi.ingest.genetic_dams import genetic_columns
 from gudokeyi.ingest.inferred_values import columns_of_marks
 from gudokeyi.ingest.names_for_ids import names_read
@@ -278,10 +278,10 @@ def remember_places(book: Book, read: ReadSheet, import_options: ImportOptions, 
 
 
 def leave_known_days(read: ReadSheet, own: OwnSheetColumns, report: Report) -> None:
-    """Days that the society keeps as a column of its own aren't told as what may be exits."""
+    """Days that the society keeps as a column of its own aren't told as what may be exits, or owners' first days."""
     kept = {read.sheet.titles[at] for at in own.places.values()}
-    entries = [one for one in report.entries if isinstance(one.finding, MayBeExits) and one.finding.title in kept]
-    for one in entries:
+    entries = [one for one in report.entries if isinstance(one.finding, MayBeExits | EntryDaysUnread)]
+    for one in [one for one in entries if one.finding.title in kept]:
         report.entries.remove(one)
 
 

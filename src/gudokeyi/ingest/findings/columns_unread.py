@@ -63,6 +63,32 @@ class MayBeExits(SheetFinding):
 
 
 @dataclass(frozen=True, slots=True)
+class EntryDaysUnread(SheetFinding):
+    """A column of entries that isn't read, where no column has the owners' first days: how many of its days are behind
+    the births, and the first."""
+
+    title: str
+    count: int
+    line: int
+    text: str
+
+    code = "entry days unread"
+    message = Counted(
+        "'{title}' isn't read, and its day '{text}' in line {line} is behind the birth: it may be that since when the owner "
+        "has the animal, or that of an entry into a herd book",
+        "'{title}' isn't read, and {count} of its days are behind the births, the first '{text}' in line {line}: they may be "
+        "those since when owners have the animals, or those of entries into a herd book",
+        "count",
+    )
+
+    def suggestions(self) -> tuple[Suggestion, ...]:
+        return (
+            Suggestion("if owners have the animals since then", (column(Field.SINCE, self.title),)),
+            Suggestion("if no column says since when", (column(Field.SINCE, ""),)),
+        )
+
+
+@dataclass(frozen=True, slots=True)
 class StillbornUnread(SheetFinding):
     """A column that isn't read, and says of animals without an exit that they were born dead: of how many, and the
     first."""
