@@ -71,11 +71,48 @@ def test_titles_of_exits(desk: Desk, title: str) -> None:
 
 @pytest.mark.parametrize(
     "title",
-    ["Besitzer/Halter", "Owner/Keeper", "Besitzer (aktuell)", "jetziger Besitzer", "Breeder/Owner", "Propr.", "Cheptel"],
-)
+    [
+        "Besitzer/Halter", "Owner/Keeper", "Besitzer (aktuell)", "jetziger Besitzer", "Breeder/Owner", "Propr.", "Cheptel",
+        "Owner(s)", "Tierhalter/in", "Éleveur détenteur", "Züchter/Halter", "Mitglied", "Member", "Membre", "Adhérent",
+        "Bes.", "Prop.",
+    ],
+)  # fmt: skip
 def test_titles_of_owners(desk: Desk, title: str) -> None:
     desk.take(f"Ohrmarke;Geschlecht;geb;Vater;Mutter;{title};Farbe\n{OWNED.format(owner='Meier', day='')}")
     assert [row["owner"] for row in desk.listed("list", "--columns", "owner")] == ["Meier", "Huber", "Huber"]
+
+
+@pytest.mark.parametrize("cells", [("101", "102"), ("M101", "M102"), ("ja", "nein"), ("x", ""), ("Aktiv", "Passiv")])
+@pytest.mark.parametrize("title", ["Mitglied", "Member", "Membre", "Bes."])
+def test_members_without_names(desk: Desk, title: str, cells: tuple[str, str]) -> None:
+    """Numbers, answers and kinds of members are no owners, and nothing is told of them."""
+    rows = OWNED.replace("Huber", cells[1]).format(owner=cells[0], day="")
+    done = desk.take(f"Ohrmarke;Geschlecht;geb;Vater;Mutter;{title};Farbe\n{rows}")
+    assert f"not read: '{title}'" in done.out and "owner from" not in done.out and "to look at" not in done.told
+    beside = desk.take(f"Ohrmarke;Geschlecht;geb;Vater;Mutter;{title};Besitzer\n{rows}", "--book", "beside")
+    assert "owner from 'Besitzer'" in beside.out and "to look at" not in beside.told
+
+
+@pytest.mark.parametrize("cells", ["hornlos;;", "Zwilling;blind;hornlos"])
+def test_short_title_of_something_else(desk: Desk, cells: str) -> None:
+    """`Bes.` stands for Besonderheiten too."""
+    first, second, third = cells.split(";")
+    rows = f"001;m;01.02.2010;;;{first}\n002;w;03.02.2010;;;{second}\n003;w;03.02.2013;001;002;{third}\n"
+    assert "owner from" not in desk.take(f"Ohrmarke;Geschlecht;geb;Vater;Mutter;Bes.\n{rows}").out
+
+
+def test_members_beside_owners(desk: Desk) -> None:
+    """The column of owners is read; where that is lost, the members' is told as what may be it."""
+    text = f"Ohrmarke;Geschlecht;geb;Vater;Mutter;Mitglied;Besitzer\n{OWNED.format(owner='Meier', day='Egli')}"
+    done = desk.take(text)
+    assert "owner from 'Besitzer'" in done.out and "not read: 'Mitglied'" in done.out
+    done.shows(
+        "to look at: 2 rows have nothing in 'Besitzer', and a name in 'Mitglied', the first 'Huber' in line 3, the others "
+        "in 4: no owner is taken from there; if they are the owners, write them into 'Besitzer'"
+    )
+    done = desk.take(text.replace("Besitzer", "Farbe"))
+    done.shows("to look at: no column for owner is found: it was 'Besitzer' at the last time; what the book has stays")
+    assert words_of(done.commands()) == ["owner=Mitglied", "owner="]
 
 
 @pytest.mark.parametrize(

@@ -25,6 +25,7 @@ from gudokeyi.ingest.findings.rows import FieldUnread, StatusUnread
 from gudokeyi.ingest.findings.sheets import MOST_SHOWN
 from gudokeyi.ingest.many_texts import likely_among
 from gudokeyi.ingest.owners_beside import owners_beside, persons_name
+from gudokeyi.ingest.owners_by_cells import owners_by_cells
 from gudokeyi.ingest.parent_titles import MOST_ALIKE, PARENTS, columns_of_pair, columns_of_parent
 from gudokeyi.ingest.parents_beside import tell_parents_beside, tell_parents_from_others
 from gudokeyi.ingest.remarks import telling_castrations, telling_exits
@@ -136,6 +137,9 @@ def find_columns(
     for name in BELOW:
         if name not in named and name not in columns.found:
             column_below(columns, name)
+    # one that the last sheet had and this one lacks is told
+    if Field.OWNER not in {*named, *columns.found} and not before.get(Field.OWNER):
+        columns.found |= {Field.OWNER: at for at in owners_by_cells(sheet)[:1] if columns.is_free(at)}
     find_births_in_parts(columns, given, only_ids(columns, before.get(Field.ID, "")))
     columns.apart = ()
     parents = [name for name in PARENTS if name not in named and name not in columns.found]

@@ -76,7 +76,10 @@ TITLES = {
     "current keeper, propriétaire/détenteur, détenteur/propriétaire, propriétaire/éleveur, éleveur/propriétaire, "
     "détenteur actuel, propr, Herde, cheptel, troupeau, owner 1, 1st owner, first owner, keeper 1, Besitzer 1, "
     "1. Besitzer, erster Besitzer, Eigentümer 1, 1. Eigentümer, Halter 1, 1. Halter, propriétaire 1, 1er propriétaire, "
-    "premier propriétaire, détenteur 1",
+    "premier propriétaire, détenteur 1, owners, Halterin, Tierhalterin, Halter/in, Tierhalter/in, Tierhalter Name, Tierbesitzer, "
+    "Tierbesitzerin, Tiereigentümer, Eigner, proprietor, propriétaires, éleveur/détenteur, détenteur/éleveur, "
+    "Züchter/Halter, Halter/Züchter, Züchter/Eigentümer, Eigentümer/Züchter, breeder/keeper, keeper/breeder, "
+    "naisseur/détenteur, naisseur/propriétaire",
     Field.SINCE: "owner since, owned since, since, date of transfer, transfer date, transferred, date of purchase, "
     "purchase date, bought, acquired, Besitzer seit, im Besitz seit, seit, Besitzwechsel, Besitzerwechsel, "
     "Besitzwechsel am, Besitzerwechsel am, Wechseldatum, Halter seit, Eigentümer seit, gekauft am, Kaufdatum, "
