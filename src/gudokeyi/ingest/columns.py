@@ -17,7 +17,9 @@ from gudokeyi.ingest.column_detection import MOST_COMPARED, IdColumn, LikelyColu
 from gudokeyi.ingest.days import is_span
 from gudokeyi.ingest.encodings import Letters, decoded_twice
 from gudokeyi.ingest.exits_beside import KNOWN_BUYERS, are_days, exit_columns, exit_day_columns, says_day
-from gudokeyi.ingest.exits_unread import ExitsUnread, codes_of_status, column_unread, living_unmarked, remarks_unread
+from gudokeyi.ingest.exits_unread import (
+    ExitsUnread, causes_unread, codes_of_status, column_unread, living_unmarked, remarks_unread,
+)  # fmt: skip
 from gudokeyi.ingest.findings.columns import (
     ColumnLost, ColumnsLack, ColumnUntitled, LikelierColumn, NamedColumnLacks, SheetFinding, TellsNoExits, TitleTwice,
 )  # fmt: skip
@@ -293,8 +295,9 @@ def tell_unread_statuses(columns: Columns, named: Mapping[str, str], unknown: Co
         elif at in of_exits:
             columns.exits_unread.append(column_unread(columns.sheet, columns.found, at, unknown))
         elif named.get(Field.EXIT) != "":
+            causes = causes_unread(columns.sheet, columns.found, at, unknown, of) if named.get(of) != "" else None
             told = telling_exits(texts, columns.title(at))
-            columns.exits_unread.append(remarks_unread(columns.sheet, columns.found, at, told))
+            columns.exits_unread.append(causes or remarks_unread(columns.sheet, columns.found, at, told))
 
 
 def tell_other_statuses(columns: Columns, usual: list[int]) -> None:

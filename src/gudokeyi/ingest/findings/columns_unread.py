@@ -8,6 +8,7 @@ from gudokeyi.domain.findings import Severity, Suggestion
 from gudokeyi.domain.kinds import Field
 from gudokeyi.domain.wording import Counted, OptionalPart, Text
 from gudokeyi.ingest.findings.columns import SheetFinding, column
+from gudokeyi.ingest.findings.rows import ExitsInRemarks
 
 
 @dataclass(frozen=True, slots=True)
@@ -59,6 +60,30 @@ class MayBeExits(SheetFinding):
         return (
             Suggestion("if it tells of exits", (column(Field.EXIT, self.title),)),
             Suggestion("if no column tells of exits", (column(Field.EXIT, ""),)),
+        )
+
+
+@dataclass(frozen=True, slots=True)
+class CausesUnread(ExitsInRemarks):
+    """A column that isn't read, and whose title and codes may tell why animals left; for which field it can be read."""
+
+    as_field: Field = Field.EXIT
+
+    decides_much = True
+    severity = Severity.ANIMALS
+    code = "causes unread"
+    message = Counted(
+        "the column '{title}' isn't read for exits, and {count} cell of it may say why an animal left which has no exit: "
+        "'{text}' in line {line}; the animal counts as living",
+        "the column '{title}' isn't read for exits, and {count} cells of it may say why animals left which have no exit, the "
+        "first is '{text}' in line {line}; these animals count as living",
+        "count",
+    )
+
+    def suggestions(self) -> tuple[Suggestion, ...]:
+        return (
+            Suggestion("if each of its cells tells of an exit", (column(self.as_field, self.title),)),
+            Suggestion("if it tells of no exits", (column(self.as_field, ""),)),
         )
 
 
