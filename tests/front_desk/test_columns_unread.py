@@ -43,6 +43,39 @@ def test_column_is_back_that_was_said_to_be_none(desk: Desk) -> None:
     assert "'Todesdatum' isn't read" not in desk.take(other).out
 
 
+def test_exits_since_that_was_said(desk: Desk) -> None:
+    """A column of which it was said that it has no exits is told when it tells of more than then, until that is said
+    anew."""
+    text = f"{PARENTS};Abgang\n001;2001-01-01;;;{{}}\n002;2001-02-01;;;{{}}\n003;2001-03-01;;;{{}}\n"
+    told = "'Abgang' isn't read as exit, since "
+    for before in ("", "", ""), ("3.5.2020", "", ""):
+        book = "--book", f"of {len(before[0])}"
+        desk.take(text.format(*before), "--columns", "exit=", *book)
+        assert told not in desk.take(text.format(*before), *book).out
+    done = desk.take(text.format("3.5.2020", "3.6.2020", "lebt"), *book)
+    done.shows(
+        f"to look at: {told}that was said of an earlier list; it tells of 2 exits now, the first '3.5.2020' in line 2, the "
+        "others in 3, and told of 1 then: animals that left count as living"
+    )
+    assert words_of(done.commands()) == ["exit=Abgang", "exit="]
+    done = desk.take(text.format("", "3.6.2020", "lebt"), "--book", "of 0")
+    done.shows(
+        f"to look at: {told}that was said of an earlier list; it tells of 1 exit now, '3.6.2020' in line 3, and told of 0 "
+        "then: animals that left count as living"
+    )
+    desk.take(text.format("", "3.6.2020", ""), "--columns", "exit=", "--book", "of 0")
+    assert told not in desk.take(text.format("", "3.6.2020", ""), "--book", "of 0").out
+    assert "changed: exit 1" in desk.take(text.format("", "3.6.2020", ""), "--columns", "exit=Abgang", "--book", "of 0").out
+
+
+def test_states_since_that_was_said(desk: Desk) -> None:
+    """More animals of a column of states aren't more exits."""
+    text = f"{PARENTS};Status\n001;2001-01-01;;;lebt\n002;2001-02-01;;;tot\n"
+    desk.take(text, "--columns", "exit=")
+    assert "isn't read as" not in desk.take(text + "003;2001-03-01;;;lebt\n").out
+    assert "it tells of 2 exits now" in desk.take(text + "003;2001-03-01;;;verkauft\n").out
+
+
 def test_parents_are_back_that_were_said_to_be_none(desk: Desk) -> None:
     desk.take("Ohrmarke;geb;Mutter\n001;2001-01-01;\n002;2001-02-01;\n", "--columns", "sire=")
     back = "Ohrmarke;geb;Mutter;Vater\n001;2001-01-01;;\n002;2001-02-01;;\n003;2003-02-01;002;001\n"

@@ -62,8 +62,9 @@ class Columns:
     exits_unread: list[ExitsUnread] = field(default_factory=list)
     # the titles of the last sheet's columns of exits that this one lacks, where exits are read from another
     lost_exits: tuple[str, ...] = ()
-    # the titles that would be read for fields of which somebody says that no column has them
-    refused: dict[str, str] = field(default_factory=dict)
+    # the titles that would be read for fields of which somebody says that no column has them, and of how many exits
+    # those of exits tell
+    refused: dict[str, tuple[str, int | None]] = field(default_factory=dict)
 
     def cells(self, at: int) -> list[str]:
         return self.sheet.column(at)

@@ -6,7 +6,7 @@ from dataclasses import dataclass
 
 from gudokeyi.domain.findings import Severity, Suggestion
 from gudokeyi.domain.kinds import Field
-from gudokeyi.domain.wording import Counted, OptionalPart, Text
+from gudokeyi.domain.wording import Counted, Joined, OptionalPart, Text
 from gudokeyi.ingest.findings.columns import SheetFinding, column
 from gudokeyi.ingest.findings.rows import ExitsInRemarks
 
@@ -36,6 +36,45 @@ class SaidNone(SheetFinding):
         return (
             Suggestion("if it is the one", (column(self.field, self.title),)),
             Suggestion("if there is none", (column(self.field, ""),)),
+        )
+
+
+@dataclass(frozen=True, slots=True)
+class ExitsSinceSaid(SheetFinding):
+    """A column of which it was said that it doesn't have the exits, and that tells of more than then: of how many it told
+    and tells, the first of these, and the lines of others."""
+
+    field: Field
+    title: str
+    before: int
+    count: int
+    line: int
+    text: str
+    others: tuple[int, ...] = ()
+
+    decides_much = True
+    severity = Severity.ANIMALS
+    code = "exits since said"
+    message = Counted(
+        "'{title}' isn't read as {field}, since that was said of an earlier list; it tells of {count} exit now, '{text}' in "
+        "line {line}, and told of {before} then: animals that left count as living",
+        "'{title}' isn't read as {field}, since that was said of an earlier list; it tells of {count} exits now, the first "
+        "'{text}' in line {line}{maybe_others}{maybe_more}, and told of {before} then: animals that left count as living",
+        "count",
+    )
+    parts = {
+        "maybe_others": OptionalPart(", the others in {in_others}"),
+        "maybe_more": OptionalPart(" and {more} more"),
+    }
+
+    def values(self) -> Mapping[str, object]:
+        more = self.count - 1 - len(self.others) if self.others else 0
+        return {"in_others": Joined(tuple(map(str, self.others))), "more": more or None}
+
+    def suggestions(self) -> tuple[Suggestion, ...]:
+        return (
+            Suggestion("if it tells of exits", (column(self.field, self.title),)),
+            Suggestion("if it tells of no exits", (column(self.field, ""),)),
         )
 
 
