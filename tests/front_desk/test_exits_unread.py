@@ -163,6 +163,13 @@ def test_codes_of_causes_beside_exits(desk: Desk, title: str) -> None:
     assert "may say why" not in desk.take(full, "--book", "full").told
 
 
+@pytest.mark.parametrize("title, text", [("Ursache", "Kolik"), ("Cause", "liver fluke"), ("Cause", "vieillesse")])
+def test_causes_in_words(desk: Desk, title: str, text: str) -> None:
+    """Whatever stands there."""
+    done = desk.take(BEGIN + f"Abgang;{title}\n" + rows(("3.3.2021;" + text, ";"), f";{text}", ";"))
+    assert f"1 cell of it may say why an animal left which has no exit: '{text}' in line 4" in done.out
+
+
 @pytest.mark.parametrize(
     "title, cells",
     [

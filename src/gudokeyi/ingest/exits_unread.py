@@ -21,7 +21,8 @@ from gudokeyi.ingest.words import KNOWN_YES, lives
 LONGEST, MOST_CODES, LEAST = 2, 9, 3
 # of so great a part of the rows at most codes tell of exits
 MOST_GONE = 0.9
-# Titles of columns in which all tells of exits, and of those in which codes may.
+# Titles of columns in which all tells of exits, of those in which all may where most rows have nothing, and of those in
+# which codes may.
 KINDS_OF_EXITS = {
     plain(title)
     for title in listed(
@@ -30,9 +31,9 @@ KINDS_OF_EXITS = {
         "type de sortie"
     )
 }
-MAY_BE_CAUSES = {
-    plain(title)
-    for title in listed("Ursache, Grund, Verbleib, cause, reason, fate, whereabouts, disposal, motif, raison, devenir")
+CAUSES = {plain(title) for title in listed("Ursache, Ursachen, cause, causes")}
+MAY_BE_CAUSES = CAUSES | {
+    plain(title) for title in listed("Grund, Verbleib, reason, fate, whereabouts, disposal, motif, raison, devenir")
 }
 
 
@@ -81,8 +82,8 @@ def causes_unread(
     """A column that says by codes why animals left, as `Abgangscode`, or may do so, as `Ursache`; nothing for others."""
     title = plain(sheet.titles[at])
     counts = collections.Counter(cell for cell in sheet.column(at) if cell not in unknown and not lives(cell))
-    may_be = title in MAY_BE_CAUSES and are_codes(counts) and counts.total() <= MOST_GONE * len(sheet.rows)
-    if not (may_be or title in KINDS_OF_EXITS):
+    may_be = title in MAY_BE_CAUSES and are_codes(counts) or title in CAUSES
+    if not (may_be and counts.total() <= MOST_GONE * len(sheet.rows) or title in KINDS_OF_EXITS):
         return None
     return beside_exits(sheet, columns, at, {*counts}, functools.partial(CausesUnread, as_field=as_field))
 
