@@ -69,7 +69,7 @@ def test_no_exits(text: str) -> None:
 
 @pytest.mark.parametrize("text", ["Wolf", "Luchs", "missing", "lost", "Foudre", "Bär"])
 def test_words_of_other_columns(text: str) -> None:
-    """In columns of remarks and causes they tell of exits; elsewhere they may be names, colours, or of something else."""
+    """In columns of remarks and causes they tell of exits; elsewhere they may be names, colours, or of other things."""
     titles = "Bemerkung", "Ursache", "Cause", "Rufname", "DNA", "Farbe"
     assert [title for title in titles if telling_exits([text], title)] == ["Bemerkung", "Ursache", "Cause"]
 

@@ -1,5 +1,5 @@
-"""A column such as `Eingang` or `Zugang`, which isn't read: its days may be those since when owners have animals, or those
-of entries into a herd or a herd book."""
+"""A column such as `Eingang` or `Zugang`, which isn't read: its days may be those since when owners have animals, or
+those of entries into a herd or a herd book."""
 from __future__ import annotations
 
 from collections.abc import Mapping
@@ -14,8 +14,8 @@ from gudokeyi.ingest.texts import listed, plain
 ENTRIES = {
     plain(title)
     for title in listed(
-        "Eingang, Eingangsdatum, Eingang am, Zugang, Zugangsdatum, Zugang am, Eintritt, Eintrittsdatum, Eintritt am, entry, "
-        "entry date, date of entry, date entered, entered, entrée, date d'entrée, date entrée, entrée le, entré le"
+        "Eingang, Eingangsdatum, Eingang am, Zugang, Zugangsdatum, Zugang am, Eintritt, Eintrittsdatum, Eintritt am, "
+        "entry, entry date, date of entry, date entered, entered, entrée, date d'entrée, date entrée, entrée le, entré le"
     )
 }
 

@@ -26,9 +26,9 @@ MOST_GONE = 0.9
 KINDS_OF_EXITS = {
     plain(title)
     for title in listed(
-        "Abgangscode, Code Abgang, Abgangsgrund Code, Code Abgangsgrund, Abgangsschlüssel, Abgangsart, Art des Abgangs, exit "
-        "code, exit type, type of exit, disposal code, disposal type, cull code, code sortie, code de sortie, type sortie, "
-        "type de sortie"
+        "Abgangscode, Code Abgang, Abgangsgrund Code, Code Abgangsgrund, Abgangsschlüssel, Abgangsart, Art des Abgangs, "
+        "exit code, exit type, type of exit, disposal code, disposal type, cull code, code sortie, code de sortie, "
+        "type sortie, type de sortie"
     )
 }
 CAUSES = {plain(title) for title in listed("Ursache, Ursachen, cause, causes")}
@@ -79,7 +79,7 @@ def beside_exits(
 def causes_unread(
     sheet: Sheet, columns: Mapping[str, int], at: int, unknown: Container[str], as_field: Field
 ) -> ExitsUnread | None:
-    """A column that says by codes why animals left, as `Abgangscode`, or may do so, as `Ursache`; nothing for others."""
+    """A column that says by codes why animals left, as `Abgangscode`, or may do so, as `Ursache`."""
     title = plain(sheet.titles[at])
     counts = collections.Counter(cell for cell in sheet.column(at) if cell not in unknown and not lives(cell))
     may_be = title in MAY_BE_CAUSES and are_codes(counts) or title in CAUSES

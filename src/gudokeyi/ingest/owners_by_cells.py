@@ -12,9 +12,9 @@ from gudokeyi.ingest.words import KNOWN_NO, KNOWN_STAYS, KNOWN_YES
 MEMBERS = {
     plain(title)
     for title in listed(
-        "Mitglied, Mitgliedsname, Name Mitglied, Name des Mitglieds, member, member name, name of member, member's name, "
-        "membre, nom membre, nom du membre, adhérent, adhérente, adhérent(e), nom adhérent, nom de l'adhérent, sociétaire, "
-        "nom du sociétaire, Inhaber, Inhaberin, holder"
+        "Mitglied, Mitgliedsname, Name Mitglied, Name des Mitglieds, member, member name, name of member, "
+        "member's name, membre, nom membre, nom du membre, adhérent, adhérente, nom adhérent, nom de l'adhérent, "
+        "sociétaire, nom du sociétaire, Inhaber, Inhaberin, holder"
     )
 }
 # short for words for owners, and for others, as `Besonderheiten`

@@ -50,20 +50,21 @@ KNOWN_ALONE |= {plain(word) for word in [*listed(SLAUGHTERERS), *listed(LOSSES_A
 # Elsewhere these are names, colours or tags: they tell of an exit in columns of remarks and of causes.
 KNOWN_IN_REMARKS = {
     plain(word) for word in listed(
-        "Wolf, Luchs, Bär, Blitz, Blitzschlag, Unfall, verloren, wolves, lynx, bear, lightning, accident, lost, missing, "
-        "loup, ours, foudre, perdu, perdue, introuvable, parti, partie"
+        "Wolf, Luchs, Bär, Blitz, Blitzschlag, Unfall, verloren, wolves, lynx, bear, lightning, accident, lost, "
+        "missing, loup, ours, foudre, perdu, perdue, introuvable, parti, partie"
     )
 }  # fmt: skip
 OF_REMARKS = {
     plain(title) for title in listed(
-        "Bemerkung, Bemerkungen, Bem, Anmerkung, Anmerkungen, Anm, Notiz, Notizen, Kommentar, Kommentare, Ursache, Grund, "
-        "remark, remarks, note, notes, comment, comments, cause, reason, remarque, remarques, commentaire, commentaires, "
-        "observation, observations, obs, motif, raison"
+        "Bemerkung, Bemerkungen, Bem, Anmerkung, Anmerkungen, Anm, Notiz, Notizen, Kommentar, Kommentare, Ursache, "
+        "Grund, remark, remarks, note, notes, comment, comments, cause, reason, remarque, remarques, commentaire, "
+        "commentaires, observation, observations, obs, motif, raison"
     )
 }  # fmt: skip
 # of these without a day one is a side, and the other may be an ear tag
 WITH_DAY = {plain(word) for word in listed("left, lost")}
-AROUND = {plain(word) for word in [*listed(AROUND_EXITS), *listed("zum, zur, vom, beim, la, l, les, the, Wolf, Fuchs, Luchs, Hund")]}
+OF_BEASTS = "zum, zur, vom, beim, la, l, les, the, Wolf, Fuchs, Luchs, Hund"
+AROUND = {plain(word) for word in [*listed(AROUND_EXITS), *listed(OF_BEASTS)]}
 # a day or a month whose year has two digits
 SHORT_DAY = re.compile(r"\d[./-]\d{2}")
 # that of somebody's death is one that comes before a day

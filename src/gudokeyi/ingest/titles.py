@@ -20,9 +20,9 @@ from gudokeyi.ingest.words import (
 REASONS = (
     "Abgangsgrund, Abgangsursache, Grund des Abgangs, Todesursache, exit reason, reason for exit, reason for leaving, "
     "reason left, cause of death, motif de sortie, motif de la sortie, cause de sortie, cause de la sortie, raison de la "
-    "sortie, cause de mort, cause du décès, Abg.-Grund, Abg.-Ursache, Merzungsgrund, Merzgrund, disposal reason, reason for "
-    "disposal, cull reason, culling reason, reason for culling, cause of exit, leaving reason, cause sortie, motif sortie, "
-    "raison sortie, motif de réforme, motif réforme, cause de réforme, cause réforme"
+    "sortie, cause de mort, cause du décès, Abg.-Grund, Abg.-Ursache, Merzungsgrund, Merzgrund, disposal reason, reason "
+    "for disposal, cull reason, culling reason, reason for culling, cause of exit, leaving reason, cause sortie, motif "
+    "sortie, raison sortie, motif de réforme, motif réforme, cause de réforme, cause réforme"
 )
 # The usual titles, the likelier first: where a sheet has both a column of days and one of words, as `Abgangsdatum` and
 # `Abgang`, the one of days is read; a column of all exits is read before one of deaths alone. They are compared in
@@ -78,8 +78,8 @@ TITLES = {
     "current keeper, propriétaire/détenteur, détenteur/propriétaire, propriétaire/éleveur, éleveur/propriétaire, "
     "détenteur actuel, propr, Herde, cheptel, troupeau, owner 1, 1st owner, first owner, keeper 1, Besitzer 1, "
     "1. Besitzer, erster Besitzer, Eigentümer 1, 1. Eigentümer, Halter 1, 1. Halter, propriétaire 1, 1er propriétaire, "
-    "premier propriétaire, détenteur 1, owners, Halterin, Tierhalterin, Halter/in, Tierhalter/in, Tierhalter Name, Tierbesitzer, "
-    "Tierbesitzerin, Tiereigentümer, Eigner, proprietor, propriétaires, éleveur/détenteur, détenteur/éleveur, "
+    "premier propriétaire, détenteur 1, owners, Halterin, Tierhalterin, Halter/in, Tierhalter/in, Tierhalter Name, "
+    "Tierbesitzer, Tierbesitzerin, Tiereigentümer, Eigner, proprietor, propriétaires, éleveur/détenteur, détenteur/éleveur, "
     "Züchter/Halter, Halter/Züchter, Züchter/Eigentümer, Eigentümer/Züchter, breeder/keeper, keeper/breeder, "
     "naisseur/détenteur, naisseur/propriétaire",
     Field.SINCE: "owner since, owned since, since, date of transfer, transfer date, transferred, date of purchase, "

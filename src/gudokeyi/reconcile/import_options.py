@@ -149,8 +149,8 @@ def remember_columns(book: Book, titles: Mapping[str, str], exits: Sequence[str]
 def remember_refused(
     book: Book, import_options: ImportOptions, refused: Mapping[str, tuple[str, int | None]]
 ) -> None:  # fmt: skip
-    """The titles of columns that aren't read, though they could be, and the exits of which some tell: beside each word by
-    which it was said now that no column has their fields."""
+    """The titles of columns that aren't read, though they could be, and the exits of which some tell: beside each word
+    by which it was said now that no column has their fields."""
     for at, one in enumerate(book.remembered):
         if one.what is Remembered.COLUMNS and one.word in import_options.columns:
             fields = [name for name, title in read_given([one.word]).items() if not title and name in refused]

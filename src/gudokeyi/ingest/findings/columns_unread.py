@@ -41,8 +41,8 @@ class SaidNone(SheetFinding):
 
 @dataclass(frozen=True, slots=True)
 class ExitsSinceSaid(SheetFinding):
-    """A column of which it was said that it doesn't have the exits, and that tells of more than then: of how many it told
-    and tells, the first of these, and the lines of others."""
+    """A column of which it was said that it doesn't have the exits, and that tells of more than then: of how many it
+    told and tells, the first of these, and the lines of others."""
 
     field: Field
     title: str
@@ -56,10 +56,11 @@ class ExitsSinceSaid(SheetFinding):
     severity = Severity.ANIMALS
     code = "exits since said"
     message = Counted(
-        "'{title}' isn't read as {field}, since that was said of an earlier list; it tells of {count} exit now, '{text}' in "
-        "line {line}, and told of {before} then: animals that left count as living",
-        "'{title}' isn't read as {field}, since that was said of an earlier list; it tells of {count} exits now, the first "
-        "'{text}' in line {line}{maybe_others}{maybe_more}, and told of {before} then: animals that left count as living",
+        "'{title}' isn't read as {field}, since that was said of an earlier list; it tells of {count} exit now, '{text}' "
+        "in line {line}, and told of {before} then: animals that left count as living",
+        "'{title}' isn't read as {field}, since that was said of an earlier list; it tells of {count} exits now, the "
+        "first '{text}' in line {line}{maybe_others}{maybe_more}, and told of {before} then: animals that left count as "
+        "living",
         "count",
     )
     parts = {
@@ -114,8 +115,8 @@ class CausesUnread(ExitsInRemarks):
     message = Counted(
         "the column '{title}' isn't read for exits, and {count} cell of it may say why an animal left which has no exit: "
         "'{text}' in line {line}; the animal counts as living",
-        "the column '{title}' isn't read for exits, and {count} cells of it may say why animals left which have no exit, the "
-        "first is '{text}' in line {line}; these animals count as living",
+        "the column '{title}' isn't read for exits, and {count} cells of it may say why animals left which have no exit, "
+        "the first is '{text}' in line {line}; these animals count as living",
         "count",
     )
 
@@ -138,10 +139,10 @@ class EntryDaysUnread(SheetFinding):
 
     code = "entry days unread"
     message = Counted(
-        "'{title}' isn't read, and its day '{text}' in line {line} is behind the birth: it may be that since when the owner "
-        "has the animal, or that of an entry into a herd book",
-        "'{title}' isn't read, and {count} of its days are behind the births, the first '{text}' in line {line}: they may be "
-        "those since when owners have the animals, or those of entries into a herd book",
+        "'{title}' isn't read, and its day '{text}' in line {line} is behind the birth: it may be that since when the "
+        "owner has the animal, or that of an entry into a herd book",
+        "'{title}' isn't read, and {count} of its days are behind the births, the first '{text}' in line {line}: they may "
+        "be those since when owners have the animals, or those of entries into a herd book",
         "count",
     )
 

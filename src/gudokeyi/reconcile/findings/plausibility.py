@@ -45,7 +45,7 @@ class OwnerIsNoName(PlausibilityWarning):
 
 @dataclass(frozen=True, slots=True)
 class OwnersCountUp(PlausibilityWarning):
-    """Rows below one another that have an owner of their own each, whose number counts up from that of the row above."""
+    """Rows below one another whose owners' numbers count up: how many, the one above, the first and the last."""
 
     owner: str
     owner_line: int
@@ -57,9 +57,9 @@ class OwnersCountUp(PlausibilityWarning):
 
     code = "owners count up"
     message = Text(
-        "below '{owner}' in line {owner_line} the owners' numbers count up in {count} rows, from '{first}' in line {line} to "
-        "'{last}' in line {last_line}, as those of a spreadsheet do where a cell is pulled down: each becomes an owner of its "
-        "own; if all are '{owner}', write that into these rows"
+        "below '{owner}' in line {owner_line} the owners' numbers count up in {count} rows, from '{first}' in line {line} "
+        "to '{last}' in line {last_line}, as those of a spreadsheet do where a cell is pulled down: each becomes an owner "
+        "of its own; if all are '{owner}', write that into these rows"
     )
 
 
