@@ -34,6 +34,8 @@ def test_column_is_back_that_was_said_to_be_none(desk: Desk) -> None:
     assert "'Abgang' isn't read" not in desk.take(back.replace("3.5.2025", "")).out
     done = desk.typed(done.commands()[1])
     assert "'Abgang' isn't read" not in done.out and "'Rufname' isn't read" in done.out
+    assert "'Abgang' isn't read as exit, since that was said of an earlier list" in desk.take(back).out
+    desk.take(back, "--columns", "exit=")
     assert "'Abgang' isn't read" not in desk.take(back).out
     # what was said of one column isn't said of another
     other = back.replace("Abgang", "Todesdatum")
@@ -41,6 +43,39 @@ def test_column_is_back_that_was_said_to_be_none(desk: Desk) -> None:
     done = desk.typed(next(one for one in done.commands() if one.endswith("exit=Todesdatum")))
     assert "'Todesdatum' isn't read" not in done.out and "changed: exit 1" in done.out
     assert "'Todesdatum' isn't read" not in desk.take(other).out
+
+
+def test_exits_since_that_was_said(desk: Desk) -> None:
+    """A column of which it was said that it has no exits is told when it tells of more than then, until that is said
+    anew."""
+    text = f"{PARENTS};Abgang\n001;2001-01-01;;;{{}}\n002;2001-02-01;;;{{}}\n003;2001-03-01;;;{{}}\n"
+    told = "'Abgang' isn't read as exit, since "
+    for before in ("", "", ""), ("3.5.2020", "", ""):
+        book = "--book", f"of {len(before[0])}"
+        desk.take(text.format(*before), "--columns", "exit=", *book)
+        assert told not in desk.take(text.format(*before), *book).out
+    done = desk.take(text.format("3.5.2020", "3.6.2020", "lebt"), *book)
+    done.shows(
+        f"to look at: {told}that was said of an earlier list; it tells of 2 exits now, the first '3.5.2020' in line 2, the "
+        "others in 3, and told of 1 then: animals that left count as living"
+    )
+    assert words_of(done.commands()) == ["exit=Abgang", "exit="]
+    done = desk.take(text.format("", "3.6.2020", "lebt"), "--book", "of 0")
+    done.shows(
+        f"to look at: {told}that was said of an earlier list; it tells of 1 exit now, '3.6.2020' in line 3, and told of 0 "
+        "then: animals that left count as living"
+    )
+    desk.take(text.format("", "3.6.2020", ""), "--columns", "exit=", "--book", "of 0")
+    assert told not in desk.take(text.format("", "3.6.2020", ""), "--book", "of 0").out
+    assert "changed: exit 1" in desk.take(text.format("", "3.6.2020", ""), "--columns", "exit=Abgang", "--book", "of 0").out
+
+
+def test_states_since_that_was_said(desk: Desk) -> None:
+    """More animals of a column of states aren't more exits."""
+    text = f"{PARENTS};Status\n001;2001-01-01;;;lebt\n002;2001-02-01;;;tot\n"
+    desk.take(text, "--columns", "exit=")
+    assert "isn't read as" not in desk.take(text + "003;2001-03-01;;;lebt\n").out
+    assert "it tells of 2 exits now" in desk.take(text + "003;2001-03-01;;;verkauft\n").out
 
 
 def test_parents_are_back_that_were_said_to_be_none(desk: Desk) -> None:
@@ -71,14 +106,54 @@ def test_titles_of_exits(desk: Desk, title: str) -> None:
 
 @pytest.mark.parametrize(
     "title",
-    ["Besitzer/Halter", "Owner/Keeper", "Besitzer (aktuell)", "jetziger Besitzer", "Breeder/Owner", "Propr.", "Cheptel"],
-)
+    [
+        "Besitzer/Halter", "Owner/Keeper", "Besitzer (aktuell)", "jetziger Besitzer", "Breeder/Owner", "Propr.", "Cheptel",
+        "Owner(s)", "Tierhalter/in", "Éleveur détenteur", "Züchter/Halter", "Mitglied", "Member", "Membre", "Adhérent",
+        "Bes.", "Prop.",
+    ],
+)  # fmt: skip
 def test_titles_of_owners(desk: Desk, title: str) -> None:
     desk.take(f"Ohrmarke;Geschlecht;geb;Vater;Mutter;{title};Farbe\n{OWNED.format(owner='Meier', day='')}")
     assert [row["owner"] for row in desk.listed("list", "--columns", "owner")] == ["Meier", "Huber", "Huber"]
 
 
-@pytest.mark.parametrize("title", ["Date achat", "Zukauf am", "Purchased", "Bought on", "Ankauf"])
+@pytest.mark.parametrize("cells", [("101", "102"), ("M101", "M102"), ("ja", "nein"), ("x", ""), ("Aktiv", "Passiv")])
+@pytest.mark.parametrize("title", ["Mitglied", "Member", "Membre", "Bes."])
+def test_members_without_names(desk: Desk, title: str, cells: tuple[str, str]) -> None:
+    """Numbers, answers and kinds of members are no owners, and nothing is told of them."""
+    rows = OWNED.replace("Huber", cells[1]).format(owner=cells[0], day="")
+    done = desk.take(f"Ohrmarke;Geschlecht;geb;Vater;Mutter;{title};Farbe\n{rows}")
+    assert f"not read: '{title}'" in done.out and "owner from" not in done.out and "to look at" not in done.told
+    beside = desk.take(f"Ohrmarke;Geschlecht;geb;Vater;Mutter;{title};Besitzer\n{rows}", "--book", "beside")
+    assert "owner from 'Besitzer'" in beside.out and "to look at" not in beside.told
+
+
+@pytest.mark.parametrize("cells", ["hornlos;;", "Zwilling;blind;hornlos"])
+def test_short_title_of_something_else(desk: Desk, cells: str) -> None:
+    """`Bes.` stands for Besonderheiten too."""
+    first, second, third = cells.split(";")
+    rows = f"001;m;01.02.2010;;;{first}\n002;w;03.02.2010;;;{second}\n003;w;03.02.2013;001;002;{third}\n"
+    assert "owner from" not in desk.take(f"Ohrmarke;Geschlecht;geb;Vater;Mutter;Bes.\n{rows}").out
+
+
+def test_members_beside_owners(desk: Desk) -> None:
+    """The column of owners is read; where that is lost, the members' is told as what may be it."""
+    text = f"Ohrmarke;Geschlecht;geb;Vater;Mutter;Mitglied;Besitzer\n{OWNED.format(owner='Meier', day='Egli')}"
+    done = desk.take(text)
+    assert "owner from 'Besitzer'" in done.out and "not read: 'Mitglied'" in done.out
+    done.shows(
+        "to look at: 2 rows have nothing in 'Besitzer', and a name in 'Mitglied', the first 'Huber' in line 3, the others "
+        "in 4: no owner is taken from there; if they are the owners, write them into 'Besitzer'"
+    )
+    done = desk.take(text.replace("Besitzer", "Farbe"))
+    done.shows("to look at: no column for owner is found: it was 'Besitzer' at the last time; what the book has stays")
+    assert words_of(done.commands()) == ["owner=Mitglied", "owner="]
+
+
+@pytest.mark.parametrize(
+    "title",
+    ["Date achat", "Zukauf am", "Purchased", "Bought on", "Ankauf", "gekauft", "Erwerbsdatum", "Date purchased", "Acheté(e)"],
+)
 def test_titles_of_first_days(desk: Desk, title: str) -> None:
     rows = OWNED.format(owner="Meier", day="3.4.2012")
     desk.take(f"Ohrmarke;Geschlecht;geb;Vater;Mutter;Besitzer;{title}\n{rows}")
@@ -91,13 +166,48 @@ def test_titles_of_first_days(desk: Desk, title: str) -> None:
     assert "not read: 'Zukauf'" in alone.out and "to look at" not in alone.out
 
 
-@pytest.mark.parametrize("title", ["Eingang", "Entry date", "Date entrée"])
+@pytest.mark.parametrize("title", ["gekauft", "Purchased", "Acheté"])
+def test_bought_at_all(desk: Desk, title: str) -> None:
+    """A column that says whether an animal was bought has no days."""
+    done = desk.take(f"Ohrmarke;Geschlecht;geb;Vater;Mutter;Besitzer;{title}\n{OWNED.format(owner='Meier', day='ja')}")
+    assert f"not read: '{title}'" in done.out and "to look at" not in done.told
+
+
+@pytest.mark.parametrize("title", ["Eingang", "Zugang", "Zugangsdatum", "Entry date", "Date entrée"])
 def test_days_of_entries(desk: Desk, title: str) -> None:
-    """They may be those of a report or of a herd book, and are no owner's."""
+    """They may be those of a report or of a herd book, and are no owner's until somebody says so."""
     rows = OWNED.format(owner="Meier", day="3.4.2012")
-    done = desk.take(f"Ohrmarke;Geschlecht;geb;Vater;Mutter;Besitzer;{title}\n{rows}")
+    text = f"Ohrmarke;Geschlecht;geb;Vater;Mutter;Besitzer;{title}\n{rows}"
+    done = desk.take(text)
     assert f"not read: '{title}'" in done.out and "since 2012" not in desk.good("show", "001").out
-    assert "to look at" not in done.out
+    told = f"'{title}' isn't read, and "
+    done.shows(
+        f"to look at: {told}its day '3.4.2012' in line 2 is behind the birth: it may be that since when the owner has the "
+        "animal, or that of an entry into a herd book"
+    )
+    assert words_of(done.commands()) == [f"'since={title}'" if " " in title else f"since={title}", "since="]
+    assert told not in desk.take(text, "--own", f"{title}=day", "--book", "kept").told
+    assert told not in desk.take(text, "--columns", "since=", "--book", "none").told
+    done = desk.typed(done.commands()[0])
+    assert told not in done.out and "since 2012-04-03" in desk.good("show", "001").out
+
+
+def test_days_of_entries_at_births(desk: Desk) -> None:
+    """Those of births and before, words, and those of a list with owners' first days aren't told."""
+    titles = "Ohrmarke;Geschlecht;geb;Vater;Mutter;Besitzer;Eingang"
+    for at, day in enumerate(["1.2.2010", "1.2.2009", "Herdbuch", "350"]):
+        done = desk.take(f"{titles}\n{OWNED.format(owner='Meier', day=day)}", "--book", str(at))
+        assert "not read: 'Eingang'" in done.out and "to look at" not in done.told
+    done = desk.take(f"{titles};Besitzer seit\n{OWNED.format(owner='Meier', day='3.4.2012;3.4.2013')}")
+    assert "since from 'Besitzer seit'" in done.out and "'Eingang' isn't read, and" not in done.told
+
+
+def test_days_of_entries_that_were_read(desk: Desk) -> None:
+    """A column that a book's last sheet read stays the one."""
+    text = f"Ohrmarke;Geschlecht;geb;Vater;Mutter;Besitzer;Zugang\n{OWNED.format(owner='Meier', day='3.4.2012')}"
+    desk.take(text, "--columns", "since=Zugang")
+    done = desk.take(text)
+    assert "'Zugang' isn't read" not in done.told and " 0 changed" in done.last
 
 
 def test_column_that_the_society_keeps(desk: Desk) -> None:

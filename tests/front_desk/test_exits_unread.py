@@ -127,3 +127,65 @@ def test_codes_of_a_status(desk: Desk) -> None:
     assert "since nothing says" not in desk.take(words, "--book", "two").told
     classes = BEGIN + "Abgang;Status\n" + rows((";Klasse A",) * 2, ";Klasse B", ";Klasse A", "3.3.2021;Klasse B")
     assert "since nothing says" not in desk.take(classes, "--book", "three").told
+
+
+CAUSES = "may say why animals left which have no exit, the first is "
+
+
+@pytest.mark.parametrize("title", ["Ursache", "Disposal code", "Motif", "Abgangscode", "Code de sortie", "Verbleib"])
+def test_codes_of_causes(desk: Desk, title: str) -> None:
+    """A column that may say by codes why animals left is told first, with the choices."""
+    sheet = BEGIN + f"{title}\n" + rows(("M", ""), "S", "", "M")
+    done = desk.take(sheet)
+    told = (
+        f"to look at: the column '{title}' isn't read for exits, and 3 cells of it {CAUSES}'M' in line 2; these animals "
+        "count as living: if they left, write words there, as died or sold, verendet or verkauft, mort or vendu"
+    )
+    assert done.out.splitlines()[0] == told and not exits(desk)
+    assert [one.partition("--columns ")[2] for one in done.commands()] == ["exit="]
+    assert CAUSES not in desk.typed(done.commands()[0]).out
+    words = sheet.replace(";M\n", ";mort\n").replace(";S\n", ";verkauft\n")
+    done = desk.take(words, "--columns", f"exit={title}", "--book", "words")
+    assert CAUSES not in done.out and " 5 new" in done.last
+
+
+@pytest.mark.parametrize("title", ["Ursache", "Exit code"])
+def test_codes_of_causes_beside_exits(desk: Desk, title: str) -> None:
+    """They are told of animals without an exit, and read as the status where that is chosen."""
+    sheet = BEGIN + f"Abgang;{title}\n" + rows(("3.3.2021;M", ";"), ";S", ";")
+    done = desk.take(sheet)
+    done.shows(
+        f"to look at: the column '{title}' isn't read for exits, and 1 cell of it may say why an animal left which has no "
+        "exit: 'S' in line 4; the animal counts as living: if it left, write a word there, as died or sold, verendet or "
+        "verkauft, mort or vendu"
+    )
+    done = desk.typed(done.commands()[0])
+    assert "may say why" not in done.out and "3" in exits(desk)
+    full = BEGIN + f"Abgang;{title}\n" + rows(("3.3.2021;M", ";"), "4.4.2021;S", ";")
+    assert "may say why" not in desk.take(full, "--book", "full").told
+
+
+@pytest.mark.parametrize("title, text", [("Ursache", "Kolik"), ("Cause", "liver fluke"), ("Cause", "vieillesse")])
+def test_causes_in_words(desk: Desk, title: str, text: str) -> None:
+    """Whatever stands there."""
+    done = desk.take(BEGIN + f"Abgang;{title}\n" + rows(("3.3.2021;" + text, ";"), f";{text}", ";"))
+    assert f"1 cell of it may say why an animal left which has no exit: '{text}' in line 4" in done.out
+
+
+@pytest.mark.parametrize(
+    "title, cells",
+    [
+        ("Motif", ("P", "T", "P", "P")), ("Grund", ("", "Zuchtwert", "", "")), ("Ursache", ("", "0", "-", "")),
+        ("Code", ("", "M", "S", "")),
+    ],
+)  # fmt: skip
+def test_codes_of_something_else(desk: Desk, title: str, cells: tuple[str, str, str, str]) -> None:
+    """Patterns of all animals, words that tell of no exit, and codes of another title."""
+    assert "to look at" not in desk.take(BEGIN + f"{title}\n" + rows(cells[:2], *cells[2:])).told
+
+
+@pytest.mark.parametrize("title", ["Disposal reason", "Motif sortie", "Abg.-Grund", "Cause of exit"])
+def test_more_titles_of_reasons(desk: Desk, title: str) -> None:
+    """All that stands there may tell of exits."""
+    done = desk.take(BEGIN + f"{title}\n" + rows(("", ""), "Kolik", ""))
+    assert "1 cell of it may say why an animal left which has no exit: 'Kolik' in line 4" in done.out

@@ -4,7 +4,7 @@ from __future__ import annotations
 import pytest
 
 from gudokeyi.ingest.many_texts import likely_among
-from gudokeyi.ingest.remarks import tells_castration, tells_exit
+from gudokeyi.ingest.remarks import telling_exits, tells_castration
 from front_desk.desk import Desk
 
 TITLES = "Tag,Name,Sex,DOB,Sire,Dam,Exit,Bemerkung\n"
@@ -18,7 +18,12 @@ EXITS = [
     "† 3/2020", "eingeschl. 3/2020", "totgeboren", "totgeboren 3.4.2020", "5/2020 tot geboren", "mort-né le 3/9/19",
     "1 Lamm totgeboren; verkauft 2022", "stillborn", "PTS Jan 2022", "put to sleep", "Schlachter 3/20",
     "zum Metzger 3.4.20", "boucherie 2020", "réformée 2020", "vom Wolf gerissen", "gerissen", "R.I.P.", "+ 12.3.20",
-    "+ 3/2020", "left 2020", "geschl. 3/20", "mort-né",
+    "+ 3/2020", "left 2020", "geschl. 3/20", "mort-né", "Wolfsriss", "Luchs", "vom Hund gerissen",
+    "vom Blitz erschlagen 3.7.2020", "Blitzschlag", "abgestürzt auf der Alp", "Notschlachtung 3/20", "vermisst",
+    "vermisst seit Herbst 2020", "Diebstahl", "nicht mehr im Bestand", "lebt nicht mehr", "predation", "killed by wolf",
+    "struck by lightning", "drowned 2020", "lost", "missing", "missing since May", "theft", "Export",
+    "no longer in flock", "prédation", "loup", "attaque de loup le 3/9/19", "disparue", "disparue depuis mai", "foudroyé",
+    "tuée par un chien", "perdue", "n'est plus là",
 ]  # fmt: skip
 
 
@@ -52,11 +57,21 @@ def test_young_born_dead(desk: Desk, text: str) -> None:
     "text",
     [
         "left", "left 12", "lost tag", "Schlachter Müller", "Ohr gerissen", "nicht verkauft", "for sale", "+++", "+4.5",
-        "+ 2 kg", "x", "lebt", "retired 2020", "Herkunft: boucherie Martin",
+        "+ 2 kg", "x", "lebt", "retired 2020", "Herkunft: boucherie Martin", "nicht gemerzt",
+        "2 Lämmer durch Wolfsriss verloren", "1 agneau noyé 2021", "Mutter abgestürzt", "boucle perdue",
+        "Ohrmarke verloren", "tag missing", "one horn missing", "Wolf 2022 gesichtet", "nicht mehr tragend",
+        "Export möglich", "Unfall 2020, geheilt",
     ],
 )  # fmt: skip
 def test_no_exits(text: str) -> None:
-    assert not tells_exit(text)
+    assert not telling_exits([text], "Bemerkung")
+
+
+@pytest.mark.parametrize("text", ["Wolf", "Luchs", "missing", "lost", "Foudre", "Bär"])
+def test_words_of_other_columns(text: str) -> None:
+    """In columns of remarks and causes they tell of exits; elsewhere they may be names, colours, or of other things."""
+    titles = "Bemerkung", "Ursache", "Cause", "Rufname", "DNA", "Farbe"
+    assert [title for title in titles if telling_exits([text], title)] == ["Bemerkung", "Ursache", "Cause"]
 
 
 def test_exits_beside_a_status(desk: Desk) -> None:
@@ -83,7 +98,7 @@ OTHERS_WITH_WORDS = ["left ear", "war Sieger", "Schlachter Müller", "ex Herde H
 def test_likely_among_many() -> None:
     """Of very many texts those stay that tell something, as of few, and hardly any others."""
     telling = [*EXITS, *CASTRATED, "ver-kauft 2020", "VERKAUFT!", "mort–né", "DÉCÉDÉ", "ex Hengst 2019", "tot2020", "†"]
-    assert all(tells_exit(text) or tells_castration(text) for text in telling)
+    assert all(telling_exits([text], "Bemerkung") or tells_castration(text) for text in telling)
     assert likely_among([*MANY, *telling, *OTHERS_WITH_WORDS]) == telling and likely_among(MANY) == []
     assert likely_among([*map(str, range(3_000))]) == [] and likely_among(few := ["left ear"]) is few
 

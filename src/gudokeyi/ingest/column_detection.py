@@ -10,6 +10,7 @@ from gudokeyi.domain.kinds import Field
 from gudokeyi.domain.spelling import closest
 from gudokeyi.ingest.days import DayFault, Unreadable, read_span
 from gudokeyi.ingest.findings.columns import IdsCountRows, IdsFromOther, IdsMoved, LikelyColumn
+from gudokeyi.ingest.owners_by_cells import names_owners
 from gudokeyi.ingest.parent_titles import PARENTS, names_parent
 from gudokeyi.ingest.titles import KNOWN_TITLES
 from gudokeyi.ingest.texts import nearly, plain
@@ -261,6 +262,8 @@ class LikelyColumns:
                 return self.columns.title(at)
             if not tells and any(title in plain(self.columns.title(at)) for title in usual):
                 return self.columns.title(at)
+        if field is Field.OWNER and (named := [at for at in self.free if names_owners(self.columns.sheet, at)]):
+            return self.columns.title(named[0])
         near = [] if tells else closest(before, [self.columns.title(at) for at in self.free], 1)
         return near[0] if near else ""
 

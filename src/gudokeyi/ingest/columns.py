@@ -17,7 +17,9 @@ from gudokeyi.ingest.column_detection import MOST_COMPARED, IdColumn, LikelyColu
 from gudokeyi.ingest.days import is_span
 from gudokeyi.ingest.encodings import Letters, decoded_twice
 from gudokeyi.ingest.exits_beside import KNOWN_BUYERS, are_days, exit_columns, exit_day_columns, says_day
-from gudokeyi.ingest.exits_unread import ExitsUnread, codes_of_status, column_unread, living_unmarked, remarks_unread
+from gudokeyi.ingest.exits_unread import (
+    ExitsUnread, causes_unread, codes_of_status, column_unread, living_unmarked, remarks_unread,
+)  # fmt: skip
 from gudokeyi.ingest.findings.columns import (
     ColumnLost, ColumnsLack, ColumnUntitled, LikelierColumn, NamedColumnLacks, SheetFinding, TellsNoExits, TitleTwice,
 )  # fmt: skip
@@ -25,6 +27,7 @@ from gudokeyi.ingest.findings.rows import FieldUnread, StatusUnread
 from gudokeyi.ingest.findings.sheets import MOST_SHOWN
 from gudokeyi.ingest.many_texts import likely_among
 from gudokeyi.ingest.owners_beside import owners_beside, persons_name
+from gudokeyi.ingest.owners_by_cells import owners_by_cells
 from gudokeyi.ingest.parent_titles import MOST_ALIKE, PARENTS, columns_of_pair, columns_of_parent
 from gudokeyi.ingest.parents_beside import tell_parents_beside, tell_parents_from_others
 from gudokeyi.ingest.remarks import telling_castrations, telling_exits
@@ -59,8 +62,9 @@ class Columns:
     exits_unread: list[ExitsUnread] = field(default_factory=list)
     # the titles of the last sheet's columns of exits that this one lacks, where exits are read from another
     lost_exits: tuple[str, ...] = ()
-    # the titles that would be read for fields of which somebody says that no column has them
-    refused: dict[str, str] = field(default_factory=dict)
+    # the titles that would be read for fields of which somebody says that no column has them, and of how many exits
+    # those of exits tell
+    refused: dict[str, tuple[str, int | None]] = field(default_factory=dict)
 
     def cells(self, at: int) -> list[str]:
         return self.sheet.column(at)
@@ -136,6 +140,9 @@ def find_columns(
     for name in BELOW:
         if name not in named and name not in columns.found:
             column_below(columns, name)
+    # one that the last sheet had and this one lacks is told
+    if Field.OWNER not in {*named, *columns.found} and not before.get(Field.OWNER):
+        columns.found |= {Field.OWNER: at for at in owners_by_cells(sheet)[:1] if columns.is_free(at)}
     find_births_in_parts(columns, given, only_ids(columns, before.get(Field.ID, "")))
     columns.apart = ()
     parents = [name for name in PARENTS if name not in named and name not in columns.found]
@@ -289,7 +296,9 @@ def tell_unread_statuses(columns: Columns, named: Mapping[str, str], unknown: Co
         elif at in of_exits:
             columns.exits_unread.append(column_unread(columns.sheet, columns.found, at, unknown))
         elif named.get(Field.EXIT) != "":
-            columns.exits_unread.append(remarks_unread(columns.sheet, columns.found, at, telling_exits(texts)))
+            causes = causes_unread(columns.sheet, columns.found, at, unknown, of) if named.get(of) != "" else None
+            told = telling_exits(texts, columns.title(at))
+            columns.exits_unread.append(causes or remarks_unread(columns.sheet, columns.found, at, told))
 
 
 def tell_other_statuses(columns: Columns, usual: list[int]) -> None:

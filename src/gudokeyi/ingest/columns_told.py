@@ -8,6 +8,7 @@ from typing import Container
 from gudokeyi.domain.kinds import Field
 from gudokeyi.ingest.columns import Columns, find_columns
 from gudokeyi.ingest.columns_said_none import NoneSaid, with_said_none
+from gudokeyi.ingest.entry_days import tell_entry_days
 from gudokeyi.ingest.findings.columns import ColumnLost
 from gudokeyi.ingest.genetic_dams import tell_carriers, with_genetic_dam, without_carriers
 from gudokeyi.ingest.likely_exits import tell_likely_exits
@@ -39,6 +40,7 @@ def columns_told(
     tell_second_owners(columns, unknown)
     tell_marks(columns, unknown)
     tell_likely_exits(columns, {**before, **given})
+    tell_entry_days(columns, {**before, **given})
     return columns
 
 

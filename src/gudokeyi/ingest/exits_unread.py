@@ -3,27 +3,47 @@ those that count as living in the book that comes of the sheet."""
 from __future__ import annotations
 
 import collections
-from collections.abc import Collection, Iterator, Mapping
+import functools
+from collections.abc import Callable, Collection, Iterator, Mapping
 from dataclasses import dataclass
 from typing import Container
 
 from gudokeyi.domain.kinds import Field
+from gudokeyi.ingest.findings.columns_unread import CausesUnread
 from gudokeyi.ingest.findings.rows import ExitColumnUnread, ExitsInRemarks, LivingUnmarked, StatusOfCodes
 from gudokeyi.ingest.findings.sheets import MOST_SHOWN
 from gudokeyi.ingest.sheets import Sheet
-from gudokeyi.ingest.texts import plain
+from gudokeyi.ingest.texts import listed, plain
 from gudokeyi.ingest.titles import KNOWN_STATES, OF_LIVING, said_of
 from gudokeyi.ingest.words import KNOWN_YES, lives
 
 # so many letters a code has, and so many different ones a column; in so many cells they tell something
 LONGEST, MOST_CODES, LEAST = 2, 9, 3
+# of so great a part of the rows at most codes tell of exits
+MOST_GONE = 0.9
+# Titles of columns in which all tells of exits, of those in which all may where most rows have nothing, and of those in
+# which codes may.
+KINDS_OF_EXITS = {
+    plain(title)
+    for title in listed(
+        "Abgangscode, Code Abgang, Abgangsgrund Code, Code Abgangsgrund, Abgangsschlüssel, Abgangsart, Art des Abgangs, "
+        "exit code, exit type, type of exit, disposal code, disposal type, cull code, code sortie, code de sortie, "
+        "type sortie, type de sortie, Abg.-Grund, Abg.-Ursache, Merzungsgrund, Merzgrund, disposal reason, reason for "
+        "disposal, cull reason, culling reason, reason for culling, cause of exit, leaving reason, cause sortie, "
+        "motif sortie, raison sortie, motif de réforme, motif réforme, cause de réforme, cause réforme"
+    )
+}
+CAUSES = {plain(title) for title in listed("Ursache, Ursachen, cause, causes")}
+MAY_BE_CAUSES = CAUSES | {
+    plain(title) for title in listed("Grund, Verbleib, reason, fate, whereabouts, disposal, motif, raison, devenir")
+}
 
 
 @dataclass(frozen=True)
 class ExitsUnread:
     """Cells of a column by the lines of their rows, and what is told of them."""
 
-    kind: type[ExitsInRemarks]
+    kind: Callable[[str, int, int, str], ExitsInRemarks]
     title: str
     cells: Mapping[int, str]
 
@@ -45,8 +65,9 @@ def column_unread(sheet: Sheet, columns: Mapping[str, int], at: int, unknown: Co
 
 
 def beside_exits(
-    sheet: Sheet, columns: Mapping[str, int], at: int, texts: Collection[str], kind: type[ExitsInRemarks]
-) -> ExitsUnread:
+    sheet: Sheet, columns: Mapping[str, int], at: int, texts: Collection[str],
+    kind: Callable[[str, int, int, str], ExitsInRemarks],
+) -> ExitsUnread:  # fmt: skip
     """The cells with these texts of rows of which no column that is read for exits says something."""
     cells = sheet.column(at)
     telling = [place for place, cell in enumerate(cells) if cell in texts] if texts else []
@@ -55,6 +76,23 @@ def beside_exits(
         none = {one for one in {*exits} if lives(said_of(one, title))}
         telling = [place for place in telling if exits[place] in none]
     return ExitsUnread(kind, sheet.titles[at], {sheet.rows[place].line: cells[place] for place in telling})
+
+
+def causes_unread(
+    sheet: Sheet, columns: Mapping[str, int], at: int, unknown: Container[str], as_field: Field
+) -> ExitsUnread | None:
+    """A column that says by codes why animals left, as `Abgangscode`, or may do so, as `Ursache`."""
+    title = plain(sheet.titles[at])
+    counts = collections.Counter(cell for cell in sheet.column(at) if cell not in unknown and not lives(cell))
+    may_be = title in MAY_BE_CAUSES and are_codes(counts) or title in CAUSES
+    if not (may_be and counts.total() <= MOST_GONE * len(sheet.rows) or title in KINDS_OF_EXITS):
+        return None
+    return beside_exits(sheet, columns, at, {*counts}, functools.partial(CausesUnread, as_field=as_field))
+
+
+def are_codes(texts: Collection[str]) -> bool:
+    """Are they few, and letters or numbers?"""
+    return 0 < len(texts) <= MOST_CODES and all(len(text) <= LONGEST and text.isalnum() for text in texts)
 
 
 def living_unmarked(sheet: Sheet) -> Iterator[ExitsUnread]:
@@ -72,7 +110,6 @@ def codes_of_status(sheet: Sheet, at: int, unknown: Container[str]) -> StatusOfC
     if plain(sheet.titles[at]) not in KNOWN_STATES:
         return None
     counts = collections.Counter(cell for cell in sheet.column(at) if cell not in unknown)
-    are_codes = 0 < len(counts) <= MOST_CODES and all(len(text) <= LONGEST and text.isalnum() for text in counts)
-    if not are_codes or counts.total() < LEAST:
+    if not are_codes(counts) or counts.total() < LEAST:
         return None
     return StatusOfCodes(sheet.titles[at], counts.total(), tuple([*counts][:MOST_SHOWN]), len([*counts][MOST_SHOWN:]))

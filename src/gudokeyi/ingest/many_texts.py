@@ -9,17 +9,20 @@ import re
 from collections.abc import Collection, Sequence
 
 from gudokeyi.ingest.days import MONTHS
-from gudokeyi.ingest.remarks import AROUND, CROSS_OF_DAY, KNOWN_ALONE, KNOWN_CASTRATIONS, KNOWN_PLAIN
+from gudokeyi.ingest.remarks import (
+    AROUND, CROSS_OF_DAY, KNOWN_ALONE, KNOWN_CASTRATIONS, KNOWN_IN_REMARKS, KNOWN_LOSSES, KNOWN_PLAIN,
+)  # fmt: skip
 from gudokeyi.ingest.texts import listed, plain
 from gudokeyi.ingest.words import CASTRATED, DEAD, FORMER, KNOWN_CASTRATED
 
 # so many texts are looked at one by one
 FEW = 2000
 # words that tell wherever they stand, those beside which nothing else may stand, and what that isn't
-TELLING, KNOWN_TO_BE_ALONE = KNOWN_PLAIN | KNOWN_CASTRATIONS, KNOWN_ALONE | KNOWN_CASTRATED
+TELLING = KNOWN_PLAIN | KNOWN_LOSSES | KNOWN_CASTRATIONS
+KNOWN_TO_BE_ALONE = KNOWN_ALONE | KNOWN_IN_REMARKS | KNOWN_CASTRATED
 BESIDE = {word.encode("ascii", "ignore") for word in AROUND | {*map(plain, MONTHS)}}
 # of `ex Hengst` and others like it the first word is looked for
-WORDS = TELLING | KNOWN_ALONE | {plain(word) for word in [*listed(CASTRATED), *listed(FORMER)]}
+WORDS = TELLING | KNOWN_ALONE | KNOWN_IN_REMARKS | {plain(word) for word in [*listed(CASTRATED), *listed(FORMER)]}
 # what may stand for a death
 SIGNS = ("†", "✝", "+", "PTS", "RIP", "R.I.P")
 # the letters of Western Europe as they are compared, one digit for all, and a blank for any other sign

@@ -8,6 +8,7 @@ from typing import Container
 
 from gudokeyi.domain.kinds import Field
 from gudokeyi.ingest.findings.owners import OwnersBeside, OwnersOfOneName
+from gudokeyi.ingest.owners_by_cells import names_owners
 from gudokeyi.ingest.sheets import Sheet, SheetRow, cell_of
 from gudokeyi.ingest.texts import listed, plain
 from gudokeyi.ingest.titles import BETWEEN_WORDS, KNOWN_TITLES
@@ -131,7 +132,8 @@ def owners_beside(sheet: Sheet, columns: Mapping[str, int]) -> Iterator[OwnersBe
         return
     titles = [(one, plain(title)) for one, title in enumerate(sheet.titles) if one not in columns.values()]
     first = first_names_column(sheet, columns)
-    for one in [one for one, title in titles if title in PERSONS or one == first][:MOST_COLUMNS]:
+    persons = [one for one, title in titles if title in PERSONS or one == first or names_owners(sheet, one)]
+    for one in persons[:MOST_COLUMNS]:
         yield from without_owner(sheet, at, one, one != first)
     may_be_read = first is None and plain(sheet.titles[at]) not in FARMS
     unread = [one for one, title in titles if may_be_read and title in FIRST_NAMES]

@@ -76,15 +76,19 @@ TITLES = {
     "current keeper, propriétaire/détenteur, détenteur/propriétaire, propriétaire/éleveur, éleveur/propriétaire, "
     "détenteur actuel, propr, Herde, cheptel, troupeau, owner 1, 1st owner, first owner, keeper 1, Besitzer 1, "
     "1. Besitzer, erster Besitzer, Eigentümer 1, 1. Eigentümer, Halter 1, 1. Halter, propriétaire 1, 1er propriétaire, "
-    "premier propriétaire, détenteur 1",
+    "premier propriétaire, détenteur 1, owners, Halterin, Tierhalterin, Halter/in, Tierhalter/in, Tierhalter Name, "
+    "Tierbesitzer, Tierbesitzerin, Tiereigentümer, Eigner, proprietor, propriétaires, éleveur/détenteur, détenteur/éleveur, "
+    "Züchter/Halter, Halter/Züchter, Züchter/Eigentümer, Eigentümer/Züchter, breeder/keeper, keeper/breeder, "
+    "naisseur/détenteur, naisseur/propriétaire",
     Field.SINCE: "owner since, owned since, since, date of transfer, transfer date, transferred, date of purchase, "
     "purchase date, bought, acquired, Besitzer seit, im Besitz seit, seit, Besitzwechsel, Besitzerwechsel, "
     "Besitzwechsel am, Besitzerwechsel am, Wechseldatum, Halter seit, Eigentümer seit, gekauft am, Kaufdatum, "
-    "Zugangsdatum, Zugang am, Zugang, erworben am, Besitzer ab, propriétaire depuis, depuis, depuis le, date d'achat, "
+    "Kauf am, erworben am, Erwerb am, Erwerbsdatum, Besitzer ab, propriétaire depuis, depuis, depuis le, date d'achat, "
     "date de transfert, date de mutation, date d'acquisition, acheté le, achetée le, acquis le, acquise le, mutation "
-    "le, date acquired, acquired on, purchased, purchased on, bought on, date bought, Zukaufsdatum, Zukauf am, "
-    "zugekauft am, Ankaufsdatum, Ankauf am, angekauft am, Zukauf, Ankauf, "
-    "date achat, achat le, since 1, "
+    "le, date acquired, acquired on, purchased, purchased on, bought on, date bought, date purchased, date of "
+    "acquisition, acquisition date, Zukaufsdatum, Zukauf am, "
+    "zugekauft am, Ankaufsdatum, Ankauf am, angekauft am, Zukauf, Ankauf, gekauft, zugekauft, angekauft, erworben, "
+    "date achat, achat le, date acquisition, acheté, achetée, acheté(e), since 1, "
     "owner since 1, owner 1 since, seit 1, Besitzer seit 1, Besitzer 1 seit, depuis 1, propriétaire depuis 1, "
     "propriétaire 1 depuis",
     Field.EXIT: "exit date, date of exit, Abgangsdatum, Abgang am, abgegangen am, date de sortie, date left, "
@@ -116,7 +120,9 @@ DOUBTFUL_EXITS = (
     "Lebenszustand, situation"
 )
 # titles whose columns say on which days animals came, or whether one was bought at all
-DOUBTFUL_DAYS = "Zukauf, Ankauf"
+DOUBTFUL_DAYS = (
+    "Zukauf, Ankauf, gekauft, zugekauft, angekauft, erworben, bought, purchased, acquired, acheté, achetée, acheté(e)"
+)
 # Columns that a sheet has to have; `--columns sire=` says that there is none.
 NEEDED = (Field.ID, Field.BIRTH, Field.SIRE, Field.DAM)
 

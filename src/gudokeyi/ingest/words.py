@@ -90,6 +90,8 @@ EXITS = (
     "verst, verendet, verend, abg, abgeg, gestrichen, gelöscht, ausgetragen, radié, radiée, deregistered, "
     "eingegangen, tot, Tod, abgegangen, Abgang, ausgeschieden, exportiert, gekeult, euthanasiert, notgetötet, "
     "notgeschlachtet, eingeschläfert, eingeschl, euth, getötet, verunglückt, abgegeben, gestohlen, gerissen, "
+    "Notschlachtung, gemerzt, ausgemerzt, abgestürzt, ertrunken, erschossen, umgestanden, krepiert, verschollen, "
+    "Wolfsriss, Luchsriss, drowned, noyé, noyée, foudroyé, foudroyée, "
     "weg, inaktiv, sold, sale, slaughtered, "
     "slaughter, dead, died, death, deceased, culled, exported, gone, left, lost, stolen, killed, euthanised, "
     "euthanized, put to sleep, put down, rehomed, vendu, vendue, vente, abattu, abattue, abattage, mort, morte, "

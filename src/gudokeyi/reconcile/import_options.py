@@ -4,6 +4,7 @@ from __future__ import annotations
 
 import datetime
 import pathlib
+import re
 from collections.abc import Mapping, Sequence
 from dataclasses import dataclass, field, replace
 from typing import Any
@@ -145,20 +146,37 @@ def remember_columns(book: Book, titles: Mapping[str, str], exits: Sequence[str]
     book.remembered = [one for one in book.remembered if one.what is not Remembered.COLUMN] + [*columns.values()]
 
 
-def remember_refused(book: Book, import_options: ImportOptions, refused: Mapping[str, str]) -> None:
-    """The titles of columns that aren't read, though they could be: beside each word by which it was said now that no
-    column has their fields."""
+def remember_refused(
+    book: Book, import_options: ImportOptions, refused: Mapping[str, tuple[str, int | None]]
+) -> None:  # fmt: skip
+    """The titles of columns that aren't read, though they could be, and the exits of which some tell: beside each word
+    by which it was said now that no column has their fields."""
     for at, one in enumerate(book.remembered):
         if one.what is Remembered.COLUMNS and one.word in import_options.columns:
             fields = [name for name, title in read_given([one.word]).items() if not title and name in refused]
-            more = [quoted(f"{name}={refused[name]}") for name in fields]
-            meaning = ",".join(dict.fromkeys([*filter(None, [one.meaning]), *more]))
-            book.remembered[at] = one._replace(meaning=meaning)
+            now = {f"{name}={refused[name][0]}": refused_column(name, *refused[name]) for name in fields}
+            before = [part for part in parts_of([one.meaning]) if part and column_of(part)[0] not in now]
+            book.remembered[at] = one._replace(meaning=",".join(map(quoted, [*before, *now.values()])))
 
 
-def refused_columns(book: Book) -> list[str]:
-    """The columns of which it was said that they don't have what their titles say, as `exit=Status`."""
-    return parts_of([one.meaning for one in book.remembered if one.what is Remembered.COLUMNS and one.meaning])
+# behind a column of exits stands of how many it told
+COUNTED = re.compile(r"(?P<column>.*) \((?P<count>\d+)\)")
+
+
+def refused_column(name: str, title: str, exits: int | None) -> str:
+    return f"{name}={title}" if exits is None else f"{name}={title} ({exits})"
+
+
+def refused_columns(book: Book) -> dict[str, int | None]:
+    """The columns of which it was said that they don't have what their titles say, as `exit=Status`, with the number of
+    exits of which they told when that was said last, where it is known."""
+    said = parts_of([one.meaning for one in book.remembered if one.what is Remembered.COLUMNS and one.meaning])
+    return dict(map(column_of, said))
+
+
+def column_of(part: str) -> tuple[str, int | None]:
+    found = COUNTED.fullmatch(part)
+    return (found["column"], int(found["count"])) if found else (part, None)
 
 
 # stands in no title of a worksheet

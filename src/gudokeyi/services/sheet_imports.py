@@ -16,7 +16,7 @@ from gudokeyi.ingest.castrations import castration_columns
 from gudokeyi.ingest.exits_beside import columns_beside, exit_day_columns
 from gudokeyi.ingest.files import GivenFile
 from gudokeyi.ingest.findings.columns import ColumnUntitled, TitleBelow
-from gudokeyi.ingest.findings.columns_unread import MayBeExits
+from gudokeyi.ingest.findings.columns_unread import EntryDaysUnread, MayBeExits
 from gudokeyi.ingest.genetic_dams import genetic_columns
 from gudokeyi.ingest.inferred_values import columns_of_inferred_values
 from gudokeyi.ingest.names_for_ids import names_read
@@ -49,6 +49,7 @@ from gudokeyi.reconcile.owners import (
     owners_of_rows, tell_born_dead, tell_doubtful_owners, tell_mistyped_owners, tell_owners_alike,
     tell_owners_of_book_alike, tell_owners_with_more, tell_renamed_owners, tell_respelt_owners,
 )  # fmt: skip
+from gudokeyi.reconcile.owners_counted import tell_owners_counted
 from gudokeyi.reconcile.parents import may_be_unknown
 from gudokeyi.reconcile.pedigree_links import refuse_lost_links
 from gudokeyi.reconcile.plausibility import PlausibilityChecks, tell_swapped_columns
@@ -165,6 +166,7 @@ def tell_owners(next_book: NextBook, owners_before: set[str]) -> None:
     tell_owners_with_more(next_book, owners_before, rows)
     tell_owners_of_like_words(next_book, owners_before, rows)
     tell_doubtful_owners(next_book, owners_before, rows)
+    tell_owners_counted(next_book, owners_before, rows)
 
 
 def refuse_unsaid_letters(next_book: NextBook, import_options: ImportOptions) -> None:
@@ -278,9 +280,12 @@ def remember_places(book: Book, read: ReadSheet, import_options: ImportOptions, 
 
 
 def leave_known_days(read: ReadSheet, own: OwnSheetColumns, report: Report) -> None:
-    """Days that the society keeps as a column of its own aren't told as what may be exits."""
+    """Days that the society keeps as a column of its own aren't told as what may be exits, or owners' first days."""
     kept = {read.sheet.titles[at] for at in own.places.values()}
-    entries = [one for one in report.entries if isinstance(one.finding, MayBeExits) and one.finding.title in kept]
+    entries = [
+        one for one in report.entries
+        if isinstance(one.finding, MayBeExits | EntryDaysUnread) and one.finding.title in kept
+    ]  # fmt: skip
     for one in entries:
         report.entries.remove(one)
 

@@ -342,7 +342,7 @@ def none_said(book: Book, said: Mapping[str, str]) -> NoneSaid:
     """The fields of which it is said that no column has them."""
     before = titles_before(book)
     titles = {name: before.get(name, "") for name, title in said.items() if not title}
-    return NoneSaid(titles, frozenset(plain(one) for one in refused_columns(book)) if titles else frozenset())
+    return NoneSaid(titles, {plain(one): count for one, count in refused_columns(book).items()} if titles else {})
 
 
 def names_of_owners(book: Book) -> dict[str, str]:

@@ -6,8 +6,9 @@ from dataclasses import dataclass
 
 from gudokeyi.domain.findings import Severity, Suggestion
 from gudokeyi.domain.kinds import Field
-from gudokeyi.domain.wording import Counted, OptionalPart, Text
+from gudokeyi.domain.wording import Counted, Joined, OptionalPart, Text
 from gudokeyi.ingest.findings.columns import SheetFinding, column
+from gudokeyi.ingest.findings.rows import ExitsInRemarks
 
 
 @dataclass(frozen=True, slots=True)
@@ -39,6 +40,46 @@ class SaidNone(SheetFinding):
 
 
 @dataclass(frozen=True, slots=True)
+class ExitsSinceSaid(SheetFinding):
+    """A column of which it was said that it doesn't have the exits, and that tells of more than then: of how many it
+    told and tells, the first of these, and the lines of others."""
+
+    field: Field
+    title: str
+    before: int
+    count: int
+    line: int
+    text: str
+    others: tuple[int, ...] = ()
+
+    decides_much = True
+    severity = Severity.ANIMALS
+    code = "exits since said"
+    message = Counted(
+        "'{title}' isn't read as {field}, since that was said of an earlier list; it tells of {count} exit now, '{text}' "
+        "in line {line}, and told of {before} then: animals that left count as living",
+        "'{title}' isn't read as {field}, since that was said of an earlier list; it tells of {count} exits now, the "
+        "first '{text}' in line {line}{maybe_others}{maybe_more}, and told of {before} then: animals that left count as "
+        "living",
+        "count",
+    )
+    parts = {
+        "maybe_others": OptionalPart(", the others in {in_others}"),
+        "maybe_more": OptionalPart(" and {more} more"),
+    }
+
+    def values(self) -> Mapping[str, object]:
+        more = self.count - 1 - len(self.others) if self.others else 0
+        return {"in_others": Joined(tuple(map(str, self.others))), "more": more or None}
+
+    def suggestions(self) -> tuple[Suggestion, ...]:
+        return (
+            Suggestion("if it tells of exits", (column(self.field, self.title),)),
+            Suggestion("if it tells of no exits", (column(self.field, ""),)),
+        )
+
+
+@dataclass(frozen=True, slots=True)
 class MayBeExits(SheetFinding):
     """A column that isn't read, of days behind the births, where no column of exits is found: how many, and the
     first."""
@@ -59,6 +100,58 @@ class MayBeExits(SheetFinding):
         return (
             Suggestion("if it tells of exits", (column(Field.EXIT, self.title),)),
             Suggestion("if no column tells of exits", (column(Field.EXIT, ""),)),
+        )
+
+
+@dataclass(frozen=True, slots=True)
+class CausesUnread(ExitsInRemarks):
+    """A column that isn't read, and whose title and codes may tell why animals left; for which field it can be read."""
+
+    as_field: Field = Field.EXIT
+
+    decides_much = True
+    severity = Severity.ANIMALS
+    code = "causes unread"
+    message = Counted(
+        "the column '{title}' isn't read for exits, and {count} cell of it may say why an animal left which has no exit: "
+        "'{text}' in line {line}; the animal counts as living: if it left, write a word there, as died or sold, verendet "
+        "or verkauft, mort or vendu",
+        "the column '{title}' isn't read for exits, and {count} cells of it may say why animals left which have no exit, "
+        "the first is '{text}' in line {line}; these animals count as living: if they left, write words there, as died "
+        "or sold, verendet or verkauft, mort or vendu",
+        "count",
+    )
+
+    def suggestions(self) -> tuple[Suggestion, ...]:
+        """Codes alone aren't read as exits: as a status beside these each tells of one."""
+        read = Suggestion("if each of its cells tells of an exit", (column(self.as_field, self.title),))
+        none = Suggestion("if it tells of no exits", (column(self.as_field, ""),))
+        return (read, none) if self.as_field is Field.STATUS else (none,)
+
+
+@dataclass(frozen=True, slots=True)
+class EntryDaysUnread(SheetFinding):
+    """A column of entries that isn't read, where no column has the owners' first days: how many of its days are behind
+    the births, and the first."""
+
+    title: str
+    count: int
+    line: int
+    text: str
+
+    code = "entry days unread"
+    message = Counted(
+        "'{title}' isn't read, and its day '{text}' in line {line} is behind the birth: it may be that since when the "
+        "owner has the animal, or that of an entry into a herd book",
+        "'{title}' isn't read, and {count} of its days are behind the births, the first '{text}' in line {line}: they may "
+        "be those since when owners have the animals, or those of entries into a herd book",
+        "count",
+    )
+
+    def suggestions(self) -> tuple[Suggestion, ...]:
+        return (
+            Suggestion("if owners have the animals since then", (column(Field.SINCE, self.title),)),
+            Suggestion("if no column says since when", (column(Field.SINCE, ""),)),
         )
 
 

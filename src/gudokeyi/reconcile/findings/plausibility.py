@@ -44,6 +44,26 @@ class OwnerIsNoName(PlausibilityWarning):
 
 
 @dataclass(frozen=True, slots=True)
+class OwnersCountUp(PlausibilityWarning):
+    """Rows below one another whose owners' numbers count up: how many, the one above, the first and the last."""
+
+    owner: str
+    owner_line: int
+    count: int
+    first: str
+    line: int
+    last: str
+    last_line: int
+
+    code = "owners count up"
+    message = Text(
+        "below '{owner}' in line {owner_line} the owners' numbers count up in {count} rows, from '{first}' in line {line} "
+        "to '{last}' in line {last_line}, as those of a spreadsheet do where a cell is pulled down: each becomes an owner "
+        "of its own; if all are '{owner}', write that into these rows"
+    )
+
+
+@dataclass(frozen=True, slots=True)
 class OwnerOfSeveral(PlausibilityWarning):
     """What stands for an owner has the names of others in it."""
 
