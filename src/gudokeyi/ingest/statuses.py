@@ -21,6 +21,7 @@ from gudokeyi.ingest.titles import (
 )  # fmt: skip
 from gudokeyi.ingest.words import (
     DEAD, EXITS, KNOWN_DEATHS, KNOWN_YES, PLAIN_EXITS, exit_word, has_word, is_still_there, lives, lives_besides, says_lives,
+    tells_of_relatives,
 )  # fmt: skip
 
 # an owner who takes an animal
@@ -133,7 +134,8 @@ class Statuses:
         # a state such as `pet only` is no exit unless a word or a day says so
         is_other = self.is_of_states and is_other_state(text)
         is_there, has_taker = is_still_there(text), TAKER.search(text) is not None and not lives_besides(text)
-        is_reason = text == status and not (tells_none or is_there or text.casefold() in KNOWN_YES)
+        is_no_exit = tells_none or is_there and not tells_of_relatives(text)
+        is_reason = text == status and not (is_no_exit or text.casefold() in KNOWN_YES)
         return Said(text, tells, is_there, is_other, tells_none, says_lives(text), is_reason, has_taker)
 
     def is_unknown(self, text: str) -> bool:
@@ -244,7 +246,8 @@ def add_reasons(exits: Exits, rows: list[SheetRow], of_reasons: int, at: int, un
     for place, row in enumerate(rows):
         reason = cell_of(row, of_reasons)
         exit = exits.texts.get(place) or cell_of(row, at)
-        if reason and says(reason) and says(exit) and is_still_there(reason) and is_span(exit):
+        is_said = bool(reason) and says(reason) and says(exit)
+        if is_said and is_still_there(reason) and not tells_of_relatives(reason) and is_span(exit):
             exits.texts[place] = f"{reason} {exit}"
-        elif reason and says(reason) and says(exit):
+        elif is_said:
             exits.reasons[row.line] = reason

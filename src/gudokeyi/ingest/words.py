@@ -6,6 +6,7 @@ import re
 from collections.abc import Iterator
 
 from gudokeyi.ingest.days import MONTHS, DayFault, compared, places_within
+from gudokeyi.ingest.relatives import leaving_relatives, names_relative
 from gudokeyi.ingest.texts import listed, plain
 
 # The words that cells of sheets have, in English, German and French.
@@ -289,6 +290,8 @@ UNDONE = re.compile(
     r"fell through|annulée?s?)\b",
     re.IGNORECASE,
 )
+# what became of relatives
+OF_RELATIVES = leaving_relatives(word for word in listed(EXITS) if plain(word) in TELLING_EXITS)
 # the signs of a death, and the letters for one, where they don't count points
 DEAD = re.compile(r"†|✝|^\+(?=\s*\d)|^\(?\+\)?$|(?<![\w.])(?<!\d )(?:PTS|R\.I\.P|RIP)(?!\w)")
 # the words for exits that are several
@@ -324,6 +327,8 @@ def lives_and_more(text: str) -> bool:
 def is_still_there(text: str) -> bool:
     """Does it tell of something else than an exit, as `retired 2019`, `on loan` or `lebt, hat gut gelammt`, or that
     there was none, as `nicht verkauft`?"""
+    if tells_of_relatives(text):
+        return True
     if not LETTER.search(text) or DEAD.search(text):
         return False
     if lives_besides(text) or lives_and_more(text) or is_undone(text):
@@ -335,6 +340,14 @@ def is_still_there(text: str) -> bool:
     if has_word(rest, TELLING_EXITS) or says_gone(rest):
         return False
     return rest != sold or has_word(text, KNOWN_NO_EXITS)
+
+
+def tells_of_relatives(text: str) -> bool:
+    """Does it tell that relatives of the animal left, and not that it did itself, as `Vater tot` or `Tod der Mutter`?"""
+    if not names_relative(text):
+        return False
+    rest = OF_RELATIVES.sub(" ", text)
+    return rest != text and not (has_word(rest, TELLING_EXITS) or DEAD.search(rest) or says_gone(rest))
 
 
 def lives_besides(text: str) -> bool:
