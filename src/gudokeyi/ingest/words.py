@@ -343,11 +343,29 @@ def is_still_there(text: str) -> bool:
 
 
 def tells_of_relatives(text: str) -> bool:
-    """Does it tell that relatives of the animal left, and not that it did itself, as `Vater tot` or `Tod der Mutter`?"""
+    """Does it tell that relatives of the animal left, and not that it did itself, as `Vater tot`?"""
     if not names_relative(text):
         return False
     rest = OF_RELATIVES.sub(" ", text)
     return rest != text and not (has_word(rest, TELLING_EXITS) or DEAD.search(rest) or says_gone(rest))
+
+
+# words of headings above animals that left, and of so many words at most such a heading is
+OF_EXITS = TELLING_EXITS | {
+    plain(word) for word in listed(
+        "Abgänge, Verkaufte, Verstorbene, Gestorbene, Geschlachtete, Tote, Gelöschte, Gestrichene, Ausgeschiedene, "
+        "Abgegangene, Ehemalige, ehemalige, deleted, removed, former, departed, disposals, deaths, sales, supprimé, "
+        "supprimée, supprimés, supprimées, radiés, radiées, morts, mortes, vendus, vendues, sortis, sorties, décédés, "
+        "réformés, réformées, abattus, abattues"
+    )
+}  # fmt: skip
+MOST_WORDS = 6
+WORD = re.compile(r"[^\W\d_]+")
+
+
+def says_exits(text: str) -> bool:
+    """Is it a heading above animals that left, as `Aus dem Herdbuch gelöscht`?"""
+    return len(WORD.findall(text)) <= MOST_WORDS and has_word(text, OF_EXITS) and not is_still_there(text)
 
 
 def lives_besides(text: str) -> bool:

@@ -24,6 +24,7 @@ from gudokeyi.ingest.columns import Columns
 from gudokeyi.ingest.columns_said_none import NoneSaid
 from gudokeyi.ingest.columns_told import columns_told
 from gudokeyi.ingest.exits_beside import columns_beside
+from gudokeyi.ingest.exits_in_tables import without_table_beside
 from gudokeyi.ingest.files import GivenFile
 from gudokeyi.ingest.genetic_dams import genetic_columns
 from gudokeyi.ingest.names_for_ids import names_columns
@@ -65,7 +66,7 @@ class LastSheet:
         if last and last[:3] == (file, worksheet, before) and last[3].decision and last[3].decision.is_same(score):
             return last[3]
         self.read = None
-        sheet = read_sheet(file, score, worksheet, before)
+        sheet = without_table_beside(read_sheet(file, score, worksheet, before))
         self.read = file, worksheet, before, sheet
         return sheet
 
