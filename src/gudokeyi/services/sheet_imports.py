@@ -33,8 +33,8 @@ from gudokeyi.reconcile.findings.obstacles import StrictlyNothing
 from gudokeyi.reconcile.findings.own_columns import BreedersNotKept
 from gudokeyi.reconcile.ids import call_as_now, give_numbers, letters_unsaid, numbers_begin
 from gudokeyi.reconcile.import_options import (
-    ImportOptions, again, limits_of, remember, remember_columns, remember_refused, remember_worksheet, rename_owners,
-    with_settings,
+    ImportOptions, again, limits_of, remember, remember_columns, remember_no_animals, remember_refused,
+    remember_worksheet, rename_owners, with_settings,
 )  # fmt: skip
 from gudokeyi.reconcile.impossible_parents import leave_out_faulty_parents
 from gudokeyi.reconcile.limits import Limits
@@ -199,6 +199,8 @@ def refuse_left_out(next_book: NextBook, import_options: ImportOptions) -> None:
 # From a sheet to a book in its folder.
 
 
+# the option by which rows are no animals
+NO_ANIMAL = "--no-animal"
 # within which a sheet is read
 Bounds = Callable[[], contextlib.AbstractContextManager[None]]
 
@@ -236,7 +238,9 @@ def import_sheet_into(
     tell_parents_named_otherwise(read.columns, next_book.animals, next_book.report)
     own = find_own_columns(book, read.columns, import_options.own)
     leave_known_days(read, own, next_book.report)
-    used = again(words, import_options) + [Option("--worksheet", read.sheet.as_before)] * bool(read.sheet.as_before)
+    taken = read.rows.no_animals.taken
+    used = [one for one in again(words, import_options) if one.option != NO_ANIMAL or plain(one.word) not in taken]
+    used += [Option("--worksheet", read.sheet.as_before)] * bool(read.sheet.as_before)
     tell_columns_not_kept(read, own, next_book)
     lacks_own = tell_lost_own_columns(book, own, read.columns, next_book.report)
     understood = understood_of(file.path, read, used, {} if lacks_own else titles_before(book), own)
@@ -273,6 +277,7 @@ def remember_places(book: Book, read: ReadSheet, import_options: ImportOptions, 
     exits, is_first = [sheet.titles[at] for at in places], titles_before(book).get(Field.EXIT) in lost_exits
     exits = [*lost_exits, *exits] if is_first else [*exits, *lost_exits]
     remember_columns(book, dict(read.columns.titles_found()), exits)
+    remember_no_animals(book, read.rows.no_animals.left_out, read.rows.no_animals.taken)
     remember_refused(book, import_options, read.columns.refused)
     remember_worksheet(book, import_options.worksheet, read.sheet.worksheets)
 
