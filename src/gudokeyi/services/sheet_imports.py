@@ -28,6 +28,7 @@ from gudokeyi.process import keep
 from gudokeyi.reconcile.all_animals import complete
 from gudokeyi.reconcile.cells_as_notes import keep_as_notes
 from gudokeyi.reconcile.commands import Filing
+from gudokeyi.reconcile.earlier_sales import leave_earlier_sales
 from gudokeyi.reconcile.exits import leave_out_early_exits, tell_most_changed, tell_withdrawn_exits
 from gudokeyi.reconcile.findings.obstacles import StrictlyNothing
 from gudokeyi.reconcile.findings.own_columns import BreedersNotKept
@@ -262,6 +263,7 @@ def next_book_of(book: Book, read: ReadSheet, last: LastReading | None) -> NextB
         book, read.animals, set(read.columns.found), read.report, read.rows.cells.days, in_book=read.in_book,
         last_found=last.found if last else None,
     )  # fmt: skip
+    leave_earlier_sales(next_book)
     are_other_rows = keep_unsaid(next_book)
     if last and book.society_records:
         # a row that says what the book has doesn't name an animal by an id of before
