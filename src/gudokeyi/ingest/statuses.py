@@ -9,6 +9,7 @@ from typing import Container, NamedTuple
 
 from gudokeyi.domain.findings import Report
 from gudokeyi.domain.kinds import Field
+from gudokeyi.ingest.born_dead import born_dead_word
 from gudokeyi.ingest.day_cells import is_other_state
 from gudokeyi.ingest.days import is_span, places_within
 from gudokeyi.ingest.exits_beside import Exits, add_buyers, add_exit_days, add_sales_to
@@ -213,8 +214,19 @@ def exits_said(
     add_days_of_sales(exits, rows, sheet.titles, columns)
     add_sales_to(exits, rows, sheet, at, unknown)
     add_exit_days(exits, rows, sheet, columns, unknown, report)
+    add_births_of_born_dead(exits, rows, columns)
     add_buyers(exits, rows, sheet, columns, unknown, report)
     return exits
+
+
+def add_births_of_born_dead(exits: Exits, rows: list[SheetRow], columns: Mapping[str, int]) -> None:
+    """Animals that were born dead have left on the day of their birth, where that is a day."""
+    exit_at, birth_at = columns[Field.EXIT], columns.get(Field.BIRTH)
+    for place, row in enumerate(rows if birth_at is not None else ()):
+        exit = exits.texts.get(place) or cell_of(row, exit_at)
+        birth = cell_of(row, birth_at) if exit and birth_at is not None and born_dead_word(exit) else ""
+        if birth and is_span(birth) and not any(map(str.isdigit, exit)):
+            exits.texts[place] = f"{exit} {birth}"
 
 
 def add_days_of_sales(exits: Exits, rows: list[SheetRow], titles: Sequence[str], columns: Mapping[str, int]) -> None:

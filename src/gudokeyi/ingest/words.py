@@ -5,6 +5,7 @@ import itertools
 import re
 from collections.abc import Iterator
 
+from gudokeyi.ingest.born_dead import born_dead_word
 from gudokeyi.ingest.days import MONTHS, DayFault, compared, places_within
 from gudokeyi.ingest.relatives import leaving_relatives, names_relative
 from gudokeyi.ingest.texts import listed, plain
@@ -407,7 +408,7 @@ def exit_word(text: str) -> str:
     if not LETTER.search(text):
         return ""
     known = next((word for word in text.split() if plain(word) in KNOWN_EXITS), "") or first_exit(text)
-    return known or (text if says_gone(text) else "")
+    return known or (text if says_gone(text) else "") or born_dead_word(text)
 
 
 def first_exit(text: str) -> str:

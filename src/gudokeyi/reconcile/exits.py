@@ -15,6 +15,7 @@ from gudokeyi.domain.kinds import CommandKind, Field
 from gudokeyi.domain.provenance import GIVEN_EXIT, ExitBasis, ExitSource
 from gudokeyi.domain.refusals import Refusal
 from gudokeyi.ingest.animals import DAM_OF, LEFT_OF, SheetAnimal
+from gudokeyi.ingest.born_dead import born_dead_word
 from gudokeyi.ingest.exits_in_tables import worksheets_told
 from gudokeyi.ingest.exits_unread import ExitsUnread
 from gudokeyi.ingest.words import exit_word, lives, says_lives
@@ -177,7 +178,8 @@ def tell_exits_unread(next_book: NextBook, unread: Collection[ExitsUnread]) -> N
     """Cells that may tell of exits, of the animals that count as living."""
     lines = {line for one in unread for line in one.cells}
     rows = [animal for animal in next_book.animals.values() if animal.line in lines] if lines else []
-    living = {animal.line for animal in rows if not has_left(animal)}
+    # what the name of one says that was born dead is told by itself
+    living = {one.line for one in rows if not has_left(one) and not born_dead_word(one.name)}
     for found in filter(None, (one.of(living) for one in unread)):
         next_book.report.add(0, "", found)
 
