@@ -23,8 +23,7 @@ from gudokeyi.ingest.day_forms import DayForms
 from gudokeyi.ingest.days_for_ids import days_among
 from gudokeyi.ingest.exchanged_days import exchanged
 from gudokeyi.ingest.findings.cells import (
-    BETWEEN_CELLS, DAYS, AnimalAfterAll, IdAlone, IdOfOtherAlphabet, IdTooLong, IdUnlikeOthers, IdWithFewerDigits, LikeASum, NoAnimal,
-    NoId, TitlesAgain, TooManyCells,
+    BETWEEN_CELLS, DAYS, AnimalAfterAll, IdAlone, IdTooLong, LikeASum, NoAnimal, NoId, TitlesAgain, TooManyCells,
 )  # fmt: skip
 from gudokeyi.ingest.findings.columns import SheetFinding
 from gudokeyi.ingest.findings.exits import Remark
@@ -32,7 +31,7 @@ from gudokeyi.ingest.findings.files import ColoredRows, GreyRows, HiddenRows
 from gudokeyi.ingest.findings.sheets import CutNumber, FormulaCell, Place
 from gudokeyi.ingest.inferred_values import lines_of_inferred_sexes
 from gudokeyi.ingest.no_names import names_told
-from gudokeyi.ingest.odd_ids import Oddity, odd_ids
+from gudokeyi.ingest.odd_ids_told import tell_ids_otherwise, tell_odd_ids
 from gudokeyi.ingest.odd_texts import (
     exits_in_sexes, first_days, tell_deaths_in_births, tell_exits_in_ids, tell_exits_in_names, tell_several_ids,
 )  # fmt: skip
@@ -122,16 +121,6 @@ def tell_odd_rows(animals: dict[str, SheetAnimal], rows: list[SheetRow], report:
     for animal in alone:
         report.add(animal.line, animal.id, IdAlone(animal.id))
     return {*sums, *(one.id for one in alone)}
-
-
-def tell_odd_ids(animals: dict[str, SheetAnimal], known: Container[str], report: Report) -> None:
-    """Those that the book hasn't, at which somebody looked, and of rows of which nothing else is told."""
-    for id, usual, oddity in odd_ids([*animals], known):
-        if oddity is Oddity.UNLIKE:
-            report.add(animals[id].line, id, IdUnlikeOthers(id, usual))
-        else:
-            found = IdWithFewerDigits if oddity is Oddity.FEWER_DIGITS else IdOfOtherAlphabet
-            report.add(animals[id].line, id, found(usual))
 
 
 def sum_of(animal: SheetAnimal, cells: list[str]) -> str:
@@ -387,6 +376,7 @@ class Rows:
             lines |= {animals[id].line for id in days_among(tuple(animals))} if field is Field.ID else set()
             told |= tell_days_for_texts(animals, field, lines, texts, self.report)
         told |= self.same_ids.born.keys()
+        told |= tell_ids_otherwise(animals, self.same_ids.born.keys(), self.report)
         tell_odd_ids(animals, told | tell_several_ids(animals, told, self.report), self.report)
 
     def marked_rows(self, animals: dict[str, SheetAnimal]) -> Iterator[SheetFinding]:
