@@ -215,3 +215,17 @@ def test_sum_beside_a_number(desk: Desk) -> None:
     assert any("--no-animal 'Total Tiere'" in command for command in done.commands())
     desk.take(sheet, "--no-animal", "Total Tiere")
     assert sorted(row["id"] for row in desk.ids()) == ["1", "2", "3", "4"]
+
+
+LEFT_OUT = {
+    "used again": "2;Zoe †;f;2024-03-12;;;Meier;sold 2025", "sex unread": "9;Zoe †;q;2024-03-12;;;Meier;sold? 2025",
+}  # fmt: skip
+
+
+@pytest.mark.parametrize("row", LEFT_OUT.values(), ids=LEFT_OUT)
+def test_nothing_besides_a_row_that_is_left_out(desk: Desk, row: str) -> None:
+    """No cell of it is told as read, or as what is to be written otherwise."""
+    titles = "id;Name;sex;birth;sire;dam;Owner;Exit\n"
+    done = desk.take(titles + f"1;Ann;f;2001-01-01;;;Meier;\n2;Ben;m;2001-01-01;;;Meier;2003-05-06\n{row}\n", "--preview")
+    told = [line for line in done.out.splitlines() if line.startswith("line 4")]
+    assert told and all("left out" in line for line in told), told

@@ -9,13 +9,13 @@ from collections.abc import Callable
 from dataclasses import dataclass
 
 from gudokeyi.domain.changes import Option
-from gudokeyi.domain.findings import Call, Entry, ImportRefused, Report, StrictlyRefused, What
+from gudokeyi.domain.findings import Call, Entry, ImportRefused, Part, Report, StrictlyRefused, What
 from gudokeyi.domain.kinds import Field, Remembered
 from gudokeyi.ingest.births_beside import year_column
 from gudokeyi.ingest.castrations import castration_columns
 from gudokeyi.ingest.exits_beside import columns_beside, exit_day_columns
 from gudokeyi.ingest.files import GivenFile
-from gudokeyi.ingest.findings.columns import ColumnUntitled, TitleBelow
+from gudokeyi.ingest.findings.columns import ColumnUntitled, SheetFinding, TitleBelow
 from gudokeyi.ingest.findings.columns_unread import MayBeExits
 from gudokeyi.ingest.genetic_dams import genetic_columns
 from gudokeyi.ingest.inferred_values import columns_of_marks
@@ -125,6 +125,7 @@ def file(
     filing.tell_changes()
     tell_sexes_of_others(next_book)
     tell_most_changed(next_book)
+    drop_besides_left_out(report)
     after = book_after(next_book, filed, import_options, about)
     return filed, Outcome(
         book.folder, about.call.after(), about.understood, tuple(about.read), tuple(next_book.obstacles), report, after,
@@ -147,6 +148,18 @@ def filed_or_without_parents(
         are_refused = leave_out_faulty_parents(next_book, program, are_refused or filing.refuses_births)
     last.are_parents_refused = are_refused
     return filed, told
+
+
+def drop_besides_left_out(report: Report) -> None:
+    """Of a row that is left out nothing else is told, as that a cell of it is read, or is to be written otherwise."""
+    rows = {(one.line, one.id) for one in report.entries if one.line and one.part is Part.ROW}
+    if rows:
+        report.entries = [one for one in report.entries if (one.line, one.id) not in rows or not is_of_row(one)]
+
+
+def is_of_row(entry: Entry) -> bool:
+    """Does it tell of what the row says, as it is read, and not of other rows?"""
+    return entry.what in (What.WARNING, What.INFERRED) and not isinstance(entry.finding, SheetFinding)
 
 
 def tell_plausibility(next_book: NextBook, limits: Limits) -> None:
