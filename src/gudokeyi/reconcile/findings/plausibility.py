@@ -137,7 +137,10 @@ class BornDead(PlausibilityWarning):
     name: str
 
     code = "born dead"
-    message = Text("its name '{name}' says that it was born dead, and it is taken as a living animal: leave its row out")
+    message = Text(
+        "its name '{name}' says that it was born dead, and it counts as living: write stillborn, totgeboren or mort-né into "
+        "a column for exits"
+    )
 
 
 @dataclass(frozen=True, slots=True)
