@@ -71,7 +71,9 @@ SHORT_DAY = re.compile(r"\d[./-]\d{2}")
 # that of somebody's death is one that comes before a day
 CROSS_OF_DAY = re.compile(r"\+\s*(?:\d{1,2}[./-]){0,2}(?:19|20)\d\d\b|\+\s*\d{1,2}([./-])\d{1,2}\1\d\d\b")
 KNOWN_RELATIVES = {
-    plain(word) for word in [*listed(YOUNG), *listed("Mutter, Vater, Muttertier, dam, sire, mother, father, mère, père")]
+    plain(word) for word in [*listed(YOUNG), *listed(
+        "Mutter, Vater, Muttertier, dam, sire, mother, father, mère, père, Wurf, Würfe, Wurfgeschwister, litter, portée"
+    )]
 }  # fmt: skip
 # what tells of castrations wherever it stands, but for what is to come
 KNOWN_CASTRATIONS = {

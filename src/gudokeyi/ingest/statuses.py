@@ -22,7 +22,7 @@ from gudokeyi.ingest.titles import (
 )  # fmt: skip
 from gudokeyi.ingest.words import (
     DEAD, EXITS, KNOWN_DEATHS, KNOWN_YES, PLAIN_EXITS, exit_word, has_word, is_still_there, lives, lives_besides, says_lives,
-    tells_of_relatives,
+    tells_of_others,
 )  # fmt: skip
 
 # an owner who takes an animal
@@ -135,7 +135,7 @@ class Statuses:
         # a state such as `pet only` is no exit unless a word or a day says so
         is_other = self.is_of_states and is_other_state(text)
         is_there, has_taker = is_still_there(text), TAKER.search(text) is not None and not lives_besides(text)
-        is_no_exit = tells_none or is_there and not tells_of_relatives(text)
+        is_no_exit = tells_none or is_there and not tells_of_others(text)
         is_reason = text == status and not (is_no_exit or text.casefold() in KNOWN_YES)
         return Said(text, tells, is_there, is_other, tells_none, says_lives(text), is_reason, has_taker)
 
@@ -259,7 +259,7 @@ def add_reasons(exits: Exits, rows: list[SheetRow], of_reasons: int, at: int, un
         reason = cell_of(row, of_reasons)
         exit = exits.texts.get(place) or cell_of(row, at)
         is_said = bool(reason) and says(reason) and says(exit)
-        if is_said and is_still_there(reason) and not tells_of_relatives(reason) and is_span(exit):
+        if is_said and is_still_there(reason) and not tells_of_others(reason) and is_span(exit):
             exits.texts[place] = f"{reason} {exit}"
         elif is_said:
             exits.reasons[row.line] = reason

@@ -7,7 +7,7 @@ from collections.abc import Iterator
 
 from gudokeyi.ingest.born_dead import born_dead_word
 from gudokeyi.ingest.days import MONTHS, DayFault, compared, places_within
-from gudokeyi.ingest.relatives import leaving_relatives, names_relative
+from gudokeyi.ingest.relatives import leaving_others, names_other
 from gudokeyi.ingest.texts import listed, plain
 
 # The words that cells of sheets have, in English, German and French.
@@ -293,8 +293,11 @@ UNDONE = re.compile(
     r"fell through|annulée?s?)\b",
     re.IGNORECASE,
 )
-# what became of relatives
-OF_RELATIVES = leaving_relatives(word for word in listed(EXITS) if plain(word) in TELLING_EXITS)
+# what became of relatives and young
+OF_SEVERAL = "morts, mortes, vendus, vendues, décédés, décédées, abattus, abattues"
+OF_OTHERS = leaving_others(
+    [*(word for word in listed(EXITS) if plain(word) in TELLING_EXITS), *listed(BORN_DEAD), *listed(OF_SEVERAL)]
+)
 # the signs of a death, and the letters for one, where they don't count points
 DEAD = re.compile(r"†|✝|^\+(?=\s*\d)|^\(?\+\)?$|(?<![\w.])(?<!\d )(?:PTS|R\.I\.P|RIP)(?!\w)")
 # the words for exits that are several
@@ -330,7 +333,7 @@ def lives_and_more(text: str) -> bool:
 def is_still_there(text: str) -> bool:
     """Does it tell of something else than an exit, as `retired 2019`, `on loan` or `lebt, hat gut gelammt`, or that
     there was none, as `nicht verkauft`?"""
-    if tells_of_relatives(text):
+    if tells_of_others(text):
         return True
     if not LETTER.search(text) or DEAD.search(text):
         return False
@@ -345,11 +348,11 @@ def is_still_there(text: str) -> bool:
     return rest != sold or has_word(text, KNOWN_NO_EXITS)
 
 
-def tells_of_relatives(text: str) -> bool:
-    """Does it tell that relatives of the animal left, and not that it did itself, as `Vater tot`?"""
-    if not names_relative(text):
+def tells_of_others(text: str) -> bool:
+    """Does it tell that relatives or young of the animal left, and not that it did itself, as `Vater tot`?"""
+    if not names_other(text):
         return False
-    rest = OF_RELATIVES.sub(" ", text)
+    rest = OF_OTHERS.sub(" ", text)
     return rest != text and not (has_word(rest, TELLING_EXITS) or DEAD.search(rest) or says_gone(rest))
 
 
