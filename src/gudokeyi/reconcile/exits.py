@@ -179,9 +179,11 @@ def tell_exits_unread(next_book: NextBook, unread: Collection[ExitsUnread]) -> N
     lines = {line for one in unread for line in one.cells}
     rows = [animal for animal in next_book.animals.values() if animal.line in lines] if lines else []
     # what the name of one says that was born dead is told by itself
-    living = {one.line for one in rows if not has_left(one) and not born_dead_word(one.name)}
-    for found in filter(None, (one.of(living) for one in unread)):
-        next_book.report.add(0, "", found)
+    living = {one.line: one.id for one in rows if not has_left(one) and not born_dead_word(one.name)}
+    told = [(0, found) for one in unread if (found := one.of(living))]
+    of_each = itertools.chain.from_iterable(one.of_each(living).items() for one in unread)
+    for line, finding in (*told, *of_each):
+        next_book.report.add(line, living.get(line, ""), finding)
 
 
 def tell_worksheets_of_exits(next_book: NextBook, of_exits: RowsOfExits) -> None:

@@ -19,6 +19,7 @@ from gudokeyi.domain.refusals import Refusal
 from gudokeyi.domain.wording import SEXES
 from gudokeyi.ingest.findings.cells import CellLeftOut, ErrorValue
 from gudokeyi.ingest.findings.exits import ExitsWithoutDay
+from gudokeyi.ingest.findings.rows import ExitInRemark
 from gudokeyi.ingest.findings.sheets import CellsUnread, ErrorCells
 from gudokeyi.reconcile.findings.parents import WRONG, ParentRefused
 from gudokeyi.reconcile.findings.by_hand import YoungParent
@@ -200,8 +201,8 @@ def fields_summed_up(report: Report) -> set[Field | type[ErrorCells]]:
 
 
 def is_summed_up(finding: Finding, summed_up: set[Field | type[ErrorCells]]) -> bool:
-    # one finding for each of the society's own columns sums up those of its cells
-    if isinstance(finding, OwnCellUnread):
+    # one finding for each column sums up those of its cells
+    if isinstance(finding, OwnCellUnread | ExitInRemark):
         return True
     if isinstance(finding, ErrorValue):
         return ErrorCells in summed_up

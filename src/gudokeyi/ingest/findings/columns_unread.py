@@ -116,7 +116,7 @@ class CausesUnread(ExitsInRemarks):
         "the column '{title}' isn't read for exits, and {count} cell of it may say why an animal left which has no exit: "
         "'{text}' in line {line}; the animal counts as living",
         "the column '{title}' isn't read for exits, and {count} cells of it may say why animals left which have no exit, "
-        "the first is '{text}' in line {line}; these animals count as living",
+        "the first is '{text}' in line {line}{maybe_others}{maybe_more}; these animals count as living",
         "count",
     )
 
