@@ -34,6 +34,8 @@ def test_column_is_back_that_was_said_to_be_none(desk: Desk) -> None:
     assert "'Abgang' isn't read" not in desk.take(back.replace("3.5.2025", "")).out
     done = desk.typed(done.commands()[1])
     assert "'Abgang' isn't read" not in done.out and "'Rufname' isn't read" in done.out
+    assert "'Abgang' isn't read as exit, since that was said of an earlier list" in desk.take(back).out
+    desk.take(back, "--columns", "exit=")
     assert "'Abgang' isn't read" not in desk.take(back).out
     # what was said of one column isn't said of another
     other = back.replace("Abgang", "Todesdatum")

@@ -139,13 +139,14 @@ def test_codes_of_causes(desk: Desk, title: str) -> None:
     done = desk.take(sheet)
     told = (
         f"to look at: the column '{title}' isn't read for exits, and 3 cells of it {CAUSES}'M' in line 2, the others in 4, "
-        "6; these animals count as living"
+        "6; these animals count as living: if they left, write words there, as died or sold, verendet or verkauft, mort or vendu"
     )
     assert done.out.splitlines()[0] == told and not exits(desk)
-    assert [one.partition("--columns ")[2].strip("'") for one in done.commands()] == [f"exit={title}", "exit="]
-    assert told not in desk.take(sheet, "--columns", "exit=", "--book", "none").told
-    done = desk.typed(done.commands()[0])
-    assert CAUSES not in done.out and [*exits(desk)] == ["1", "3", "5"]
+    assert [one.partition("--columns ")[2] for one in done.commands()] == ["exit="]
+    assert CAUSES not in desk.typed(done.commands()[0]).out
+    words = sheet.replace(";M\n", ";mort\n").replace(";S\n", ";verkauft\n")
+    done = desk.take(words, "--columns", f"exit={title}", "--book", "words")
+    assert CAUSES not in done.out and " 5 new" in done.last
 
 
 @pytest.mark.parametrize("title", ["Ursache", "Exit code"])
@@ -155,10 +156,11 @@ def test_codes_of_causes_beside_exits(desk: Desk, title: str) -> None:
     done = desk.take(sheet)
     done.shows(
         f"to look at: the column '{title}' isn't read for exits, and 1 cell of it may say why an animal left which has no "
-        "exit: 'S' in line 4; the animal counts as living"
+        "exit: 'S' in line 4; the animal counts as living: if it left, write a word there, as died or sold, verendet or "
+        "verkauft, mort or vendu"
     )
     done = desk.typed(done.commands()[0])
-    assert "may say why" not in done.out and [*exits(desk)] == ["3"]
+    assert "may say why" not in done.out and "3" in exits(desk)
     full = BEGIN + f"Abgang;{title}\n" + rows(("3.3.2021;M", ";"), "4.4.2021;S", ";")
     assert "may say why" not in desk.take(full, "--book", "full").told
 
@@ -184,6 +186,6 @@ def test_codes_of_something_else(desk: Desk, title: str, cells: tuple[str, str, 
 
 @pytest.mark.parametrize("title", ["Disposal reason", "Motif sortie", "Abg.-Grund", "Cause of exit"])
 def test_more_titles_of_reasons(desk: Desk, title: str) -> None:
-    """All that stands there tells of an exit."""
+    """All that stands there may tell of exits."""
     done = desk.take(BEGIN + f"{title}\n" + rows(("", ""), "Kolik", ""))
-    assert f"exit from '{title}'" in done.out and exits(desk) == {"3": "day unknown: 'Kolik'"}
+    assert "1 cell of it may say why an animal left which has no exit: 'Kolik' in line 4" in done.out

@@ -53,8 +53,7 @@ def refuse(columns: Columns, name: Field, at: int, none: NoneSaid, is_said_now: 
     """Keeps the column with the columns, and tells it unless it was said before, or is now, that it isn't the one."""
     title = columns.title(at)
     exits = exits_of(columns, at) if name in (Field.EXIT, Field.STATUS) else []
-    if exits or any(columns.cells(at)):
-        columns.refused[name] = title, len(exits) if name in (Field.EXIT, Field.STATUS) else None
+    columns.refused[name] = title, len(exits) if name in (Field.EXIT, Field.STATUS) else None
     said = plain(f"{name}={title}")
     if is_said_now:
         return

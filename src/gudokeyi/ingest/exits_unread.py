@@ -30,7 +30,9 @@ KINDS_OF_EXITS = {
     for title in listed(
         "Abgangscode, Code Abgang, Abgangsgrund Code, Code Abgangsgrund, Abgangsschlüssel, Abgangsart, Art des Abgangs, "
         "exit code, exit type, type of exit, disposal code, disposal type, cull code, code sortie, code de sortie, "
-        "type sortie, type de sortie"
+        "type sortie, type de sortie, Abg.-Grund, Abg.-Ursache, Merzungsgrund, Merzgrund, disposal reason, reason for "
+        "disposal, cull reason, culling reason, reason for culling, cause of exit, leaving reason, cause sortie, "
+        "motif sortie, raison sortie, motif de réforme, motif réforme, cause de réforme, cause réforme"
     )
 }
 CAUSES = {plain(title) for title in listed("Ursache, Ursachen, cause, causes")}

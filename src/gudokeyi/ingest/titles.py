@@ -20,9 +20,7 @@ from gudokeyi.ingest.words import (
 REASONS = (
     "Abgangsgrund, Abgangsursache, Grund des Abgangs, Todesursache, exit reason, reason for exit, reason for leaving, "
     "reason left, cause of death, motif de sortie, motif de la sortie, cause de sortie, cause de la sortie, raison de la "
-    "sortie, cause de mort, cause du décès, Abg.-Grund, Abg.-Ursache, Merzungsgrund, Merzgrund, disposal reason, reason "
-    "for disposal, cull reason, culling reason, reason for culling, cause of exit, leaving reason, cause sortie, motif "
-    "sortie, raison sortie, motif de réforme, motif réforme, cause de réforme, cause réforme"
+    "sortie, cause de mort, cause du décès"
 )
 # The usual titles, the likelier first: where a sheet has both a column of days and one of words, as `Abgangsdatum` and
 # `Abgang`, the one of days is read; a column of all exits is read before one of deaths alone. They are compared in

@@ -114,17 +114,19 @@ class CausesUnread(ExitsInRemarks):
     code = "causes unread"
     message = Counted(
         "the column '{title}' isn't read for exits, and {count} cell of it may say why an animal left which has no exit: "
-        "'{text}' in line {line}; the animal counts as living",
+        "'{text}' in line {line}; the animal counts as living: if it left, write a word there, as died or sold, verendet "
+        "or verkauft, mort or vendu",
         "the column '{title}' isn't read for exits, and {count} cells of it may say why animals left which have no exit, "
-        "the first is '{text}' in line {line}{maybe_others}{maybe_more}; these animals count as living",
+        "the first is '{text}' in line {line}{maybe_others}{maybe_more}; these animals count as living: if they left, "
+        "write words there, as died or sold, verendet or verkauft, mort or vendu",
         "count",
     )
 
     def suggestions(self) -> tuple[Suggestion, ...]:
-        return (
-            Suggestion("if each of its cells tells of an exit", (column(self.as_field, self.title),)),
-            Suggestion("if it tells of no exits", (column(self.as_field, ""),)),
-        )
+        """Codes alone aren't read as exits: as a status beside these each tells of one."""
+        read = Suggestion("if each of its cells tells of an exit", (column(self.as_field, self.title),))
+        none = Suggestion("if it tells of no exits", (column(self.as_field, ""),))
+        return (read, none) if self.as_field is Field.STATUS else (none,)
 
 
 @dataclass(frozen=True, slots=True)
