@@ -134,5 +134,7 @@ def test_worksheet_of_exits(desk: Desk, title: str) -> None:
 @pytest.mark.parametrize("title, ids", [("Abgänge", ["CH03"]), ("Abgänge", ["CH91"]), ("Notizen", ["CH04"])])
 def test_worksheets_of_others(desk: Desk, title: str, ids: list[str]) -> None:
     """Nothing is told of animals whose exit the list has, or which it hasn't, nor of other worksheets."""
-    name = desk.write("sheet.xlsx", workbook(title, [["Ohrmarke", "Datum"], *([id, "12.03.2025"] for id in ids)], exits=True))
+    rows: list[list[object]] = [["Ohrmarke", "Datum"]]
+    rows += [[id, "12.03.2025"] for id in ids]
+    name = desk.write("sheet.xlsx", workbook(title, rows, exits=True))
     assert "count as living" not in desk.good("import", name, "--preview").out

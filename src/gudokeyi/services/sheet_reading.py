@@ -122,8 +122,8 @@ class Reading:
 
     def read_by(self) -> tuple[object, ...]:
         values = (dict(self.columns), self.unknown.more, self.unknown.known, dict(self.sexes), self.month_first)
-        values = *values, [*self.no_animals], self.no_animals_before
-        return *values, self.sure, self.born, self.owners, self.called, self.sexes_of_book, self.today
+        no_animals = [*self.no_animals], self.no_animals_before
+        return *values, *no_animals, self.sure, self.born, self.owners, self.called, self.sexes_of_book, self.today
 
     def meant_by(self) -> tuple[object, ...]:
         """By what the rows are changed into what they mean, beside the ids that are animals for sure: by words for
