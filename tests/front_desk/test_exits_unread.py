@@ -67,8 +67,8 @@ def test_no_day_at_all(desk: Desk) -> None:
     done = desk.take(BEGIN + "Gestorben am;Verkauf\n" + rows(("1.1.2020;", ";350"), *texts))
     done.shows(
         "to look at: the column 'Verkauf' isn't read for exits, since none of its cells has a day, and 3 cells of it say "
-        "something of animals that have no exit, the first is '350' in line 3; these animals count as living: if one "
-        "left, write the day there"
+        "something of animals that have no exit, the first is '350' in line 3, the others in 5, 8; these animals count as "
+        "living: if one left, write the day there"
     )
     assert "not read: 'Verkauf'" in done.out and "tells that an animal left" not in done.told
     done = desk.take(BEGIN + "Gestorben am;Verkauf\n" + rows(("1.1.2020;", ";-"), "3.3.2021;350"), "--book", "two")
@@ -104,7 +104,7 @@ def test_yes_of_the_living_alone(desk: Desk, title: str, mark: str) -> None:
     done = desk.take(BEGIN + f"{title}\n" + rows((mark, mark), "", mark, ""))
     done.shows(
         f"to look at: the column '{title}' says '{mark}' of some animals, and nothing of 2 that have no exit, the first in "
-        "line 4: they count as living too; if one has left, write no, nein or non there, or the day of its exit"
+        "line 4, the others in 6: they count as living too; if one has left, write no, nein or non there, or the day of its exit"
     )
     assert not exits(desk) and " 5 new" in done.last
     done = desk.take(BEGIN + f"Abgang;{title}\n" + rows((f";{mark}",) * 2, "3.3.2021;", f";{mark}", ";"), "--book", "two")
@@ -138,8 +138,8 @@ def test_codes_of_causes(desk: Desk, title: str) -> None:
     sheet = BEGIN + f"{title}\n" + rows(("M", ""), "S", "", "M")
     done = desk.take(sheet)
     told = (
-        f"to look at: the column '{title}' isn't read for exits, and 3 cells of it {CAUSES}'M' in line 2; these animals "
-        "count as living: if they left, write words there, as died or sold, verendet or verkauft, mort or vendu"
+        f"to look at: the column '{title}' isn't read for exits, and 3 cells of it {CAUSES}'M' in line 2, the others in 4, "
+        "6; these animals count as living: if they left, write words there, as died or sold, verendet or verkauft, mort or vendu"
     )
     assert done.out.splitlines()[0] == told and not exits(desk)
     assert [one.partition("--columns ")[2] for one in done.commands()] == ["exit="]

@@ -1,6 +1,10 @@
 """Ids that are written unlike nearly all others of a sheet."""
 from __future__ import annotations
 
+from collections.abc import Callable
+
+import pytest
+
 from front_desk.desk import Desk, Done
 
 TITLES = "id;sex;birth;sire;dam\n"
@@ -54,3 +58,57 @@ def test_ids_of_many_forms(desk: Desk) -> None:
     assert not told(desk.take(TITLES + ROWS + foreign, "--book", "foreign"))
     assert not told(desk.take(TITLES + ROWS[: ROWS.index(IDS[8])] + "Rex;m;2001-01-01;;\n", "--book", "few"))
     assert not told(desk.take(TITLES + ROWS + f"{int(IDS[0])};f;2001-01-01;;\n", "--book", "alike"))
+
+
+def test_many_odd_ids_of_one_kind(desk: Desk) -> None:
+    """They are told once, with the first of them and the remedy."""
+    rows = "".join(f"{410001 + 37 * at:08};f;2001-01-01;;\n" for at in range(230))
+    fewer = "".join(f"{42000 + at};f;2002-01-{at:02};;\n" for at in range(1, 8))
+    done = desk.take(TITLES + rows + fewer, "--preview")
+    assert "7 ids have fewer digits than nearly all others, such as 00410001: 42001, 42002, 42003, 42004, 42005 and 2 more" in done.out
+    assert "the first in line 232: did a spreadsheet take their zeros? Give the column the format text" in done.out
+    assert "its id has fewer digits" not in done.out
+
+
+def test_many_ids_unlike_others(desk: Desk) -> None:
+    rows = "".join(f"{410001 + 37 * at:08};f;2001-01-01;;\n" for at in range(230))
+    done = desk.take(TITLES + rows + "".join(f"{42000001 + at};f;2002-01-01;;\n".replace(";f", "*;f", 1) for at in range(4)), "--preview")
+    assert "4 ids are written unlike nearly all others, such as 00410001: 42000001*, 42000002*, 42000003*" in done.out
+    assert done.commands()[0].count("--no-animal") == 4 and "Its id is written unlike" not in done.out
+
+
+def with_parents(write: Callable[[str], str], count: int = 10) -> str:
+    """A list of which the ids of the first animals, which others have as dams, are written in a way of their own."""
+    ids = [f"CH{at:04}" for at in range(1, 41)]
+    rows = [f"{write(id) if at < count else id};f;200{at // 20}-01-01;;\n" for at, id in enumerate(ids)]
+    young = [f"CH{at + 100:04};f;2010-01-{at:02};;CH{at:04}\n" for at in range(1, 11)]
+    return TITLES + "".join(rows + young)
+
+
+@pytest.mark.parametrize("write", [lambda id: f"{id[:2]} {id[2:]}", lambda id: f"{id}*", lambda id: f"{id}A", lambda id: f"{id}."])
+def test_ids_that_parents_have_otherwise(desk: Desk, write: Callable[[str], str]) -> None:
+    """Many ids with a blank, a sign or a letter too many are told in one line."""
+    done = desk.take(with_parents(write), "--preview")
+    said = ", ".join(write(f"CH{at:04}") for at in range(1, 6))
+    told = f"10 ids have a letter, a sign or a blank more than the others: {said} and 5 more, the first in line 2; parents' cells"
+    assert f"{told} have such ids without, as CH0001: write them alike in both" in done.out
+
+
+def test_ids_whose_zeros_parents_have(desk: Desk) -> None:
+    done = desk.take(with_parents(lambda id: f"CH{int(id[2:])}"), "--preview")
+    assert "10 ids have fewer digits than nearly all others, such as CH0011: CH1, CH2, CH3, CH4, CH5 and 5 more" in done.out
+
+
+def test_ids_that_are_others(desk: Desk) -> None:
+    """A tag that was used again, with a letter, isn't that of the parent, which was born before."""
+    again = "".join(f"CH{at:04}A;f;2015-01-01;;\n" for at in range(1, 11))
+    sheet = "".join(row for row in with_parents(str).splitlines(True) if not row.startswith(tuple(f"CH{at:04};" for at in range(1, 11))))
+    assert "more than the others" not in desk.take(sheet + again, "--preview").out
+
+
+def test_one_id_of_many_animals(desk: Desk) -> None:
+    """Numbers that a spreadsheet cut are told once."""
+    cut = "".join(f"276012345600;f;20{at:02}-01-01;;\n" for at in range(5, 12))
+    done = desk.take(TITLES + ROWS + cut, "--preview")
+    told = "6 rows are left out (lines 33, 34, 35, 36, 37, 38): they have the id 276012345600, which line 32 has for another animal"
+    assert done.out.startswith(told) and "if the tag was used again" not in done.out and "6 left out (6 rows)" in done.out

@@ -52,6 +52,37 @@ def test_sums_that_are_left_out(desk: Desk) -> None:
     desk.wrong("are for a sheet", "import", "--pedigree", "p.txt", "--no-animal", "a")
 
 
+NUMBERED = "id;Name;sex;birth;sire;dam\n1;Ann;f;2001-01-01;;\n2;Ben;m;2001-01-01;;\n"
+AFTER_ALL = "the row is taken as an animal: that '307' is none was said of another row, '307 | Kot', and holds no more"
+
+
+def test_id_that_another_animal_has_later(desk: Desk) -> None:
+    """What was said of a row holds for what it said: another animal with that id is one, which is told once."""
+    desk.take(NUMBERED + "307;Kot;;;;\n", "--no-animal", "307")
+    done = desk.take(NUMBERED + "307;Kot;;;;\n")
+    assert "307" not in desk.numbers() and AFTER_ALL not in done.told
+    sheet = NUMBERED + "307;Eva;f;2005-02-03;2;1\n"
+    done = desk.take(sheet)
+    assert f"line 4: 307: to look at: {AFTER_ALL}" in done.out and "307" in desk.numbers()
+    assert "--no-animal 307" not in done.out.partition("as at the last time")[2]
+    assert AFTER_ALL not in desk.take(sheet).told
+
+
+def test_animal_that_is_said_to_be_none(desk: Desk) -> None:
+    """It stays none as long as its row says the same, and of another one it may be said again."""
+    sheet = NUMBERED + "307;Eva;f;2005-02-03;2;1\n"
+    desk.take(sheet, "--no-animal", "307")
+    assert "307" not in desk.take(sheet).told.partition("--no-animal")[0] and "307" not in desk.numbers()
+    desk.take(sheet.replace("Eva", "Fee"), "--no-animal", "307")
+    assert "307" not in desk.numbers()
+
+
+def test_number_of_a_parent(desk: Desk) -> None:
+    """Such a word is no number in a cell of another row, as that of a dam."""
+    desk.take(NUMBERED + "307;Kot;;;;\n3;Fee;;;2;307\n", "--no-animal", "307")
+    assert desk.numbers().keys() >= {"1", "2", "3"}
+
+
 def test_titles_again(desk: Desk) -> None:
     """A row of titles within the sheet, as at the head of a page."""
     titles = "Ohrmarke;geb.;Vater;Mutter"
@@ -186,3 +217,17 @@ def test_sum_beside_a_number(desk: Desk) -> None:
     assert any("--no-animal 'Total Tiere'" in command for command in done.commands())
     desk.take(sheet, "--no-animal", "Total Tiere")
     assert sorted(row["id"] for row in desk.ids()) == ["1", "2", "3", "4"]
+
+
+LEFT_OUT = {
+    "used again": "2;Zoe †;f;2024-03-12;;;Meier;sold 2025", "sex unread": "9;Zoe †;q;2024-03-12;;;Meier;sold? 2025",
+}  # fmt: skip
+
+
+@pytest.mark.parametrize("row", LEFT_OUT.values(), ids=LEFT_OUT)
+def test_nothing_besides_a_row_that_is_left_out(desk: Desk, row: str) -> None:
+    """No cell of it is told as read, or as what is to be written otherwise."""
+    titles = "id;Name;sex;birth;sire;dam;Owner;Exit\n"
+    done = desk.take(titles + f"1;Ann;f;2001-01-01;;;Meier;\n2;Ben;m;2001-01-01;;;Meier;2003-05-06\n{row}\n", "--preview")
+    told = [line for line in done.out.splitlines() if line.startswith("line 4")]
+    assert told and all("left out" in line for line in told), told

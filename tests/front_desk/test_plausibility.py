@@ -47,6 +47,15 @@ def test_young_parents(desk: Desk) -> None:
     assert "days old" not in desk.take(TITLES + "p;M;2001;;;\nq;F;2001-08-01;p;;\n", "--book", "inferred").out
 
 
+def test_limit_of_a_later_row(desk: Desk) -> None:
+    """The limit that is suggested behind the first row says that it is that of all."""
+    first, second = "c;M;2001-07-29;s;;\n", "e;M;2001-06-29;s;;\n"
+    for rows, case in ((first + second, "if all of these can be"), (second + first, "if that can be")):
+        done = desk.take(TITLES + PARENTS + rows, "--preview")
+        lines = done.out.splitlines()
+        assert lines[1] == f"  {case}:" and lines[2].endswith("--youngest 120"), done.out
+
+
 def test_old_parents(desk: Desk) -> None:
     """One that would be older than animals get; as old as semen may be is nothing odd, nor is an inferred day."""
     rows = "s;M;1905-06-26;;;\nd;F;1959-03-02;;;\nu;M;1910;;;\nc;M;2019-03-01;s;d;\ne;F;2019-03-02;u;d;\n"

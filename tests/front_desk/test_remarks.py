@@ -131,3 +131,19 @@ def test_code_of_a_place(desk: Desk) -> None:
     codes = "".join(row.format(at, at, code) for at, code in enumerate(["OX1", "OX12 3AB", "B1"]))
     assert "castrated" not in desk.take(titles + codes, "--preview").told
     assert "tells that an animal is castrated" in desk.take(titles + codes + row.format(5, 5, "Ox"), "--preview").told
+
+
+def test_lines_of_remarks(desk: Desk) -> None:
+    """Of several all lines are named, and the report has each animal."""
+    rows = "".join(f"c{at},Cal,m,2018-03-{at:02},a2,a1,,geschl. 3/{at:02}\n" for at in range(1, 25))
+    others = "".join(f"d{at},Eva,f,2018-03-{at:02},a2,a1,,scheu\n" for at in range(1, 25))
+    done = desk.take(TITLES + PAIR + rows + others)
+    lines = ", ".join(map(str, range(5, 24)))
+    told = f"24 cells of it tell that animals left which have no exit, the first is 'geschl. 3/01' in line 4, the others in {lines}"
+    done.tells(
+        f"to look at: {OF_EXITS}{told} and 4 more; these animals count as living: if one left, write that into the column "
+        "for exits"
+    )
+    assert "c24" not in done.out
+    said = [(row["line"], row["id"]) for row in desk.table("book/report.csv") if "'Bemerkung' says 'geschl. 3/" in row["why"]]
+    assert said == [(str(at + 3), f"c{at}") for at in range(1, 25)]

@@ -247,3 +247,25 @@ def test_death_behind_a_sale(desk: Desk, titles: str, cells: str, told: str) -> 
     assert [line.split(",")[2] for line in desk.commands() if line.startswith("exit")] == ["2023-08-14"]
     assert f"names an owner of the society, and its exit is '{told}'" in done.out and "counts as gone" not in done.out
     assert " 0 new, 0 changed" in desk.take(sheet).last
+
+
+def test_owner_who_is_written_since(desk: Desk) -> None:
+    """A sale without a day that stood there already isn't one by the owner who is written later: he has the animal."""
+    sold = ROWS.replace("001;002;Huber;\n", "001;002;Huber;verkauft an Meier\n")
+    desk.take(TITLES + sold)
+    assert owner_of(desk, "003") == "Meier Ida"
+    later = sold.replace("001;002;Huber;", "001;002;Schmid;")
+    done = desk.take(TITLES + later)
+    told = "line 4: 003: to look at: 'verkauft an Meier' stood there already, and Schmid is written as its owner since"
+    assert told in done.out and owner_of(desk, "003") == "Schmid"
+    assert "stood there already" not in desk.take(TITLES + later).told and owner_of(desk, "003") == "Schmid"
+
+
+def test_sale_that_is_written_again(desk: Desk) -> None:
+    """With the same cells as before the taker stays the owner, and so where the sale is new."""
+    sold = TITLES + ROWS.replace("001;002;Huber;\n", "001;002;Huber;verkauft an Meier\n")
+    desk.take(TITLES + ROWS)
+    desk.take(sold)
+    assert owner_of(desk, "003") == "Meier Ida"
+    desk.take(sold)
+    assert owner_of(desk, "003") == "Meier Ida"

@@ -40,7 +40,7 @@ from gudokeyi.ingest.titles import (
 from gudokeyi.ingest.texts import plain
 from gudokeyi.ingest.words import (
     DEAD, KNOWN_EXITS, KNOWN_NOTHING, KNOWN_SEXES, KNOWN_STAYS, KNOWN_STILL_THERE, LETTER, TELLING_EXITS, has_word,
-    sex_word,
+    sex_word, tells_of_others,
 )  # fmt: skip
 
 
@@ -290,6 +290,7 @@ def tell_unread_statuses(columns: Columns, named: Mapping[str, str], unknown: Co
         # a plus alone may be the result of a test
         crosses = {cell for cell in texts if is_cross(cell) and "+" not in (cell, cell.strip("()"))}
         telling = [cell for cell in texts if has_word(cell, TELLING_EXITS | KNOWN_STAYS) or cell in crosses]
+        telling = [cell for cell in telling if not tells_of_others(cell)]
         count = sum(cells[cell] for cell in telling)
         if may_be_read and 2 * count > cells.total() and cells.total() >= SOME:
             columns.notes.append(StatusUnread(columns.title(at), count, tuple(telling[:MOST_SHOWN]), of))
@@ -307,6 +308,7 @@ def tell_other_statuses(columns: Columns, usual: list[int]) -> None:
         title = columns.title(at)
         said = {text: said_of(text, title) for text in likely_among({*columns.cells(at)})}
         telling = {text for text, meant in said.items() if has_word(meant, TELLING_EXITS) or DEAD.search(meant)}
+        telling = {text for text in telling if not tells_of_others(text)}
         columns.exits_unread.append(remarks_unread(columns.sheet, columns.found, at, telling))
 
 
@@ -337,7 +339,8 @@ def tell_untitled(columns: Columns) -> None:
     untitled = (at for at in untitled if not are_row_numbers(columns.cells(at)))
     for at in itertools.islice(untitled, MOST_UNTITLED):
         cells = columns.counts(at)
-        exits = sum(cells[one] for one in likely_among(cells) if has_word(one, TELLING_EXITS) or is_cross(one))
+        telling = (one for one in likely_among(cells) if has_word(one, TELLING_EXITS) or is_cross(one))
+        exits = sum(cells[one] for one in telling if not tells_of_others(one))
         line, text = next((line, texts[at]) for line, texts in columns.sheet.rows if at < len(texts) and texts[at])
         columns.notes.append(ColumnUntitled(letters_of(at), cells.total(), line, text, exits))
 

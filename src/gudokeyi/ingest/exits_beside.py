@@ -22,7 +22,7 @@ from gudokeyi.ingest.titles import (
 )  # fmt: skip
 from gudokeyi.ingest.words import (
     KNOWN_EXITS, KNOWN_NO, KNOWN_SALES, KNOWN_YES, LETTER, PLAIN_EXITS, exit_word, has_word, is_still_there, lives,
-    says_lives,
+    says_lives, tells_of_others,
 )  # fmt: skip
 
 # titles of columns that say to whom animals were sold, by how the cell of an exit says so
@@ -146,7 +146,7 @@ class ExitDays:
     def taken(self, exits: Exits, place: int, row: SheetRow, at: int) -> str:
         """The text for the exit that has what the other column says, empty where another is taken."""
         said, exit = cell_of(row, at), exits.texts.get(place) or cell_of(row, self.exit)
-        if not exit or exit in self.unknown:
+        if not exit or exit in self.unknown or tells_of_others(exit):
             self.look_at_status(row, at)
             return said
         if lives(exit):

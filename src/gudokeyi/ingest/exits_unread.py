@@ -10,7 +10,9 @@ from typing import Container
 
 from gudokeyi.domain.kinds import Field
 from gudokeyi.ingest.findings.columns_unread import CausesUnread
-from gudokeyi.ingest.findings.rows import ExitColumnUnread, ExitsInRemarks, LivingUnmarked, StatusOfCodes
+from gudokeyi.ingest.findings.rows import (
+    ExitColumnUnread, ExitInRemark, ExitsInRemarks, LivingUnmarked, StatusOfCodes,
+)  # fmt: skip
 from gudokeyi.ingest.findings.sheets import MOST_SHOWN
 from gudokeyi.ingest.sheets import Sheet
 from gudokeyi.ingest.texts import listed, plain
@@ -37,20 +39,30 @@ CAUSES = {plain(title) for title in listed("Ursache, Ursachen, cause, causes")}
 MAY_BE_CAUSES = CAUSES | {
     plain(title) for title in listed("Grund, Verbleib, reason, fate, whereabouts, disposal, motif, raison, devenir")
 }
+# what is told: the title, how many cells, the first line and its text, and the lines of others
+Kind = Callable[[str, int, int, str, tuple[int, ...]], ExitsInRemarks]
+# so many lines are named
+MOST_LINES = 20
 
 
 @dataclass(frozen=True)
 class ExitsUnread:
     """Cells of a column by the lines of their rows, and what is told of them."""
 
-    kind: Callable[[str, int, int, str], ExitsInRemarks]
+    kind: Kind
     title: str
     cells: Mapping[int, str]
 
     def of(self, living: Container[int]) -> ExitsInRemarks | None:
         """What is told where the animals of some lines live."""
         lines = [line for line in self.cells if line in living]
-        return self.kind(self.title, len(lines), lines[0], self.cells[lines[0]]) if lines else None
+        others = tuple(lines[1:MOST_LINES])
+        return self.kind(self.title, len(lines), lines[0], self.cells[lines[0]], others) if lines else None
+
+    def of_each(self, living: Container[int]) -> dict[int, ExitInRemark]:
+        """What is told of each of several, by their lines, but where a cell that says nothing is told."""
+        lines = [line for line in self.cells if line in living and self.kind is not LivingUnmarked]
+        return {line: ExitInRemark(self.title, self.cells[line]) for line in lines} if len(lines) > 1 else {}
 
 
 def remarks_unread(sheet: Sheet, columns: Mapping[str, int], at: int, texts: Collection[str]) -> ExitsUnread:
@@ -65,9 +77,8 @@ def column_unread(sheet: Sheet, columns: Mapping[str, int], at: int, unknown: Co
 
 
 def beside_exits(
-    sheet: Sheet, columns: Mapping[str, int], at: int, texts: Collection[str],
-    kind: Callable[[str, int, int, str], ExitsInRemarks],
-) -> ExitsUnread:  # fmt: skip
+    sheet: Sheet, columns: Mapping[str, int], at: int, texts: Collection[str], kind: Kind
+) -> ExitsUnread:
     """The cells with these texts of rows of which no column that is read for exits says something."""
     cells = sheet.column(at)
     telling = [place for place, cell in enumerate(cells) if cell in texts] if texts else []

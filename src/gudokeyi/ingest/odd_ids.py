@@ -76,6 +76,15 @@ def unlike_others(ids: tuple[str, ...]) -> list[OddId]:
     ]  # fmt: skip
 
 
+def in_one_way(odd: Sequence[OddId]) -> list[list[OddId]]:
+    """The odd ones by what is odd of them; those that are unlike the others also by how they are written."""
+    found = collections.defaultdict[tuple[Oddity, str], list[OddId]](list)
+    for one in odd:
+        form = RUNS.sub(r"\1\2", one.id.translate(FORMS)) if one.oddity is Oddity.UNLIKE else ""
+        found[one.oddity, form].append(one)
+    return [*found.values()]
+
+
 def oddity(id: str, is_shorter: bool, usual: Container[str]) -> Oddity:
     if is_shorter:
         return Oddity.FEWER_DIGITS

@@ -12,7 +12,7 @@ from gudokeyi.domain.kinds import Field
 from gudokeyi.ingest.animals import SheetAnimal
 from gudokeyi.ingest.findings.columns import SheetFinding
 from gudokeyi.ingest.findings.odd_texts import (
-    MOST_LINES, DeathInBirth, FirstDays, IdTellsOfExit, NameTellsOfExit, SexTellsOfExit, TwoIds,
+    MOST_LINES, BirthOfBornDead, DeathInBirth, FirstDays, IdTellsOfExit, NameTellsOfExit, SexTellsOfExit, TwoIds,
 )  # fmt: skip
 from gudokeyi.ingest.texts import listed, shape
 
@@ -89,7 +89,8 @@ def tell_deaths_in_births(animals: Mapping[str, SheetAnimal], births: Collection
     telling = {text for text in births if any(sign in text for sign in DEATH_SIGNS) or BORN_DEAD.search(text)}
     for animal in animals.values():
         if (text := animal.cells.get(Field.BIRTH, "")) in telling and counts_as_living(animal):
-            report.add(animal.line, animal.id, DeathInBirth(text))
+            kind = BirthOfBornDead if BORN_DEAD.search(text) else DeathInBirth
+            report.add(animal.line, animal.id, kind(text))
 
 
 def tell_exits_in_ids(animals: Mapping[str, SheetAnimal], marked: Mapping[int, str], report: Report) -> None:

@@ -4,6 +4,7 @@ from __future__ import annotations
 import re
 from collections.abc import Collection, Iterable, Iterator
 
+from gudokeyi.ingest.born_dead import YOUNG, without_young
 from gudokeyi.ingest.days import MONTHS, compared, places_within
 from gudokeyi.ingest.texts import listed, plain
 from gudokeyi.ingest.words import (
@@ -69,26 +70,11 @@ AROUND = {plain(word) for word in [*listed(AROUND_EXITS), *listed(OF_BEASTS)]}
 SHORT_DAY = re.compile(r"\d[./-]\d{2}")
 # that of somebody's death is one that comes before a day
 CROSS_OF_DAY = re.compile(r"\+\s*(?:\d{1,2}[./-]){0,2}(?:19|20)\d\d\b|\+\s*\d{1,2}([./-])\d{1,2}\1\d\d\b")
-# young that are born dead, as a remark on their dam tells it beside a word for young, or counted
-BORN_DEAD = (
-    r"\b(?:tot\W?(?:geboren\w*|geburt(?:en)?)|still\W?(?:born|births?)|morts?\W?n[ée]e?s?|mortn[ée]e?s?|mortinat\w*)\b"
-)
-BORN_DEAD_YOUNG = re.compile(BORN_DEAD, re.IGNORECASE)
-COUNTED_BORN_DEAD = re.compile(
-    r"(?<![\d./-])\b(?:[1-9]\s?[x×]?|eine?s?|zwei|drei|an?|one|two|three|une?|deux|trois|hatte|had)\s+" + BORN_DEAD,
-    re.IGNORECASE,
-)
-KNOWN_YOUNG = {
-    plain(word) for word in listed(
-        "Lamm, Lämmer, Lämmern, Mutterlamm, Bocklamm, Kitz, Kitze, Kitzen, Zicklein, Kalb, Kälber, Kälbern, Fohlen, Welpe, "
-        "Welpen, Ferkel, Cria, Crias, Jungtier, Jungtiere, lamb, lambs, kid, kids, calf, calves, foal, foals, pup, pups, "
-        "puppy, puppies, piglet, piglets, kitten, kittens, agneau, agneaux, agnelle, agnelles, chevreau, chevreaux, "
-        "chevrette, chevrettes, veau, veaux, poulain, poulains, pouliche, chiot, chiots, porcelet, porcelets"
-    )
+KNOWN_RELATIVES = {
+    plain(word) for word in [*listed(YOUNG), *listed(
+        "Mutter, Vater, Muttertier, dam, sire, mother, father, mère, père, Wurf, Würfe, Wurfgeschwister, litter, portée"
+    )]
 }  # fmt: skip
-KNOWN_RELATIVES = KNOWN_YOUNG | {
-    plain(word) for word in listed("Mutter, Vater, Muttertier, dam, sire, mother, father, mère, père")
-}
 # what tells of castrations wherever it stands, but for what is to come
 KNOWN_CASTRATIONS = {
     plain(word) for word in listed(
@@ -130,14 +116,6 @@ def tells_exit(text: str, alone: set[str] = KNOWN_ALONE) -> bool:
     tells = is_death(text) or has_word(text, KNOWN_PLAIN) or is_alone(text, alone)
     tells = tells or has_word(text, KNOWN_LOSSES) and not has_word(text, KNOWN_RELATIVES)
     return tells and not is_still_there(text)
-
-
-def without_young(text: str) -> str:
-    """The text without what it tells of young that were born dead, as `1 Lamm totgeboren 2021` of a dam."""
-    if not BORN_DEAD_YOUNG.search(text):
-        return text
-    is_of_young = has_word(text, KNOWN_YOUNG) or COUNTED_BORN_DEAD.search(text)
-    return BORN_DEAD_YOUNG.sub(" ", text) if is_of_young else text
 
 
 def tells_castration(text: str) -> bool:

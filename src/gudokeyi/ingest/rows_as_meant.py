@@ -16,6 +16,7 @@ from gudokeyi.domain.kinds import Field
 from gudokeyi.ingest.births_beside import births_said
 from gudokeyi.ingest.day_forms import TWO
 from gudokeyi.ingest.days import places_within
+from gudokeyi.ingest.exits_below import with_exits_below
 from gudokeyi.ingest.exits_beside import Exits
 from gudokeyi.ingest.findings.cells import UnseenInId
 from gudokeyi.ingest.findings.rows import CellsRepeated, MarksAreNames, NoteRow, NothingRepeated
@@ -243,6 +244,9 @@ def as_meant(
     """The sheet with its rows as they are meant; what is read so is told. `animals` are the ids of animals for sure,
     `called` the marks that are names of the book, as `Marks` has them, and `notes_of` has the notes of a sheet."""
     sheet = without_signs_of_exits(as_seen(sheet, columns, animals, report), columns, animals)
+    sheet, below = with_exits_below(sheet, columns)
+    if below:
+        report.add(0, "", below)
     for at, names in with_names_for_ids(sheet, columns, unknown).items():
         rows = [with_cell(row, at, names[place]) if place in names else row for place, row in enumerate(sheet.rows)]
         sheet = replace(sheet, rows=rows, kept={})
@@ -266,8 +270,8 @@ def as_meant(
     if rows is sheet.rows and not (exits.remarks or exits.reasons or exits.sales):
         return sheet
     return replace(
-        sheet, rows=rows, kept={}, remarks=exits.remarks, exit_titles=exits.titles, reasons=exits.reasons,
-        sales=exits.sales,
+        sheet, rows=rows, kept={}, remarks=exits.remarks, exit_titles=exits.titles,
+        reasons={**sheet.reasons, **exits.reasons}, sales=exits.sales,
     )  # fmt: skip
 
 

@@ -1,6 +1,7 @@
 """Rows of a sheet that have one id: which of them is taken, and what the others say otherwise."""
 from __future__ import annotations
 
+import collections
 import datetime
 from collections.abc import Mapping
 from typing import Container
@@ -10,7 +11,10 @@ from gudokeyi.domain.kinds import Field, Role
 from gudokeyi.domain.spelling import are_other_names
 from gudokeyi.ingest.animals import ROLES, WEEKS_LATER, YEARS_LATER, SheetAnimal, lines_that_name
 from gudokeyi.ingest.days import Span, Unreadable, read_span
-from gudokeyi.ingest.findings.same_ids import IdAgain, IdUsedAgain
+from gudokeyi.ingest.findings.same_ids import MOST_LINES, IdAgain, IdUsedAgain, IdUsedOften
+
+# so many animals with the id of one are told together: no tag is used so often
+OFTEN = 3
 
 
 class SameIds:
@@ -65,8 +69,25 @@ def tell_used_again(
 ) -> None:
     """The animals of a sheet, and those that have the id of another one there; `born` are the birth days of the
     book."""
-    for other in others:
+    often = tell_used_often(animals, others, report)
+    for other in [other for other in others if other.id not in often]:
         first = animals[other.id]
         values = first.birth.first, first.name, other.birth.first, other.name, lines_that_name(animals, other)
         is_first_born = born.get(other.id) != first.birth.first
         report.add(other.line, other.id, IdUsedAgain(*values, first.line, is_first_born))
+
+
+def tell_used_often(animals: Mapping[str, SheetAnimal], others: list[SheetAnimal], report: Report) -> set[str]:
+    """Answers the ids that so many animals have that no tag is used so often: their rows are told together."""
+    lines = collections.defaultdict[str, list[int]](list)
+    for entry in report.entries:
+        if isinstance(entry.finding, IdAgain) and entry.finding.is_born_otherwise:
+            lines[entry.id].append(entry.line)
+    for other in others:
+        lines[other.id].append(other.line)
+    often = {id: sorted(its) for id, its in lines.items() if len(its) >= OFTEN}
+    if often:
+        report.entries = [one for one in report.entries if not (one.id in often and isinstance(one.finding, IdAgain))]
+    for id, its in often.items():
+        report.add(0, "", IdUsedOften(id, len(its), animals[id].line, tuple(its[:MOST_LINES])))
+    return {*often}

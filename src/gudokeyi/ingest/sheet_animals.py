@@ -23,8 +23,7 @@ from gudokeyi.ingest.day_forms import DayForms
 from gudokeyi.ingest.days_for_ids import days_among
 from gudokeyi.ingest.exchanged_days import exchanged
 from gudokeyi.ingest.findings.cells import (
-    BETWEEN_CELLS, DAYS, IdAlone, IdOfOtherAlphabet, IdTooLong, IdUnlikeOthers, IdWithFewerDigits, LikeASum, NoAnimal,
-    NoId, TitlesAgain, TooManyCells,
+    BETWEEN_CELLS, DAYS, AnimalAfterAll, IdAlone, IdTooLong, LikeASum, NoAnimal, NoId, TitlesAgain, TooManyCells,
 )  # fmt: skip
 from gudokeyi.ingest.findings.columns import SheetFinding
 from gudokeyi.ingest.findings.exits import Remark
@@ -32,7 +31,7 @@ from gudokeyi.ingest.findings.files import ColoredRows, GreyRows, HiddenRows
 from gudokeyi.ingest.findings.sheets import CutNumber, FormulaCell, Place
 from gudokeyi.ingest.inferred_values import lines_of_inferred_sexes
 from gudokeyi.ingest.no_names import names_told
-from gudokeyi.ingest.odd_ids import Oddity, odd_ids
+from gudokeyi.ingest.odd_ids_told import tell_ids_otherwise, tell_odd_ids
 from gudokeyi.ingest.odd_texts import (
     exits_in_sexes, first_days, tell_deaths_in_births, tell_exits_in_ids, tell_exits_in_names, tell_several_ids,
 )  # fmt: skip
@@ -64,13 +63,23 @@ SAYS = (Field.NAME, Field.SEX, Field.BIRTH, Field.SIRE, Field.DAM, Field.EXIT)
 
 class NoAnimals:
     """The words of rows that are said to be no animals: whole ids, words that sum up and begin an id, and cells of rows
-    that say no sex and no birth day."""
+    that say no sex and no birth day. `before` are the texts of the rows that had a word when it was said at an earlier
+    time: of an id it holds for rows that say the same."""
 
-    def __init__(self, words: Iterable[str]) -> None:
+    def __init__(self, words: Iterable[str], before: Mapping[str, Sequence[str]] | None = None) -> None:
         self.words = {plain(word) for word in parts_of(list(words))} - {""}
+        self.before = {plain(word): texts for word, texts in (before or {}).items()}
+        # the texts of the rows that are left out, by their words, and the words whose rows are taken all the same
+        self.left_out = collections.defaultdict[str, list[str]](list)
+        self.taken = set[str]()
 
     def __bool__(self) -> bool:
         return bool(self.words)
+
+    def is_of_other_row(self, word: str, text: str) -> bool:
+        """Was a word said at an earlier time, and of rows with other texts?"""
+        texts = self.before.get(plain(word), ())
+        return bool(texts) and text not in texts
 
     def of_id(self, id: str) -> str:
         """The word by which a row with this id is no animal, empty where there is none."""
@@ -80,8 +89,8 @@ class NoAnimals:
         return first if plain(first) in self.words else ""
 
     def of_cells(self, cells: list[str]) -> str:
-        """The same of the cells of a row that says nothing of an animal."""
-        return next((cell for cell in cells if plain(cell) in self.words), "")
+        """The same of the cells of a row that says nothing of an animal; a number there may be that of a parent."""
+        return next((cell for cell in cells if plain(cell) in self.words and not any(map(str.isdigit, cell))), "")
 
 
 # a sheet that is looked at again has the same ids
@@ -112,16 +121,6 @@ def tell_odd_rows(animals: dict[str, SheetAnimal], rows: list[SheetRow], report:
     for animal in alone:
         report.add(animal.line, animal.id, IdAlone(animal.id))
     return {*sums, *(one.id for one in alone)}
-
-
-def tell_odd_ids(animals: dict[str, SheetAnimal], known: Container[str], report: Report) -> None:
-    """Those that the book hasn't, at which somebody looked, and of rows of which nothing else is told."""
-    for id, usual, oddity in odd_ids([*animals], known):
-        if oddity is Oddity.UNLIKE:
-            report.add(animals[id].line, id, IdUnlikeOthers(id, usual))
-        else:
-            found = IdWithFewerDigits if oddity is Oddity.FEWER_DIGITS else IdOfOtherAlphabet
-            report.add(animals[id].line, id, found(usual))
 
 
 def sum_of(animal: SheetAnimal, cells: list[str]) -> str:
@@ -182,11 +181,12 @@ class Rows:
         owners: Mapping[str, str] | None = None,
         before: PlainRows | None = None,
         sexes_of_book: Mapping[str, str] | None = None,
+        no_animals_before: Mapping[str, Sequence[str]] | None = None,
     ) -> None:
         """`before` are the plain rows as they were read before, where they are read again, `sexes_of_book` the sexes
         that animals of the book were given, by their ids."""
         self.sheet, self.columns, self.unknown, self.report = sheet, columns, unknown, report
-        self.no_animals = NoAnimals(no_animals)
+        self.no_animals = NoAnimals(no_animals, no_animals_before)
         self.month_first = month_first
         # rows that end before it get empty cells
         self.width = 1 + max(columns.values(), default=0)
@@ -275,7 +275,7 @@ class Rows:
             elif id == id_title and are_titles(cells, self.sheet.titles):
                 moved = self.sheet.other_orders
                 self.report.add(line, "", TitlesAgain(line in moved or None, moved.get(line, ())))
-            elif may_be_none and (word := self.no_animal(id, cells, said)):
+            elif may_be_none and (word := self.no_animal(line, id, cells, said)):
                 self.report.add(line, id, NoAnimal(word))
             elif id not in found:
                 found[id] = self.cells.animal(line, id, said)
@@ -288,13 +288,19 @@ class Rows:
         self.look_at_all(found)
         return found
 
-    def no_animal(self, id: str, cells: list[str], said: dict[str, str]) -> str:
+    def no_animal(self, line: int, id: str, cells: list[str], said: dict[str, str]) -> str:
         """The word by which a row is no animal, as somebody says; empty where it is one."""
-        word = self.no_animals.of_id(id)
-        if word or not (in_cell := self.no_animals.of_cells(cells)):
-            return word
-        says_day = said.get(Field.BIRTH) and self.same_ids.birth(said)
-        return "" if says_day or self.sexes.meaning(said.get(Field.SEX, "")).sex else in_cell
+        says_day = bool(said.get(Field.BIRTH) and self.same_ids.birth(said))
+        says_more = says_day or bool(self.sexes.meaning(said.get(Field.SEX, "")).sex)
+        word, text = self.no_animals.of_id(id), text_of(cells)
+        if word == id and says_more and self.no_animals.is_of_other_row(word, text):
+            self.no_animals.taken.add(plain(word))
+            self.report.add(line, id, AnimalAfterAll(word, self.no_animals.before[plain(word)][0]))
+            return ""
+        word = word or ("" if says_more else self.no_animals.of_cells(cells))
+        if word:
+            self.no_animals.left_out[plain(word)].append(text)
+        return word
 
     @functools.cached_property
     def usual_length(self) -> int:
@@ -370,6 +376,7 @@ class Rows:
             lines |= {animals[id].line for id in days_among(tuple(animals))} if field is Field.ID else set()
             told |= tell_days_for_texts(animals, field, lines, texts, self.report)
         told |= self.same_ids.born.keys()
+        told |= tell_ids_otherwise(animals, self.same_ids.born.keys(), self.report)
         tell_odd_ids(animals, told | tell_several_ids(animals, told, self.report), self.report)
 
     def marked_rows(self, animals: dict[str, SheetAnimal]) -> Iterator[SheetFinding]:

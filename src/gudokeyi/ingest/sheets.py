@@ -30,7 +30,7 @@ from gudokeyi.ingest.stray_quotes import with_marks_doubled, with_rows_parted
 from gudokeyi.ingest.struck_texts import NOTHING_STRUCK, Struck
 from gudokeyi.ingest.texts import clean
 from gudokeyi.ingest.titles_within import in_order, needed_in
-from gudokeyi.ingest.workbooks import Formulas, NamedBefore, best_of, read_workbook
+from gudokeyi.ingest.workbooks import Formulas, NamedBefore, RowsOfExits, best_of, read_workbook
 
 SEPARATORS = ";\t,"
 # blanks that cells are read without
@@ -117,6 +117,8 @@ class Sheet:
     as_before: str = ""
     # the ids of animals on the others
     other_ids: OtherIds = field(default_factory=dict)
+    # the rows of other worksheets whose titles tell of exits
+    of_exits: RowsOfExits = field(default_factory=dict)
     # the lines of rows that are filled grey
     grey: list[int] = field(default_factory=list)
     # and of the few that have another fill of their own
@@ -200,6 +202,7 @@ class FileRead:
     worksheets: tuple[str, ...] = ()
     as_before: str = ""
     other_ids: OtherIds = field(default_factory=dict)
+    of_exits: RowsOfExits = field(default_factory=dict)
 
 
 def read_file_of_workbook(file: GivenFile, score: Score, worksheet: str, before: NamedBefore) -> FileRead:
@@ -208,7 +211,7 @@ def read_file_of_workbook(file: GivenFile, score: Score, worksheet: str, before:
     return FileRead(
         rows, found.how, found.faults, found.unread, found.tops, best_worksheet, found.title, found.formulas,
         found.grey, found.colored, found.hidden, found.struck, found.shown, found.days, found.titles,
-        found.title * found.as_before, found.other_ids,
+        found.title * found.as_before, found.other_ids, found.of_exits,
     )  # fmt: skip
 
 
@@ -255,7 +258,7 @@ def read_sheet(file: GivenFile, score: Score, worksheet: str = "", before: Named
     return Sheet(
         line, ordered.titles, below, read.how, read.faults, {}, ordered.places(unseen), read.formulas, unread, above,
         decision=Decision(read.tops, read.best, read.taken, first, at), worksheets=read.worksheets,
-        as_before=read.as_before, grey=marked_by_grey(read.grey, line, len(below)),
+        as_before=read.as_before, of_exits=read.of_exits, grey=marked_by_grey(read.grey, line, len(below)),
         colored=marked_by_color(read.colored, line, len(below)), hidden=read.hidden,
         struck=read.struck._replace(cells=ordered.places(read.struck.cells)), shown=ordered.places(read.shown),
         days=ordered.columns(read.days), other_ids=read.other_ids, other_orders=ordered.moved, added=ordered.added,

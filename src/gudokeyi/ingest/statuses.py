@@ -9,6 +9,7 @@ from typing import Container, NamedTuple
 
 from gudokeyi.domain.findings import Report
 from gudokeyi.domain.kinds import Field
+from gudokeyi.ingest.born_dead import born_dead_word
 from gudokeyi.ingest.day_cells import is_other_state
 from gudokeyi.ingest.days import is_span, places_within
 from gudokeyi.ingest.exits_beside import Exits, add_buyers, add_exit_days, add_sales_to
@@ -21,6 +22,7 @@ from gudokeyi.ingest.titles import (
 )  # fmt: skip
 from gudokeyi.ingest.words import (
     DEAD, EXITS, KNOWN_DEATHS, KNOWN_YES, PLAIN_EXITS, exit_word, has_word, is_still_there, lives, lives_besides, says_lives,
+    tells_of_others,
 )  # fmt: skip
 
 # an owner who takes an animal
@@ -133,7 +135,8 @@ class Statuses:
         # a state such as `pet only` is no exit unless a word or a day says so
         is_other = self.is_of_states and is_other_state(text)
         is_there, has_taker = is_still_there(text), TAKER.search(text) is not None and not lives_besides(text)
-        is_reason = text == status and not (tells_none or is_there or text.casefold() in KNOWN_YES)
+        is_no_exit = tells_none or is_there and not tells_of_others(text)
+        is_reason = text == status and not (is_no_exit or text.casefold() in KNOWN_YES)
         return Said(text, tells, is_there, is_other, tells_none, says_lives(text), is_reason, has_taker)
 
     def is_unknown(self, text: str) -> bool:
@@ -211,8 +214,19 @@ def exits_said(
     add_days_of_sales(exits, rows, sheet.titles, columns)
     add_sales_to(exits, rows, sheet, at, unknown)
     add_exit_days(exits, rows, sheet, columns, unknown, report)
+    add_births_of_born_dead(exits, rows, columns)
     add_buyers(exits, rows, sheet, columns, unknown, report)
     return exits
+
+
+def add_births_of_born_dead(exits: Exits, rows: list[SheetRow], columns: Mapping[str, int]) -> None:
+    """Animals that were born dead have left on the day of their birth, where that is a day."""
+    exit_at, birth_at = columns[Field.EXIT], columns.get(Field.BIRTH)
+    for place, row in enumerate(rows if birth_at is not None else ()):
+        exit = exits.texts.get(place) or cell_of(row, exit_at)
+        birth = cell_of(row, birth_at) if exit and birth_at is not None and born_dead_word(exit) else ""
+        if birth and is_span(birth) and not any(map(str.isdigit, exit)):
+            exits.texts[place] = f"{exit} {birth}"
 
 
 def add_days_of_sales(exits: Exits, rows: list[SheetRow], titles: Sequence[str], columns: Mapping[str, int]) -> None:
@@ -244,7 +258,8 @@ def add_reasons(exits: Exits, rows: list[SheetRow], of_reasons: int, at: int, un
     for place, row in enumerate(rows):
         reason = cell_of(row, of_reasons)
         exit = exits.texts.get(place) or cell_of(row, at)
-        if reason and says(reason) and says(exit) and is_still_there(reason) and is_span(exit):
+        is_said = bool(reason) and says(reason) and says(exit)
+        if is_said and is_still_there(reason) and not tells_of_others(reason) and is_span(exit):
             exits.texts[place] = f"{reason} {exit}"
-        elif reason and says(reason) and says(exit):
+        elif is_said:
             exits.reasons[row.line] = reason

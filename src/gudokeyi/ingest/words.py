@@ -5,7 +5,9 @@ import itertools
 import re
 from collections.abc import Iterator
 
+from gudokeyi.ingest.born_dead import born_dead_word
 from gudokeyi.ingest.days import MONTHS, DayFault, compared, places_within
+from gudokeyi.ingest.relatives import leaving_others, names_other
 from gudokeyi.ingest.texts import listed, plain
 
 # The words that cells of sheets have, in English, German and French.
@@ -291,6 +293,11 @@ UNDONE = re.compile(
     r"fell through|annulée?s?)\b",
     re.IGNORECASE,
 )
+# what became of relatives and young
+OF_SEVERAL = "morts, mortes, vendus, vendues, décédés, décédées, abattus, abattues"
+OF_OTHERS = leaving_others(
+    [*(word for word in listed(EXITS) if plain(word) in TELLING_EXITS), *listed(BORN_DEAD), *listed(OF_SEVERAL)]
+)
 # the signs of a death, and the letters for one, where they don't count points
 DEAD = re.compile(r"†|✝|^\+(?=\s*\d)|^\(?\+\)?$|(?<![\w.])(?<!\d )(?:PTS|R\.I\.P|RIP)(?!\w)")
 # the words for exits that are several
@@ -326,6 +333,8 @@ def lives_and_more(text: str) -> bool:
 def is_still_there(text: str) -> bool:
     """Does it tell of something else than an exit, as `retired 2019`, `on loan` or `lebt, hat gut gelammt`, or that
     there was none, as `nicht verkauft`?"""
+    if tells_of_others(text):
+        return True
     if not LETTER.search(text) or DEAD.search(text):
         return False
     if lives_besides(text) or lives_and_more(text) or is_undone(text):
@@ -337,6 +346,32 @@ def is_still_there(text: str) -> bool:
     if has_word(rest, TELLING_EXITS) or says_gone(rest):
         return False
     return rest != sold or has_word(text, KNOWN_NO_EXITS)
+
+
+def tells_of_others(text: str) -> bool:
+    """Does it tell that relatives or young of the animal left, and not that it did itself, as `Vater tot`?"""
+    if not names_other(text):
+        return False
+    rest = OF_OTHERS.sub(" ", text)
+    return rest != text and not (has_word(rest, TELLING_EXITS) or DEAD.search(rest) or says_gone(rest))
+
+
+# words of headings above animals that left, and of so many words at most such a heading is
+OF_EXITS = TELLING_EXITS | {
+    plain(word) for word in listed(
+        "Abgänge, Verkaufte, Verstorbene, Gestorbene, Geschlachtete, Tote, Gelöschte, Gestrichene, Ausgeschiedene, "
+        "Abgegangene, Ehemalige, ehemalige, deleted, removed, former, departed, disposals, deaths, sales, supprimé, "
+        "supprimée, supprimés, supprimées, radiés, radiées, morts, mortes, vendus, vendues, sortis, sorties, décédés, "
+        "réformés, réformées, abattus, abattues"
+    )
+}  # fmt: skip
+MOST_WORDS = 6
+WORD = re.compile(r"[^\W\d_]+")
+
+
+def says_exits(text: str) -> bool:
+    """Is it a heading above animals that left, as `Aus dem Herdbuch gelöscht`?"""
+    return len(WORD.findall(text)) <= MOST_WORDS and has_word(text, OF_EXITS) and not is_still_there(text)
 
 
 def lives_besides(text: str) -> bool:
@@ -378,7 +413,7 @@ def exit_word(text: str) -> str:
     if not LETTER.search(text):
         return ""
     known = next((word for word in text.split() if plain(word) in KNOWN_EXITS), "") or first_exit(text)
-    return known or (text if says_gone(text) else "")
+    return known or (text if says_gone(text) else "") or born_dead_word(text)
 
 
 def first_exit(text: str) -> str:

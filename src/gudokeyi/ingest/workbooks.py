@@ -2,8 +2,8 @@
 they are made, since a file of few bytes may ask for very many."""
 from __future__ import annotations
 
-import datetime
 import contextlib
+import datetime
 import importlib
 import io
 import itertools
@@ -31,6 +31,7 @@ from gudokeyi.ingest.other_worksheets import OtherIds, are_titles_of_animals, id
 from gudokeyi.ingest.shown_cells import Shown, shown_cells
 from gudokeyi.ingest.struck_texts import Place, Struck, StruckText, number_of, struck_texts
 from gudokeyi.ingest.texts import clean
+from gudokeyi.ingest.words import says_exits
 
 # What the parts of a workbook would become: their cells are counted before they are made, since a file of few bytes may
 # ask for very many.
@@ -160,6 +161,9 @@ NEARLY_ALL = 0.75
 # what stands between quotation marks, brackets or behind a backslash in a format isn't part of a date
 QUOTED = re.compile(r'"[^"]*"|\[[^\]]*\]|\\.')
 Score = Callable[[list[str]], int]
+# rows with their numbers, by the titles of worksheets, and of so many rows at most
+RowsOfExits = Mapping[str, list[tuple[int, list[str]]]]
+MOST_OF_EXITS = 2000
 # the first rows of worksheets, by their titles
 Tops = Mapping[str, list[list[str]]]
 
@@ -197,6 +201,8 @@ class Worksheet(NamedTuple):
     shown: Shown
     # the rows of cells with days, by the places of their columns, from 0 on
     days: Mapping[int, list[int]]
+    # the rows of others whose titles tell of exits
+    of_exits: RowsOfExits
     # its title, and the first rows of each worksheet among which it was chosen
     title: str
     tops: Tops
@@ -234,9 +240,20 @@ def read_workbook(
     how = how if others else "an .xlsx file"
     return Worksheet(
         rows, how, faults(texts), formulas(values, texts), unread(values, struck), *filled_lines(values, rows),
-        hidden_lines(values), struck_through(values, struck), shown_cells(values), days_of(values), titles[at], tops,
-        tuple(titles), as_before, ids_of_others(path, shown, title, most),
+        hidden_lines(values), struck_through(values, struck), shown_cells(values), days_of(values),
+        rows_of_exits(path, [one for one in shown.worksheets if one is not values]), titles[at], tops, tuple(titles),
+        as_before,
     )  # fmt: skip
+
+
+def rows_of_exits(path: pathlib.Path, worksheets: list[Any]) -> RowsOfExits:
+    """The first rows of those whose titles tell of exits, as `Abgänge`."""
+    found: dict[str, list[tuple[int, list[str]]]] = {}
+    for one in worksheets:
+        if says_exits(one.title):
+            with contextlib.suppress(Mistake):
+                found[one.title] = as_texts(path, one, MOST_OF_EXITS)
+    return found
 
 
 def opened(path: pathlib.Path, data: bytes, values: bool) -> Any:

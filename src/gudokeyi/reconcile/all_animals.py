@@ -12,7 +12,7 @@ from gudokeyi.ingest.animals import DAM_OF, SIRE_OF, SheetAnimal, ancestors_amon
 from gudokeyi.ingest.columns import Columns
 from gudokeyi.reconcile.birth_days import find_days
 from gudokeyi.reconcile.exchanged_ids import tell_exchanged_ids
-from gudokeyi.reconcile.exits import exit_in_book, tell_exits_unread, tell_lost_exits
+from gudokeyi.reconcile.exits import exit_in_book, tell_exits_unread, tell_lost_exits, tell_worksheets_of_exits
 from gudokeyi.reconcile.findings.animals import RowIsGone
 from gudokeyi.reconcile.guards import Guards, without_row
 from gudokeyi.reconcile.ids import NearIds, leave_out_used_tags
@@ -195,3 +195,4 @@ def complete(next_book: NextBook, columns: Columns, import_options: ImportOption
     find_days(next_book)
     tell_births(next_book)
     tell_exits_unread(next_book, columns.exits_unread)
+    tell_worksheets_of_exits(next_book, columns.sheet.of_exits)

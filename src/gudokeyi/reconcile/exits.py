@@ -15,9 +15,12 @@ from gudokeyi.domain.kinds import CommandKind, Field
 from gudokeyi.domain.provenance import GIVEN_EXIT, ExitBasis, ExitSource
 from gudokeyi.domain.refusals import Refusal
 from gudokeyi.ingest.animals import DAM_OF, LEFT_OF, SheetAnimal
+from gudokeyi.ingest.born_dead import born_dead_word
+from gudokeyi.ingest.exits_in_tables import worksheets_told
 from gudokeyi.ingest.exits_unread import ExitsUnread
 from gudokeyi.ingest.words import exit_word, lives, says_lives
 from gudokeyi.ingest.words_beside import words_beside
+from gudokeyi.ingest.workbooks import RowsOfExits
 from gudokeyi.reconcile.findings.animals import KeptByHand, KeptFromBook
 from gudokeyi.reconcile.findings.by_hand import ValueChanged
 from gudokeyi.reconcile.findings.lost_columns import ExitsOfLostColumn
@@ -175,8 +178,18 @@ def tell_exits_unread(next_book: NextBook, unread: Collection[ExitsUnread]) -> N
     """Cells that may tell of exits, of the animals that count as living."""
     lines = {line for one in unread for line in one.cells}
     rows = [animal for animal in next_book.animals.values() if animal.line in lines] if lines else []
-    living = {animal.line for animal in rows if not has_left(animal)}
-    for found in filter(None, (one.of(living) for one in unread)):
+    # what the name of one says that was born dead is told by itself
+    living = {one.line: one.id for one in rows if not has_left(one) and not born_dead_word(one.name)}
+    told = [(0, found) for one in unread if (found := one.of(living))]
+    of_each = itertools.chain.from_iterable(one.of_each(living).items() for one in unread)
+    for line, finding in (*told, *of_each):
+        next_book.report.add(line, living.get(line, ""), finding)
+
+
+def tell_worksheets_of_exits(next_book: NextBook, of_exits: RowsOfExits) -> None:
+    """Other worksheets with animals that count as living."""
+    living = {one.id for one in next_book.animals.values() if not has_left(one)} if of_exits else set[str]()
+    for found in worksheets_told(of_exits, living):
         next_book.report.add(0, "", found)
 
 

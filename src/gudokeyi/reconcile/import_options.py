@@ -5,7 +5,7 @@ from __future__ import annotations
 import datetime
 import pathlib
 import re
-from collections.abc import Mapping, Sequence
+from collections.abc import Container, Mapping, Sequence
 from dataclasses import dataclass, field, replace
 from typing import Any
 
@@ -99,7 +99,11 @@ RememberedWords = dict[Remembered, list[str]]
 # of these options the last word holds
 LAST_HOLDS = (Remembered.MONTH_FIRST, Remembered.YOUNGEST, Remembered.APART)
 # what stands beside a word of rows that are no animals, and the option that has it
-MEANINGS = {Remembered.TOLD: "no animal"}
+NO_ANIMAL = "no animal"
+MEANINGS = {Remembered.TOLD: NO_ANIMAL}
+WITH_MEANINGS = (Remembered.COLUMNS, Remembered.TOLD)
+# parts the texts of the rows that had the word behind it; so many are kept
+AND_TEXT, MOST_TEXTS = "\n", 9
 OPTIONS = {Remembered.TOLD: "--no-animal"}
 
 
@@ -122,17 +126,38 @@ def remember(book: Book, import_options: ImportOptions) -> RememberedWords:
     # a word is known or unknown, as it is said now
     both[Remembered.UNKNOWN] = without(both[Remembered.UNKNOWN], import_options.known)
     both[Remembered.KNOWN] = without(both[Remembered.KNOWN], import_options.unknown)
-    animals = {plain(word) for word in parts_of(import_options.animal)}
+    animals, told = {plain(word) for word in parts_of(import_options.animal)}, texts_of_no_animals(book)
     both[Remembered.TOLD] = [word for word in both[Remembered.TOLD] if plain(word) not in animals]
     if import_options.day_first:
         both[Remembered.MONTH_FIRST] = []
     others = [one for one in book.remembered if one.what not in now]
     meanings = {one.word: one.meaning for one in book.remembered if one.what is Remembered.COLUMNS}
+    meanings |= {word: AND_TEXT.join([NO_ANIMAL, *texts]) for word, texts in told.items()}
     book.remembered = others + [
-        Meaning(kind, word, meanings.get(word, "") if kind is Remembered.COLUMNS else MEANINGS.get(kind, ""))
+        Meaning(kind, word, meanings.get(word, MEANINGS.get(kind, "")) if kind in WITH_MEANINGS else "")
         for kind, words in both.items() for word in words
     ]  # fmt: skip
     return both
+
+
+def texts_of_no_animals(book: Book) -> dict[str, list[str]]:
+    """The texts of the rows that had a word by which they are no animals, when they were left out last."""
+    told = {one.word: one.meaning.split(AND_TEXT)[1:] for one in book.remembered if one.what is Remembered.TOLD}
+    return {word: texts for word, texts in told.items() if texts}
+
+
+def remember_no_animals(book: Book, left_out: Mapping[str, Sequence[str]], taken: Container[str]) -> None:
+    """The texts of the rows that are left out, beside the words by which they are; a word of an id that another row has
+    now, which is taken, is forgotten."""
+    kept = list[Meaning]()
+    for one in book.remembered:
+        words = [plain(word) for word in parts_of([one.word])] if one.what is Remembered.TOLD else []
+        texts = [text for word in words for text in left_out.get(word, ())]
+        if texts:
+            one = one._replace(meaning=AND_TEXT.join([NO_ANIMAL, *texts[:MOST_TEXTS]]))
+        if not any(word in taken for word in words):
+            kept.append(one)
+    book.remembered = kept
 
 
 def remember_columns(book: Book, titles: Mapping[str, str], exits: Sequence[str]) -> None:

@@ -10,6 +10,7 @@ from gudokeyi.domain.findings import Entry, Finding, Severity, What
 from gudokeyi.domain.kinds import Field
 from gudokeyi.ingest.findings.cells import CellLeftOut, DayLeftOut, ErrorValue
 from gudokeyi.ingest.findings.exits import ExitsWithoutDay
+from gudokeyi.ingest.findings.rows import ExitInRemark
 from gudokeyi.ingest.findings.sheets import CellsUnread, ErrorCells
 from gudokeyi.reconcile.findings.by_hand import ValueChanged
 from gudokeyi.reconcile.findings.own_columns import OwnCellUnread
@@ -271,8 +272,8 @@ def fields_summed_up(entries: Iterable[Entry]) -> set[Field | type[ErrorCells]]:
 
 
 def is_summed_up(finding: Finding, summed_up: set[Field | type[ErrorCells]]) -> bool:
-    # one finding for each of the society's own columns sums up those of its cells
-    if isinstance(finding, OwnCellUnread):
+    # one finding for each column sums up those of its cells
+    if isinstance(finding, OwnCellUnread | ExitInRemark):
         return True
     if isinstance(finding, ErrorValue):
         return ErrorCells in summed_up

@@ -8,6 +8,7 @@ import re
 from collections.abc import Collection, Iterator, Mapping, Sequence
 
 from gudokeyi.ingest.animals import LINE_OF, NAME_OF, OWNER_OF, SheetAnimal
+from gudokeyi.ingest.odd_texts import counts_as_living
 from gudokeyi.ingest.statuses import taker_of_owner
 from gudokeyi.ingest.texts import plain
 from gudokeyi.ingest.words import (
@@ -284,7 +285,7 @@ def tell_born_dead(next_book: NextBook) -> None:
     together = "\n".join(itertools.compress(map(NAME_OF, animals), map(LINE_OF, animals))).casefold()
     if not any(begin in together for begin in BEGINS_BORN_DEAD):
         return
-    named = [one for one in animals if one.line and one.name and not one.left]
+    named = [one for one in animals if one.line and one.name and counts_as_living(one)]
     likely = {name for name in {one.name for one in named} if has_word(name, KNOWN_BORN_DEAD)}
     for animal in named:
         if animal.name in likely and animal.id not in next_book.book.society_records:

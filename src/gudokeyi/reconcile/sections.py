@@ -12,7 +12,7 @@ from gudokeyi.ingest.findings.cells import BETWEEN_CELLS, IdAlone, NoId
 from gudokeyi.ingest.findings.rows import OF_OTHERS, NoteRow
 from gudokeyi.ingest.odd_texts import counts_as_living
 from gudokeyi.ingest.texts import listed, plain
-from gudokeyi.ingest.words import KNOWN_SEXES, TELLING_EXITS, has_word, is_still_there, sex_word
+from gudokeyi.ingest.words import KNOWN_SEXES, has_word, says_exits, sex_word
 from gudokeyi.reconcile.findings.sections import SectionOfBirths, SectionOfExits, SectionOfSex, SectionsOfOwners
 from gudokeyi.reconcile.next_book import NextBook
 
@@ -29,16 +29,6 @@ SEVERAL = {
 SEXES = {sex_word(word): sex for sex, words in SEVERAL.items() for word in listed(words)} | KNOWN_SEXES
 # words that are those of a species too: they say a sex where another row says the other one
 OF_SPECIES = {plain(word) for word in listed("dogs, dog, Ziegen, Ziege, cows, cow, Katze, chien, chèvres, chèvre")}
-# words for animals that left, and of so many words at most a heading is
-OF_EXITS = TELLING_EXITS | {
-    plain(word) for word in listed(
-        "Abgänge, Verkaufte, Verstorbene, Gestorbene, Geschlachtete, Tote, Gelöschte, Gestrichene, Ausgeschiedene, "
-        "Abgegangene, Ehemalige, ehemalige, deleted, removed, former, departed, disposals, deaths, sales, supprimé, "
-        "supprimée, supprimés, supprimées, radiés, radiées, morts, mortes, vendus, vendues, sortis, sorties, décédés, "
-        "réformés, réformées, abattus, abattues"
-    )
-}  # fmt: skip
-MOST_WORDS = 6
 # a word of fewer letters may be short for anything
 LEAST_LETTERS = 3
 WORD = re.compile(r"[^\W\d_]+")
@@ -83,11 +73,6 @@ def tell_exits(next_book: NextBook, sections: list[Section], living: list[SheetA
         if those:
             first = min(those, key=lambda one: one.line)
             next_book.report.add(section.line, "", SectionOfExits(section.text, len(those), first.id, first.line))
-
-
-def says_exits(text: str) -> bool:
-    """Is it a heading above animals that left, as `Aus dem Herdbuch gelöscht`?"""
-    return len(WORD.findall(text)) <= MOST_WORDS and has_word(text, OF_EXITS) and not is_still_there(text)
 
 
 def tell_births(next_book: NextBook) -> None:

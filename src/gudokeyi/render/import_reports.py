@@ -25,6 +25,8 @@ from gudokeyi.store.exports import COMMANDS
 
 # Entries of one kind as sentences: refusals that have one cause, such as a ram whose sex is wrong, are one sentence.
 
+# the case in which a limit is suggested that none of several animals is below
+OF_ALL = "if all of these can be"
 # so many refusals of one cause are told in one sentence, which names so many of their lines
 MANY, MOST_LINES = 3, 9
 # a parent, and why it is refused
@@ -65,10 +67,15 @@ def sentences_of(entries: list[Entry]) -> Iterator[GroupMessage]:
 
 
 def lowest(entries: list[Entry]) -> tuple[Suggestion, ...]:
-    """Where entries are told for a limit of days, one that none of them is below."""
+    """Where entries are told for a limit of days, one that none of them is below; where it is that of a later entry it
+    says so, since it stands behind the first."""
     found = [entry.finding for entry in entries]
     below = [one for one in found if isinstance(one, (YoungParent, BirthsTooNear, BirthsNearerThanUsual))]
-    return min(below, key=lambda one: one.days).suggestions() if below else ()
+    if not below:
+        return ()
+    lowest = min(below, key=lambda one: one.days).suggestions()
+    is_of_first = lowest == below[0].suggestions()
+    return lowest if is_of_first else tuple(replace(one, case=OF_ALL) for one in lowest)
 
 
 def sentence_of_all(entries: list[Entry]) -> str:

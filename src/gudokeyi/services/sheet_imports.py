@@ -9,13 +9,13 @@ from collections.abc import Callable
 from dataclasses import dataclass
 
 from gudokeyi.domain.changes import Option
-from gudokeyi.domain.findings import Call, Entry, ImportRefused, Report, StrictlyRefused, What
+from gudokeyi.domain.findings import Call, Entry, ImportRefused, Part, Report, StrictlyRefused, What
 from gudokeyi.domain.kinds import Field, Remembered
 from gudokeyi.ingest.births_beside import year_column
 from gudokeyi.ingest.castrations import castration_columns
 from gudokeyi.ingest.exits_beside import columns_beside, exit_day_columns
 from gudokeyi.ingest.files import GivenFile
-from gudokeyi.ingest.findings.columns import ColumnUntitled, TitleBelow
+from gudokeyi.ingest.findings.columns import ColumnUntitled, SheetFinding, TitleBelow
 from gudokeyi.ingest.findings.columns_unread import EntryDaysUnread, MayBeExits
 from gudokeyi.ingest.genetic_dams import genetic_columns
 from gudokeyi.ingest.inferred_values import columns_of_inferred_values
@@ -28,13 +28,14 @@ from gudokeyi.process import keep
 from gudokeyi.reconcile.all_animals import complete
 from gudokeyi.reconcile.cells_as_notes import keep_as_notes
 from gudokeyi.reconcile.commands import Filing
+from gudokeyi.reconcile.earlier_sales import leave_earlier_sales
 from gudokeyi.reconcile.exits import leave_out_early_exits, tell_most_changed, tell_withdrawn_exits
 from gudokeyi.reconcile.findings.obstacles import StrictlyNothing
 from gudokeyi.reconcile.findings.own_columns import BreedersNotKept
 from gudokeyi.reconcile.ids import call_as_now, give_numbers, letters_unsaid, numbers_begin
 from gudokeyi.reconcile.import_options import (
-    ImportOptions, again, limits_of, remember, remember_columns, remember_refused, remember_worksheet, rename_owners,
-    with_settings,
+    ImportOptions, again, limits_of, remember, remember_columns, remember_no_animals, remember_refused,
+    remember_worksheet, rename_owners, with_settings,
 )  # fmt: skip
 from gudokeyi.reconcile.impossible_parents import leave_out_faulty_parents
 from gudokeyi.reconcile.limits import Limits
@@ -125,6 +126,7 @@ def file(
     filing.tell_changes()
     tell_sexes_of_others(next_book)
     tell_most_changed(next_book)
+    drop_besides_left_out(report)
     after = book_after(next_book, filed, import_options, about)
     return filed, Outcome(
         book.folder, about.call.after(), about.understood, tuple(about.read), tuple(next_book.obstacles), report, after,
@@ -147,6 +149,18 @@ def filed_or_without_parents(
         are_refused = leave_out_faulty_parents(next_book, program, are_refused or filing.refuses_births)
     last.are_parents_refused = are_refused
     return filed, told
+
+
+def drop_besides_left_out(report: Report) -> None:
+    """Of a row that is left out nothing else is told, as that a cell of it is read, or is to be written otherwise."""
+    rows = {(one.line, one.id) for one in report.entries if one.line and one.part is Part.ROW}
+    if rows:
+        report.entries = [one for one in report.entries if (one.line, one.id) not in rows or not is_of_row(one)]
+
+
+def is_of_row(entry: Entry) -> bool:
+    """Does it tell of what the row says, as it is read, and not of other rows?"""
+    return entry.what in (What.WARNING, What.INFERRED) and not isinstance(entry.finding, SheetFinding)
 
 
 def tell_plausibility(next_book: NextBook, limits: Limits) -> None:
@@ -201,6 +215,8 @@ def refuse_left_out(next_book: NextBook, import_options: ImportOptions) -> None:
 # From a sheet to a book in its folder.
 
 
+# the option by which rows are no animals
+NO_ANIMAL = "--no-animal"
 # within which a sheet is read
 Bounds = Callable[[], contextlib.AbstractContextManager[None]]
 
@@ -238,7 +254,9 @@ def import_sheet_into(
     tell_parents_named_otherwise(read.columns, next_book.animals, next_book.report)
     own = find_own_columns(book, read.columns, import_options.own)
     leave_known_days(read, own, next_book.report)
-    used = again(words, import_options) + [Option("--worksheet", read.sheet.as_before)] * bool(read.sheet.as_before)
+    taken = read.rows.no_animals.taken
+    used = [one for one in again(words, import_options) if one.option != NO_ANIMAL or plain(one.word) not in taken]
+    used += [Option("--worksheet", read.sheet.as_before)] * bool(read.sheet.as_before)
     tell_columns_not_kept(read, own, next_book)
     lacks_own = tell_lost_own_columns(book, own, read.columns, next_book.report)
     understood = understood_of(file.path, read, used, {} if lacks_own else titles_before(book), own)
@@ -260,6 +278,7 @@ def next_book_of(book: Book, read: ReadSheet, last: LastReading | None) -> NextB
         book, read.animals, set(read.columns.found), read.report, read.rows.cells.days, in_book=read.in_book,
         last_found=last.found if last else None,
     )  # fmt: skip
+    leave_earlier_sales(next_book)
     are_other_rows = keep_unsaid(next_book)
     if last and book.society_records:
         # a row that says what the book has doesn't name an animal by an id of before
@@ -275,6 +294,7 @@ def remember_places(book: Book, read: ReadSheet, import_options: ImportOptions, 
     exits, is_first = [sheet.titles[at] for at in places], titles_before(book).get(Field.EXIT) in lost_exits
     exits = [*lost_exits, *exits] if is_first else [*exits, *lost_exits]
     remember_columns(book, dict(read.columns.titles_found()), exits)
+    remember_no_animals(book, read.rows.no_animals.left_out, read.rows.no_animals.taken)
     remember_refused(book, import_options, read.columns.refused)
     remember_worksheet(book, import_options.worksheet, read.sheet.worksheets)
 

@@ -24,6 +24,7 @@ from gudokeyi.ingest.columns import Columns
 from gudokeyi.ingest.columns_said_none import NoneSaid
 from gudokeyi.ingest.columns_told import columns_told
 from gudokeyi.ingest.exits_beside import columns_beside
+from gudokeyi.ingest.exits_in_tables import without_table_beside
 from gudokeyi.ingest.files import GivenFile
 from gudokeyi.ingest.findings.worksheets import WorksheetUnread
 from gudokeyi.ingest.genetic_dams import genetic_columns
@@ -39,7 +40,9 @@ from gudokeyi.ingest.workbooks import NamedBefore
 from gudokeyi.reconcile.animals_of_book import AnimalsOfBook, AnimalsWithNewTags
 from gudokeyi.reconcile.findings.obstacles import NoRowTaken
 from gudokeyi.reconcile.last_found import LastFound
-from gudokeyi.reconcile.import_options import ImportOptions, RememberedWords, refused_columns, worksheet_before
+from gudokeyi.reconcile.import_options import (
+    ImportOptions, RememberedWords, refused_columns, texts_of_no_animals, worksheet_before,
+)  # fmt: skip
 from gudokeyi.reconcile.new_tags import ids_for_sure
 from gudokeyi.reconcile.rows_of_book import RowsOfBook
 from gudokeyi.store.book import Book
@@ -66,7 +69,7 @@ class LastSheet:
         if last and last[:3] == (file, worksheet, before) and last[3].decision and last[3].decision.is_same(score):
             return last[3]
         self.read = None
-        sheet = read_sheet(file, score, worksheet, before)
+        sheet = without_table_beside(read_sheet(file, score, worksheet, before))
         self.read = file, worksheet, before, sheet
         return sheet
 
@@ -105,6 +108,8 @@ class Reading:
     sexes: dict[str, str]
     month_first: bool
     no_animals: list[str]
+    # the texts of the rows that had these words, which were said at an earlier time
+    no_animals_before: dict[str, list[str]]
     # ids of animals for sure
     sure: frozenset[str]
     # of the book: the birth days of its animals, and its owners by all that a sheet may call them
@@ -118,7 +123,8 @@ class Reading:
 
     def read_by(self) -> tuple[object, ...]:
         values = (dict(self.columns), self.unknown.more, self.unknown.known, dict(self.sexes), self.month_first)
-        return *values, [*self.no_animals], self.sure, self.born, self.owners, self.called, self.sexes_of_book, self.today
+        no_animals = [*self.no_animals], self.no_animals_before
+        return *values, *no_animals, self.sure, self.born, self.owners, self.called, self.sexes_of_book, self.today
 
     def meant_by(self) -> tuple[object, ...]:
         """By what the rows are changed into what they mean, beside the ids that are animals for sure: by words for
@@ -147,7 +153,7 @@ class Reading:
         is_same = is_of_file and before and before.columns == columns and Field.ID in columns
         return Rows(
             meant, columns, self.unknown, self.sexes, report, self.month_first, self.born, self.no_animals, self.owners,
-            before.plain if before and is_same else None, self.sexes_of_book,
+            before.plain if before and is_same else None, self.sexes_of_book, self.no_animals_before,
         )  # fmt: skip
 
     def animals(self, report: Report) -> tuple[Rows, dict[str, SheetAnimal]]:
@@ -345,6 +351,13 @@ def none_said(book: Book, said: Mapping[str, str]) -> NoneSaid:
     return NoneSaid(titles, {plain(one): count for one, count in refused_columns(book).items()} if titles else {})
 
 
+def no_animals_before(book: Book, import_options: ImportOptions) -> dict[str, list[str]]:
+    """The texts of rows that had a word by which they are no animals, where that wasn't said now."""
+    now = {plain(word) for word in parts_of(import_options.no_animal)}
+    words = ((parts_of([word]), texts) for word, texts in texts_of_no_animals(book).items())
+    return {word: texts for those, texts in words for word in those if plain(word) not in now}
+
+
 def names_of_owners(book: Book) -> dict[str, str]:
     """The owners of the book as they are written now, by their names of now and before and by their numbers as members,
     also those who have no animal any more."""
@@ -380,7 +393,7 @@ def read_animals(
     reading = Reading(
         sheet, columns.found, UnknownParents(words[Remembered.UNKNOWN], words[Remembered.KNOWN]),
         read_sexes(words[Remembered.SEXES]), bool(words[Remembered.MONTH_FIRST]), words[Remembered.TOLD],
-        ids_for_sure(book, parts_of(import_options.animal)), in_book.born, names_of_owners(book),
+        no_animals_before(book, import_options), ids_for_sure(book, parts_of(import_options.animal)), in_book.born, names_of_owners(book),
         in_book.called_as_marks, sexes_of_book(sheet, columns.found, in_book),
     )  # fmt: skip
     rows, animals = last.animals_of(reading, report) if last else reading.animals(report)

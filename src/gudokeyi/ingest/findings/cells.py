@@ -118,6 +118,24 @@ class NoAnimal(RowLeftOut):
         return (Suggestion("if it is one", (is_animal(self.word),)),)
 
 
+@dataclass(frozen=True, slots=True)
+class AnimalAfterAll(Finding):
+    """A row has the id of one that somebody said is no animal, at an earlier time and of a row with another text."""
+
+    word: str
+    text: str
+
+    what = What.WARNING
+    severity = Severity.ANIMALS
+    code = "animal after all"
+    message = Text(
+        "the row is taken as an animal: that '{word}' is none was said of another row, '{text}', and holds no more"
+    )
+
+    def suggestions(self) -> tuple[Suggestion, ...]:
+        return (Suggestion("if it is none either", (is_no_animal(self.word),)),)
+
+
 class OddRow(Finding):
     """A row that may be no animal is taken as one. `word` is what it is known by."""
 

@@ -117,8 +117,8 @@ class CausesUnread(ExitsInRemarks):
         "'{text}' in line {line}; the animal counts as living: if it left, write a word there, as died or sold, verendet "
         "or verkauft, mort or vendu",
         "the column '{title}' isn't read for exits, and {count} cells of it may say why animals left which have no exit, "
-        "the first is '{text}' in line {line}; these animals count as living: if they left, write words there, as died "
-        "or sold, verendet or verkauft, mort or vendu",
+        "the first is '{text}' in line {line}{maybe_others}{maybe_more}; these animals count as living: if they left, "
+        "write words there, as died or sold, verendet or verkauft, mort or vendu",
         "count",
     )
 

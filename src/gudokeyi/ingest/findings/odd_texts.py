@@ -25,8 +25,18 @@ class DeathInBirth(PlausibilityWarning):
     severity = Severity.FACTS
     code = "death in birth"
     message = Text(
-        "its birth '{text}' tells of a death, and it counts as living: if it has left, enter that in a column for "
-        "exits; if it was born dead, leave its row out"
+        "its birth '{text}' tells of a death, and it counts as living: if it has left, enter that in a column for exits"
+    )
+
+
+@dataclass(frozen=True, slots=True)
+class BirthOfBornDead(DeathInBirth):
+    """The cell of a birth says that the animal was born dead, and it counts as living."""
+
+    code = "birth of born dead"
+    message = Text(
+        "its birth '{text}' tells of a death, and it counts as living: if it was born dead, write stillborn, totgeboren or "
+        "mort-né into a column for exits, and here its day alone"
     )
 
 

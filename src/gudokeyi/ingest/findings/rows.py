@@ -10,7 +10,7 @@ from gudokeyi.domain.changes import Option
 from gudokeyi.domain.findings import Finding, Severity, Suggestion, What, is_animal
 from gudokeyi.domain.kinds import Field, Role
 from gudokeyi.domain.messages import AnyOf
-from gudokeyi.domain.wording import Counted, OptionalPart, Text
+from gudokeyi.domain.wording import Counted, Joined, OptionalPart, Text
 from gudokeyi.ingest.findings.cells import RowLeftOut
 from gudokeyi.ingest.findings.columns import SheetFinding, column
 from gudokeyi.ingest.texts import listed, plain
@@ -211,22 +211,48 @@ class FieldUnread(SheetFinding):
 
 @dataclass(frozen=True, slots=True)
 class ExitsInRemarks(SheetFinding):
-    """Some cells of a column that isn't read for exits tell that animals left, whose exits no other column has."""
+    """Some cells of a column that isn't read for exits tell that animals left, whose exits no other column has: the first
+    of them, and the lines of others."""
 
     title: str
     count: int
     line: int
     text: str
+    others: tuple[int, ...] = ()
 
     severity = Severity.FACTS
     code = "exits in remarks"
     message = Counted(
-        "the column '{title}' isn't read for exits, and {count} cell of it tells that an animal left which has no "
-        "exit: '{text}' in line {line}; the animal counts as living: if it left, enter that in the column for exits",
-        "the column '{title}' isn't read for exits, and {count} cells of it tell that animals left which have no "
-        "exit, the first is '{text}' in line {line}; these animals count as living: if one left, enter that in the "
-        "column for exits",
+        "the column '{title}' isn't read for exits, and {count} cell of it tells that an animal left which has no exit: "
+        "'{text}' in line {line}; the animal counts as living: if it left, enter that in the column for exits",
+        "the column '{title}' isn't read for exits, and {count} cells of it tell that animals left which have no exit, the "
+        "first is '{text}' in line {line}{maybe_others}{maybe_more}; these animals count as living: if one left, enter "
+        "that in the column for exits",
         "count",
+    )
+    parts = {
+        "maybe_others": OptionalPart(", the others in {in_others}"),
+        "maybe_more": OptionalPart(" and {more} more"),
+    }
+
+    def values(self) -> Mapping[str, object]:
+        more = self.count - 1 - len(self.others) if self.others else 0
+        return {"in_others": Joined(tuple(map(str, self.others))), "more": more or None}
+
+
+@dataclass(frozen=True, slots=True)
+class ExitInRemark(Finding):
+    """One of several such cells, at its animal: it stands in the report alone."""
+
+    title: str
+    text: str
+
+    what = What.WARNING
+    severity = Severity.FACTS
+    code = "exit in remark"
+    message = Text(
+        "'{title}' says '{text}', and isn't read for exits: the animal counts as living; if it left, enter that in the "
+        "column for exits"
     )
 
 
@@ -240,8 +266,8 @@ class ExitColumnUnread(ExitsInRemarks):
         "something of an animal that has no exit: '{text}' in line {line}; the animal counts as living: if it left, "
         "write the day there",
         "the column '{title}' isn't read for exits, since none of its cells has a day, and {count} cells of it say "
-        "something of animals that have no exit, the first is '{text}' in line {line}; these animals count as living: "
-        "if one left, write the day there",
+        "something of animals that have no exit, the first is '{text}' in line {line}{maybe_others}{maybe_more}; these "
+        "animals count as living: if one left, write the day there",
         "count",
     )
 
@@ -254,10 +280,10 @@ class LivingUnmarked(ExitsInRemarks):
     severity = Severity.ANIMALS
     code = "living unmarked"
     message = Counted(
-        "the column '{title}' says '{text}' of some animals, and nothing of {count} that has no exit, in line {line}: "
-        "it counts as living too; if it has left, write no, nein or non there, or the day of its exit",
-        "the column '{title}' says '{text}' of some animals, and nothing of {count} that have no exit, the first in "
-        "line {line}: they count as living too; if one has left, write no, nein or non there, or the day of its exit",
+        "the column '{title}' says '{text}' of some animals, and nothing of {count} that has no exit, in line {line}: it "
+        "counts as living too; if it has left, write no, nein or non there, or the day of its exit",
+        "the column '{title}' says '{text}' of some animals, and nothing of {count} that have no exit, the first in line "
+        "{line}{maybe_others}{maybe_more}: they count as living too; if one has left, write no, nein or non there, or the day of its exit",
         "count",
     )
 

@@ -10,6 +10,10 @@ from gudokeyi.domain.wording import AllOf, Joined, OptionalPart, Text, Told, Wor
 from gudokeyi.ingest.findings.cells import RowLeftOut
 
 
+# so many lines of rows are told
+MOST_LINES = 9
+
+
 @dataclass(frozen=True, slots=True)
 class CellDiffers(Told):
     """A cell of a row, and that of another row with the same id; empty for none."""
@@ -127,3 +131,29 @@ class IdUsedAgain(LeftOut):
 
     def suggestions(self) -> tuple[Suggestion, ...]:
         return () if self.line else (Suggestion("if it is the same animal", (ANYWAY,)),)
+
+
+@dataclass(frozen=True, slots=True)
+class IdUsedOften(LeftOut):
+    """One id stands in the rows of several other animals than that which is taken: how many, and the first lines."""
+
+    word: str
+    count: int
+    line: int
+    lines: tuple[int, ...]
+
+    part = Part.ROW
+    severity = Severity.ANIMALS
+    decides_much = True
+    code = "id used often"
+    message = Text(
+        "{count} rows are left out (lines {said}{maybe_more}): they have the id {word}, which line {line} has for another "
+        "animal: did a spreadsheet cut the numbers? Give the column the format text, and write each id anew"
+    )
+    parts = {"maybe_more": OptionalPart(" and {more} more")}
+
+    def values(self) -> Mapping[str, object]:
+        return {"said": Joined(tuple(map(str, self.lines))), "more": self.count - len(self.lines)}
+
+    def times(self) -> int:
+        return self.count

@@ -138,7 +138,8 @@ class BornDead(PlausibilityWarning):
 
     code = "born dead"
     message = Text(
-        "its name '{name}' says that it was born dead, and it is taken as a living animal: leave its row out"
+        "its name '{name}' says that it was born dead, and it counts as living: write stillborn, totgeboren or mort-né into "
+        "a column for exits"
     )
 
 

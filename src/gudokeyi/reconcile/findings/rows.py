@@ -191,3 +191,20 @@ class OwnerDayOfOther(Finding):
     message = Text(
         "'{text}' isn't taken as the first day of the owner '{owner}': it stood there for '{before}' too"
     )
+
+
+@dataclass(frozen=True, slots=True)
+class OwnerAfterSale(Finding):
+    """A sale to an owner of the society without a day, that stood there when the row had another owner than now."""
+
+    text: str
+    taker: str
+    owner: str
+
+    what = What.WARNING
+    severity = Severity.FACTS
+    code = "owner after sale"
+    message = Text(
+        "'{text}' stood there already, and {owner} is written as its owner since: {owner} is taken, and {taker} as one of "
+        "before; if {taker} has it, write that as its owner"
+    )
