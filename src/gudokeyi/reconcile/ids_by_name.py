@@ -35,6 +35,8 @@ class NamesEver:
 
     def __init__(self) -> None:
         self.names: dict[str, str] = {}
+        # by their letters and digits in their order, those of each length that was asked for
+        self.lengths = dict[int, collections.defaultdict[str, list[str]]]()
         # those that were asked about last, and are among them
         self.asked: list[tuple[Sequence[str], Sequence[str]]] = []
 
@@ -70,7 +72,7 @@ class NamesEver:
         if "of_ids" in built:
             fresh = [id for id in new if id not in former]
             add_each(self.of_ids, folded_all(fresh), fresh)
-        self.of_letters.cache_clear()
+        self.take_letters(folded_all([*new, *new.values()]))
         # names that nobody has any more stand for nobody
         self.take_names([*filter(None, new.values())])
 
@@ -111,17 +113,18 @@ class NamesEver:
         """The ids by names without titles, letters and remarks."""
         return add_to(collections.defaultdict(list), bare_all, self.names)
 
-    @functools.cached_property
-    def of_letters(self) -> functools._lru_cache_wrapper[dict[str, list[str]]]:
-        return functools.lru_cache(None)(self.with_letters)
-
-    def with_letters(self, length: int) -> dict[str, list[str]]:
+    def of_letters(self, length: int) -> dict[str, list[str]]:
         """The letters and digits of names and ids of a length, by them in their order."""
-        found = collections.defaultdict[str, list[str]](list)
-        for key in dict.fromkeys(itertools.chain(self.of_names, self.of_ids)):
-            if len(key) == length:
-                found["".join(sorted(key))].append(key)
-        return found
+        if length not in self.lengths:
+            self.lengths[length] = with_letters(length, dict.fromkeys(itertools.chain(self.of_names, self.of_ids)))
+        return self.lengths[length]
+
+    def take_letters(self, keys: Iterable[str]) -> None:
+        """Takes names and ids into what is kept of all of some lengths."""
+        for key in keys:
+            of_length = self.lengths.get(len(key))
+            if of_length is not None and key not in (alike := of_length["".join(sorted(key))]):
+                alike.append(key)
 
     @functools.cached_property
     def letters(self) -> str:
@@ -138,6 +141,15 @@ class NamesEver:
         """The names of several words whose form begins or ends with one."""
         ahead, behind = self.forms
         return [*dict.fromkeys([*beginning_with(form, ahead), *beginning_with(form[::-1], behind)])]
+
+
+def with_letters(length: int, keys: Iterable[str]) -> collections.defaultdict[str, list[str]]:
+    """Those of a length by their letters and digits in their order."""
+    found = collections.defaultdict[str, list[str]](list)
+    for key in keys:
+        if len(key) == length:
+            found["".join(sorted(key))].append(key)
+    return found
 
 
 def beginning_with(form: str, names: Forms) -> list[str]:

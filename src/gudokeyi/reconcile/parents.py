@@ -82,7 +82,12 @@ class Names:
 
     @functools.cached_property
     def tags(self) -> NearTags:
-        return self.last.of(Kept.NEAR_TAGS, (self.given_ids,), lambda: NearTags(self.given_ids))
+        ids = self.given_ids
+
+        def again(_: object, found: NearTags) -> NearTags | None:
+            return found.of_others(ids)
+
+        return self.last.of(Kept.NEAR_TAGS, (ids,), lambda: NearTags(ids), again)
 
     @functools.cached_property
     def days(self) -> DaysForIds:
