@@ -242,7 +242,7 @@ def read_workbook(
         rows, how, faults(texts), formulas(values, texts), unread(values, struck), *filled_lines(values, rows),
         hidden_lines(values), struck_through(values, struck), shown_cells(values), days_of(values),
         rows_of_exits(path, [one for one in shown.worksheets if one is not values]), titles[at], tops, tuple(titles),
-        as_before,
+        as_before, ids_of_others(path, shown, title, most),
     )  # fmt: skip
 
 
