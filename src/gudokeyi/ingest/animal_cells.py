@@ -16,11 +16,12 @@ from gudokeyi.ingest.day_cells import DayCell, DayCells, ExitCell, usual_cell
 from gudokeyi.ingest.day_forms import DayForms, Readings
 from gudokeyi.ingest.days import ANY_DAY, DayFault, Span, is_span
 from gudokeyi.ingest.encodings import Letters
-from gudokeyi.ingest.findings.cells import (
-    DAYS, DayLeftOut, EmbryoUnread, ErrorValue, NarrowValue, SexUnread, TextTooLong,
-)  # fmt: skip
+from gudokeyi.ingest.exits_in_doubt import is_in_doubt
+from gudokeyi.ingest.findings.cells import DAYS, DayLeftOut, EmbryoUnread, ErrorValue, NarrowValue, SexUnread, TextTooLong
 from gudokeyi.ingest.findings.columns import SheetFinding
-from gudokeyi.ingest.findings.exits import ExitInDoubt, ExitInferred, ExitsInOtherWords, ExitsWithoutDay, NoExits, Remark
+from gudokeyi.ingest.findings.exits import (
+    ExitInDoubt, ExitInferred, ExitsInOtherWords, ExitsWithoutDay, Remark, told_of_remarks,
+)  # fmt: skip
 from gudokeyi.ingest.findings.rows import (
     OwnerInExit, OwnerSold, SoldEarlier, SoldThenLeft, SoldWithin, StatusDisagrees, TakerUnclear,
 )  # fmt: skip
@@ -35,7 +36,7 @@ from gudokeyi.ingest.statuses import parted_at_death, taker_of_owner
 from gudokeyi.ingest.texts import plain
 from gudokeyi.ingest.titles import names_other_exits
 from gudokeyi.ingest.unknown_parents import UnknownParents, names_no_owner
-from gudokeyi.ingest.words import KNOWN_NO, KNOWN_SALES, KNOWN_YES, exit_word, is_error_value, is_in_doubt
+from gudokeyi.ingest.words import KNOWN_NO, KNOWN_SALES, KNOWN_YES, exit_word, is_error_value
 
 # The cells of a sheet that can't be read: which texts there are, and whether they are most of a column.
 
@@ -72,7 +73,7 @@ class Unread:
         of_each = [its for field, cells in self.cells.items() for its in self.of_each(field, cells)]
         told: list[SheetFinding] = [*map(self.told, of_each)]
         told += map(ExitsWithoutDay, self.of_each(Field.EXIT, self.exits))
-        told += map(NoExits.of, by_title(self.remarks()))
+        told += [one for those in by_title(self.remarks()) for one in told_of_remarks(those)]
         told += [SexesUnsure(self.titles[Field.SEX], len(self.unsure), *self.unsure[0])] if self.unsure else []
         return [*told, *map(ExitsInOtherWords, self.of_each(Field.EXIT, self.other_words))]
 

@@ -40,9 +40,8 @@ from gudokeyi.ingest.titles import (
 from gudokeyi.ingest.texts import plain
 from gudokeyi.ingest.words import (
     DEAD, KNOWN_EXITS, KNOWN_NOTHING, KNOWN_SEXES, KNOWN_STAYS, KNOWN_STILL_THERE, LETTER, TELLING_EXITS, has_word,
-    sex_word, tells_of_others,
+    sex_word, state_exit, tells_of_others,
 )  # fmt: skip
-
 
 
 @dataclass
@@ -259,7 +258,7 @@ def tells_exits(columns: Columns, at: int, is_told: bool = True) -> bool:
     counts, title = columns.counts(at), columns.title(at)
     words = KNOWN_EXITS | KNOWN_STAYS | KNOWN_STILL_THERE | KNOWN_NOTHING
     said = {cell: said_of(cell, title) for cell in counts}
-    known = sum(counts[cell] for cell, text in said.items() if is_span(text) or has_word(text, words) or is_cross(text))
+    known = sum(counts[cell] for cell, text in said.items() if is_span(text) or has_word(text, words) or state_exit(text))
     if is_told and 2 * known <= counts.total() and known:
         columns.notes.append(TellsNoExits(title))
     return 2 * known > counts.total()

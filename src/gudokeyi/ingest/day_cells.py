@@ -12,16 +12,17 @@ from typing import Container, NamedTuple
 from gudokeyi.domain.collections import made
 from gudokeyi.domain.kinds import Field
 from gudokeyi.domain.provenance import GIVEN_EXIT, ExitBasis, ExitSource
-from gudokeyi.ingest.day_forms import DayForms
+from gudokeyi.ingest.day_forms import LONG_AGO, DayForms
 from gudokeyi.ingest.days import (
     BEFORE, DayFault, Precision, Span, Unreadable, behind_since, is_span, read_span, span_within, tells_other_event,
     usual_day,
 )  # fmt: skip
+from gudokeyi.ingest.exits_in_doubt import is_planned, tells_death
 from gudokeyi.ingest.findings.cells import DayLeftOut
 from gudokeyi.ingest.findings.days import DayReading
 from gudokeyi.ingest.findings.sheets import NoOrderShown, OneWrongOrder, Place, WrongOrder
 from gudokeyi.ingest.seasons import last_month
-from gudokeyi.ingest.words import DEAD, exit_word, is_still_there, lives, word_fault
+from gudokeyi.ingest.words import DEAD, exit_word, is_still_there, lives, state_exit, word_fault
 from gudokeyi.ingest.words_beside import words_beside
 
 # Whether days with slashes or hyphens have the day first or the month, as a sheet's own days show.
@@ -126,7 +127,7 @@ NO_EXIT = ExitCell(SAYS_NOTHING, False, False, True)
 
 def is_other_state(text: str) -> bool:
     """Is a text of a column of states none of an exit, as `pet only`?"""
-    return not (exit_word(text) or lives(text) or is_span(text))
+    return not (state_exit(text) or lives(text) or is_span(text))
 
 
 class DayCells:
@@ -151,7 +152,7 @@ class DayCells:
 
     def read_exit(self, text: str) -> ExitCell | None:
         is_day = usual_day(text) is not None
-        if not is_day and is_still_there(text):
+        if not is_day and (is_still_there(text) or is_planned(text) and self.is_to_come(text)):
             return NO_EXIT
         if not is_day and lives(text):
             return None
@@ -162,6 +163,9 @@ class DayCells:
         is_no_more = is_day or is_span(text) or (day.reading is not None and not (exit_word(text) or reason))
         is_reason = reason not in self.unknown or DEAD.search(reason)
         is_later = day.fault is not None and self.is_later(text)
+        if is_later and day.fault and tells_death(text):
+            # the animal has died on another day
+            day, is_later = day._replace(fault=replace(day.fault, is_gone=True)), False
         return ExitCell(day, is_no_more, is_later, reason=reason if is_reason else "")
 
     def read_day(self, field: Field, text: str) -> DayCell:
@@ -214,6 +218,11 @@ class DayCells:
         if span.first > self.today:
             return DayCell(fault=DayLeftOut(field, DayFault.AFTER_TODAY, text))
         return made(DayCell, (span.until(self.today), True, None, False, None))
+
+    def is_to_come(self, text: str) -> bool:
+        """Has it no day up to today? A year of two digits from long ago is one to come."""
+        span = self.day(Field.EXIT, text).span
+        return span is None or self.today.year - span.first.year > LONG_AGO
 
     def is_later(self, text: str) -> bool:
         """Is it a day after today?"""

@@ -13,6 +13,7 @@ from gudokeyi.domain.findings import Report
 from gudokeyi.domain.kinds import Field
 from gudokeyi.ingest.day_forms import SERIAL, TWO
 from gudokeyi.ingest.days import DIGITS, Unreadable, is_span, places_within, read_span
+from gudokeyi.ingest.exit_places import place_of_exit
 from gudokeyi.ingest.findings.exits import BuyerDisagrees, BuyersRead, ExitDaysRead, Remark
 from gudokeyi.ingest.findings.rows import StatusDisagrees
 from gudokeyi.ingest.sheets import Sheet, SheetRow, cell_of
@@ -209,7 +210,8 @@ def add_sales_to(exits: Exits, rows: Sequence[SheetRow], sheet: Sheet, at: int, 
     said = KNOWN_BUYERS.get(plain(sheet.titles[at]))
     for place, row in enumerate(rows if said else ()):
         buyer = cell_of(row, at)
-        if LETTER.search(buyer) and buyer not in unknown and not lives(buyer) and not exit_word(buyer):
+        is_exit = exit_word(buyer) and not place_of_exit(buyer)
+        if LETTER.search(buyer) and buyer not in unknown and not lives(buyer) and not is_exit:
             exits.texts.setdefault(place, f"{said} {buyer}")
 
 

@@ -1,5 +1,5 @@
-"""What a text tells of others than its animal: of relatives, as `Vater tot` or `Tod der Mutter`, of young, as `erster Wurf
-tot`, and of a part or a tag, as `lost tag`."""
+"""What a text tells of others than its animal: of relatives, as `Vater tot` or `Tod der Mutter`, of young, as `erster
+Wurf tot`, and of a part or a tag, as `lost tag`."""
 from __future__ import annotations
 
 import re

@@ -43,8 +43,8 @@ LOSSES_ALONE = (
 )
 # where animals are slaughtered: these tell of it alone, or with a day
 SLAUGHTERERS = (
-    "Schlachter, Schlachterei, Schlachthof, Metzger, Metzgerei, Fleischer, Abdecker, butcher, abattoir, knacker, knackers, "
-    "boucher, boucherie, équarrisseur, équarrissage"
+    "Schlachter, Schlachterei, Schlachthof, Metzger, Metzgerei, Fleischer, Abdecker, TKV, Tierkörperverwertung, butcher, "
+    "abattoir, knacker, knackers, knackery, factory, meat factory, meat works, boucher, boucherie, équarrisseur, équarrissage"
 )
 KNOWN_ALONE = TELLING_EXITS | KNOWN_BORN_DEAD
 KNOWN_ALONE |= {plain(word) for word in [*listed(SLAUGHTERERS), *listed(LOSSES_ALONE)]}

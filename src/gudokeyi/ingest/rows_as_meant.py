@@ -18,6 +18,7 @@ from gudokeyi.ingest.day_forms import TWO
 from gudokeyi.ingest.days import places_within
 from gudokeyi.ingest.exits_below import with_exits_below
 from gudokeyi.ingest.exits_beside import Exits
+from gudokeyi.ingest.exits_in_doubt import is_in_doubt
 from gudokeyi.ingest.findings.cells import UnseenInId
 from gudokeyi.ingest.findings.rows import CellsRepeated, MarksAreNames, NoteRow, NothingRepeated
 from gudokeyi.ingest.findings.sheets import UnseenDropped
@@ -30,7 +31,7 @@ from gudokeyi.ingest.sheets import Sheet, SheetRow, cell_of, with_cell
 from gudokeyi.ingest.statuses import SOLD, TAKER, exits_said, taker_of_owner
 from gudokeyi.ingest.texts import nearly, plain, shape, shapes_of
 from gudokeyi.ingest.unknown_parents import UnknownParents, names_no_owner
-from gudokeyi.ingest.words import KNOWN_EXITS, KNOWN_SEXES, KNOWN_SUMS, is_in_doubt, is_undone, lives_besides, sex_word
+from gudokeyi.ingest.words import KNOWN_EXITS, KNOWN_SEXES, KNOWN_SUMS, is_undone, lives_besides, sex_word
 
 # Cells with signs that no one sees: they are read without, but an id, which others write otherwise than it is seen.
 

@@ -13,7 +13,7 @@ from gudokeyi.ingest.born_dead import born_dead_word
 from gudokeyi.ingest.day_cells import is_other_state
 from gudokeyi.ingest.days import is_span, places_within
 from gudokeyi.ingest.exits_beside import Exits, add_buyers, add_exit_days, add_sales_to
-from gudokeyi.ingest.findings.exits import NoExits, Remark
+from gudokeyi.ingest.findings.exits import Remark, told_of_remarks
 from gudokeyi.ingest.findings.rows import StatusDisagrees, StatusRead
 from gudokeyi.ingest.sheets import Sheet, SheetRow, cell_of, column_of
 from gudokeyi.ingest.texts import listed, plain
@@ -21,8 +21,8 @@ from gudokeyi.ingest.titles import (
     KNOWN_REASONS, KNOWN_STATES, KNOWN_STATUSES, OF_LIVING, names_exits_alone, names_other_exits, said_of,
 )  # fmt: skip
 from gudokeyi.ingest.words import (
-    DEAD, EXITS, KNOWN_DEATHS, KNOWN_YES, PLAIN_EXITS, exit_word, has_word, is_still_there, lives, lives_besides, says_lives,
-    tells_of_others,
+    DEAD, EXITS, KNOWN_DEATHS, KNOWN_YES, PLAIN_EXITS, has_word, is_still_there, lives, lives_besides, says_lives,
+    state_exit, tells_of_others,
 )  # fmt: skip
 
 # an owner who takes an animal
@@ -122,8 +122,8 @@ class Statuses:
                 self.look(place, row, cell_of(row, self.exit), said)
         if self.taken:
             self.report.add(0, "", StatusRead(self.titles[1], self.titles[0], self.taken))
-        if self.found.remarks:
-            self.report.add(0, "", NoExits.of(self.found.remarks))
+        for told in told_of_remarks(self.found.remarks):
+            self.report.add(0, "", told)
         return self.found
 
     def read(self, status: str) -> Said | None:
@@ -131,7 +131,7 @@ class Statuses:
         text = said_of(status, self.titles[1])
         if not text or self.is_unknown(text):
             return None
-        tells, tells_none = bool(exit_word(text)), lives(text)
+        tells, tells_none = bool(state_exit(text)), lives(text)
         # a state such as `pet only` is no exit unless a word or a day says so
         is_other = self.is_of_states and is_other_state(text)
         is_there, has_taker = is_still_there(text), TAKER.search(text) is not None and not lives_besides(text)

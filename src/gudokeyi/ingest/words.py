@@ -7,6 +7,7 @@ from collections.abc import Iterator
 
 from gudokeyi.ingest.born_dead import born_dead_word
 from gudokeyi.ingest.days import MONTHS, DayFault, compared, places_within
+from gudokeyi.ingest.exit_places import place_of_exit
 from gudokeyi.ingest.relatives import leaving_others, names_other
 from gudokeyi.ingest.texts import listed, plain
 
@@ -100,6 +101,8 @@ EXITS = (
     "décédé, décédée, décès, dcd, réformé, réformée, réforme, sorti, sortie, exporté, exportée, volé, volée, "
     "euthanasié, euthanasiée, inactif, inactive"
 )
+# short forms for one in a column of exits: in one of states `eing.` may be eingetragen, and `ausg.` ausgestellt
+SHORT_EXITS = "eing, ausg, gestochen"
 # those of a sale, or of any exit
 SALES = (
     "verkauft, verk, Verkauf, abgegeben, abgeg, abg, abgegangen, Abgang, weg, sold, sale, gone, left, vendu, vendue, "
@@ -125,6 +128,7 @@ STILL_THERE = (
     "prêtée, prêt, en prêt, loué, louée, castré, castrée, castration, stérilisé, stérilisée, saillie, sailli, saillies, "
     "couverte, inséminé, inséminée, insémination, gestante, pleine, gravide, sevré, sevrée, vacciné, vaccinée, tondu, "
     "tondue, pucé, pucée, revenu, revenue, de retour, retour, à vendre, réservé, réservée, exposé, exposée, "
+    "geheilt, ausgeheilt, genesen, gesund, healed, recovered, cured, guéri, guérie, rétabli, rétablie, "
     "non-breeding, non breeder, nicht zur Zucht, nicht in Zucht, zuchtuntauglich, zuchtunfähig, zuchtgesperrt, "
     "Zuchtsperre, Zuchtverbot, non reproducteur, non reproductrice, hors reproduction"
 )
@@ -212,6 +216,7 @@ KNOWN_NO = {word.casefold() for word in listed(NO)}
 KNOWN_STAYS = {plain(word) for word in listed(STAYS)}
 KNOWN_AROUND_STAYS = {plain(word) for word in [*listed(AROUND_STAYS), *re.split(r"\W+", STAYS)]}
 KNOWN_EXITS = {plain(word) for word in listed(EXITS)}
+KNOWN_SHORT_EXITS = {plain(word) for word in listed(SHORT_EXITS)}
 KNOWN_SALES = {plain(word) for word in listed(SALES)}
 KNOWN_AROUND_EXITS = KNOWN_EXITS | {plain(word) for word in listed(AROUND_EXITS)}
 KNOWN_STILL_THERE = {plain(word) for word in listed(STILL_THERE)}
@@ -401,19 +406,20 @@ def says_gone(text: str) -> bool:
     return has_word(text, KNOWN_STAYS) and has_word(text, KNOWN_NEGATIONS)
 
 
-def is_in_doubt(text: str) -> bool:
-    """Is an exit uncertain, as `verkauft? 2020`, or did the animal come back after it?"""
-    return "?" in text or (has_word(text, KNOWN_RETURNS) and has_word(text, TELLING_EXITS))
-
-
 def exit_word(text: str) -> str:
-    """The first word by which animals leave, if it has one."""
+    """The first word by which animals leave, or a short form or a place for it, if it has one."""
+    short = next((word for word in text.split() if plain(word) in KNOWN_SHORT_EXITS), "") if LETTER.search(text) else ""
+    return state_exit(text) or short
+
+
+def state_exit(text: str) -> str:
+    """The same in a column of states, where a short form may mean another thing."""
     if DEAD.search(text):
         return "died"
     if not LETTER.search(text):
         return ""
     known = next((word for word in text.split() if plain(word) in KNOWN_EXITS), "") or first_exit(text)
-    return known or (text if says_gone(text) else "") or born_dead_word(text)
+    return known or (text if says_gone(text) else "") or born_dead_word(text) or place_of_exit(text)
 
 
 def first_exit(text: str) -> str:

@@ -8,10 +8,14 @@ from typing import NamedTuple
 
 from gudokeyi.domain.findings import Finding, Severity, Suggestion, What, tells_of_no_exit
 from gudokeyi.domain.provenance import ExitBasis
-from gudokeyi.domain.wording import Counted, OptionalPart, Quoted, Text
+from gudokeyi.domain.wording import Counted, Joined, OptionalPart, Quoted, Text
+from gudokeyi.ingest.exit_places import has_day
 from gudokeyi.ingest.findings.columns import SheetFinding
 from gudokeyi.ingest.findings.sheets import MOST_SHOWN, Cells
-from gudokeyi.ingest.words import exit_word
+from gudokeyi.ingest.words import exit_word, is_still_there, state_exit
+
+# so many lines are named
+MOST_LINES = 20
 
 
 @dataclass(frozen=True, slots=True)
@@ -188,3 +192,48 @@ class NoExits(SheetFinding):
 
     def values(self) -> Mapping[str, object]:
         return {"said": Quoted(self.texts)}
+
+
+@dataclass(frozen=True, slots=True)
+class StatesInDoubt(NoExits):
+    """Cells of such a column that have a day beside words which aren't known, as `Zirkus 3.4.2022`; and the lines of
+    others."""
+
+    others: tuple[int, ...] = ()
+
+    code = "states in doubt"
+    message = Counted(
+        "{count} cell of the column '{title}' has a day beside words that aren't known to tell of an exit, in line {line}: "
+        "{said}: the animal counts as living, and what the cell says is kept as a note; if it has left, write the day "
+        "alone, or a word such as sold, verkauft or vendu before it",
+        "{count} cells of the column '{title}' have a day beside words that aren't known to tell of an exit, the first in "
+        "line {line}{maybe_others}{maybe_more_lines}: {said}{maybe_more}: these animals count as living, and what the "
+        "cells say is kept as notes; if one has left, write the day alone, or a word such as sold, verkauft or vendu "
+        "before it",
+        "count",
+    )
+    parts = {
+        "maybe_others": OptionalPart(", the others in {in_others}"),
+        "maybe_more_lines": OptionalPart(" and {more_lines} more"),
+        "maybe_more": OptionalPart(" and {more} more"),
+    }
+
+    @classmethod
+    def of(cls, remarks: Sequence[Remark]) -> StatesInDoubt:
+        told = NoExits.of(remarks)
+        others = tuple(one.line for one in remarks[1:MOST_LINES])
+        return cls(told.title, told.count, told.line, told.texts, told.more, others)
+
+    def values(self) -> Mapping[str, object]:
+        more_lines = self.count - 1 - len(self.others)
+        lines = Joined(tuple(map(str, self.others)))
+        return {"said": Quoted(self.texts), "in_others": lines, "more_lines": more_lines or None}
+
+
+def told_of_remarks(remarks: Sequence[Remark]) -> list[NoExits]:
+    """What is told of some cells of a column that are kept as notes; those with a day beside words that aren't known
+    may tell of exits."""
+    in_doubt = [has_day(one.text) and not (is_still_there(one.text) or state_exit(one.text)) for one in remarks]
+    known = [one for one, is_one in zip(remarks, in_doubt) if not is_one]
+    unknown = [one for one, is_one in zip(remarks, in_doubt) if is_one]
+    return [kind.of(those) for kind, those in ((StatesInDoubt, unknown), (NoExits, known)) if those]

@@ -211,8 +211,8 @@ class FieldUnread(SheetFinding):
 
 @dataclass(frozen=True, slots=True)
 class ExitsInRemarks(SheetFinding):
-    """Some cells of a column that isn't read for exits tell that animals left, whose exits no other column has: the first
-    of them, and the lines of others."""
+    """Some cells of a column that isn't read for exits tell that animals left, whose exits no other column has: the
+    first of them, and the lines of others."""
 
     title: str
     count: int
