@@ -16,6 +16,7 @@ from gudokeyi.domain.kinds import Field
 from gudokeyi.ingest.births_beside import births_said
 from gudokeyi.ingest.day_forms import TWO
 from gudokeyi.ingest.days import places_within
+from gudokeyi.ingest.days_together import read_together
 from gudokeyi.ingest.exits_beside import Exits
 from gudokeyi.ingest.findings.cells import UnseenInId
 from gudokeyi.ingest.findings.rows import CellsRepeated, MarksAreNames, NoteRow, NothingRepeated
@@ -269,6 +270,7 @@ def as_meant(
     if owners:
         rows = with_cells(rows, columns[Field.OWNER], owners)
     rows = without_no_days(rows, sheet, columns, report)
+    rows = read_together(rows, sheet, columns, unknown, report)
     births = births_said(rows, sheet, columns, unknown, report)
     if births:
         rows = with_cells(rows, columns[Field.BIRTH], births)
