@@ -234,17 +234,18 @@ class LikelyColumns:
         """The columns most of whose cells are ids of other rows, in their order; none where the ids aren't
         different."""
         ids = [nearly(cell) for cell in self.columns.cells(id)]
-        known = {*ids}
-        if "" in known or len(known) < len(ids):
+        known = {*ids} - {""}
+        if not are_different(ids):
             return []
         return [at for at in columns if self.are_parents(at, ids, known)]
 
     def are_parents(self, at: int, ids: list[str], known: set[str]) -> bool:
-        """Are most cells of a column ids, and none that of its own row?"""
+        """Are most cells of a column ids, and hardly any that of its own row?"""
         cells = [
             (id, nearly(cell)) for id, cell in zip(ids, self.columns.cells(at)) if cell and cell not in self.unknown
         ]
-        return 2 * sum(cell in known for _, cell in cells) > len(cells) and all(id != cell for id, cell in cells)
+        own = sum(id == cell for id, cell in cells)
+        return 2 * sum(cell in known for _, cell in cells) > len(cells) and own <= (1 - MOSTLY) * len(cells)
 
     def of_lost(self, field: Field, before: str) -> str:
         """The title of the column that may have a field which the last sheet had under another one, or nothing: as its

@@ -14,6 +14,7 @@ from gudokeyi.domain.spelling import closest
 from gudokeyi.ingest.births_beside import TAG, parts_of_births
 from gudokeyi.ingest.castrations import castrated_in_remarks
 from gudokeyi.ingest.column_detection import MOST_COMPARED, IdColumn, LikelyColumns, are_different, are_row_numbers
+from gudokeyi.ingest.columns_by_cells import read_by_cells
 from gudokeyi.ingest.days import is_span
 from gudokeyi.ingest.encodings import Letters, decoded_twice
 from gudokeyi.ingest.exits_beside import are_days, exit_columns, exit_day_columns, says_day
@@ -138,6 +139,7 @@ def find_columns(
     columns.apart = ()
     parents = [name for name in PARENTS if name not in named and name not in columns.found]
     IdColumn(columns, parents, unknown, ids, before.get(Field.ID, "")).find()
+    read_by_cells(columns, named, unknown)
     tell_parents_from_others(columns, parents)
     # `Tag` is a word for ids too, and it is seen now whether it has these
     find_births_in_parts(columns, given)
