@@ -30,7 +30,7 @@ class Meaning(NamedTuple):
     word: str
 
 
-NUMBER = re.compile(r"\d+[.,]\d+")
+NUMBER = re.compile(r"\d+[.,/]\d+")
 # words of which columns have the first letters, some of which stand for another sex elsewhere
 THREE_LETTERS = (
     ("Hengst", "Stute", "Wallach"), ("stallion", "mare", "gelding"), ("étalon", "jument", "hongre"),

@@ -101,7 +101,7 @@ DOUBTS = (
     "possibly, uncertain, unsure, not sure, peut-être, probable, probablement, incertain, pas sûr, inferred, invented"
 )
 # how breeders of small animals count males and females
-COUNTED_SEXES = {"1,0": "M", "0,1": "F", "1.0": "M", "0.1": "F"}
+COUNTED_SEXES = {"1,0": "M", "0,1": "F", "1.0": "M", "0.1": "F", "1/0": "M", "0/1": "F"}
 # a word for a grown male that isn't castrated tells behind one of these that it was castrated since
 FORMER = "ex, former, formerly, was, früher, früherer, ehemals, ehemaliger, ehem, war, ancien, anciennement"
 GROWN_MALES = (
