@@ -39,6 +39,13 @@ def test_advice_beside_ids_that_stand_twice(desk: Desk) -> None:
     assert desk.run("import", sheet).commands()[0].endswith("--columns sire=Hr.,dam=Fr.")
 
 
+def test_advice_with_the_dams_first(desk: Desk) -> None:
+    """Which parent a column has is seen in the sexes of these."""
+    young = "104;Ida;Häsin;3.2.2018;102;101\n105;Kai;Rammler;3.2.2019;103;101\n"
+    sheet = desk.write("sheet.csv", TITLES.format(sex="Geschl.", sire="A", dam="B") + FOUNDERS + young)
+    assert desk.run("import", sheet).commands()[0].endswith("--columns sire=B,dam=A")
+
+
 @pytest.mark.parametrize("sex", ["Note", "Gewicht"])
 def test_columns_of_something_else(desk: Desk, sex: str) -> None:
     """A column with another title isn't read so, nor one with such a title whose cells are something else."""
