@@ -14,6 +14,9 @@ MARKS = (
     "»", "« »", "d°", "//", "↓", "même", "|", "Idem", "\u00ab\u00a0\u00bb",
     # as word processors write them, and with two signs
     '–"–', '— " —', '-"-', "– ” –", '-"–', "w.o.", "W. o.", ",,", "-,,-", "''", "´´", "ebenso",
+    # in Austria, with blanks between, and what others write
+    "detto", "Detto.", '" "', "'' ''", "” ”", "' '", '"""', "″", "-do-", "- do -", "–dto.–", "gleich", "w. oben", "same",
+    "same as above", "comme ci-dessus", "idem.", "dasselbe",
 )  # fmt: skip
 
 
@@ -26,7 +29,8 @@ def owners(desk: Desk, *words: str) -> list[str]:
 @pytest.mark.parametrize("mark", MARKS)
 def test_marks(desk: Desk, mark: str) -> None:
     """As an owner or a parent each repeats the cell above, and that is told."""
-    done = desk.take(f"{TITLES}{PAIR}{FOAL}104;Képi;M;27/06/2020;{mark};{mark};{mark}\n")
+    cell = '"' + mark.replace('"', '""') + '"' if '"' in mark else mark
+    done = desk.take(f"{TITLES}{PAIR}{FOAL}104;Képi;M;27/06/2020;{cell};{cell};{cell}\n")
     assert desk.parents()["104"] == ("101", "102") and " 0 added" in done.last
     assert owners(desk)[-1] == "Moreau frères" and len(desk.owners()) == 2
     seen = " ".join(mark.split())
@@ -112,3 +116,10 @@ def test_texts_in_quotes(desk: Desk) -> None:
     rows = '101;Max;M;21/02/2010;;;";Huber";\n102;Eva;F;05/06/2011;;;"\nMeier";\n103;A;F;27/06/2019;;;";";\n'
     done = desk.take(MARKED.split("\n")[0] + "\n" + rows)
     assert "alone in cells" not in done.told and owners(desk) == [";Huber", "Meier", ";"]
+
+
+@pytest.mark.parametrize("name, owner", [("Gleich", "Gleich"), ("gleich", "Moreau frères")])
+def test_owner_called_so(desk: Desk, name: str, owner: str) -> None:
+    """A family name is no such word."""
+    desk.take(f"{TITLES}{PAIR}{FOAL}104;Képi;M;27/06/2020;101;102;{name}\n")
+    assert owners(desk)[-1] == owner

@@ -221,7 +221,7 @@ class LikelyColumns:
         links = {at: self.of_parents(at, [one for one in left if one != at]) for at in ids}
         best = max(links, key=lambda at: len(links[at]), default=-1)
         if parents and len(links.get(best, ())) >= len(parents):
-            found |= {Field.ID: best} | dict(zip(parents, links[best]))
+            found |= {Field.ID: best} | dict(zip(parents, self.by_sexes(best, links[best])))
         places = [(field, found.get(field)) for field in missing]
         return tuple(LikelyColumn(field, self.columns.title(at)) for field, at in places if at is not None)
 
@@ -235,17 +235,27 @@ class LikelyColumns:
         """The columns most of whose cells are ids of other rows, in their order; none where the ids aren't
         different."""
         ids = [nearly(cell) for cell in self.columns.cells(id)]
-        known = {*ids}
-        if "" in known or len(known) < len(ids):
+        known = {*ids} - {""}
+        if not are_different(ids):
             return []
         return [at for at in columns if self.are_parents(at, ids, known)]
 
+    def by_sexes(self, id: int, places: list[int]) -> list[int]:
+        """Columns of parents, that of the sires first, where the sheet's sexes tell; else in their order."""
+        if Field.SEX not in self.columns.found:
+            return places
+        ids, sexes = self.columns.cells(id), self.columns.cells(self.columns.found[Field.SEX])
+        known = {nearly(one): KNOWN_SEXES.get(sex_word(sex), "") for one, sex in zip(ids, sexes)}
+        counts = {at: collections.Counter(known.get(nearly(cell)) for cell in self.said(at)) for at in places}
+        return sorted(places, key=lambda at: counts[at]["F"] - counts[at]["M"])
+
     def are_parents(self, at: int, ids: list[str], known: set[str]) -> bool:
-        """Are most cells of a column ids, and none that of its own row?"""
+        """Are most cells of a column ids, and hardly any that of its own row?"""
         cells = [
             (id, nearly(cell)) for id, cell in zip(ids, self.columns.cells(at)) if cell and cell not in self.unknown
         ]
-        return 2 * sum(cell in known for _, cell in cells) > len(cells) and all(id != cell for id, cell in cells)
+        own = sum(id == cell for id, cell in cells)
+        return 2 * sum(cell in known for _, cell in cells) > len(cells) and own <= (1 - MOSTLY) * len(cells)
 
     def of_lost(self, field: Field, before: str) -> str:
         """The title of the column that may have a field which the last sheet had under another one, or nothing: as its

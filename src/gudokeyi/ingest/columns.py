@@ -14,16 +14,18 @@ from gudokeyi.domain.spelling import closest
 from gudokeyi.ingest.births_beside import TAG, parts_of_births
 from gudokeyi.ingest.castrations import castrated_in_remarks
 from gudokeyi.ingest.column_detection import MOST_COMPARED, IdColumn, LikelyColumns, are_different, are_row_numbers
+from gudokeyi.ingest.columns_by_cells import read_by_cells
 from gudokeyi.ingest.days import is_span
 from gudokeyi.ingest.encodings import Letters, decoded_twice
-from gudokeyi.ingest.exits_beside import KNOWN_BUYERS, are_days, exit_columns, exit_day_columns, says_day
+from gudokeyi.ingest.exits_beside import are_days, exit_columns, exit_day_columns, says_day
 from gudokeyi.ingest.exits_unread import (
     ExitsUnread, causes_unread, codes_of_status, column_unread, living_unmarked, remarks_unread,
 )  # fmt: skip
 from gudokeyi.ingest.findings.columns import (
     ColumnLost, ColumnsLack, ColumnUntitled, LikelierColumn, NamedColumnLacks, SheetFinding, TellsNoExits, TitleTwice,
 )  # fmt: skip
-from gudokeyi.ingest.findings.rows import FieldUnread, StatusUnread
+from gudokeyi.ingest.fields_unread import SOME, are_names, tell_unread_fields
+from gudokeyi.ingest.findings.rows import StatusUnread
 from gudokeyi.ingest.findings.sheets import MOST_SHOWN
 from gudokeyi.ingest.many_texts import likely_among
 from gudokeyi.ingest.owners_beside import owners_beside, persons_name
@@ -31,16 +33,15 @@ from gudokeyi.ingest.owners_by_cells import owners_by_cells
 from gudokeyi.ingest.parent_titles import MOST_ALIKE, PARENTS, columns_of_pair, columns_of_parent
 from gudokeyi.ingest.parents_beside import tell_parents_beside, tell_parents_from_others
 from gudokeyi.ingest.remarks import telling_castrations, telling_exits
-from gudokeyi.ingest.sex_marks import marks_told
 from gudokeyi.ingest.sheets import Sheet
 from gudokeyi.ingest.titles import (
-    KNOWN_DOUBTFUL, KNOWN_DOUBTFUL_DAYS, KNOWN_REASONS, KNOWN_STATES, KNOWN_TITLES, NEEDED, TITLES, known_titles,
-    names_both_sexes, names_exits_alone, said_of,
+    KNOWN_DOUBTFUL, KNOWN_DOUBTFUL_DAYS, KNOWN_DOUBTFUL_NAMES, KNOWN_REASONS, KNOWN_STATES, KNOWN_TITLES, NEEDED,
+    TITLES, known_titles, names_both_sexes, names_exits_alone, said_of,
 )  # fmt: skip
 from gudokeyi.ingest.texts import plain
 from gudokeyi.ingest.words import (
-    DEAD, KNOWN_EXITS, KNOWN_NOTHING, KNOWN_SEXES, KNOWN_STAYS, KNOWN_STILL_THERE, LETTER, TELLING_EXITS, has_word,
-    sex_word, state_exit, tells_of_others,
+    DEAD, KNOWN_EXITS, KNOWN_NOTHING, KNOWN_STAYS, KNOWN_STILL_THERE, LETTER, TELLING_EXITS, has_word, state_exit,
+    tells_of_others,
 )  # fmt: skip
 
 
@@ -146,6 +147,7 @@ def find_columns(
     columns.apart = ()
     parents = [name for name in PARENTS if name not in named and name not in columns.found]
     IdColumn(columns, parents, unknown, ids, before.get(Field.ID, "")).find()
+    read_by_cells(columns, named, unknown)
     tell_parents_from_others(columns, parents)
     # `Tag` is a word for ids too, and it is seen now whether it has these
     find_births_in_parts(columns, given)
@@ -216,6 +218,8 @@ def usual_column(columns: Columns, name: str) -> None:
         title = plain(columns.title(at))
         if title in KNOWN_DOUBTFUL_DAYS and not are_days(columns.counts(at)):
             continue
+        if title in KNOWN_DOUBTFUL_NAMES and not are_names(columns.counts(at)):
+            continue
         is_doubtful = title in KNOWN_DOUBTFUL or name == Field.STATUS and title not in KNOWN_REASONS
         if not is_doubtful or tells_exits(columns, at, is_told=name != Field.STATUS):
             columns.found[name] = at
@@ -267,10 +271,6 @@ def tells_exits(columns: Columns, at: int, is_told: bool = True) -> bool:
 def is_cross(cell: str) -> bool:
     """Is it a sign of a death alone?"""
     return not LETTER.search(cell) and DEAD.search(cell) is not None
-
-
-# so many cells show what a column tells
-SOME = 3
 
 
 def tell_unread_statuses(columns: Columns, named: Mapping[str, str], unknown: Container[str]) -> None:
@@ -342,39 +342,6 @@ def tell_untitled(columns: Columns) -> None:
         exits = sum(cells[one] for one in telling if not tells_of_others(one))
         line, text = next((line, texts[at]) for line, texts in columns.sheet.rows if at < len(texts) and texts[at])
         columns.notes.append(ColumnUntitled(letters_of(at), cells.total(), line, text, exits))
-
-
-# the different words that a column of sexes may have, and the different days that one of exits may
-MOST_SEXES, MOST_DIFFERENT = 40, 2000
-
-
-def tell_unread_fields(columns: Columns, named: Mapping[str, str]) -> None:
-    """Columns that aren't read, and look like what no column is read for: one of sexes, or one of exits' days."""
-    looks = {Field.SEX: looks_like_sexes, Field.EXIT: looks_like_exit_days}
-    if Field.SEX not in columns.found and named.get(Field.SEX) != "":
-        columns.notes += marks_told(columns.sheet, columns.found.values())
-    for name, look in looks.items():
-        if name in columns.found or named.get(name) == "":
-            continue
-        for at in [at for at, title in enumerate(columns.sheet.titles) if title and columns.is_free(at)][:MOST_COMPARED]:
-            cells = columns.counts(at)
-            least = 1 if plain(columns.title(at)) in KNOWN_BUYERS else SOME
-            if cells.total() >= least and len(cells) <= MOST_DIFFERENT and look(columns.title(at), cells):
-                said = tuple([*cells][:MOST_SHOWN])
-                columns.notes.append(FieldUnread(name, columns.title(at), cells.total(), said))
-
-
-def looks_like_sexes(_: str, cells: collections.Counter[str]) -> bool:
-    found = [cell for cell in cells if sex_word(cell) in KNOWN_SEXES]
-    sexes = {KNOWN_SEXES[sex_word(cell)] for cell in found}
-    return len(sexes) == 2 and len(cells) <= MOST_SEXES and 2 * sum(cells[cell] for cell in found) > cells.total()
-
-
-def looks_like_exit_days(title: str, cells: collections.Counter[str]) -> bool:
-    """Is it one of exits' days, or one that says to whom animals were sold?"""
-    if plain(title) in KNOWN_BUYERS:
-        return any(map(LETTER.search, cells))
-    return has_word(title, TELLING_EXITS) and 2 * sum(cells[cell] for cell in cells if is_span(cell)) > cells.total()
 
 
 def find_person(columns: Columns, named: Mapping[str, str]) -> None:

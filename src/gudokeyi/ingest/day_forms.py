@@ -11,7 +11,7 @@ import statistics
 from collections.abc import Iterable
 
 from gudokeyi.ingest.days import (
-    FIRST_DAY, FIRST_YEAR, LAST_YEAR, MONTHS, NAME, NOT_THAT_YEAR, DayFault, Precision, Span, Unreadable, compared,
+    FIRST_DAY, FIRST_YEAR, LAST_YEAR, MONTHS, NAME, NOT_THAT_YEAR, ROMAN, DayFault, Precision, Span, Unreadable, compared,
     is_span, month_of, places_within, read_span, span_said, span_within,
 )  # fmt: skip
 from gudokeyi.ingest.findings.columns import SheetFinding
@@ -25,8 +25,10 @@ from gudokeyi.ingest.words import LETTER
 EPOCH, SERIAL = datetime.date(1899, 12, 30), re.compile(r"(\d{5})(?:[.,]\d+)?")
 # a number below it may be a postal code, or that of a tag
 FIRST_SERIAL = datetime.date(1960, 1, 1)
+# a Roman number is a month behind a sign alone: `2 x 20` counts something
 TWO = re.compile(
-    rf"(?P<day>\d{{1,2}})(?P<sign>[ ./-]+)(?:(?P<month>\d{{1,2}})|(?P<name>{NAME}))[ ./-]+'?(?P<year>\d{{2}})"
+    rf"(?P<day>\d{{1,2}})(?P<sign>[ ./-]+)(?:(?P<month>\d{{1,2}})|(?P<name>{NAME})|"
+    r"(?:(?<=[./-])|(?<=[./-] ))(?P<roman>I{1,3}|IV|VI{0,3}|IX|XI{0,2})(?= ?[./-]))[ ./-]+'?(?P<year>\d{2})"
     # a year of four digits may have a wrong sign among them, as `20l9`, `20?9` and `20 19`
     r"(?!\w|[?*.#~]+\d| \d\d\W*$)",
     re.IGNORECASE,
@@ -168,8 +170,8 @@ class DayForms:
 
     def two_digits(self, found: re.Match[str]) -> Span | None:
         """A day of the century that is nearest to the other days; of a month that hasn't this day its days."""
-        day, month = int(found["day"]), MONTHS[compared(found["name"])] if found["name"] else int(found["month"])
-        if self.month_first and found["sign"].strip() in ("/", "-") and not found["name"]:
+        day, month = int(found["day"]), month_said(found)
+        if self.month_first and found["sign"].strip() in ("/", "-") and found["month"]:
             day, month = month, day
         if not 1 <= month <= 12:
             return None
@@ -353,6 +355,13 @@ class DayForms:
             return None
         year = self.year_near(found["year"])
         return month_of(year, int(found["month"]))._replace(text=text) if self.today.year - year <= LONG_AGO else None
+
+
+def month_said(found: re.Match[str]) -> int:
+    """By a name, a Roman number or digits."""
+    if found["name"]:
+        return MONTHS[compared(found["name"])]
+    return ROMAN[found["roman"].upper()] if found["roman"] else int(found["month"])
 
 
 def days_of(first: datetime.date, last: datetime.date, text: str = "") -> Span:

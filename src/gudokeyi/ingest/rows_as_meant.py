@@ -16,6 +16,7 @@ from gudokeyi.domain.kinds import Field
 from gudokeyi.ingest.births_beside import births_said
 from gudokeyi.ingest.day_forms import TWO
 from gudokeyi.ingest.days import places_within
+from gudokeyi.ingest.days_together import read_together
 from gudokeyi.ingest.exits_below import with_exits_below
 from gudokeyi.ingest.exits_beside import Exits
 from gudokeyi.ingest.exits_in_doubt import is_in_doubt
@@ -119,19 +120,31 @@ def reads_so(text: str, shapes: Mapping[str, int]) -> bool:
 # Marks that stand for the cell above.
 
 # such marks of signs alone, and the dashes between which they stand too
-QUOTES = ('"', "''", "”", "“", "„", "〃", "″", ",,", "‚‚", "’’", "‘‘", "´´", "``", '""', "””", "„“", "„”", "““")
+QUOTES = (
+    '"', "''", "”", "“", "„", "〃", "″", "‶", "〞", "˝", ",,", "‚‚", "’’", "‘‘", "´´", "``", '""', "””", "„“", "„”", "““",
+    "′′",
+)  # fmt: skip
+# two or three of these, with blanks between or without
+SEVERAL_QUOTES = {
+    blank.join([mark] * count) for mark in (*QUOTES, "'", "’", "´", "′") for count in (2, 3) for blank in ("", " ")
+}
+WORDS_BETWEEN = "do", "do.", "dto", "dto.", "dito", "detto", "id", "id.", "idem"
 DASHES = ("-", "–", "—", "−")
 BETWEEN_DASHES = {
     one + blank + mark + blank + other
-    for one, other in itertools.product(DASHES, DASHES) for blank in ("", " ") for mark in QUOTES
+    for one, other in itertools.product(DASHES, DASHES) for blank in ("", " ") for mark in (*QUOTES, *WORDS_BETWEEN)
 }  # fmt: skip
-DITTO = {*QUOTES} | BETWEEN_DASHES | {
-    "dito", "dito.", "dto", "dto.", "dtto", "dtto.", "ditto", "do.", "idem", "id.", "s.o.", "s. o.", "s. oben",
-    "siehe oben", "w.o.", "w. o.", "w.o", "wie oben", "wie vor", "wie zuvor", "wie vorher", "ebenso", "ebenfalls", "ebd.",
-    "as above", "same as above", "same", "ci-dessus", "voir ci-dessus",
-    "comme ci-dessus", "le même", "la même", "the same", "derselbe", "dieselbe", "der gleiche", "die gleiche",
-    "»", "«", "« »", "«»", "»»", "» »", "d°", "d °", "dº", "même", "desgl.",
+DITTO = {*QUOTES} | SEVERAL_QUOTES | BETWEEN_DASHES | {
+    "dito", "dito.", "detto", "detto.", "dto", "dto.", "dtto", "dtto.", "ditto", "ditto.", "do.", "idem", "idem.", "id.",
+    "s.o.", "s. o.", "s.o", "s. oben", "siehe oben", "w.o.", "w. o.", "w.o", "w. oben", "wie oben", "wie vor", "wie zuvor",
+    "wie vorher", "wie darüber", "ebenso", "ebenfalls", "ebd.", "gleich", "gleich wie oben", "gleiche", "gleicher",
+    "der gleiche", "die gleiche", "derselbe", "dieselbe", "dasselbe", "desgl.", "desgleichen",
+    "as above", "see above", "same", "the same", "same as above", "the same as above",
+    "ci-dessus", "voir ci-dessus", "cf. ci-dessus", "comme ci-dessus", "idem ci-dessus", "comme au-dessus",
+    "comme plus haut", "même", "le même", "la même", "»", "«", "« »", "«»", "»»", "» »", "d°", "d °", "dº",
 }  # fmt: skip
+# people are called so too
+NAMES_OF_PEOPLE = {"Gleich", "GLEICH"}
 # the same of an owner or a parent alone: of a day they may say that it isn't known
 DITTO_OF_OWNER = DITTO | {"//", "/ /", "|", "||", "↓"}
 # the same of a parent alone; as an owner it may be a name, and as a sex `doe`
@@ -223,7 +236,7 @@ def repeated(rows: list[SheetRow], at: int, marks: set[str]) -> Repeated:
     found, above = Repeated([], [], []), ""
     for row in rows:
         text = cell_of(row, at)
-        if text.casefold() not in marks:
+        if text.casefold() not in marks or text in NAMES_OF_PEOPLE:
             above = text
         elif above:
             found.told.append((row.line, text, above))
@@ -262,6 +275,7 @@ def as_meant(
     if owners:
         rows = with_cells(rows, columns[Field.OWNER], owners)
     rows = without_no_days(rows, sheet, columns, report)
+    rows = read_together(rows, sheet, columns, unknown, report)
     births = births_said(rows, sheet, columns, unknown, report)
     if births:
         rows = with_cells(rows, columns[Field.BIRTH], births)

@@ -16,8 +16,8 @@ from gudokeyi.ingest.findings.sexes import (
 from gudokeyi.ingest.findings.sheets import TextCount
 from gudokeyi.ingest.texts import plain
 from gudokeyi.ingest.words import (
-    BESIDE_WETHERS, CASTRATED_MALE, COUNTED_SEXES, KNOWN_CASTRATED, KNOWN_DOUBTS, KNOWN_FEMALES, KNOWN_GELDED,
-    KNOWN_NEGATIONS, KNOWN_NEUTERED, KNOWN_SEXES, has_word, sex_word,
+    BESIDE_WETHERS, CASTRATED_MALE, COUNTED_SEXES, KNOWN_CASTRATED, KNOWN_CASTRATED_SHORT, KNOWN_DOUBTS, KNOWN_FEMALES,
+    KNOWN_GELDED, KNOWN_NEGATIONS, KNOWN_NEUTERED, KNOWN_OF_EITHER_SEX, KNOWN_SEXES, has_word, sex_word,
 )  # fmt: skip
 
 
@@ -30,7 +30,7 @@ class Meaning(NamedTuple):
     word: str
 
 
-NUMBER = re.compile(r"\d+[.,]\d+")
+NUMBER = re.compile(r"\d+[.,/]\d+")
 # words of which columns have the first letters, some of which stand for another sex elsewhere
 THREE_LETTERS = (
     ("Hengst", "Stute", "Wallach"), ("stallion", "mare", "gelding"), ("étalon", "jument", "hongre"),
@@ -40,6 +40,9 @@ THREE_LETTERS = (
 LETTER, WETHER = "w", "wether"
 # the letter of a female beside which it isn't one
 OF_AUE = "a"
+# a form without a full stop of more letters is a word of its own
+MOST_LETTERS = 3
+SAID_CASTRATED = KNOWN_CASTRATED | KNOWN_CASTRATED_SHORT | KNOWN_NEUTERED
 # so many animals may be named as dams by mistake, or one for many others; with so many others for each they are
 FEW_MISTAKEN, FEW_MORE = 2, 5
 
@@ -76,6 +79,8 @@ class Sexes:
         is_counted = counted <= COUNTED_SEXES.keys() and ("1.0" not in counted or "0.1" in counted)
         self.counted = {text: COUNTED_SEXES[text] for text in counted if is_counted and sex_word(text) not in given}
         self.short = self.short_words(texts)
+        # the column's words for animals of either sex, for which a short form may stand too
+        self.of_either_sex = {word for text in {*texts} if (word := sex_word(text)) in KNOWN_OF_EITHER_SEX - given.keys()}
         # what single letters mean in this column, whatever they mean in others
         self.letters = self.letters_of_three({sex_word(text) for text in {*texts}}, given)
         self.letter: LetterRead | None = None
@@ -180,12 +185,20 @@ class Sexes:
             return Meaning(sex, sex == "M" and has_word(whole, KNOWN_CASTRATED), whole)
         sex, longer = self.known.get(word, ""), self.short.get(word, [])
         taken_for, meant = "", [text]
-        if not sex and text and len({sex for _, sex in longer}) == 1:
+        if not sex and len({sex for _, sex in longer}) == 1 and self.is_short(text):
             (taken_for, sex), meant = longer[0], [whole for whole, _ in longer]
         elif not sex:
             taken_for, sex = self.among_words(text)
             meant = [f"{text} {self.letters.get(plain(taken_for), '')}"]
         return Meaning(sex, sex == "M" and all(map(is_castrated, meant)), taken_for)
+
+    def is_short(self, text: str) -> bool:
+        """Is a text a short form, and of no word for animals of either sex? One that is such a word, as `Kalb` beside
+        `Kalbin`, is none."""
+        word = sex_word(text)
+        if word in KNOWN_OF_EITHER_SEX or any(one.startswith(word) for one in self.of_either_sex):
+            return False
+        return len(word) <= MOST_LETTERS or text.endswith(".")
 
     def among_words(self, text: str) -> tuple[str, str]:
         """A word of the text and its sex, where that is the only one in it, as in `Rüde (kastriert)`; that of one that
@@ -310,4 +323,4 @@ def is_unsure(text: str) -> bool:
 
 def is_castrated(text: str) -> bool:
     """Does a text for a male say that it is castrated?"""
-    return has_word(text, KNOWN_CASTRATED | KNOWN_NEUTERED) and not has_word(text, KNOWN_NEGATIONS)
+    return has_word(text, SAID_CASTRATED) and not has_word(text, KNOWN_NEGATIONS)

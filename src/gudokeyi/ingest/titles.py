@@ -40,8 +40,10 @@ TITLES = {
     "boucle, matricule, animal, Tier, number, no, nr, Nummer, numéro, n°",
     Field.NAME: "name, registered name, animal name, full name, Tiername, Zuchtname, "
     "Name des Tieres, nom, nom de l'animal, nom du chien, nom du cheval, dog name, name of dog, horse name, "
-    "name of horse, Name des Hundes, Name des Pferdes, Pferdename, Hundename, dog, horse, Hund, Pferd, chien, cheval, "
-    "Rufname, call name, nom usuel, nom d'usage",
+    "name of horse, Name des Hundes, Name des Pferdes, Pferdename, Hundename, pedigree name, herd book name, stud book "
+    "name, official name, name of animal, animal's name, name (registered), Vollname, voller Name, vollständiger Name, "
+    "eingetragener Name, Zuchtbuchname, Herdbuchname, nom complet, nom officiel, nom enregistré, nom animal, dog, horse, "
+    "Hund, Pferd, chien, cheval, Rufname, call name, stable name, nom usuel, nom d'usage, nom d'élevage",
     Field.SEX: "sex, gender, Geschlecht, Geschl, sexe, genre, sex m/f, Geschlecht m/w, sexe m/f, m/w, m/f, w/m, f/m",
     Field.BIRTH: "birth date, date of birth, birthday, birth day, dob, date born, Geburtsdatum, Geburtstag, "
     "geboren am, geb. am, "
@@ -123,6 +125,8 @@ DOUBTFUL_EXITS = (
 DOUBTFUL_DAYS = (
     "Zukauf, Ankauf, gekauft, zugekauft, angekauft, erworben, bought, purchased, acquired, acheté, achetée, acheté(e)"
 )
+# titles of animals' names that farms have too, whose names stand in many rows
+DOUBTFUL_NAMES = "nom d'élevage"
 # Columns that a sheet has to have; `--columns sire=` says that there is none.
 NEEDED = (Field.ID, Field.BIRTH, Field.SIRE, Field.DAM)
 
@@ -160,6 +164,7 @@ KNOWN_PAIRS = {field: {plain(title) for title in listed(titles)} for field, titl
 # titles that name a parent, and not only its sex
 NAMING_PARENTS = {title for role, pairs in KNOWN_PAIRS.items() for title in KNOWN_TITLES[role] if title not in pairs}
 KNOWN_DOUBTFUL = {plain(title) for title in listed(DOUBTFUL_EXITS)}
+KNOWN_DOUBTFUL_NAMES = {plain(title) for title in listed(DOUBTFUL_NAMES)}
 KNOWN_DOUBTFUL_DAYS = {plain(title) for title in listed(DOUBTFUL_DAYS)}
 KNOWN_STATUSES, KNOWN_REASONS = {*KNOWN_TITLES[Field.STATUS]}, {plain(title) for title in listed(REASONS)}
 # columns in which yes is said of the living, with what stands before the title where no is said

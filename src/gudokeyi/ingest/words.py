@@ -27,27 +27,62 @@ UNKNOWN = (
 )
 # `M` is male in all three languages, and `W` is weiblich; single letters that mean two things aren't here.
 SEXES = {
-    "M": "m, male, bull, ram, tup, buck, billy, stallion, colt, boar, dog, stud, jack, ♂, "
-    "Rammler, Eselhengst, maennlich, Hahn, coq, baudet, männlich, männl, männliche, Bulle, Jungbulle, Zuchtbulle, Deckbulle, Stier, Jungstier, Zuchtstier, Muni, Bock, "
-    "Schafbock, Ziegenbock, Zuchtbock, Jungbock, Altbock, Bocklamm, Widder, Hengst, Junghengst, Eber, Rüde, Kater, "
-    "Bullenkalb, Stierkalb, Hengstfohlen, mâle, taureau, taurillon, bélier, bouc, étalon, poulain, chien, "
-    "agneau mâle, verrat, entier, mâle entier, masculin, masc",
-    "F": "f, fs, fn, bs, female, fem, cow, heifer, ewe, gimmer, doe, nanny, mare, filly, sow, gilt, bitch, brood bitch, "
-    "queen, jenny, jennet, ♀, w, weiblich, weibl, spayed, spayed female, Häsin, Zippe, Eselin, Eselstute, Henne, poule, "
-    "ânesse, lapine, "
-    "weibliche, Kuh, Jungkuh, Mutterkuh, Färse, Kalbin, Kalbe, Sterke, Starke, Kuhkalb, Aue, Au, Jungaue, Altaue, "
-    "Aulamm, Auenlamm, Mutter, Muttertier, Mutterschaf, Zibbe, Zibbenlamm, Ziege, Geiß, Geiss, Mutterziege, "
-    "Jungziege, Stute, Jungstute, Zuchtstute, Stutfohlen, Sau, Hündin, Kätzin, Katze, femelle, vache, génisse, brebis, "
-    "antenaise, agnelle, agneau femelle, chèvre, chevrette, jument, pouliche, truie, chienne, féminin, fém",
+    "M": "m, male, mnl, männlich, maennlich, männl, männliche, Männchen, mâle, mâle entier, masculin, masc, entier, "
+    "entire, stud, Vatertier, reproducteur, géniteur, macho, ♂, "
+    "bull, bull calf, Bulle, Jungbulle, Zuchtbulle, Deckbulle, Mastbulle, Bullenkalb, Bullkalb, Stier, Jungstier, "
+    "Zuchtstier, Deckstier, Maststier, Altstier, Stierkalb, Muni, Zuchtmuni, Munikalb, Farren, taureau, taurillon, "
+    "broutard, "
+    "ram, ram lamb, tup, tup lamb, buck, buck kid, buckling, billy, Bock, Schafbock, Ziegenbock, Zuchtbock, "
+    "Deckbock, Jungbock, Altbock, Jährlingsbock, Bocklamm, Bockkitz, Bockgitzi, Kitzbock, Widder, Jungwidder, "
+    "Altwidder, Zuchtwidder, Deckwidder, Widderlamm, bélier, antenais, agneau mâle, bouc, "
+    "stallion, colt, Hengst, Junghengst, Deckhengst, Zuchthengst, Jährlingshengst, Hengstfohlen, étalon, poulain, "
+    "jack, jackass, Esel, Eselhengst, baudet, âne, ânon, bourricot, "
+    "boar, Eber, Jungeber, Zuchteber, verrat, "
+    "dog, Hund, Rüde, Jungrüde, Zuchtrüde, Deckrüde, chien, tom, tomcat, Kater, Jungkater, Zuchtkater, Deckkater, "
+    "chat, matou, "
+    "Rammler, Jungrammler, Altrammler, Zuchtrammler, lapin, bouquin, "
+    "cock, cockerel, rooster, Hahn, Junghahn, Althahn, Zuchthahn, Gockel, Güggel, coq, coquelet, drake, Erpel, "
+    "gander, Ganter, Gänserich, jars, gobbler, Truthahn, Puter, dindon, Täuber, Täuberich",
+    "F": "f, fs, fn, bs, female, fem, w, wbl, weiblich, weibl, weibliche, Weibchen, femelle, féminin, fém, spayed, "
+    "spayed female, Mutter, Muttertier, reproductrice, génitrice, hembra, ♀, "
+    "cow, heifer, hfr, heifer calf, maiden heifer, freemartin, Kuh, Jungkuh, Altkuh, Zuchtkuh, Milchkuh, "
+    "Mutterkuh, Erstlingskuh, Färse, Zuchtfärse, Kalbin, Jungkalbin, Zuchtkalbin, Kalbe, Sterke, Starke, Queene, "
+    "Kuhkalb, vache, génisse, vêle, velle, broutarde, primipare, "
+    "ewe, ewe lamb, gimmer, theave, chilver, yow, yowe, Aue, Au, Jungaue, Altaue, Zuchtaue, Aulamm, Auelamm, "
+    "Auenlamm, Mutterschaf, Mutterlamm, Zibbe, Zibbenlamm, Zutreterin, brebis, antenaise, agnelle, agneau femelle, "
+    "doe, doe kid, doeling, goatling, nanny, Ziege, Jungziege, Altziege, Zuchtziege, Milchziege, Mutterziege, "
+    "Zicke, Geiß, Geiss, Gaiß, Gais, Junggeiß, Altgeiß, Zuchtgeiß, Muttergeiß, Jährlingsgeiß, Geißkitz, "
+    "Geißgitzi, Kitzgeiß, chèvre, chevrette, bique, biquette, "
+    "mare, broodmare, filly, Stute, Jungstute, Zuchtstute, Mutterstute, Jährlingsstute, Stutfohlen, Stutenfohlen, "
+    "jument, poulinière, pouliche, poulain femelle, "
+    "jenny, jennet, Eselin, Eselstute, ânesse, ânonne, ânon femelle, "
+    "sow, gilt, Sau, Jungsau, Altsau, Zuchtsau, Muttersau, Mutterschwein, truie, cochette, coche, "
+    "bitch, brood bitch, Hündin, Junghündin, Zuchthündin, chienne, queen, Kätzin, Jungkätzin, Zuchtkätzin, Katze, "
+    "Zuchtkatze, chatte, Häsin, Junghäsin, Althäsin, Zuchthäsin, Zippe, lapine, "
+    "hen, pullet, Henne, Junghenne, Althenne, Zuchthenne, Legehenne, Glucke, poule, poulette, cane, Truthenne, "
+    "Pute, dinde, Täubin",
 }
+# what animals of either sex are called: such a word says none, and is no short form of a longer one
+OF_EITHER_SEX = (
+    "calf, Kalb, Rind, veau, lamb, Lamm, Schaf, sheep, agneau, kid, goat, Kitz, Gitzi, Zicklein, chevreau, cabri, "
+    "foal, horse, Fohlen, Füllen, Pferd, cheval, donkey, mule, pig, piglet, hog, Ferkel, Schwein, porcelet, cochon, "
+    "pup, puppy, Welpe, chiot, cat, kitten, chaton, rabbit, kit, Kaninchen, Hase, lapereau, chick, chicken, Huhn, "
+    "Küken, poussin, duck, Ente, canard, goose, Gans, oie, turkey, Taube, pigeon, cria, Jungtier, young, jeune, he"
+)
 # what stands for the sex of a castrated male where words for sexes are said
 CASTRATED_MALE = "C"
 # males that have no offspring any more
 CASTRATED = (
-    "ox, steer, bullock, wether, gelding, barrow, neutered male, castrated, castrate, male castrated, kastr, Ochse, Hammel, "
-    "Schöps, Wallach, Kastrat, kastriert, männlich kastriert, Rüde kastriert, Borg, Kapaun, hongre, boeuf, bœuf, "
-    "mouton castré, castré, mâle castré, châtré, mâle châtré, mn, mc, dn"
+    "castrated, castrate, male castrated, neutered male, mn, mc, dn, Kastrat, Frühkastrat, kastr, kastriert, männlich "
+    "kastriert, castrat, castré, mâle castré, châtré, mâle châtré, "
+    "ox, steer, bullock, bullock calf, steer calf, Ochse, Ochs, Mastochse, Ochsenkalb, bœuf, boeuf, "
+    "bouvillon, "
+    "wether, wedder, wether lamb, Hammel, Hammellamm, Schöps, mouton castré, "
+    "gelding, Wallach, Jungwallach, Eselwallach, hongre, âne castré, barrow, Borg, Rüde kastriert, capon, "
+    "Kapaun, chapon"
 )
+# short forms of these, which mean something else in other columns, as `blk` for black
+CASTRATED_SHORT = "str, blk, bllk, gldg"
 # words that stand beside one for a sex
 NEUTERED = (
     "neut, neutered, cast, castr, castrated, kast, kastr, kastriert, gelded, gelegt, sterilisiert, castré, castrée, "
@@ -58,8 +93,8 @@ GELDED = "gelded, gelegt, castré, châtré"
 # words for females of lists in which W isn't weiblich: where it would be, `f` and `female` aren't, and W is Wallach
 # beside mares
 BESIDE_FEMALES = (
-    "f, female, fem, cow, heifer, ewe, gimmer, doe, nanny, mare, filly, sow, gilt, bitch, brood bitch, queen, jenny, "
-    "jennet, Stute, Jungstute, Zuchtstute, Stutfohlen"
+    "f, female, fem, cow, heifer, hfr, ewe, gimmer, theave, chilver, doe, doeling, goatling, nanny, mare, broodmare, "
+    "filly, sow, gilt, bitch, brood bitch, queen, jenny, jennet, Stute, Jungstute, Zuchtstute, Mutterstute, Stutfohlen"
 )
 # those of them that German lists have too, beside `w`
 FEMALES = "f, female, fem"
@@ -69,7 +104,7 @@ DOUBTS = (
     "possibly, uncertain, unsure, not sure, peut-être, probable, probablement, incertain, pas sûr, inferred, invented"
 )
 # how breeders of small animals count males and females
-COUNTED_SEXES = {"1,0": "M", "0,1": "F", "1.0": "M", "0.1": "F"}
+COUNTED_SEXES = {"1,0": "M", "0,1": "F", "1.0": "M", "0.1": "F", "1/0": "M", "0/1": "F"}
 # a word for a grown male that isn't castrated tells behind one of these that it was castrated since
 FORMER = "ex, former, formerly, was, früher, früherer, ehemals, ehemaliger, ehem, war, ancien, anciennement"
 GROWN_MALES = (
@@ -206,6 +241,9 @@ KNOWN_SEXES = {plain(word): sex for sex, words in SEXES.items() for word in list
 KNOWN_CASTRATED = {plain(word) for word in listed(CASTRATED)}
 KNOWN_CASTRATED |= {plain(former + word) for former in listed(FORMER) for word in listed(GROWN_MALES)}
 KNOWN_SEXES |= {word: "M" for word in KNOWN_CASTRATED}
+KNOWN_CASTRATED_SHORT = {plain(word) for word in listed(CASTRATED_SHORT)}
+KNOWN_SEXES |= {word: "M" for word in KNOWN_CASTRATED_SHORT}
+KNOWN_OF_EITHER_SEX = {plain(word) for word in listed(OF_EITHER_SEX)}
 KNOWN_NEUTERED = {plain(word) for word in listed(NEUTERED)}
 KNOWN_GELDED = {plain(word) for word in listed(GELDED)}
 BESIDE_WETHERS = {plain(word) for word in listed(BESIDE_FEMALES)}

@@ -20,7 +20,7 @@ from gudokeyi.ingest.animals import (
 )  # fmt: skip
 from gudokeyi.ingest.day_cells import DayCell, DayCells
 from gudokeyi.ingest.texts import clean, nearly
-from gudokeyi.ingest.words import KNOWN_CASTRATED, KNOWN_SEXES, KNOWN_YES, sex_word
+from gudokeyi.ingest.words import KNOWN_CASTRATED, KNOWN_CASTRATED_SHORT, KNOWN_SEXES, KNOWN_YES, sex_word
 from gudokeyi.reconcile.animals_of_book import AnimalsOfBook
 from gudokeyi.reconcile.last_found import Kept, LastFound, NothingKept
 from gudokeyi.reconcile.rows_of_book import RowsOfBook
@@ -55,7 +55,7 @@ class Meanings:
             return days_of(exit.day, text) if exit else ""
         if field is Field.SEX:
             word = sex_word(text)
-            return (KNOWN_SEXES[word], word in KNOWN_CASTRATED) if word in KNOWN_SEXES else clean(text)
+            return (KNOWN_SEXES[word], word in KNOWN_CASTRATED | KNOWN_CASTRATED_SHORT) if word in KNOWN_SEXES else clean(text)
         return text.casefold() in KNOWN_YES if field is Field.EMBRYO else clean(text)
 
     def parent(self, offspring: str, text: str, role: Role) -> str:

@@ -28,7 +28,11 @@ SEVERAL = {
 }
 SEXES = {sex_word(word): sex for sex, words in SEVERAL.items() for word in listed(words)} | KNOWN_SEXES
 # words that are those of a species too: they say a sex where another row says the other one
-OF_SPECIES = {plain(word) for word in listed("dogs, dog, Ziegen, Ziege, cows, cow, Katze, chien, chèvres, chèvre")}
+OF_SPECIES = {
+    plain(word) for word in listed(
+        "dogs, dog, Ziegen, Ziege, cows, cow, Katze, Hund, Esel, Pute, chien, chèvres, chèvre, âne, chat, lapin, dinde, poule"
+    )
+}  # fmt: skip
 # a word of fewer letters may be short for anything
 LEAST_LETTERS = 3
 WORD = re.compile(r"[^\W\d_]+")

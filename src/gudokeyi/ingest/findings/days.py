@@ -15,6 +15,8 @@ class DayReading(Worded):
 
     TWO_DIGITS = "two digits"
     SERIAL = "serial"
+    # as `12052023`
+    TOGETHER = "together"
     WITHIN = "within"
     ONE_OF = "one of"
     UNSURE = "unsure"
@@ -30,6 +32,7 @@ class DayReading(Worded):
 READINGS = {
     DayReading.TWO_DIGITS: "two digits of the year",
     DayReading.SERIAL: "a spreadsheet's number for a day",
+    DayReading.TOGETHER: "day, month and year without signs between",
     DayReading.WITHIN: "a day and a text",
     DayReading.ONE_OF: "one of several days",
     DayReading.UNSURE: "a day that isn't certain",

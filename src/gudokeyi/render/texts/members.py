@@ -36,6 +36,7 @@ OF_FINDINGS: dict[enum.Enum, str] = {
     DayFault.OTHER_EVENT: "'{}' tells of another event than a birth: write the day of birth alone",
     DayReading.TWO_DIGITS: "two digits of the year",
     DayReading.SERIAL: "a spreadsheet's number for a day",
+    DayReading.TOGETHER: "day, month and year without signs between",
     DayReading.WITHIN: "a day and a text",
     DayReading.ONE_OF: "one of several days",
     DayReading.UNSURE: "a day that isn't certain",
