@@ -13,13 +13,14 @@ import pytest
 from front_desk.desk import Desk
 from gudokeyi.domain.findings import Finding, Report
 from gudokeyi.ingest.animals import SheetAnimal
+from gudokeyi.ingest.doubtful_owners import is_no_name
 from gudokeyi.ingest.texts import plain
 from gudokeyi.reconcile.findings.animals import OwnerMistyped, OwnerRespelt, OwnersAlike, OwnersOtherwise, Spelling
 from gudokeyi.reconcile.findings.plausibility import OwnerOfSeveral, OwnerWithInitial, OwnerWithMore
 from gudokeyi.reconcile.next_book import NextBook
 from gudokeyi.reconcile.owner_words import tell_owners_of_like_words
 from gudokeyi.reconcile.owners import (
-    MORE, differ_by_one, is_no_name, tell_doubtful_owners, tell_mistyped_owners, tell_owners_alike,
+    MORE, differ_by_one, tell_doubtful_owners, tell_mistyped_owners, tell_owners_alike,
     tell_owners_with_more, tell_respelt_owners,
 )  # fmt: skip
 

@@ -16,6 +16,7 @@ from gudokeyi.domain.kinds import Field
 from gudokeyi.ingest.births_beside import births_said
 from gudokeyi.ingest.day_forms import TWO
 from gudokeyi.ingest.days import places_within
+from gudokeyi.ingest.doubtful_owners import is_no_name, tells_of_exit
 from gudokeyi.ingest.exits_beside import Exits
 from gudokeyi.ingest.findings.cells import UnseenInId
 from gudokeyi.ingest.findings.rows import CellsRepeated, MarksAreNames, NoteRow, NothingRepeated
@@ -26,7 +27,7 @@ from gudokeyi.ingest.names_for_ids import with_names_for_ids
 from gudokeyi.ingest.no_days import without_no_days
 from gudokeyi.ingest.owners_beside import owners_named
 from gudokeyi.ingest.sheets import Sheet, SheetRow, cell_of, with_cell
-from gudokeyi.ingest.statuses import SOLD, TAKER, exits_said, taker_of_owner
+from gudokeyi.ingest.statuses import SOLD, TAKER, exits_said
 from gudokeyi.ingest.texts import nearly, plain, shape, shapes_of
 from gudokeyi.ingest.unknown_parents import UnknownParents, names_no_owner
 from gudokeyi.ingest.words import KNOWN_EXITS, KNOWN_SEXES, KNOWN_SUMS, is_in_doubt, is_undone, lives_besides, sex_word
@@ -296,13 +297,16 @@ class Takers:
     names and the numbers of members that a text may have."""
 
     def __init__(self, owners: Mapping[str, str]) -> None:
-        names = [name for name, owner in owners.items() if owner and not (taker_of_owner(name) or names_no_owner(name))]
+        named = [name for name, owner in owners.items() if owner and not names_no_owner(name)]
+        names = [name for name in named if not (is_no_name(name) or tells_of_exit(name))]
         self.by_words = [(words, owners[name]) for name in names if (words := words_of(name))]
 
     def named(self, text: str) -> tuple[str, ...]:
         """The owners who are named behind `verkauft an`, or in a text that begins with whom."""
         found = TAKER.search(text) or TO_WHOM.match(text)
-        return self.called(without_days(found["taker"])) if found and not (lives_besides(text) or is_undone(text)) else ()
+        if found is None or lives_besides(text) or is_undone(text):
+            return ()
+        return self.called(without_days(found["taker"]))
 
     def behind_sale(self, text: str) -> tuple[str, ...]:
         """The owners whom a text may mean that has nothing but a name and a day beside a word for a sale, as

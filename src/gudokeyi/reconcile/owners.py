@@ -8,11 +8,9 @@ import re
 from collections.abc import Collection, Iterator, Mapping, Sequence
 
 from gudokeyi.ingest.animals import LINE_OF, NAME_OF, OWNER_OF, SheetAnimal
-from gudokeyi.ingest.statuses import taker_of_owner
+from gudokeyi.ingest.doubtful_owners import WORD, is_no_name, is_telephone, tells_of_exit
 from gudokeyi.ingest.texts import plain
-from gudokeyi.ingest.words import (
-    BEGINS_BORN_DEAD, DEAD, KNOWN_BORN_DEAD, KNOWN_NO_NAMES, PLAIN_EXITS, TELLING_EXITS, has_word,
-)  # fmt: skip
+from gudokeyi.ingest.words import BEGINS_BORN_DEAD, KNOWN_BORN_DEAD, PLAIN_EXITS, has_word
 from gudokeyi.reconcile.findings.animals import (
     OwnerMistyped, OwnerOfBookAlike, OwnerRenamed, OwnerRespelt, OwnersAlike, OwnersOtherwise, Spelling,
 )  # fmt: skip
@@ -236,17 +234,13 @@ MORE = re.compile(
     r"depuis|jusqu\w*|dès|jetzt|bei|neu|neuer|gekauft|now|by|new|bought|maintenant|chez|par|nouveau|achetée?)\b",
     re.IGNORECASE,
 )
-WORD, A_DAY = re.compile(r"[^\W_]+"), re.compile(r"\d{1,4}[./-]\d{1,2}[./-]\d{2,4}")
-BESIDE = {"am", "on", "le", "im", "in", "en"}
 MOST_WITHIN = 5
-# words of exits with which no name of a person begins
-BEGIN_EXITS = PLAIN_EXITS - {"tot", "mort", "dead"} | {"verkauf", "verk", "vente", "abgegeben", "abgegangen", "eingegangen"}
 
 
 def tell_doubtful_owners(
     next_book: NextBook, owners_before: set[str], rows: collections.Counter[str] | None = None
 ) -> None:
-    """New owners whose name reads like an exit or a day, or has the names of others in it."""
+    """New owners whose name reads like an exit, a day or a telephone number, or has the names of others in it."""
     rows = owners_of_rows(next_book) if rows is None else rows
     words = {owner: tuple(WORD.findall(owner.casefold())) for owner in {*rows, *owners_before}}
     named = collections.defaultdict[tuple[str, ...], list[str]](list)
@@ -255,7 +249,7 @@ def tell_doubtful_owners(
         if len(named[words[owner]]) <= MOST_WITHIN:
             named[words[owner]].append(owner)
     lengths = {*map(len, named)} - {0}
-    found = dict[str, OwnerIsNoName | OwnerOfSeveral]()
+    found, telephones = dict[str, OwnerIsNoName | OwnerOfSeveral](), telephones_among(rows)
     for owner, count in rows.items():
         if owner in owners_before:
             continue
@@ -265,11 +259,17 @@ def tell_doubtful_owners(
             within = {*itertools.filterfalse(is_no_name, within)}
         if within and not is_no_name(owner):
             found[owner] = OwnerOfSeveral(owner, tuple(sorted(within)[:MOST_WITHIN]), count)
-        elif is_no_name(owner) or tells_of_exit(owner):
+        elif is_no_name(owner) or tells_of_exit(owner) or owner in telephones:
             found[owner] = OwnerIsNoName(owner, count)
     first = first_rows(next_book) if found else {}
     for owner, told in found.items():
         next_book.report.add(first[owner].line, first[owner].id, told)
+
+
+def telephones_among(owners: Collection[str]) -> set[str]:
+    """Those that are written like telephone numbers, unless owners are numbers, as that of a farm, in half of a list."""
+    found = {*filter(is_telephone, owners)}
+    return found if 2 * len(found) < len(owners) else set()
 
 
 def parts_of(words: tuple[str, ...], lengths: Collection[int]) -> set[tuple[str, ...]]:
@@ -289,19 +289,6 @@ def tell_born_dead(next_book: NextBook) -> None:
     for animal in named:
         if animal.name in likely and animal.id not in next_book.book.society_records:
             next_book.report.add(animal.line, animal.id, BornDead(animal.name))
-
-
-def is_no_name(owner: str) -> bool:
-    """Does it read like an exit or a day, or like a word for somebody, as `breeder`?"""
-    if A_DAY.fullmatch(owner) or plain(owner) in KNOWN_NO_NAMES:
-        return True
-    said = {plain(word) for word in WORD.findall(owner) if not word.isdigit()} - BESIDE
-    return said <= TELLING_EXITS if said else DEAD.search(owner) is not None
-
-
-def tells_of_exit(owner: str) -> bool:
-    """Does it begin with an exit, as `exportiert nach Polen`, or tell to whom the animal was sold?"""
-    return plain(owner.split()[0]) in BEGIN_EXITS or bool(taker_of_owner(owner))
 
 
 def tell_mistyped_owners(
