@@ -30,7 +30,7 @@ from gudokeyi.ingest.sheets import Sheet, SheetRow, cell_of, with_cell
 from gudokeyi.ingest.statuses import SOLD, TAKER, exits_said
 from gudokeyi.ingest.texts import nearly, plain, shape, shapes_of
 from gudokeyi.ingest.unknown_parents import UnknownParents, names_no_owner
-from gudokeyi.ingest.words import KNOWN_EXITS, KNOWN_SEXES, KNOWN_SUMS, is_in_doubt, is_undone, lives_besides, sex_word
+from gudokeyi.ingest.words import KNOWN_EXITS, KNOWN_SEXES, KNOWN_SUMS, is_for_sale, is_in_doubt, is_undone, lives_besides, sex_word
 
 # Cells with signs that no one sees: they are read without, but an id, which others write otherwise than it is seen.
 
@@ -304,7 +304,7 @@ class Takers:
     def named(self, text: str) -> tuple[str, ...]:
         """The owners who are named behind `verkauft an`, or in a text that begins with whom."""
         found = TAKER.search(text) or TO_WHOM.match(text)
-        if found is None or lives_besides(text) or is_undone(text):
+        if found is None or lives_besides(text) or is_undone(text) or is_for_sale(text):
             return ()
         return self.called(without_days(found["taker"]))
 

@@ -7,7 +7,7 @@ from collections.abc import Collection
 
 from gudokeyi.domain.cells import FIRST_LETTER
 from gudokeyi.ingest.texts import listed, plain
-from gudokeyi.ingest.words import KNOWN_NO_OWNERS, UNKNOWN, is_error_value
+from gudokeyi.ingest.words import KNOWN_NO_OWNERS, SALE_NOT_MADE, UNKNOWN, is_error_value
 
 # signs alone, as `?`, `*` and `---`, zeros alone, as `00` and `0.0`, and the usual numbers as pandas writes them, as
 # `-9.0`
@@ -96,7 +96,7 @@ USUAL = UnknownParents()
 
 @functools.lru_cache(10_000)
 def names_no_owner(text: str) -> bool:
-    """Is it one of the usual texts for what isn't known, or says that there is none? Two letters may be initials of an
-    owner, and a cross says that the animal died."""
+    """Is it one of the usual texts for what isn't known, or says that there is none, or that the animal is for sale?
+    Two letters may be initials of an owner, and a cross says that the animal died."""
     is_unknown = USUAL.is_one(text) and not (len(text) == INITIALS and text.isalpha()) and not CROSS.search(text)
-    return is_unknown or plain(text) in KNOWN_NO_OWNERS
+    return is_unknown or plain(text) in KNOWN_NO_OWNERS or SALE_NOT_MADE.fullmatch(text) is not None

@@ -116,11 +116,11 @@ STILL_THERE = (
     "Zuchtruhe, im Ruhestand, Ruhestand, Rente, in Rente, Rentner, Gnadenbrot, in Pension, Pension, Pensionsstall, "
     "verliehen, ausgeliehen, Leihgabe, Leihe, geliehen, verpachtet, kastriert, kastr, Kastration, sterilisiert, "
     "gedeckt, belegt, besamt, Besamung, Deckeinsatz, Bedeckung, trächtig, tragend, abgesetzt, geimpft, entwurmt, gesperrt, "
-    "ausgestellt, geschoren, gechipt, zurück, zurückgekommen, zurückgekehrt, zu verkaufen, reserviert, "
+    "ausgestellt, geschoren, gechipt, zurück, zurückgekommen, zurückgekehrt, zu verkaufen, zu verk, reserviert, "
     "retraité, retraitée, retraite, à la retraite, en retraite, mis à la retraite, en pension, mis en pension, prêté, "
     "prêtée, prêt, en prêt, loué, louée, castré, castrée, castration, stérilisé, stérilisée, saillie, sailli, saillies, "
     "couverte, inséminé, inséminée, insémination, gestante, pleine, gravide, sevré, sevrée, vacciné, vaccinée, tondu, "
-    "tondue, pucé, pucée, revenu, revenue, de retour, retour, à vendre, réservé, réservée, exposé, exposée, "
+    "tondue, pucé, pucée, revenu, revenue, de retour, retour, à vendre, en vente, réservé, réservée, exposé, exposée, "
     "non-breeding, non breeder, nicht zur Zucht, nicht in Zucht, zuchtuntauglich, zuchtunfähig, zuchtgesperrt, "
     "Zuchtsperre, Zuchtverbot, non reproducteur, non reproductrice, hors reproduction"
 )
@@ -262,7 +262,9 @@ PLAIN_EXITS = TELLING_EXITS & {
     )
 }  # fmt: skip
 # a word that tells of an exit tells of none here
-SALE_NOT_MADE = re.compile(r"\bfor\s+sale\b", re.IGNORECASE)
+SALE_NOT_MADE = re.compile(
+    r"\b(?:for\s+sale|zu\s+verk(?:aufen)?|à\s+vendre|(?:mise?\s+)?en\s+vente)\b\.?", re.IGNORECASE
+)
 # an animal that isn't bred from is still there, though a word tells of its breeding with one that negates it, or of an
 # exit
 NO_BREEDING = re.compile(
@@ -356,6 +358,12 @@ def tells_of_itself(text: str) -> bool:
 def is_undone(text: str) -> bool:
     """Does it tell of an exit that was undone, as `Verkauf 2019 rückgängig`, and of no death?"""
     return UNDONE.search(text) is not None and not has_word(text, KNOWN_DEATHS)
+
+
+def is_for_sale(text: str) -> bool:
+    """Does it say of the animal that somebody may buy it, as `zu verk.`, and nothing of an exit?"""
+    rest = SALE_NOT_MADE.sub(" ", text)
+    return rest != text and not has_word(rest, TELLING_EXITS)
 
 
 def says_gone(text: str) -> bool:

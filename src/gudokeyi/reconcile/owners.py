@@ -7,14 +7,17 @@ import itertools
 import re
 from collections.abc import Collection, Iterator, Mapping, Sequence
 
+from gudokeyi.domain.kinds import Field
 from gudokeyi.ingest.animals import LINE_OF, NAME_OF, OWNER_OF, SheetAnimal
 from gudokeyi.ingest.doubtful_owners import WORD, is_no_name, is_telephone, tells_of_exit
 from gudokeyi.ingest.texts import plain
-from gudokeyi.ingest.words import BEGINS_BORN_DEAD, KNOWN_BORN_DEAD, PLAIN_EXITS, has_word
+from gudokeyi.ingest.words import BEGINS_BORN_DEAD, KNOWN_BORN_DEAD, PLAIN_EXITS, SALE_NOT_MADE, has_word
 from gudokeyi.reconcile.findings.animals import (
     OwnerMistyped, OwnerOfBookAlike, OwnerRenamed, OwnerRespelt, OwnersAlike, OwnersOtherwise, Spelling,
 )  # fmt: skip
-from gudokeyi.reconcile.findings.plausibility import BornDead, OwnerIsNoName, OwnerOfSeveral, OwnerWithMore
+from gudokeyi.reconcile.findings.plausibility import (
+    BornDead, OwnerForSale, OwnerIsNoName, OwnerOfSeveral, OwnerWithMore,
+)  # fmt: skip
 from gudokeyi.reconcile.next_book import NextBook
 
 # Owners that seem to be written otherwise: than before, where all animals of the one are of another who is much alike,
@@ -264,6 +267,15 @@ def tell_doubtful_owners(
     first = first_rows(next_book) if found else {}
     for owner, told in found.items():
         next_book.report.add(first[owner].line, first[owner].id, told)
+
+
+def tell_owners_for_sale(next_book: NextBook) -> None:
+    """Words such as `zu verkaufen` that stand in place of an owner, each text with its first row."""
+    cells = [(row.cells.get(Field.OWNER, ""), row) for row in next_book.rows_otherwise() if row.line]
+    counts = collections.Counter(text for text, _ in cells)
+    first = {text: row for text, row in reversed(cells) if SALE_NOT_MADE.fullmatch(text)}
+    for text, row in first.items():
+        next_book.report.add(row.line, row.id, OwnerForSale(text, counts[text]))
 
 
 def telephones_among(owners: Collection[str]) -> set[str]:

@@ -44,6 +44,23 @@ class OwnerIsNoName(PlausibilityWarning):
 
 
 @dataclass(frozen=True, slots=True)
+class OwnerForSale(PlausibilityWarning):
+    """What stands for an owner says that the animal may be bought."""
+
+    text: str
+    count: int
+
+    code = "owner for sale"
+    message = Counted(
+        "'{text}' stands where {count} animal has its owner, and says that it is for sale: no owner is read there, and "
+        "one that the book has stays; write who has the animal",
+        "'{text}' stands where {count} animals have their owner, and says that they are for sale: no owner is read "
+        "there, and those that the book has stay; write who has them",
+        "count",
+    )
+
+
+@dataclass(frozen=True, slots=True)
 class OwnerOfSeveral(PlausibilityWarning):
     """What stands for an owner has the names of others in it."""
 
