@@ -18,7 +18,9 @@ UNKNOWN = (
     "onc, origine non constatée, origine inconnue, sire unknown, dam unknown, father unknown, mother unknown, unknown "
     "father, unknown mother, Vater unbek, Mutter unbek, unbekannter Vater, unbekannte Mutter, Vater nicht bekannt, "
     "Mutter nicht bekannt, père non déclaré, mère non déclarée, non déclaré, non déclarée, non enregistré, non "
-    "enregistrée, non inscrit, non inscrite, nicht eingetragen, nicht eingetr, nicht registriert, nicht erfasst, "
+    "enregistrée, non inscrit, non inscrite, néant, né de père inconnu, née de père inconnu, né de mère inconnue, née de "
+    "mère inconnue, de père inconnu, de mère inconnue, né de parents inconnus, née de parents inconnus, parents inconnus, "
+    "origines inconnues, ascendance inconnue, von unbekanntem Vater, von unbekannter Mutter, by unknown sire, nicht eingetragen, nicht eingetr, nicht registriert, nicht erfasst, "
     "Fremdbock, Fremdwidder, Fremdhengst, Fremdbulle, Fremdrüde, Fremdkater, stray, stray tom, mixed mating, mixed "
     "matings, group mating, pending DNA, DNA pending, -1, -9, -99, -999, -9999"
 )
