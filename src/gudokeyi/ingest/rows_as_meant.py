@@ -17,6 +17,7 @@ from gudokeyi.ingest.births_beside import births_said
 from gudokeyi.ingest.day_forms import TWO
 from gudokeyi.ingest.days import places_within
 from gudokeyi.ingest.days_together import read_together
+from gudokeyi.ingest.doubtful_owners import is_no_name, tells_of_exit
 from gudokeyi.ingest.exits_below import with_exits_below
 from gudokeyi.ingest.exits_beside import Exits
 from gudokeyi.ingest.exits_in_doubt import is_in_doubt
@@ -29,10 +30,12 @@ from gudokeyi.ingest.names_for_ids import with_names_for_ids
 from gudokeyi.ingest.no_days import without_no_days
 from gudokeyi.ingest.owners_beside import owners_named
 from gudokeyi.ingest.sheets import Sheet, SheetRow, cell_of, with_cell
-from gudokeyi.ingest.statuses import SOLD, TAKER, exits_said, taker_of_owner
+from gudokeyi.ingest.statuses import SOLD, TAKER, exits_said
 from gudokeyi.ingest.texts import nearly, plain, shape, shapes_of
 from gudokeyi.ingest.unknown_parents import UnknownParents, names_no_owner
-from gudokeyi.ingest.words import KNOWN_EXITS, KNOWN_SEXES, KNOWN_SUMS, is_undone, lives_besides, sex_word
+from gudokeyi.ingest.words import (
+    KNOWN_EXITS, KNOWN_SEXES, KNOWN_SUMS, is_for_sale, is_undone, lives_besides, sex_word,
+)  # fmt: skip
 
 # Cells with signs that no one sees: they are read without, but an id, which others write otherwise than it is seen.
 
@@ -315,13 +318,16 @@ class Takers:
     names and the numbers of members that a text may have."""
 
     def __init__(self, owners: Mapping[str, str]) -> None:
-        names = [name for name, owner in owners.items() if owner and not (taker_of_owner(name) or names_no_owner(name))]
+        named = [name for name, owner in owners.items() if owner and not names_no_owner(name)]
+        names = [name for name in named if not (is_no_name(name) or tells_of_exit(name))]
         self.by_words = [(words, owners[name]) for name in names if (words := words_of(name))]
 
     def named(self, text: str) -> tuple[str, ...]:
         """The owners who are named behind `verkauft an`, or in a text that begins with whom."""
         found = TAKER.search(text) or TO_WHOM.match(text)
-        return self.called(without_days(found["taker"])) if found and not (lives_besides(text) or is_undone(text)) else ()
+        if found is None or lives_besides(text) or is_undone(text) or is_for_sale(text):
+            return ()
+        return self.called(without_days(found["taker"]))
 
     def behind_sale(self, text: str) -> tuple[str, ...]:
         """The owners whom a text may mean that has nothing but a name and a day beside a word for a sale, as

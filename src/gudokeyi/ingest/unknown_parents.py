@@ -6,8 +6,8 @@ import re
 from collections.abc import Collection
 
 from gudokeyi.domain.cells import FIRST_LETTER
-from gudokeyi.ingest.texts import listed, plain
-from gudokeyi.ingest.words import KNOWN_NO_OWNERS, UNKNOWN, is_error_value
+from gudokeyi.ingest.texts import listed, plain, without_accents
+from gudokeyi.ingest.words import KNOWN_NO_OWNERS, SALE_NOT_MADE, UNKNOWN, is_error_value
 
 # signs alone, as `?`, `*` and `---`, zeros alone, as `00` and `0.0`, and the usual numbers as pandas writes them, as
 # `-9.0`
@@ -28,7 +28,7 @@ def compared(text: str) -> str:
     return POINTS.sub("", folded) if "." in folded else folded
 
 
-KNOWN_UNKNOWN = {compared(word) for word in listed(UNKNOWN)}
+KNOWN_UNKNOWN = {compared(form) for word in listed(UNKNOWN) for form in (word, without_accents(word))}
 # how texts begin, in small letters, that may stand for an unknown parent: these words, signs and error values
 BEGINNINGS = BEGIN_OF_SIGNS | {word[0] for word in KNOWN_UNKNOWN} | {"#", "e"}
 FIRST_LETTERS = {"", *BEGINNINGS, *(letter.upper() for letter in BEGINNINGS)}
@@ -96,7 +96,7 @@ USUAL = UnknownParents()
 
 @functools.lru_cache(10_000)
 def names_no_owner(text: str) -> bool:
-    """Is it one of the usual texts for what isn't known, or says that there is none? Two letters may be initials of an
-    owner, and a cross says that the animal died."""
+    """Is it one of the usual texts for what isn't known, or says that there is none, or that the animal is for sale?
+    Two letters may be initials of an owner, and a cross says that the animal died."""
     is_unknown = USUAL.is_one(text) and not (len(text) == INITIALS and text.isalpha()) and not CROSS.search(text)
-    return is_unknown or plain(text) in KNOWN_NO_OWNERS
+    return is_unknown or plain(text) in KNOWN_NO_OWNERS or SALE_NOT_MADE.fullmatch(text) is not None

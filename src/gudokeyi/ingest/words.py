@@ -21,7 +21,9 @@ UNKNOWN = (
     "onc, origine non constatée, origine inconnue, sire unknown, dam unknown, father unknown, mother unknown, unknown "
     "father, unknown mother, Vater unbek, Mutter unbek, unbekannter Vater, unbekannte Mutter, Vater nicht bekannt, "
     "Mutter nicht bekannt, père non déclaré, mère non déclarée, non déclaré, non déclarée, non enregistré, non "
-    "enregistrée, non inscrit, non inscrite, nicht eingetragen, nicht eingetr, nicht registriert, nicht erfasst, "
+    "enregistrée, non inscrit, non inscrite, néant, né de père inconnu, née de père inconnu, né de mère inconnue, née de "
+    "mère inconnue, de père inconnu, de mère inconnue, né de parents inconnus, née de parents inconnus, parents inconnus, "
+    "origines inconnues, ascendance inconnue, von unbekanntem Vater, von unbekannter Mutter, by unknown sire, nicht eingetragen, nicht eingetr, nicht registriert, nicht erfasst, "
     "Fremdbock, Fremdwidder, Fremdhengst, Fremdbulle, Fremdrüde, Fremdkater, stray, stray tom, mixed mating, mixed "
     "matings, group mating, pending DNA, DNA pending, -1, -9, -99, -999, -9999"
 )
@@ -158,11 +160,11 @@ STILL_THERE = (
     "Zuchtruhe, im Ruhestand, Ruhestand, Rente, in Rente, Rentner, Gnadenbrot, in Pension, Pension, Pensionsstall, "
     "verliehen, ausgeliehen, Leihgabe, Leihe, geliehen, verpachtet, kastriert, kastr, Kastration, sterilisiert, "
     "gedeckt, belegt, besamt, Besamung, Deckeinsatz, Bedeckung, trächtig, tragend, abgesetzt, geimpft, entwurmt, gesperrt, "
-    "ausgestellt, geschoren, gechipt, zurück, zurückgekommen, zurückgekehrt, zu verkaufen, reserviert, "
+    "ausgestellt, geschoren, gechipt, zurück, zurückgekommen, zurückgekehrt, zu verkaufen, zu verk, reserviert, "
     "retraité, retraitée, retraite, à la retraite, en retraite, mis à la retraite, en pension, mis en pension, prêté, "
     "prêtée, prêt, en prêt, loué, louée, castré, castrée, castration, stérilisé, stérilisée, saillie, sailli, saillies, "
     "couverte, inséminé, inséminée, insémination, gestante, pleine, gravide, sevré, sevrée, vacciné, vaccinée, tondu, "
-    "tondue, pucé, pucée, revenu, revenue, de retour, retour, à vendre, réservé, réservée, exposé, exposée, "
+    "tondue, pucé, pucée, revenu, revenue, de retour, retour, à vendre, en vente, réservé, réservée, exposé, exposée, "
     "geheilt, ausgeheilt, genesen, gesund, healed, recovered, cured, guéri, guérie, rétabli, rétablie, "
     "non-breeding, non breeder, nicht zur Zucht, nicht in Zucht, zuchtuntauglich, zuchtunfähig, zuchtgesperrt, "
     "Zuchtsperre, Zuchtverbot, non reproducteur, non reproductrice, hors reproduction"
@@ -197,6 +199,14 @@ NO_NAMES = (
     "RAS, do, self, myself, me, own, owner, owned, breeder, keeper, nobody, no one, selbst, selber, ich, eigen, "
     "eigene, eigener, eigenes, Besitzer, Eigentümer, Halter, Züchter, Tierhalter, niemand, moi, moi-même, lui-même, "
     "elle-même, soi-même, propriétaire, détenteur, éleveur, éleveuse, naisseur, personne"
+)
+# what says since when an owner has an animal: since it was born
+SINCE_BIRTH = (
+    "birth, its birth, at birth, by birth, born here, born on farm, homebred, home bred, own bred, own breeding, bred, "
+    "bred here, Geburt, der Geburt, Geburt an, von Geburt an, von Geburt, bei Geburt, hier geboren, Eigenzucht, eigene "
+    "Zucht, aus eigener Zucht, eigene Nachzucht, Nachzucht, selbst gezüchtet, Wurf, eigener Wurf, Eigenwurf, naissance, "
+    "la naissance, sa naissance, à la naissance, né ici, née ici, né chez nous, née chez nous, né à la maison, née à la "
+    "maison, né à la ferme, née à la ferme, né à l'élevage, née à l'élevage, propre élevage, notre élevage"
 )
 # names of animals that never lived
 BORN_DEAD = "totgeburt, totgeboren, stillborn, still born, stillbirth, mort-né, mort-née, mortné, mortinato"
@@ -263,6 +273,7 @@ KNOWN_RETURNS = {plain(word) for word in listed(RETURNS)}
 KNOWN_NO_PARENTS = {plain(word) for word in listed(NO_PARENTS)}
 KNOWN_NO_OWNERS = {plain(word) for word in listed(NO_OWNERS)}
 KNOWN_NO_NAMES = {plain(word) for word in listed(NO_NAMES)}
+KNOWN_SINCE_BIRTH = {plain(word) for word in listed(SINCE_BIRTH)}
 KNOWN_NOTHING = {plain(word) for word in listed(NOTHING)}
 KNOWN_NEGATIONS = {plain(word) for word in listed(NEGATIONS)}
 KNOWN_BORN_DEAD = {plain(word) for word in listed(BORN_DEAD)}
@@ -309,7 +320,9 @@ PLAIN_EXITS = TELLING_EXITS & {
     )
 }  # fmt: skip
 # a word that tells of an exit tells of none here
-SALE_NOT_MADE = re.compile(r"\bfor\s+sale\b", re.IGNORECASE)
+SALE_NOT_MADE = re.compile(
+    r"\b(?:for\s+sale|zu\s+verk(?:aufen)?|à\s+vendre|(?:mise?\s+)?en\s+vente)\b\.?", re.IGNORECASE
+)
 # an animal that isn't bred from is still there, though a word tells of its breeding with one that negates it, or of an
 # exit
 NO_BREEDING = re.compile(
@@ -436,6 +449,12 @@ def tells_of_itself(text: str) -> bool:
 def is_undone(text: str) -> bool:
     """Does it tell of an exit that was undone, as `Verkauf 2019 rückgängig`, and of no death?"""
     return UNDONE.search(text) is not None and not has_word(text, KNOWN_DEATHS)
+
+
+def is_for_sale(text: str) -> bool:
+    """Does it say of the animal that somebody may buy it, as `zu verk.`, and nothing of an exit?"""
+    rest = SALE_NOT_MADE.sub(" ", text)
+    return rest != text and not has_word(rest, TELLING_EXITS)
 
 
 def says_gone(text: str) -> bool:

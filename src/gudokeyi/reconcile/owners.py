@@ -7,17 +7,19 @@ import itertools
 import re
 from collections.abc import Collection, Iterator, Mapping, Sequence
 
+from gudokeyi.domain.kinds import Field
 from gudokeyi.ingest.animals import LINE_OF, NAME_OF, OWNER_OF, SheetAnimal
+from gudokeyi.ingest.doubtful_owners import WORD, is_no_name, is_telephone, tells_of_exit
 from gudokeyi.ingest.odd_texts import counts_as_living
 from gudokeyi.ingest.statuses import taker_of_owner
 from gudokeyi.ingest.texts import plain
-from gudokeyi.ingest.words import (
-    BEGINS_BORN_DEAD, DEAD, KNOWN_BORN_DEAD, KNOWN_NO_NAMES, PLAIN_EXITS, TELLING_EXITS, has_word,
-)  # fmt: skip
+from gudokeyi.ingest.words import BEGINS_BORN_DEAD, KNOWN_BORN_DEAD, PLAIN_EXITS, SALE_NOT_MADE, has_word
 from gudokeyi.reconcile.findings.animals import (
     OwnerMistyped, OwnerOfBookAlike, OwnerRenamed, OwnerRespelt, OwnersAlike, OwnersOtherwise, Spelling,
 )  # fmt: skip
-from gudokeyi.reconcile.findings.plausibility import BornDead, OwnerIsNoName, OwnerOfSeveral, OwnerWithMore
+from gudokeyi.reconcile.findings.plausibility import (
+    BornDead, OwnerForSale, OwnerIsNoName, OwnerOfSeveral, OwnerWithMore,
+)  # fmt: skip
 from gudokeyi.reconcile.next_book import NextBook
 
 # Owners that seem to be written otherwise: than before, where all animals of the one are of another who is much alike,
@@ -141,14 +143,20 @@ FAMILY = re.compile(r"\b(?:familie|family|famille|fam)\b\.?", re.IGNORECASE)
 # titles of men, of women and of both; `M.` before one name may be an initial
 OF_MEN = re.compile(r"\b(?:mr|herr|hr|monsieur)\b\.?|^m\.(?=\s*\S+\s+\S)|\bm\.$", re.IGNORECASE)
 OF_WOMEN = re.compile(r"\b(?:mrs|ms|miss|mme|mlle|madame|mademoiselle|frau)\b\.?|\bfr\.", re.IGNORECASE)
-TITLE = re.compile(rf"{OF_MEN.pattern}|{OF_WOMEN.pattern}|\b(?:dr|prof)\b\.?", re.IGNORECASE)
+TITLE = re.compile(
+    rf"{OF_MEN.pattern}|{OF_WOMEN.pattern}|\b(?:dr|prof|(?:dipl\.?[ -]?)?ing)\b\.?|\b(?:dipl|mag|med|vet|univ|lic|dkfm)\.",
+    re.IGNORECASE,
+)
+# words of farms that have a short form too
+SHORTENED = {"bros": r"brothers|bros\b\.?", "gebr": r"gebrüder|gebr\b\.?", "ltd": r"limited|ltd\b\.?"}
+SHORT_FORMS = [(re.compile(rf"\b(?:{form})", re.IGNORECASE), short) for short, form in SHORTENED.items()]
 # what stands between the words of a name
 JOINING = re.compile(r"\b(?:and|und|et|du|de|des|the|vom)\b|\bd['’]", re.IGNORECASE)
 
 
 def tell_otherwise(next_book: NextBook, animals: Mapping[str, int]) -> None:
-    """Names whose last name stands first, before a comma, or that have a title, an article, or a word for a family or
-    for `and` otherwise."""
+    """Names whose last name stands first, before a comma, or that have a title, an article, or a word for a family, for
+    brothers or for `and` otherwise."""
     found = collections.defaultdict[str, list[Spelling]](list)
     for owner, count in sorted(animals.items()):
         found[name_alone(owner)].append(Spelling(owner, count))
@@ -162,7 +170,9 @@ def name_alone(owner: str) -> str:
     """The name as it is compared, the last name last."""
     untitled = TITLE.sub(" ", owner).strip()
     last, comma, first = untitled.partition(",")
-    name = FAMILY.sub("fam", f"{first} {last}" if comma else untitled)
+    name = FAMILY.sub(" ", f"{first} {last}" if comma else untitled)
+    for form, short in SHORT_FORMS:
+        name = form.sub(short, name)
     joined = JOINING.sub(" ", name)
     # `De Vries` isn't `Vries`
     return plain((joined if len(joined.split()) > 1 else name).casefold().translate(UMLAUTS))
@@ -237,17 +247,13 @@ MORE = re.compile(
     r"depuis|jusqu\w*|dès|jetzt|bei|neu|neuer|gekauft|now|by|new|bought|maintenant|chez|par|nouveau|achetée?)\b",
     re.IGNORECASE,
 )
-WORD, A_DAY = re.compile(r"[^\W_]+"), re.compile(r"\d{1,4}[./-]\d{1,2}[./-]\d{2,4}")
-BESIDE = {"am", "on", "le", "im", "in", "en"}
 MOST_WITHIN = 5
-# words of exits with which no name of a person begins
-BEGIN_EXITS = PLAIN_EXITS - {"tot", "mort", "dead"} | {"verkauf", "verk", "vente", "abgegeben", "abgegangen", "eingegangen"}
 
 
 def tell_doubtful_owners(
     next_book: NextBook, owners_before: set[str], rows: collections.Counter[str] | None = None
 ) -> None:
-    """New owners whose name reads like an exit or a day, or has the names of others in it."""
+    """New owners whose name reads like an exit, a day or a telephone number, or has the names of others in it."""
     rows = owners_of_rows(next_book) if rows is None else rows
     words = {owner: tuple(WORD.findall(owner.casefold())) for owner in {*rows, *owners_before}}
     named = collections.defaultdict[tuple[str, ...], list[str]](list)
@@ -256,7 +262,7 @@ def tell_doubtful_owners(
         if len(named[words[owner]]) <= MOST_WITHIN:
             named[words[owner]].append(owner)
     lengths = {*map(len, named)} - {0}
-    found = dict[str, OwnerIsNoName | OwnerOfSeveral]()
+    found, telephones = dict[str, OwnerIsNoName | OwnerOfSeveral](), telephones_among(rows)
     for owner, count in rows.items():
         if owner in owners_before:
             continue
@@ -266,11 +272,26 @@ def tell_doubtful_owners(
             within = {*itertools.filterfalse(is_no_name, within)}
         if within and not is_no_name(owner):
             found[owner] = OwnerOfSeveral(owner, tuple(sorted(within)[:MOST_WITHIN]), count)
-        elif is_no_name(owner) or tells_of_exit(owner):
+        elif is_no_name(owner) or tells_of_exit(owner) or owner in telephones:
             found[owner] = OwnerIsNoName(owner, count)
     first = first_rows(next_book) if found else {}
     for owner, told in found.items():
         next_book.report.add(first[owner].line, first[owner].id, told)
+
+
+def tell_owners_for_sale(next_book: NextBook) -> None:
+    """Words such as `zu verkaufen` that stand in place of an owner, each text with its first row."""
+    cells = [(row.cells.get(Field.OWNER, ""), row) for row in next_book.rows_otherwise() if row.line]
+    counts = collections.Counter(text for text, _ in cells)
+    first = {text: row for text, row in reversed(cells) if SALE_NOT_MADE.fullmatch(text)}
+    for text, row in first.items():
+        next_book.report.add(row.line, row.id, OwnerForSale(text, counts[text]))
+
+
+def telephones_among(owners: Collection[str]) -> set[str]:
+    """Those that are written like telephone numbers, unless half of the owners are, as farms by their numbers."""
+    found = {*filter(is_telephone, owners)}
+    return found if 2 * len(found) < len(owners) else set()
 
 
 def parts_of(words: tuple[str, ...], lengths: Collection[int]) -> set[tuple[str, ...]]:
@@ -290,19 +311,6 @@ def tell_born_dead(next_book: NextBook) -> None:
     for animal in named:
         if animal.name in likely and animal.id not in next_book.book.society_records:
             next_book.report.add(animal.line, animal.id, BornDead(animal.name))
-
-
-def is_no_name(owner: str) -> bool:
-    """Does it read like an exit or a day, or like a word for somebody, as `breeder`?"""
-    if A_DAY.fullmatch(owner) or plain(owner) in KNOWN_NO_NAMES:
-        return True
-    said = {plain(word) for word in WORD.findall(owner) if not word.isdigit()} - BESIDE
-    return said <= TELLING_EXITS if said else DEAD.search(owner) is not None
-
-
-def tells_of_exit(owner: str) -> bool:
-    """Does it begin with an exit, as `exportiert nach Polen`, or tell to whom the animal was sold?"""
-    return plain(owner.split()[0]) in BEGIN_EXITS or bool(taker_of_owner(owner))
 
 
 def tell_mistyped_owners(

@@ -48,7 +48,7 @@ from gudokeyi.reconcile.owner_days import OwnerDays
 from gudokeyi.reconcile.owner_words import tell_owners_of_like_words
 from gudokeyi.reconcile.owners import (
     owners_of_rows, tell_born_dead, tell_doubtful_owners, tell_mistyped_owners, tell_owners_alike,
-    tell_owners_of_book_alike, tell_owners_with_more, tell_renamed_owners, tell_respelt_owners,
+    tell_owners_for_sale, tell_owners_of_book_alike, tell_owners_with_more, tell_renamed_owners, tell_respelt_owners,
 )  # fmt: skip
 from gudokeyi.reconcile.owners_counted import tell_owners_counted
 from gudokeyi.reconcile.parents import may_be_unknown
@@ -181,6 +181,7 @@ def tell_owners(next_book: NextBook, owners_before: set[str]) -> None:
     tell_owners_of_like_words(next_book, owners_before, rows)
     tell_doubtful_owners(next_book, owners_before, rows)
     tell_owners_counted(next_book, owners_before, rows)
+    tell_owners_for_sale(next_book)
 
 
 def refuse_unsaid_letters(next_book: NextBook, import_options: ImportOptions) -> None:

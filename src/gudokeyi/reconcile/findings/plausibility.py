@@ -64,6 +64,23 @@ class OwnersCountUp(PlausibilityWarning):
 
 
 @dataclass(frozen=True, slots=True)
+class OwnerForSale(PlausibilityWarning):
+    """What stands for an owner says that the animal may be bought."""
+
+    text: str
+    count: int
+
+    code = "owner for sale"
+    message = Counted(
+        "'{text}' stands where {count} animal has its owner, and says that it is for sale: no owner is read there, and "
+        "one that the book has stays; write who has the animal",
+        "'{text}' stands where {count} animals have their owner, and says that they are for sale: no owner is read "
+        "there, and those that the book has stay; write who has them",
+        "count",
+    )
+
+
+@dataclass(frozen=True, slots=True)
 class OwnerOfSeveral(PlausibilityWarning):
     """What stands for an owner has the names of others in it."""
 
@@ -124,6 +141,23 @@ class OwnerWithInitial(PlausibilityWarning):
     message = Text(
         "the owner '{owner}' may be {which}, whose first name begins with that initial: if they are one, write the "
         "name the same way in all rows, and take the sheet again"
+    )
+
+    def values(self) -> Mapping[str, object]:
+        return {"which": AnyOf(self.others)}
+
+
+@dataclass(frozen=True, slots=True)
+class OwnerOfGeneration(PlausibilityWarning):
+    """An owner has neither `sen.` nor `jun.` where others of the name have one."""
+
+    owner: str
+    others: tuple[str, ...]
+
+    code = "owner of generation"
+    message = Text(
+        "the owner '{owner}' may be {which}, as its name stands without sen. or jun.: if they are one, write the name "
+        "alike in all rows, and take the sheet again"
     )
 
     def values(self) -> Mapping[str, object]:
