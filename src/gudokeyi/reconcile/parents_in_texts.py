@@ -11,12 +11,13 @@ from gudokeyi.domain.kinds import Role
 from gudokeyi.domain.messages import MOST_NAMED
 from gudokeyi.domain.spelling import TIMES
 from gudokeyi.ingest.animals import SheetAnimal, links_outside
+from gudokeyi.ingest.doubts_in_texts import DOUBT, IN_BRACKETS, asked, without_doubt
 from gudokeyi.ingest.marked_ids import CROSSES
 from gudokeyi.ingest.odd_texts import OF_YEAR
 from gudokeyi.ingest.texts import nearly, nearly_all
 from gudokeyi.reconcile.findings.parents import FoundWithin
 from gudokeyi.reconcile.findings.parents_in_texts import (
-    BothParents, EitherParent, NamedByRelation, NamedOtherwiseBeside, NotSaidToBeParent,
+    BothParents, EitherParent, NamedByRelation, NamedOtherwiseBeside, NotSaidToBeParent, ParentNotSure,
 )  # fmt: skip
 from gudokeyi.reconcile.last_found import Kept
 from gudokeyi.reconcile.near_names import LEAST_LETTERS
@@ -34,12 +35,14 @@ MOST_WORDS = 12
 # what says that another animal is named
 RELATED = re.compile(
     r"\b(?:(?:litter|half|full)?[ -]*(?:sister|brother)s?|daughter|son|dam|sire|(?:halb|voll)?(?:schwester|bruder)|"
-    r"tochter|sohn|(?:demi-)?(?:s(?:oe|œ)ur|frère)|fille|fils|grand\w*|enkel\w*|porteuse|receveuse|recipient|surrogate|"
+    r"tochter|sohn|dtr|(?:demi-)?(?:s(?:oe|œ)ur|frère)|fille|fils|grand\w*|enkel\w*|porteuse|receveuse|recipient|surrogate|"
     r"leihmutter|empfänger\w*|amme|foster)\b",
     re.IGNORECASE,
 )
 # the same of whom a name follows, or stands before it
-RELATED_TO = re.compile(RELATED.pattern + r"(?:\s+(?:von|vom|der|des|of|to|zu|de|du|à)\s+|\s+d['’])", re.IGNORECASE)
+RELATED_TO = re.compile(
+    RELATED.pattern + r"\.?(?:\s+(?:von|vom|v|der|des|d|of|to|zu|de|du|à)\s+|\s+[vd]\.\s*|\s+d['’])", re.IGNORECASE
+)
 RELATED_BEHIND = re.compile(r"['’]?s?['’]?\s+(?:" + RELATED.pattern + ")", re.IGNORECASE)
 # what says that an animal isn't the parent, or may not be it; one that isn't registered or tested may be it
 DENIED = re.compile(
@@ -69,6 +72,11 @@ NUMBER_OF_YEAR = re.compile(rf"(?<![\w.-])(?<!\d/){OF_YEAR}(?![\w.-]|/\d)")
 BEGINS_WITH_NAME, ENDS_WITH_NAME, KEPT = re.compile(r"/[^\W\d_]"), re.compile(r"[^\W\d_]/$"), "\0"
 # a sign by which animals leave, before an id or behind it
 SIGN_OF_EXIT = re.compile(rf"^[+{CROSSES}]\s*|\s*[{CROSSES}]$")
+# signs at the ends of an id that are none of it
+AT_ENDS = "?:;\"'"
+HAS_MORE = re.compile(rf"[ /;,()\[\]|{AT_ENDS}{CROSSES}]|^\+")
+# brackets round a parent are how a list writes it, and tell no doubt, where at least one in so many has them
+BRACKETS_USUAL = 3
 # what stands between two names; others are within one, as in `Salz und Pfeffer`
 OF_NAMES = re.compile(r"\s*/\s*")
 YEAR = re.compile(r"(?:19|20)\d\d")
@@ -107,12 +115,12 @@ class ParentsInTexts:
         self.animals, self.with_id = of_all.animals, of_all.with_id
 
     def find(self, report: Report) -> None:
-        links = links_outside(self.lacking.values(), self.with_id)
-        links = [link for link in links if " " in link[2] or BETWEEN.search(link[2]) or SIGN_OF_EXIT.search(link[2])]
+        links = [link for link in links_outside(self.lacking.values(), self.with_id) if HAS_MORE.search(link[2])]
         if not links:
             return
         by = ids, names = self.of_all.given_ids, self.of_all.by_name.names
         self.ids, self.names = self.of_all.last.of(Kept.IDS_IN_TEXTS, by, lambda: compared(ids, names))
+        self.brackets_doubt = self.do_brackets_doubt([text for _, _, text in links])
         for offspring, role, text in links:
             if nearly(text) in self.ids or name_key(text) in self.names:
                 continue
@@ -142,6 +150,8 @@ class ParentsInTexts:
             return EitherParent(role, text)
         if found and (ONE_OF.match(text) or self.has_another_id(text, found[0])) or self.are_names(text):
             return EitherParent(role, text)
+        if doubted := self.doubted(text, found):
+            return ParentNotSure(role, text, doubted)
         return None
 
     # -- words beside an id or a name
@@ -157,6 +167,31 @@ class ParentsInTexts:
             return ""
         rest = DENIED.sub(" ", text[refers.end() :] if refers else text).strip(" ()[]!?.,;:-–—")
         return rest if self.is_name(rest) else ""
+
+    def doubted(self, text: str, ids: Sequence[str]) -> str:
+        """The animal beside which a word or a sign says that it isn't sure; its own name has none of them."""
+        in_brackets = IN_BRACKETS.fullmatch(text) if self.brackets_doubt else None
+        if ids:
+            rest = without(text, [self.animals[id].name for id in ids])
+            rest = re.sub(rf"(?<!\w){re.escape(ids[0])}(?!\w)", " ", rest, flags=re.IGNORECASE)
+            return ids[0] if in_brackets or DOUBT.search(rest) else ""
+        if named := asked(text):
+            return named
+        if not in_brackets and not DOUBT.search(text):
+            return ""
+        rest = without_doubt(text)
+        return rest if self.is_name(rest) or self.is_like_id(rest) else ""
+
+    def do_brackets_doubt(self, texts: Sequence[str]) -> bool:
+        """Brackets round a whole parent may also be those of `Max (001)` and `001 (Max)`, of which one part lacks."""
+        alone = sum(1 for text in texts if IN_BRACKETS.fullmatch(text))
+        if not alone:
+            return False
+        behind = [found[1] for text in texts if (found := IN_BRACKETS.search(text, 1))]
+        if any(nearly(one) in self.ids or name_key(one) in self.names for one in behind):
+            return False
+        parents = sum(bool(one.sire) + bool(one.dam) for one in self.animals.values())
+        return BRACKETS_USUAL * alone < parents
 
     def is_relation_by_name(self, text: str) -> bool:
         """Does it say how another animal is related that it has by its name?"""
@@ -219,7 +254,8 @@ class ParentsInTexts:
         ends = [" ".join(part) for at in range(1, len(words)) for part in (words[:at], words[at:])]
         ends = [part for part in ends if any(letter.isdigit() for letter in part)]
         for part in (*filter(None, self.split(BETWEEN, text)), *ends):
-            if id := self.ids.get(nearly(part)) or self.ids.get(nearly(SIGN_OF_EXIT.sub("", part))):
+            bare = SIGN_OF_EXIT.sub("", part), part.strip(AT_ENDS)
+            if id := next(filter(None, map(self.ids.get, map(nearly, (part, *bare)))), None):
                 yield id
 
     # -- numbers of years, as `3/12` and `3/12/Cora`
