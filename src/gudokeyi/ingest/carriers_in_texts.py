@@ -3,6 +3,7 @@ she isn't the dam."""
 from __future__ import annotations
 
 import re
+from dataclasses import dataclass
 
 # what stands beside the name of such a one; these may be a part of a name too, as in `Nurse Betty`
 MAY_BE_NAMES = r"foster|nurse|carrier|surrogate|amme|nourrice|porteuse"
@@ -24,24 +25,30 @@ DONOR = re.compile(
     re.IGNORECASE,
 )  # fmt: skip
 # what stands between two animals, and at the ends of what is said of one
-BETWEEN, ENDS = re.compile(r"[,;/]"), " ()[].,;:/=-–—"
+SEPARATORS, ENDS = ",;/", " ()[].,;:/=-–—"
+BETWEEN = re.compile(f"[{SEPARATORS}]")
 
 
-def without_carrier(text: str) -> str:
-    """What a text has besides those who carried or brought up a young one; the text itself where it names none. What
-    follows the word is she, or else what stands before it."""
-    carrier = CARRIER.search(text)
-    if carrier is None:
-        return text
-    before, behind = text[: carrier.start()], text[carrier.end() :]
-    donor = DONOR.search(behind)
-    carries, of_donor = (behind[: donor.start()], behind[donor.end() :]) if donor else (behind, "")
-    if not carries.strip(ENDS) or carries.strip(" )].:")[:1] in (*",;/",):
-        before = "".join(BETWEEN.split(before)[:-1])
-    return DONOR.sub(" ", f"{before} {of_donor}").strip(ENDS)
+@dataclass(frozen=True, slots=True)
+class Carried:
+    """What a text has of the dam, empty where it has none, and of who carried or brought up the young one; whether the
+    word for that may be a part of a name."""
+
+    dam: str
+    carrier: str
+    may_be_name: bool
 
 
-def may_be_name(text: str) -> bool:
-    """Is the word for such a one also a part of names?"""
+def carried(text: str) -> Carried | None:
+    """The carrier is what follows the word for it, or else what stands before it."""
     found = CARRIER.search(text)
-    return found is not None and found["likely"] is not None
+    if found is None:
+        return None
+    before, behind = text[: found.start()], text[found.end() :]
+    donor = DONOR.search(behind)
+    carrier, of_donor = (behind[: donor.start()], behind[donor.end() :]) if donor else (behind, "")
+    if not carrier.strip(ENDS) or carrier.strip(" )].:")[:1] in (*SEPARATORS,):
+        *others, carrier = BETWEEN.split(before.rstrip(ENDS))
+        before = " ".join(others)
+    dam = DONOR.sub(" ", f"{before} {of_donor}").strip(ENDS)
+    return Carried(dam, carrier.strip(ENDS), found["likely"] is not None)

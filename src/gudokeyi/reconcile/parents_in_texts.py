@@ -11,13 +11,14 @@ from gudokeyi.domain.kinds import Role
 from gudokeyi.domain.messages import MOST_NAMED
 from gudokeyi.domain.spelling import TIMES
 from gudokeyi.ingest.animals import SheetAnimal, links_outside
+from gudokeyi.ingest.carriers_in_texts import carried
 from gudokeyi.ingest.doubts_in_texts import DOUBT, IN_BRACKETS, asked, without_doubt
 from gudokeyi.ingest.marked_ids import CROSSES
 from gudokeyi.ingest.odd_texts import OF_YEAR
 from gudokeyi.ingest.texts import nearly, nearly_all
 from gudokeyi.reconcile.findings.parents import FoundWithin
 from gudokeyi.reconcile.findings.parents_in_texts import (
-    BothParents, EitherParent, NamedByRelation, NamedOtherwiseBeside, NotSaidToBeParent, ParentNotSure,
+    BothParents, CarrierNoDam, EitherParent, NamedByRelation, NamedOtherwiseBeside, NotSaidToBeParent, ParentNotSure,
 )  # fmt: skip
 from gudokeyi.reconcile.last_found import Kept
 from gudokeyi.reconcile.near_names import LEAST_LETTERS
@@ -122,25 +123,39 @@ class ParentsInTexts:
         self.ids, self.names = self.of_all.last.of(Kept.IDS_IN_TEXTS, by, lambda: compared(ids, names))
         self.brackets_doubt = self.do_brackets_doubt([text for _, _, text in links])
         for offspring, role, text in links:
-            if nearly(text) in self.ids or name_key(text) in self.names:
-                continue
-            if left_out := self.left_out(role, text):
-                offspring.set_parent(role, "")
-                report.add(offspring.line, offspring.id, left_out)
-                continue
-            for id in self.named(text):
-                if id != offspring.id and can_be(self.animals[id], role, offspring):
-                    offspring.set_parent(role, id)
-                    report.add(offspring.line, offspring.id, FoundWithin(role, text, id))
-                    if others := self.named_beside(id, text):
-                        found = NamedOtherwiseBeside(role, text, id, self.animals[id].name, others)
-                        report.add(offspring.line, offspring.id, found)
-                break
+            if nearly(text) not in self.ids and name_key(text) not in self.names:
+                self.find_parent(offspring, role, text, report)
+
+    def find_parent(self, offspring: SheetAnimal, role: Role, written: str, report: Report) -> None:
+        text = self.without_carrier(written) if role is Role.DAM else written
+        if left_out := self.left_out(role, text) if text else CarrierNoDam(role, written):
+            offspring.set_parent(role, "")
+            report.add(offspring.line, offspring.id, left_out)
+            return
+        if text != written:
+            # it may be a name, or a dam without a row
+            offspring.set_parent(role, text)
+        id = next(iter(self.named(text)), "")
+        if id and id != offspring.id and can_be(self.animals[id], role, offspring):
+            offspring.set_parent(role, id)
+            report.add(offspring.line, offspring.id, FoundWithin(role, written, id))
+            if others := self.named_beside(id, text):
+                found = NamedOtherwiseBeside(role, written, id, self.animals[id].name, others)
+                report.add(offspring.line, offspring.id, found)
+
+    def without_carrier(self, text: str) -> str:
+        """A dam's text without those who carried the young one or brought it up, as `E002` of `E002 recip E005`; a word
+        that names have too is meant so beside another animal alone."""
+        found, ids = carried(text), [*self.named(text)]
+        if found is None or not carried(self.without_names(text, ids)):
+            return text
+        is_sure = not found.may_be_name or ids or any(map(str.isdigit, text))
+        return found.dam if is_sure or self.is_name(found.dam) or self.is_name(found.carrier) else text
 
     def left_out(self, role: Role, text: str) -> Finding | None:
         """Why a text names no parent alone, if it doesn't."""
         found = list(dict.fromkeys(self.named(text)))
-        if found and RELATED.search(text) or self.is_relation_by_name(text):
+        if found and RELATED.search(self.without_names(text, found)) or self.is_relation_by_name(text):
             return NamedByRelation(role, text)
         if self.are_pair(text):
             return BothParents(role, text)
@@ -156,11 +171,15 @@ class ParentsInTexts:
 
     # -- words beside an id or a name
 
+    def without_names(self, text: str, ids: Sequence[str]) -> str:
+        """A text in small letters without the own names of the animals whose ids stand in it."""
+        return without(text, [self.animals[id].name for id in ids])
+
     def denied(self, text: str, ids: Sequence[str]) -> str:
         """The animal beside which words stand by which it may not be the parent; its own name is none of them."""
         refers = REFERS.search(text)
         if ids:
-            rest = without(text, [self.animals[id].name for id in ids])
+            rest = self.without_names(text, ids)
             is_other = refers and [*self.named(text[refers.end() :])]
             return ids[0] if is_other or DENIED.search(rest) else ""
         if not refers and not DENIED.search(text):
@@ -172,7 +191,7 @@ class ParentsInTexts:
         """The animal beside which a word or a sign says that it isn't sure; its own name has none of them."""
         in_brackets = IN_BRACKETS.fullmatch(text) if self.brackets_doubt else None
         if ids:
-            rest = without(text, [self.animals[id].name for id in ids])
+            rest = self.without_names(text, ids)
             rest = re.sub(rf"(?<!\w){re.escape(ids[0])}(?!\w)", " ", rest, flags=re.IGNORECASE)
             return ids[0] if in_brackets or DOUBT.search(rest) else ""
         if named := asked(text):
