@@ -126,6 +126,11 @@ def test_carrier_alone_in_a_cell(desk: Desk, dam: str) -> None:
     assert " 0 new, 0 changed" in done.last
 
 
+def test_carrier_whose_id_has_a_slash(desk: Desk) -> None:
+    desk.take(FOSTERED.format("E/23-05 (Amme)").replace("E005", "E/23-05").replace("E002", "E"))
+    assert desk.parents()["E101"] == ("E001", "")
+
+
 def test_donor_without_a_row_in_a_cell(desk: Desk) -> None:
     desk.take(FOSTERED.format('"donor: E999, recip: E005"'))
     assert desk.parents()["E101"] == ("E001", "E999")

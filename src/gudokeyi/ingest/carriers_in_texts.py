@@ -26,7 +26,8 @@ DONOR = re.compile(
 )  # fmt: skip
 # what stands between two animals, and at the ends of what is said of one
 SEPARATORS, ENDS = ",;/", " ()[].,;:/=-–—"
-BETWEEN = re.compile(f"[{SEPARATORS}]")
+# an id may have a slash within
+BETWEEN = re.compile(r"[,;]| / ")
 
 
 @dataclass(frozen=True, slots=True)

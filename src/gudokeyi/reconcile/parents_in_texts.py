@@ -4,7 +4,7 @@ from __future__ import annotations
 
 import functools
 import re
-from collections.abc import Collection, Iterator, Sequence
+from collections.abc import Collection, Sequence
 
 from gudokeyi.domain.findings import Finding, Report
 from gudokeyi.domain.kinds import Role
@@ -13,7 +13,7 @@ from gudokeyi.domain.spelling import TIMES
 from gudokeyi.ingest.animals import SheetAnimal, links_outside
 from gudokeyi.ingest.carriers_in_texts import carried
 from gudokeyi.ingest.doubts_in_texts import DOUBT, IN_BRACKETS, asked, without_doubt
-from gudokeyi.ingest.marked_ids import CROSSES
+from gudokeyi.ingest.marked_ids import CROSSES, MARKED
 from gudokeyi.ingest.odd_texts import OF_YEAR
 from gudokeyi.ingest.texts import nearly, nearly_all
 from gudokeyi.reconcile.findings.parents import FoundWithin
@@ -81,6 +81,8 @@ BRACKETS_USUAL = 3
 # what stands between two names; others are within one, as in `Salz und Pfeffer`
 OF_NAMES = re.compile(r"\s*/\s*")
 YEAR = re.compile(r"(?:19|20)\d\d")
+# so many digits has an id between other words
+LEAST_DIGITS = 3
 LETTERS, DIGITS = re.compile(r"[^\W\d_]"), re.compile(r"\d")
 
 
@@ -135,6 +137,8 @@ class ParentsInTexts:
         if text != written:
             # it may be a name, or a dam without a row
             offspring.set_parent(role, text)
+        if name := self.name_with_exit(text):
+            offspring.set_parent(role, name)
         id = next(iter(self.named(text)), "")
         if id and id != offspring.id and can_be(self.animals[id], role, offspring):
             offspring.set_parent(role, id)
@@ -146,7 +150,7 @@ class ParentsInTexts:
     def without_carrier(self, text: str) -> str:
         """A dam's text without those who carried the young one or brought it up, as `E002` of `E002 recip E005`; a word
         that names have too is meant so beside another animal alone."""
-        found, ids = carried(text), [*self.named(text)]
+        found, ids = carried(text), self.named(text)
         if found is None or not carried(self.without_names(text, ids)):
             return text
         is_sure = not found.may_be_name or ids or any(map(str.isdigit, text))
@@ -180,7 +184,7 @@ class ParentsInTexts:
         refers = REFERS.search(text)
         if ids:
             rest = self.without_names(text, ids)
-            is_other = refers and [*self.named(text[refers.end() :])]
+            is_other = refers and self.named(text[refers.end() :])
             return ids[0] if is_other or DENIED.search(rest) else ""
         if not refers and not DENIED.search(text):
             return ""
@@ -221,6 +225,12 @@ class ParentsInTexts:
             return True
         # a name may end with the letter of the genitive
         return before is not None and any(self.is_name(text[: before.start() + more]) for more in range(2))
+
+    def name_with_exit(self, text: str) -> str:
+        """The name of an animal beside a sign or a word by which it left, as `Max †` and `Max (verk.)`."""
+        found = MARKED.fullmatch(text)
+        name = (found["behind"] or found["before"]).strip() if found else ""
+        return name if self.is_name(name) else ""
 
     def is_name(self, text: str) -> bool:
         return sum(map(str.isalpha, text)) >= LEAST_LETTERS and name_key(text) in self.names
@@ -266,16 +276,26 @@ class ParentsInTexts:
         parts = WITH.split(text)
         return len(parts) == 2 and all(nearly(one) in self.ids or name_key(one) in self.names for one in parts)
 
-    def named(self, text: str) -> Iterator[str]:
-        """The animals whose ids are parts of a text, or stand before or behind some of its words: there an id has
-        digits, since `n b` names no animal b."""
+    def named(self, text: str) -> list[str]:
+        """The animals whose ids are parts of a text, or stand before or behind some of its words, or else between some:
+        there an id has digits, since `n b` names no animal b."""
         words = text.split()[:MOST_WORDS]
         ends = [" ".join(part) for at in range(1, len(words)) for part in (words[:at], words[at:])]
-        ends = [part for part in ends if any(letter.isdigit() for letter in part)]
-        for part in (*filter(None, self.split(BETWEEN, text)), *ends):
-            bare = SIGN_OF_EXIT.sub("", part), part.strip(AT_ENDS)
-            if id := next(filter(None, map(self.ids.get, map(nearly, (part, *bare)))), None):
-                yield id
+        parts = (*filter(None, self.split(BETWEEN, text)), *filter(DIGITS.search, ends))
+        return [*filter(None, map(self.id_of, parts))] or self.named_between(text, words)
+
+    def id_of(self, part: str) -> str:
+        bare = SIGN_OF_EXIT.sub("", part), part.strip(AT_ENDS)
+        return next(filter(None, map(self.ids.get, map(nearly, (part, *bare)))), "")
+
+    def named_between(self, text: str, words: Sequence[str]) -> list[str]:
+        """The animals whose ids stand between other words, as in `Max DE001 born 2015`: those that are also named there,
+        or whose ids have letters and no few digits."""
+        inner = [words[first:last] for first in range(1, len(words) - 1) for last in range(first + 1, len(words))]
+        likely = [part for one in inner if DIGITS.search(part := " ".join(one))]
+        found = [id for part in likely if (id := self.id_of(part.strip("()[],")))]
+        called = [id for id in found if (name := self.animals[id].name) and name_key(name) in name_key(text)]
+        return called or [id for id in found if LETTERS.search(id) and len(DIGITS.findall(id)) >= LEAST_DIGITS]
 
     # -- numbers of years, as `3/12` and `3/12/Cora`
 
