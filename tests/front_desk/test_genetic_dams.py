@@ -87,3 +87,60 @@ def test_parent_by_a_test(desk: Desk, title: str) -> None:
     for other in "001", "bestätigt", "ja":
         done = desk.take(text.replace("001;002;005", f"001;002;{other}"), "--book", "other")
         assert "another sire" not in done.out, other
+
+
+FOSTERED = "Tag No.;Name;Sex;DOB;Sire;Dam;Owner;Remarks\nE001;Fionn;bull;30/03/2015;;;Daly;\n"
+FOSTERED += "E002;Rose;cow;12/04/2015;;;Daly;\nE005;Peg;cow;12/06/2016;;;Foley;\nE101;Nora;cow;12/03/2021;E001;{};Daly;\n"
+
+
+@pytest.mark.parametrize(
+    "dam",
+    [
+        "donor: E002, recip: E005", "E002 recip E005", "E002 / recip 4711", "ET aus E002, Empf. E005", "Empf. E005, Spender E002",
+        "E002 (Amme: E005)", "E002 foster E005", "E002, E005 (recip)", "embryo de E002, receveuse E005", "Rose, recip Peg",
+        "E002 fostered", "E002 (Ammenaufzucht)", "ET ex E002",
+    ],
+)  # fmt: skip
+def test_dam_beside_carrier(desk: Desk, dam: str) -> None:
+    """Who carried a young one or brought it up is neither its dam nor another one that may be it."""
+    done = desk.take(FOSTERED.format(f'"{dam}"'))
+    assert desk.parents()["E101"] == ("E001", "E002") and " 0 left out, 0 added" in done.last
+
+
+@pytest.mark.parametrize(
+    "dam",
+    [
+        "recip E005", "recip. Peg", "fostered by E005", "reared by Peg", "Amme E005", "E005 (Amme)", "nourrie par E005",
+        "reçeveuse E005", "Leihmutter 4711", "E005 nurse", "E005 (foster)",
+    ],
+)  # fmt: skip
+def test_carrier_alone_in_a_cell(desk: Desk, dam: str) -> None:
+    """The dam is unknown, and that is told, each year."""
+    for _ in range(2):
+        done = desk.take(FOSTERED.format(dam))
+        done.tells(
+            f"line 5: E101: its dam '{dam}' is left out: it names who carried it or brought it up, and the dam counts as "
+            "unknown; write the dam's id"
+        )
+        assert desk.parents()["E101"] == ("E001", "") and " 0 added" in done.last
+    assert " 0 new, 0 changed" in done.last
+
+
+def test_carrier_whose_id_has_a_slash(desk: Desk) -> None:
+    desk.take(FOSTERED.format("E/23-05 (Amme)").replace("E005", "E/23-05").replace("E002", "E"))
+    assert desk.parents()["E101"] == ("E001", "")
+
+
+def test_donor_without_a_row_in_a_cell(desk: Desk) -> None:
+    desk.take(FOSTERED.format('"donor: E999, recip: E005"'))
+    assert desk.parents()["E101"] == ("E001", "E999")
+
+
+@pytest.mark.parametrize("dam", ["Nurse Betty", "Foster Lass", "Amme Sandra"])
+def test_names_like_words_for_carriers(desk: Desk, dam: str) -> None:
+    """A name is one, of an animal of the list too, and beside its id."""
+    desk.take(FOSTERED.format(dam))
+    assert desk.parents()["E101"] == ("E001", dam)
+    for cell in dam, f"E005 {dam}":
+        desk.take(FOSTERED.format(cell).replace("Peg", dam), "--book", "own")
+        assert f" dam E005 {dam} " in " ".join(desk.good("show", "E101", "--book", "own").out.split())

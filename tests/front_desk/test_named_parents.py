@@ -269,3 +269,35 @@ def test_other_ids_where_ids_lack(desk: Desk) -> None:
     sheet = "Tag;Sex;DOB;Sire;Sire by DNA;Dam\n1;F;2005-03-01;;;\n2;M;2005-03-02;;;\n3;M;2008-03-13;2;2;1\n4;F;2011-03-13;3;;1\n"
     desk.take(sheet, "--columns", "sire=Sire by DNA")
     assert desk.parents()["3"] == ("2", "1") and desk.parents()["4"] == ("", "1")
+
+
+BESIDE = "Nr.;Name;Geschlecht;geb.;Vater;Mutter\nD001;Max;m;12.3.2015;;\n47;Rex;m;12.3.2015;;\n"
+
+
+@pytest.mark.parametrize(
+    "sire",
+    [
+        "Max D001 geb. 2015", "Max D001 (2015)", "Bock D001 vom Huber", "D001 (†)", "D001 †", "D001 verk.", "D001 [HB]",
+        "D001/2019", "D001, Max", "Max (D001)", "D001: Max", '"D001"', "Max †", "Max (†)", "Max verk.", "Max (verk.)",
+        "† Max",
+    ],
+)  # fmt: skip
+def test_remark_beside_a_parent(desk: Desk, sire: str) -> None:
+    """An id or a name is the animal's, whatever stands before it and behind it."""
+    quoted = sire.replace('"', '""')
+    for _ in range(2):
+        done = desk.take(f'{BESIDE}D101;Eins;w;12.3.2020;"{quoted}";\n')
+        assert desk.parents()["D101"] == ("D001", "") and " 0 left out, 0 added" in done.last
+    assert " 0 new, 0 changed" in done.last
+
+
+@pytest.mark.parametrize("sire", ["Moritz 47 vom Huber", "Sandro †", "Sandro D999 geb. 2015"])
+def test_remark_that_names_no_animal(desk: Desk, sire: str) -> None:
+    """A number between words may be another one than an id."""
+    desk.take(f"{BESIDE}D101;Eins;w;12.3.2020;{sire};\n")
+    assert desk.parents()["D101"] == (sire, "")
+
+
+def test_number_between_words_beside_its_name(desk: Desk) -> None:
+    desk.take(f"{BESIDE}D101;Eins;w;12.3.2020;Rex 47 geb. 2015;\n")
+    assert desk.parents()["D101"] == ("47", "")

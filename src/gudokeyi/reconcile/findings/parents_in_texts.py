@@ -80,6 +80,35 @@ class NotSaidToBeParent(ParentLeftOut):
 
 
 @dataclass(frozen=True, slots=True)
+class ParentNotSure(ParentLeftOut):
+    """A cell with a word or a sign by which the animal that it names may be the parent, and may not."""
+
+    role: Role
+    written: str
+    named: str
+
+    code = "parent not sure"
+    message = Text(
+        "its {role} '{written}' is left out: it doesn't say for sure that {named} is the {role}, which counts as unknown; "
+        "where that is sure, write the {role}'s id alone"
+    )
+
+
+@dataclass(frozen=True, slots=True)
+class CarrierNoDam(ParentLeftOut):
+    """A cell of a dam that names who carried an embryo or brought up the young one, and no dam."""
+
+    role: Role
+    written: str
+
+    code = "carrier no dam"
+    message = Text(
+        "its {role} '{written}' is left out: it names who carried it or brought it up, and the {role} counts as unknown; "
+        "write the {role}'s id"
+    )
+
+
+@dataclass(frozen=True, slots=True)
 class NamedOtherwiseBeside(Finding):
     """A parent whose id is taken, beside which the cell has the name of one or several others."""
 
